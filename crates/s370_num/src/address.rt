@@ -1,10 +1,11 @@
 //! Storage addresses, words and device addresses.
 
-ghost use Rattle.std.specs.Prelude.{◌≡◌, ℕ, ◌+◌, ◌*◌, ◌/◌, ◌%◌, ◌^◌, ◌<◌, ◌↔◌, IsSome, IfSome};
+ghost use Rattle.std.specs.Prelude.{◌≡◌, ℕ, ◌+◌, ◌*◌, ◌/◌, ◌%◌, ◌^◌, ◌<◌, ◌↔◌, IsSome, IfSome, Some};
 ghost use Rattle.std.specs.Int.{w32, cast_signed, cast_unsigned, from_be_bytes, to_be_bytes};
-ghost use Rattle.s370_num.specs.Address.{storage_address, channel_of};
+ghost use Rattle.s370_num.specs.Address.{storage_address, channel_of, address_text, device_text};
 
 use byteorder::{BigEndian, ByteOrder};
+use std::fmt;
 use std::marker::Model;
 
 /// An address of main storage: a number below 2^24.
@@ -178,5 +179,25 @@ impl DevAddr {
         ensures { result ≡ channel_of self }
     {
         (self.value >> 8) as u8
+    }
+}
+
+impl fmt::Display for Addr24 {
+    ghost output = { λ address. Some (address_text address) };
+
+    /// Six hexadecimal digits.
+    fn fmt<W: fmt::Write>(&self, f: &mut fmt::Formatter<W>) -> fmt::Result {
+        let [_, high, middle, low] = self.value.to_be_bytes();
+        write!(f, "{high:02X}{middle:02X}{low:02X}")
+    }
+}
+
+impl fmt::Display for DevAddr {
+    ghost output = { λ device. Some (device_text device) };
+
+    /// Three hexadecimal digits, or four where the channel needs two.
+    fn fmt<W: fmt::Write>(&self, f: &mut fmt::Formatter<W>) -> fmt::Result {
+        let [channel, unit] = self.value.to_be_bytes();
+        write!(f, "{channel:X}{unit:02X}")
     }
 }
