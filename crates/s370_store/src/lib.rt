@@ -20,7 +20,10 @@ ghost use Rattle.s370_store.specs.Access.{tested, IsVerdict, IsGranted, put};
 pub use place::put_at;
 pub use plain::PlainStorage;
 pub use protection::{Keyring, Listed, Open, test_range};
-pub use words::{check_two, load_byte, load_halfword, load_word, store_word};
+pub use words::{
+    check_two, load_byte, load_doubleword, load_halfword, load_word, store_byte, store_doubleword,
+    store_halfword, store_word,
+};
 
 /// What is done with a range of bytes.
 #[derive(Clone, Copy, Debug, PartialEq, Eq)]

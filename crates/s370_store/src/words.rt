@@ -1,20 +1,25 @@
-// What rows read and write: bytes, halfwords and words, and the test of two ranges.
+//! Bytes, halfwords, words and doublewords of any storage, and the test of two ranges.
+//!
+//! Numbers stand in storage with their leftmost byte first (GA22-7000, "Information Formats"). Each of these is one
+//! `load` or `store`, so what they require is that `check` granted the range.
 ghost use Rattle.std.specs.Prelude.{◌≡◌, ℕ, ◌+◌, ◌*◌, ◌<◌, ◌≤◌, [], ◌∷◌, length, slice_index, slice_range};
-ghost use Rattle.std.specs.Int.{w16, w32, from_be_bytes, to_be_bytes};
+ghost use Rattle.std.specs.Int.{w16, w32, w64, from_be_bytes, to_be_bytes};
 ghost use Rattle.s370_store.specs.Access.{tested, IsVerdict, join_of, IsGranted, put};
 
 use crate::{Access, Fault, Range, Storage};
 
+/// The byte at an address.
 #[inline(always)]
 pub fn load_byte<S: Storage>(storage: &S, start: u32) -> u8
     requires { IsGranted (length (S.bytes storage.now)) (S.present storage.now) start 1 }
-    ensures { result ≡ slice_index (slice_range (S.bytes storage.now) start (start + 1)) 0 }
+    ensures { result ≡ slice_index (S.bytes storage.now) start }
 {
     let mut into = [0u8; 1];
     storage.load(start, &mut into);
     into[0]
 }
 
+/// The halfword from an address on.
 #[inline(always)]
 pub fn load_halfword<S: Storage>(storage: &S, start: u32) -> u16
     requires { IsGranted (length (S.bytes storage.now)) (S.present storage.now) start 2 }
@@ -25,6 +30,7 @@ pub fn load_halfword<S: Storage>(storage: &S, start: u32) -> u16
     u16::from_be_bytes(into)
 }
 
+/// The word from an address on.
 #[inline(always)]
 pub fn load_word<S: Storage>(storage: &S, start: u32) -> u32
     requires { IsGranted (length (S.bytes storage.now)) (S.present storage.now) start 4 }
@@ -35,6 +41,44 @@ pub fn load_word<S: Storage>(storage: &S, start: u32) -> u32
     u32::from_be_bytes(into)
 }
 
+/// The doubleword from an address on.
+#[inline(always)]
+pub fn load_doubleword<S: Storage>(storage: &S, start: u32) -> u64
+    requires { IsGranted (length (S.bytes storage.now)) (S.present storage.now) start 8 }
+    ensures { result ≡ from_be_bytes w64 (slice_range (S.bytes storage.now) start (start + 8)) }
+{
+    let mut into = [0u8; 8];
+    storage.load(start, &mut into);
+    u64::from_be_bytes(into)
+}
+
+/// Stores a byte at an address.
+#[inline(always)]
+pub fn store_byte<S: Storage>(storage: &mut S, start: u32, byte: u8)
+    requires { IsGranted (length (S.bytes storage.old)) (S.present storage.old) start 1 }
+    ensures bytes { S.bytes storage.new ≡ put (S.bytes storage.old) start (byte ∷ []) }
+    ensures size { length (S.bytes storage.new) ≡ length (S.bytes storage.old) }
+    ensures keys { S.keys storage.new ≡ S.keys storage.old }
+    ensures present { S.present storage.new ≡ S.present storage.old }
+    ensures rest { S.Keeps storage.old storage.new }
+{
+    storage.store(start, &[byte]);
+}
+
+/// Stores a halfword from an address on.
+#[inline(always)]
+pub fn store_halfword<S: Storage>(storage: &mut S, start: u32, halfword: u16)
+    requires { IsGranted (length (S.bytes storage.old)) (S.present storage.old) start 2 }
+    ensures bytes { S.bytes storage.new ≡ put (S.bytes storage.old) start (to_be_bytes w16 halfword) }
+    ensures size { length (S.bytes storage.new) ≡ length (S.bytes storage.old) }
+    ensures keys { S.keys storage.new ≡ S.keys storage.old }
+    ensures present { S.present storage.new ≡ S.present storage.old }
+    ensures rest { S.Keeps storage.old storage.new }
+{
+    storage.store(start, &halfword.to_be_bytes());
+}
+
+/// Stores a word from an address on.
 #[inline(always)]
 pub fn store_word<S: Storage>(storage: &mut S, start: u32, word: u32)
     requires { IsGranted (length (S.bytes storage.old)) (S.present storage.old) start 4 }
@@ -47,8 +91,22 @@ pub fn store_word<S: Storage>(storage: &mut S, start: u32, word: u32)
     storage.store(start, &word.to_be_bytes());
 }
 
-/// The test of two ranges: addressing of both, then protection of both.
-#[inline]
+/// Stores a doubleword from an address on.
+#[inline(always)]
+pub fn store_doubleword<S: Storage>(storage: &mut S, start: u32, doubleword: u64)
+    requires { IsGranted (length (S.bytes storage.old)) (S.present storage.old) start 8 }
+    ensures bytes { S.bytes storage.new ≡ put (S.bytes storage.old) start (to_be_bytes w64 doubleword) }
+    ensures size { length (S.bytes storage.new) ≡ length (S.bytes storage.old) }
+    ensures keys { S.keys storage.new ≡ S.keys storage.old }
+    ensures present { S.present storage.new ≡ S.present storage.old }
+    ensures rest { S.Keeps storage.old storage.new }
+{
+    storage.store(start, &doubleword.to_be_bytes());
+}
+
+/// Tests two accesses together, as an instruction with two operands has them tested: addressing of both, then
+/// protection of both, then whether their pages are present.
+#[inline(always)]
 pub fn check_two<S: Storage>(
     storage: &S,
     first: Range,
@@ -66,8 +124,8 @@ pub fn check_two<S: Storage>(
     join(one, other)
 }
 
-/// The first failure of two tests.
-#[inline]
+/// The answer of two checks together.
+#[inline(always)]
 fn join(first: Result<(), Fault>, second: Result<(), Fault>) -> Result<(), Fault>
     ensures { result ≡ join_of first second }
 {
