@@ -9,9 +9,13 @@
 //! control program has bodies of its own, lent from the frames that its users share.
 #![tactic(auto)]
 
+#[cfg(test)]
+mod examples;
 mod place;
 mod plain;
 mod protection;
+#[cfg(test)]
+mod tests;
 mod words;
 
 ghost use Rattle.std.specs.Prelude.{◌≡◌, ℕ, ◌+◌, ◌*◌, ◌<◌, ◌≤◌, List, [], ◌∷◌, Bool, length, slice_index, slice_range, slice_set};
