@@ -64,6 +64,16 @@ impl Storage for PagedStorage {
     ghost keeps_on = { λ s t u a b. tt };
 }
 
+impl Keyed for PagedStorage {
+    fn key_of(&self, block: u32) -> u8 {
+        self.keys[block as usize]
+    }
+
+    fn set_key(&mut self, block: u32, key: u8) {
+        self.keys[block as usize] = key;
+    }
+}
+
 /// A flag of a list.
 fn flag_at(flags: &[bool], place: u32) -> bool
     requires { place < length flags.now }
@@ -109,6 +119,18 @@ impl Shared {
     {
         put_at(&mut self.bytes[user], start as usize, from);
     }
+
+    /// Sets one of one user's keys.
+    fn set_key(&mut self, user: usize, block: u32, key: u8)
+        requires user { user < 2 }
+        requires block { block < 2 }
+        ensures own { slice_index_or self.new.keys user [] ≡ slice_set (slice_index_or self.old.keys user []) block key }
+        ensures size { length (slice_index_or self.new.keys user []) ≡ 2 }
+        ensures others { (other : ℕ) → other ≢ user → slice_index_or self.new.keys other [] ≡ slice_index_or self.old.keys other [] }
+        ensures bytes { self.new.bytes ≡ self.old.bytes }
+    {
+        self.keys[user][block as usize] = key;
+    }
 }
 
 /// One user's storage, lent from the two that share one.
@@ -142,7 +164,7 @@ impl<'a> Storage for Lent<'a> {
 
     ghost present = { λ _ _. true };
 
-    ghost Keeps = { λ old new. (new.shared.ghost_name ≡ old.shared.ghost_name) × (new.user ≡ old.user) × (new.shared.now.keys ≡ old.shared.now.keys) × ((other : ℕ) → other ≢ old.user → slice_index_or new.shared.now.bytes other [] ≡ slice_index_or old.shared.now.bytes other []) };
+    ghost Keeps = { λ old new. (new.shared.ghost_name ≡ old.shared.ghost_name) × (new.user ≡ old.user) × ((other : ℕ) → other ≢ old.user → slice_index_or new.shared.now.bytes other [] ≡ slice_index_or old.shared.now.bytes other []) × ((other : ℕ) → other ≢ old.user → slice_index_or new.shared.now.keys other [] ≡ slice_index_or old.shared.now.keys other []) };
 
     fn size(&self) -> u32 {
         4096
@@ -165,9 +187,19 @@ impl<'a> Storage for Lent<'a> {
         self.shared.put(self.user, start, from);
     }
 
-    ghost keeps_same = { λ s. (refl, refl, refl, λ other ne. refl) };
+    ghost keeps_same = { λ s. (refl, refl, λ other ne. refl, λ other ne. refl) };
 
-    ghost keeps_on = { λ s t u a b. (b.0 ∙ a.0, b.1 ∙ a.1, b.2 ∙ a.2, λ other ne. b.3 other (λ e. ne (e ∙ a.1)) ∙ a.3 other ne) };
+    ghost keeps_on = { λ s t u a b. (b.0 ∙ a.0, b.1 ∙ a.1, λ other ne. b.2 other (λ e. ne (e ∙ a.1)) ∙ a.2 other ne, λ other ne. b.3 other (λ e. ne (e ∙ a.1)) ∙ a.3 other ne) };
+}
+
+impl<'a> Keyed for Lent<'a> {
+    fn key_of(&self, block: u32) -> u8 {
+        self.shared.keys_of(self.user)[block as usize]
+    }
+
+    fn set_key(&mut self, block: u32, key: u8) {
+        self.shared.set_key(self.user, block, key);
+    }
 }
 
 /// Stores eight bytes of zeros and then a mark over the first of them, in any storage.
@@ -182,11 +214,11 @@ pub fn stamp<S: Storage>(storage: &mut S, start: u32, mark: u8) -> Result<(), Fa
     Ok(())
 }
 
-/// Stamps one user's storage: the other user's bytes and all keys are as they were.
+/// Stamps one user's storage: the other user's bytes and keys are as they were.
 pub fn stamp_for(shared: &mut Shared, user: usize, start: u32, mark: u8) -> Result<(), Fault>
     requires { user < 2 }
-    ensures others { (other : ℕ) → other ≢ user → slice_index_or shared.new.bytes other [] ≡ slice_index_or shared.old.bytes other [] }
-    ensures keys { shared.new.keys ≡ shared.old.keys }
+    ensures bytes { (other : ℕ) → other ≢ user → slice_index_or shared.new.bytes other [] ≡ slice_index_or shared.old.bytes other [] }
+    ensures keys { (other : ℕ) → other ≢ user → slice_index_or shared.new.keys other [] ≡ slice_index_or shared.old.keys other [] }
 {
     let mut lent = Lent::new(shared, user);
     stamp(&mut lent, start, mark)
