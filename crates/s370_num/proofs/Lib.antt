@@ -1,0 +1,2 @@
+pub mod EbcdicLemmas
+pub mod TableLemmas

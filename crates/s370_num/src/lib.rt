@@ -1,0 +1,9 @@
+//! What every part of the system stands on: EBCDIC, and files of the host whose failures are counted.
+//!
+//! What is written in EBCDIC is read back as it was. What passes through a file of the host is what
+//! was given: `write_all` appends all the bytes or a beginning of them, `read_all` gives all that is
+//! left, and each failure of the host is counted and told by its number.
+#![tactic(auto)]
+
+pub mod ebcdic;
+pub mod host;
