@@ -1,1 +1,6 @@
+<<<<<<< HEAD
 mod Text
+=======
+pub mod EbcdicLemmas
+pub mod TableLemmas
+>>>>>>> num
