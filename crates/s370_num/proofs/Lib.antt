@@ -1,6 +1,3 @@
-<<<<<<< HEAD
-mod Text
-=======
 pub mod EbcdicLemmas
 pub mod TableLemmas
->>>>>>> num
+mod Text
