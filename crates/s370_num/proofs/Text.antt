@@ -4,7 +4,7 @@ use Rattle.std.proofs.lemmas.Bool.{cases_lt}
 use Rattle.std.proofs.lemmas.Bool.Decides.{nat_tests}
 use Rattle.std.proofs.lemmas.Fmt.{hex_one_digit, hex_two_digits, hex_byte}
 use Rattle.std.specs.Fmt.{digits, padded_integral, format_spec, ◌++?◌}
-use Rattle.s370_num.specs.Address.{two_digits, digit_of, address_text, device_text}
+use Rattle.s370_num.specs.Address.{two_digits, digit_of, address_text, word_text, device_text}
 
 -- a hole `{:02X}`
 abbrev byte_hole : ℕ → List ℕ
@@ -35,3 +35,22 @@ address_shown first second third n small f s t =
     let middle : n / 256 % 256 < 256 = omega arith in
     let low : n % 256 < 256 = omega arith in
     rw (f, s, t, byte_shown (n / 65536) high, byte_shown (n / 256 % 256) middle, byte_shown (n % 256) low) refl
+
+pub word_shown : (first second third fourth : Option (List ℕ)) (n : ℕ) → n < 2 ^ 32 → first ≡ Some (byte_hole (n / 16777216))
+    → second ≡ Some (byte_hole (n / 65536 % 256)) → third ≡ Some (byte_hole (n / 256 % 256)) → fourth ≡ Some (byte_hole (n % 256))
+    → (first ++? (second ++? (third ++? fourth))) ≡ Some (word_text n)
+word_shown first second third fourth n small f s t l =
+    let highest : n / 16777216 < 256 = omega arith in
+    let high : n / 65536 % 256 < 256 = omega arith in
+    let middle : n / 256 % 256 < 256 = omega arith in
+    let low : n % 256 < 256 = omega arith in
+    rw (
+      f,
+      s,
+      t,
+      l,
+      byte_shown (n / 16777216) highest,
+      byte_shown (n / 65536 % 256) high,
+      byte_shown (n / 256 % 256) middle,
+      byte_shown (n % 256) low,
+    ) refl

@@ -21,6 +21,11 @@ two_digits byte = digit_of (byte / 16) ∷ digit_of (byte % 16) ∷ []
 abbrev pub address_text : ℕ → List ℕ
 address_text address = two_digits (address / 65536) ++ two_digits (address / 256 % 256) ++ two_digits (address % 256)
 
+-- a word as eight digits
+abbrev pub word_text : ℕ → List ℕ
+word_text word =
+    two_digits (word / 16777216) ++ two_digits (word / 65536 % 256) ++ two_digits (word / 256 % 256) ++ two_digits (word % 256)
+
 -- a device address as operators write it: three digits, or four where the channel needs two
 abbrev pub device_text : ℕ → List ℕ
 device_text device =
