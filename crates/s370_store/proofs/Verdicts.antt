@@ -1,0 +1,103 @@
+-- What the tests of ranges answer, from what a check looks at.
+use Rattle.std.proofs.Common.{◌≡◌, ℕ, ◌+◌, ◌/◌, ◌<◌, ◌≤◌, ◌≢◌, Bool, true, false, List, [], ◌∷◌, get_or, Some, None, refl, arith, zero, suc, ◌⊎◌, Result, Ok, Err, inl, inr}
+use Rattle.std.proofs.lemmas.Grind.{common_steps}
+use Rattle.std.proofs.lemmas.Bool.{cases_eq}
+use Rattle.std.specs.Bool.{⊤}
+use Rattle.std.proofs.Math.Bool.{and-false}
+use Rattle.s370_store.specs.Access.{Test, is_passed, is_addressable, is_permitted_from, is_permitted, first_fault, IsVerdict, Touches, join_of}
+use Rattle.s370_store.specs.declared.Access.{Access}
+use Rattle.s370_store.specs.declared.Access.TheVariants.{Fetch, Store}
+use Rattle.s370_store.specs.declared.Fault.{Fault}
+use Rattle.s370_store.specs.declared.Fault.TheVariants.{Addressing, Protection, Absent}
+
+pub key_zero_passes : (access : Access) (block : ℕ) → is_passed access 0 block ≡ true
+unfolding is_passed
+key_zero_passes Fetch block = refl
+key_zero_passes Store block = refl
+
+pub key_zero_permits : (keys : List ℕ) (access : Access) (start n : ℕ) → is_permitted_from keys 0 access start n ≡ true
+key_zero_permits keys access start zero = refl
+key_zero_permits keys access start (suc n) =
+    rw (key_zero_passes access (get_or keys ((start + n) / 2048) 0)) (key_zero_permits keys access start n)
+
+pub permits : (keys : List ℕ) (key : ℕ) (access : Access) (start n : ℕ) → ((k : ℕ) → k < n → is_passed access key (get_or keys ((start + k) / 2048) 0) ≡ true) → is_permitted_from keys key access start n ≡ true
+permits keys key access start zero each = refl
+permits keys key access start (suc n) each =
+    rw (each n (omega arith)) (permits keys key access start n (λ k h. each k (omega arith)))
+
+pub forbids : (keys : List ℕ) (key : ℕ) (access : Access) (start n k : ℕ) → k < n → is_passed access key (get_or keys ((start + k) / 2048) 0) ≡ false → is_permitted_from keys key access start n ≡ false
+forbids keys key access start zero k h f = absurd (omega arith)
+forbids keys key access start (suc n) k h f =
+    elim (cases_eq k n) [
+      | inl e ↦ (let g : is_passed access key (get_or keys ((start + n) / 2048) 0) ≡ false = rw (← e) f in rw g)
+      | inr ne ↦ (let rest = forbids keys key access start n k (omega arith) f in rw rest (and-false _))
+    ]
+
+-- a byte of a short range lies in the block of the first byte or in that of the last
+either_end : (start k n last : ℕ) → n ≤ 256 → last + 1 ≡ start + n → k < n → ((start + k) / 2048 ≡ start / 2048) ⊎ ((start + k) / 2048 ≡ last / 2048)
+either_end start k n last few e h = grind arith
+
+-- a byte of a short range lies in the page of the first byte or in that of the last
+pub either_page : (start k n last : ℕ) → n ≤ 256 → last + 1 ≡ start + n → k < n → ((start + k) / 4096 ≡ start / 4096) ⊎ ((start + k) / 4096 ≡ last / 4096)
+either_page start k n last few e h = grind arith
+
+-- the range is there if its first and last pages are
+pub ends_here : (present : ℕ → Bool) (start n last : ℕ) → n ≤ 256 → last + 1 ≡ start + n → present (start / 4096) ≡ true → present (last / 4096) ≡ true → (k : ℕ) → k < n → present ((start + k) / 4096) ≡ true
+ends_here present start n last few e first_here last_here k h =
+    elim (either_page start k n last few e h) [ inl f ↦ rw f first_here | inr f ↦ rw f last_here ]
+
+-- at most 2048 bytes lie in the block of the first and the block of the last
+pub ends_permit : (keys : List ℕ) (key : ℕ) (access : Access) (start n last : ℕ) → n ≤ 256 → last + 1 ≡ start + n → is_passed access key (get_or keys (start / 2048) 0) ≡ true → is_passed access key (get_or keys (last / 2048) 0) ≡ true → is_permitted_from keys key access start n ≡ true
+ends_permit keys key access start n last few e first_passes last_passes =
+    permits keys key access start n (λ k h.
+    elim (either_end start k n last few e h) [ inl f ↦ rw f first_passes | inr f ↦ rw f last_passes ])
+
+pub one_fine : (size : ℕ) (keys : List ℕ) (key : ℕ) (t : Test) → is_addressable size t ≡ true → is_permitted keys key t ≡ true → first_fault size keys key (t ∷ []) ≡ None
+one_fine size keys key t a p = rw (a, p)
+
+pub one_beyond : (size : ℕ) (keys : List ℕ) (key : ℕ) (t : Test) → is_addressable size t ≡ false → first_fault size keys key (t ∷ []) ≡ Some Addressing
+one_beyond size keys key t a = rw a
+
+pub one_forbidden : (size : ℕ) (keys : List ℕ) (key : ℕ) (t : Test) → is_addressable size t ≡ true → is_permitted keys key t ≡ false → first_fault size keys key (t ∷ []) ≡ Some Protection
+one_forbidden size keys key t a p = rw (a, p)
+
+pub inside : (size : ℕ) (access : Access) (start n : ℕ) → start + n ≤ size → is_addressable size (record { access = access; start = start; count = n }) ≡ true
+unfolding is_addressable
+inside size access start n h = grind (arith, common_steps)
+
+pub empty_inside : (size : ℕ) (access : Access) (start n : ℕ) → n ≡ 0 → is_addressable size (record { access = access; start = start; count = n }) ≡ true
+unfolding is_addressable
+empty_inside size access start n h = rw h
+
+pub beyond : (size : ℕ) (access : Access) (start n : ℕ) → n ≢ 0 → size < start + n → is_addressable size (record { access = access; start = start; count = n }) ≡ false
+unfolding is_addressable
+beyond size access start n ne h = grind (arith, common_steps)
+
+pub permitted_is : (keys : List ℕ) (key : ℕ) (access : Access) (start n : ℕ) (b : Bool) → is_permitted_from keys key access start n ≡ b → is_permitted keys key (record { access = access; start = start; count = n }) ≡ b
+unfolding is_permitted
+permitted_is keys key access start n b h = h
+
+-- what a fine range is: inside the storage
+pub fits : (size : ℕ) (keys : List ℕ) (key : ℕ) (access : Access) (start n : ℕ) → first_fault size keys key (record { access = access; start = start; count = n } ∷ []) ≡ None → 0 < n → start + n ≤ size
+unfolding is_addressable
+fits size keys key access start n e h = grind (arith, common_steps)
+
+more : (t u : Test) (page : ℕ) → Touches (t ∷ []) page → Touches (t ∷ u ∷ []) page
+more t u page (inl x) = inl x
+more t u page (inr x) = absurd x
+
+-- two tests together
+pub joined : (size : ℕ) (keys : List ℕ) (present : ℕ → Bool) (key : ℕ) (t u : Test) (r s : Result ⊤ Fault) → IsVerdict size keys present key (t ∷ []) r → IsVerdict size keys present key (u ∷ []) s → IsVerdict size keys present key (t ∷ u ∷ []) (join_of r s)
+joined size keys present key t u (Ok _) (Ok _) v w = (grind (arith, common_steps), (v.1.0, (w.1.0, tt)))
+joined size keys present key t u (Ok _) (Err Addressing) v w = grind (arith, common_steps)
+joined size keys present key t u (Ok _) (Err Protection) v w = grind (arith, common_steps)
+joined size keys present key t u (Ok _) (Err (Absent page)) v w = (grind (arith, common_steps), w.1, inr w.2)
+joined size keys present key t u (Err Addressing) s v w = grind (arith, common_steps)
+joined size keys present key t u (Err Protection) (Ok _) v w = grind (arith, common_steps)
+joined size keys present key t u (Err Protection) (Err Addressing) v w = grind (arith, common_steps)
+joined size keys present key t u (Err Protection) (Err Protection) v w = grind (arith, common_steps)
+joined size keys present key t u (Err Protection) (Err (Absent page)) v w = grind (arith, common_steps)
+joined size keys present key t u (Err (Absent page)) (Ok _) v w = (grind (arith, common_steps), v.1, more t u page.0 v.2)
+joined size keys present key t u (Err (Absent page)) (Err Addressing) v w = grind (arith, common_steps)
+joined size keys present key t u (Err (Absent page)) (Err Protection) v w = grind (arith, common_steps)
+joined size keys present key t u (Err (Absent page)) (Err (Absent other)) v w = (grind (arith, common_steps), v.1, more t u page.0 v.2)

@@ -1,0 +1,126 @@
+//! The storage of a processor: bytes, a key for each block of 2048 of them, and pages of 4096 that may be absent.
+//!
+//! Its one theorem: an access is let through if each of its bytes lies in the storage and the key in storage of that
+//! byte's block passes it, and else is refused by addressing before protection; what is stored changes the bytes it
+//! names and nothing else, neither of this storage nor of what it is lent from (IBM System/370 Principles of Operation,
+//! GA22-7000, "Protection" and "Addressing Exception").
+//!
+//! All code above is written over the trait [`Storage`]: [`PlainStorage`] is the whole storage of a bare machine, and a
+//! control program has bodies of its own, lent from the frames that its users share.
+#![tactic(auto)]
+
+#[cfg(test)]
+mod examples;
+mod place;
+mod plain;
+mod protection;
+#[cfg(test)]
+mod tests;
+mod words;
+
+ghost use Rattle.std.specs.Prelude.{◌≡◌, ℕ, ◌+◌, ◌*◌, ◌<◌, ◌≤◌, List, [], ◌∷◌, Bool, length, slice_index, slice_range, slice_set};
+ghost use Rattle.s370_store.specs.Access.{tested, IsVerdict, IsGranted, put};
+
+pub use place::put_at;
+pub use plain::PlainStorage;
+pub use protection::{Keyring, Listed, Open, test_range};
+pub use words::{
+    check_two, load_byte, load_doubleword, load_halfword, load_word, store_byte, store_doubleword,
+    store_halfword, store_word,
+};
+
+/// What is done with a range of bytes.
+#[derive(Clone, Copy, Debug, PartialEq, Eq)]
+pub enum Access {
+    Fetch,
+    Store,
+}
+
+/// Bytes that follow one another: the address of the first, and how many there are.
+#[derive(Clone, Copy, Debug, PartialEq, Eq)]
+pub struct Range {
+    pub start: u32,
+    pub count: u32,
+}
+
+/// A page of 4096 bytes by its number: page 1 begins at address 4096.
+#[derive(Clone, Copy, Debug, PartialEq, Eq)]
+pub struct Page(pub u32);
+
+/// Why a range can't be accessed.
+///
+/// The first two are the architecture's exceptions of these names (GA22-7000, "Program Interruption"). A page that is
+/// absent is no exception: whoever lends the storage brings the page, and the access is made again.
+#[derive(Clone, Copy, Debug, PartialEq, Eq)]
+pub enum Fault {
+    /// A byte lies beyond the storage.
+    Addressing,
+    /// The key of a byte's block does not let the access pass.
+    Protection,
+    /// Size and keys let the access pass, and this page of it is not present.
+    Absent(Page),
+}
+
+/// Bytes with a key for each 2048 of them, in pages of 4096 that may be absent.
+pub trait Storage {
+    /// The bytes, also those of pages that are absent.
+    ghost bytes: { Self → List ℕ };
+
+    /// The key in storage of each block of 2048 bytes: four bits of access control and a last bit of fetch protection.
+    ghost keys: { Self → List ℕ };
+
+    /// Which pages are present.
+    ghost present: { Self → ℕ → Bool };
+
+    /// What a change leaves of all that this storage is lent from.
+    ghost Keeps: { Self → Self → Type 0 };
+
+    /// How many bytes there are.
+    fn size(&self) -> u32
+        ensures bytes { result ≡ length (bytes self.now) }
+        ensures keyed { length (bytes self.now) ≤ 2048 * length (keys self.now) };
+
+    /// Tests an access to at most 256 bytes, with this protection key.
+    fn check(&self, range: Range, access: Access, key: u8) -> Result<(), Fault>
+        requires { range.count ≤ 256 }
+        ensures { IsVerdict (length (bytes self.now)) (keys self.now) (present self.now) key (tested access range ∷ []) result };
+
+    /// Copies at most 256 bytes out, which `check` has granted.
+    fn load(&self, start: u32, into: &mut [u8])
+        requires granted { IsGranted (length (bytes self.now)) (present self.now) start (length into.old) }
+        requires short { length into.old ≤ 256 }
+        ensures { into.new ≡ slice_range (bytes self.now) start (start + length into.old) };
+
+    /// Copies at most 256 bytes in, which `check` has granted.
+    fn store(&mut self, start: u32, from: &[u8])
+        requires granted { IsGranted (length (bytes self.old)) (present self.old) start (length from.now) }
+        requires short { length from.now ≤ 256 }
+        ensures bytes { bytes self.new ≡ put (bytes self.old) start from.now }
+        ensures size { length (bytes self.new) ≡ length (bytes self.old) }
+        ensures keys { keys self.new ≡ keys self.old }
+        ensures present { present self.new ≡ present self.old }
+        ensures rest { Keeps self.old self.new };
+
+    /// All is kept where nothing changes.
+    ghost keeps_same: { (s : Self) → Keeps s s };
+
+    /// What is kept twice is kept.
+    ghost keeps_on: { (s t u : Self) → Keeps s t → Keeps t u → Keeps s u };
+}
+
+/// A storage whose keys can be read and set one by one.
+pub trait Keyed: Storage {
+    /// The key in storage of a block of 2048 bytes.
+    fn key_of(&self, block: u32) -> u8
+        requires { block < length (Self.keys self.now) }
+        ensures { result ≡ slice_index (Self.keys self.now) block };
+
+    /// Sets the key in storage of a block: four bits of access control and a last bit of fetch protection.
+    fn set_key(&mut self, block: u32, key: u8)
+        requires block { block < length (Self.keys self.old) }
+        requires five_bits { key < 32 }
+        ensures bytes { Self.bytes self.new ≡ Self.bytes self.old }
+        ensures keys { Self.keys self.new ≡ slice_set (Self.keys self.old) block key }
+        ensures present { Self.present self.new ≡ Self.present self.old }
+        ensures rest { Self.Keeps self.old self.new };
+}

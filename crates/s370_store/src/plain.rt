@@ -1,0 +1,91 @@
+//! A storage that is all there: what a bare machine has.
+ghost use Rattle.std.specs.Prelude.{◌≡◌, ℕ, ◌+◌, ◌*◌, ◌<◌, ◌≤◌, ◌/◌, List, Bool, true, length, replicate, IfOk, vec_len};
+
+use crate::place::put_at;
+use crate::protection::{Listed, test_range};
+use crate::{Access, Fault, Keyed, Range, Storage};
+use std::alloc::{AllocError, Global};
+
+/// A storage whose pages are all present: up to 4 MiB of bytes, and a key for each 2048 of them.
+///
+/// `PlainStorage::new(alloc, 32)?` is a storage of 64 KiB.
+#[derive(Drop)]
+pub struct PlainStorage {
+    bytes: Vec<u8>,
+    keys: Vec<u8>,
+    ghost at_most_4_mib: { length bytes.items ≤ 4194304 },
+    ghost a_key_a_block: { length bytes.items ≡ 2048 * length keys.items },
+}
+
+impl PlainStorage {
+    ghost use Rattle.s370_store.specs.Plain.{plain_bytes, plain_keys};
+
+    /// A storage of this many blocks of 2048 bytes, all zero, with keys that are all zero.
+    pub fn new(alloc: Global, blocks: u32) -> Result<PlainStorage, AllocError>
+        requires { blocks ≤ 2048 }
+        ensures bytes { IfOk result (λ s. plain_bytes s ≡ replicate (2048 * blocks) 0) }
+        ensures keys { IfOk result (λ s. plain_keys s ≡ replicate blocks 0) }
+    {
+        let bytes = vec![in alloc; 0u8; 2048 * blocks as usize]?;
+        let keys = vec![in alloc; 0u8; blocks as usize]?;
+        Ok(PlainStorage { bytes, keys })
+    }
+
+    /// All its bytes.
+    pub fn bytes(&self) -> &[u8]
+        ensures { result.now ≡ plain_bytes self.now }
+    {
+        &self.bytes
+    }
+}
+
+impl Storage for PlainStorage {
+    ghost use Rattle.s370_store.specs.Plain.{plain_bytes, plain_keys};
+
+    ghost bytes = { plain_bytes };
+
+    ghost keys = { plain_keys };
+
+    ghost present = { λ _ _. true };
+
+    ghost Keeps = { λ _ _. Unit {0} };
+
+    #[inline(always)]
+    fn size(&self) -> u32 {
+        self.bytes.len() as u32
+    }
+
+    #[inline(always)]
+    fn check(&self, range: Range, access: Access, key: u8) -> Result<(), Fault> {
+        let keys = Listed { keys: &self.keys };
+        test_range(self.bytes.len() as u32, &keys, range, access, key)
+    }
+
+    #[inline(always)]
+    fn load(&self, start: u32, into: &mut [u8]) {
+        let first = start as usize;
+        let end = first + into.len();
+        into.copy_from_slice(&self.bytes[first..end]);
+    }
+
+    #[inline(always)]
+    fn store(&mut self, start: u32, from: &[u8]) {
+        put_at(&mut self.bytes, start as usize, from);
+    }
+
+    ghost keeps_same = { λ s. tt };
+
+    ghost keeps_on = { λ s t u a b. tt };
+}
+
+impl Keyed for PlainStorage {
+    #[inline]
+    fn key_of(&self, block: u32) -> u8 {
+        self.keys[block as usize]
+    }
+
+    #[inline]
+    fn set_key(&mut self, block: u32, key: u8) {
+        self.keys[block as usize] = key;
+    }
+}

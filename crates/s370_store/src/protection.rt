@@ -1,0 +1,104 @@
+//! The test of an access by size and keys, the one that each storage makes (GA22-7000, "Protection").
+ghost use Rattle.std.specs.Prelude.{◌≡◌, ◌+◌, ◌*◌, ◌<◌, ◌≤◌, [], ◌∷◌, true, length, slice_index, ℕ, List, replicate};
+ghost use Rattle.s370_store.specs.Access.{IsVerdict, tested, is_passed};
+
+use crate::{Access, Fault, Range};
+
+/// Whether an access with this protection key passes a block with this key in storage.
+#[inline(always)]
+#[tactic(auto, unfolding(crate::specs::Access::is_passed))]
+fn passes(access: Access, key: u8, block: u8) -> bool
+    ensures { result ≡ is_passed access key block }
+{
+    match access {
+        Access::Fetch => key == 0 || key == block / 2 || block % 2 == 0,
+        Access::Store => key == 0 || key == block / 2,
+    }
+}
+
+/// Keys in storage that can be looked up, however they are kept.
+pub trait Keyring {
+    /// The key of each block of 2048 bytes.
+    ghost of_blocks: { Self → List ℕ };
+
+    /// The key of one block.
+    fn key_at(&self, block: u32) -> u8
+        requires { block < length (of_blocks self.now) }
+        ensures { result ≡ slice_index (of_blocks self.now) block };
+}
+
+/// Keys in a list.
+#[derive(Clone, Copy)]
+pub struct Listed<'a> {
+    /// A key for each block.
+    pub keys: &'a [u8],
+}
+
+impl<'a> Keyring for Listed<'a> {
+    ghost of_blocks = { λ l. l.keys.now };
+
+    #[inline(always)]
+    fn key_at(&self, block: u32) -> u8 {
+        self.keys[block as usize]
+    }
+}
+
+/// The key zero for each block: every key fetches, and none but zero stores.
+#[derive(Clone, Copy)]
+pub struct Open {
+    /// How many blocks there are.
+    pub blocks: u32,
+}
+
+impl Keyring for Open {
+    ghost of_blocks = { λ o. replicate o.blocks 0 };
+
+    #[inline(always)]
+    fn key_at(&self, _block: u32) -> u8 {
+        0
+    }
+}
+
+/// Whether an access with this protection key passes this block.
+#[inline(always)]
+fn block_passes<K: Keyring>(keys: &K, block: u32, access: Access, key: u8) -> bool
+    requires { block < length (K.of_blocks keys.now) }
+    ensures { result ≡ is_passed access key (slice_index (K.of_blocks keys.now) block) }
+{
+    passes(access, key, keys.key_at(block))
+}
+
+/// The test of an access to one range by size and keys, as if every page were present.
+///
+/// A body's own `check` makes it first, and then looks for the pages. At most 256 bytes lie in one block or in two that
+/// follow one another, so the keys of the first byte and of the last decide.
+#[inline(always)]
+pub fn test_range<K: Keyring>(
+    size: u32,
+    keys: &K,
+    range: Range,
+    access: Access,
+    key: u8,
+) -> Result<(), Fault>
+    requires keyed { size ≤ 2048 * length (K.of_blocks keys.now) }
+    requires short { range.count ≤ 256 }
+    ensures { IsVerdict size (K.of_blocks keys.now) (λ _. true) key (tested access range ∷ []) result }
+{
+    let Range { start, count } = range;
+    if count == 0 {
+        return Ok(());
+    }
+    if start as u64 + count as u64 > size as u64 {
+        return Err(Fault::Addressing);
+    }
+    if key == 0 {
+        return Ok(());
+    }
+    if !block_passes(keys, start / 2048, access, key) {
+        return Err(Fault::Protection);
+    }
+    if !block_passes(keys, (start + (count - 1)) / 2048, access, key) {
+        return Err(Fault::Protection);
+    }
+    Ok(())
+}

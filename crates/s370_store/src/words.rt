@@ -1,0 +1,145 @@
+//! Bytes, halfwords, words and doublewords of any storage, and the test of two ranges.
+//!
+//! Numbers stand in storage with their leftmost byte first (GA22-7000, "Information Formats"). Each of these is one
+//! `load` or `store`, so what they require is that `check` granted the range.
+ghost use Rattle.std.specs.Prelude.{◌≡◌, ℕ, ◌+◌, ◌*◌, ◌<◌, ◌≤◌, [], ◌∷◌, length, slice_index, slice_range};
+ghost use Rattle.std.specs.Int.{w16, w32, w64, from_be_bytes, to_be_bytes};
+ghost use Rattle.s370_store.specs.Access.{tested, IsVerdict, join_of, IsGranted, put};
+
+use crate::{Access, Fault, Range, Storage};
+
+/// The byte at an address.
+#[inline(always)]
+pub fn load_byte<S: Storage>(storage: &S, start: u32) -> u8
+    requires { IsGranted (length (S.bytes storage.now)) (S.present storage.now) start 1 }
+    ensures { result ≡ slice_index (S.bytes storage.now) start }
+{
+    let mut into = [0u8; 1];
+    storage.load(start, &mut into);
+    into[0]
+}
+
+/// The halfword from an address on.
+#[inline(always)]
+pub fn load_halfword<S: Storage>(storage: &S, start: u32) -> u16
+    requires { IsGranted (length (S.bytes storage.now)) (S.present storage.now) start 2 }
+    ensures { result ≡ from_be_bytes w16 (slice_range (S.bytes storage.now) start (start + 2)) }
+{
+    let mut into = [0u8; 2];
+    storage.load(start, &mut into);
+    u16::from_be_bytes(into)
+}
+
+/// The word from an address on.
+#[inline(always)]
+pub fn load_word<S: Storage>(storage: &S, start: u32) -> u32
+    requires { IsGranted (length (S.bytes storage.now)) (S.present storage.now) start 4 }
+    ensures { result ≡ from_be_bytes w32 (slice_range (S.bytes storage.now) start (start + 4)) }
+{
+    let mut into = [0u8; 4];
+    storage.load(start, &mut into);
+    u32::from_be_bytes(into)
+}
+
+/// The doubleword from an address on.
+#[inline(always)]
+pub fn load_doubleword<S: Storage>(storage: &S, start: u32) -> u64
+    requires { IsGranted (length (S.bytes storage.now)) (S.present storage.now) start 8 }
+    ensures { result ≡ from_be_bytes w64 (slice_range (S.bytes storage.now) start (start + 8)) }
+{
+    let mut into = [0u8; 8];
+    storage.load(start, &mut into);
+    u64::from_be_bytes(into)
+}
+
+/// Stores a byte at an address.
+#[inline(always)]
+pub fn store_byte<S: Storage>(storage: &mut S, start: u32, byte: u8)
+    requires { IsGranted (length (S.bytes storage.old)) (S.present storage.old) start 1 }
+    ensures bytes { S.bytes storage.new ≡ put (S.bytes storage.old) start (byte ∷ []) }
+    ensures size { length (S.bytes storage.new) ≡ length (S.bytes storage.old) }
+    ensures keys { S.keys storage.new ≡ S.keys storage.old }
+    ensures present { S.present storage.new ≡ S.present storage.old }
+    ensures rest { S.Keeps storage.old storage.new }
+{
+    storage.store(start, &[byte]);
+}
+
+/// Stores a halfword from an address on.
+#[inline(always)]
+pub fn store_halfword<S: Storage>(storage: &mut S, start: u32, halfword: u16)
+    requires { IsGranted (length (S.bytes storage.old)) (S.present storage.old) start 2 }
+    ensures bytes { S.bytes storage.new ≡ put (S.bytes storage.old) start (to_be_bytes w16 halfword) }
+    ensures size { length (S.bytes storage.new) ≡ length (S.bytes storage.old) }
+    ensures keys { S.keys storage.new ≡ S.keys storage.old }
+    ensures present { S.present storage.new ≡ S.present storage.old }
+    ensures rest { S.Keeps storage.old storage.new }
+{
+    storage.store(start, &halfword.to_be_bytes());
+}
+
+/// Stores a word from an address on.
+#[inline(always)]
+pub fn store_word<S: Storage>(storage: &mut S, start: u32, word: u32)
+    requires { IsGranted (length (S.bytes storage.old)) (S.present storage.old) start 4 }
+    ensures bytes { S.bytes storage.new ≡ put (S.bytes storage.old) start (to_be_bytes w32 word) }
+    ensures size { length (S.bytes storage.new) ≡ length (S.bytes storage.old) }
+    ensures keys { S.keys storage.new ≡ S.keys storage.old }
+    ensures present { S.present storage.new ≡ S.present storage.old }
+    ensures rest { S.Keeps storage.old storage.new }
+{
+    storage.store(start, &word.to_be_bytes());
+}
+
+/// Stores a doubleword from an address on.
+#[inline(always)]
+pub fn store_doubleword<S: Storage>(storage: &mut S, start: u32, doubleword: u64)
+    requires { IsGranted (length (S.bytes storage.old)) (S.present storage.old) start 8 }
+    ensures bytes { S.bytes storage.new ≡ put (S.bytes storage.old) start (to_be_bytes w64 doubleword) }
+    ensures size { length (S.bytes storage.new) ≡ length (S.bytes storage.old) }
+    ensures keys { S.keys storage.new ≡ S.keys storage.old }
+    ensures present { S.present storage.new ≡ S.present storage.old }
+    ensures rest { S.Keeps storage.old storage.new }
+{
+    storage.store(start, &doubleword.to_be_bytes());
+}
+
+/// Tests two accesses together, as an instruction with two operands has them tested: addressing of both, then
+/// protection of both, then whether their pages are present.
+#[inline(always)]
+pub fn check_two<S: Storage>(
+    storage: &S,
+    first: Range,
+    first_access: Access,
+    second: Range,
+    second_access: Access,
+    key: u8,
+) -> Result<(), Fault>
+    requires first { first.count ≤ 256 }
+    requires second { second.count ≤ 256 }
+    ensures { IsVerdict (length (S.bytes storage.now)) (S.keys storage.now) (S.present storage.now) key (tested first_access first ∷ tested second_access second ∷ []) result }
+{
+    let one = storage.check(first, first_access, key);
+    let other = storage.check(second, second_access, key);
+    join(one, other)
+}
+
+/// The answer of two checks together.
+#[inline(always)]
+fn join(first: Result<(), Fault>, second: Result<(), Fault>) -> Result<(), Fault>
+    ensures { result ≡ join_of first second }
+{
+    match first {
+        Ok(()) => second,
+        Err(Fault::Addressing) => Err(Fault::Addressing),
+        Err(Fault::Protection) => match second {
+            Err(Fault::Addressing) => second,
+            _ => first,
+        },
+        Err(Fault::Absent(_)) => match second {
+            Err(Fault::Addressing) => second,
+            Err(Fault::Protection) => second,
+            _ => first,
+        },
+    }
+}
