@@ -1,0 +1,5 @@
+pub mod Fetch
+pub mod Unit
+pub mod Opcodes
+pub mod Operands
+pub mod Table

@@ -1,0 +1,53 @@
+//! How a unit ends.
+ghost use Rattle.std.specs.Prelude.{◌≡◌, ℕ};
+ghost use Rattle.s370_cpu.specs.Unit.{stopped};
+
+use s370_num::Addr24;
+use s370_psw::{Ilc, ProgramCode};
+use s370_rows::{Cpu, Ending, Instruction, Refusal};
+use s370_store::Page;
+
+/// How a unit ends.
+#[derive(Clone, Copy, Debug, PartialEq, Eq)]
+pub enum Stop {
+    /// The instruction is done; the program status word has the address of the next one.
+    Done,
+    /// The program is interrupted with this code and instruction length. The program status word has the address that
+    /// the interruption stores.
+    Program(ProgramCode, Ilc),
+    /// The program called the supervisor with this number. The program status word has the next address.
+    Svc(u8, Ilc),
+    /// An instruction for the supervisor state only. It was fetched, and nothing is changed, the address neither.
+    Privileged(Instruction, Ilc),
+    /// The unit has to access this page, which is not present. Nothing is changed.
+    Absent(Page),
+}
+
+/// Sets the address that an instruction leaves, and tells how the unit ends.
+#[inline(always)]
+pub fn conclude(
+    cpu: &mut Cpu,
+    i: Instruction,
+    next: Addr24,
+    ilc: Ilc,
+    outcome: Result<Ending, Refusal>,
+) -> Stop
+    ensures { stopped outcome i next ilc cpu.old ≡ record { stop = result; cpu = cpu.new } }
+{
+    match outcome {
+        Ok(Ending::Done) => {
+            cpu.psw.set_address(next);
+            Stop::Done
+        }
+        Ok(Ending::SupervisorCall(number)) => {
+            cpu.psw.set_address(next);
+            Stop::Svc(number, ilc)
+        }
+        Ok(Ending::Privileged) => Stop::Privileged(i, ilc),
+        Err(Refusal::Program(code)) => {
+            cpu.psw.set_address(next);
+            Stop::Program(code, ilc)
+        }
+        Err(Refusal::Absent(page)) => Stop::Absent(page),
+    }
+}

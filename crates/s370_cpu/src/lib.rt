@@ -1,0 +1,18 @@
+//! The processor: one instruction, from its fetch to its end, over any storage.
+//!
+//! Its one theorem: [`step`] leaves the registers, the program status word, the bytes and the keys, and answers the
+//! stop, that the instruction table in `specs/` does (IBM System/370 Principles of Operation, GA22-7000); or it answers
+//! that a page is not present, which the instruction has to access, and has changed nothing. It is given the registers
+//! and a storage, and it takes no interruption: who calls it swaps the program status words, and does what only the
+//! supervisor state may.
+#![tactic(auto)]
+
+mod conclude;
+mod fetch;
+mod operands;
+mod table;
+mod unit;
+
+pub use conclude::Stop;
+pub use table::{Opcode, opcode_of};
+pub use unit::step;

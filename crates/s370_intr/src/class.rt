@@ -1,0 +1,44 @@
+//! The classes of interruptions.
+ghost use Rattle.std.specs.Prelude.{◌≡◌};
+ghost use Rattle.s370_intr.specs.Swap.{old_psw_of, new_psw_of};
+
+/// A class of interruptions: each has a place for the program status word that it stores, and one for the word that it
+/// loads (GA22-7000, "Assigned Storage Locations").
+#[derive(Clone, Copy, Debug, PartialEq, Eq)]
+pub enum Class {
+    External,
+    SupervisorCall,
+    Program,
+    MachineCheck,
+    InputOutput,
+}
+
+impl Class {
+    /// The address of the old program status word.
+    #[inline]
+    pub fn old_psw(self) -> u32
+        ensures { result ≡ old_psw_of self }
+    {
+        match self {
+            Class::External => 24,
+            Class::SupervisorCall => 32,
+            Class::Program => 40,
+            Class::MachineCheck => 48,
+            Class::InputOutput => 56,
+        }
+    }
+
+    /// The address of the new program status word.
+    #[inline]
+    pub fn new_psw(self) -> u32
+        ensures { result ≡ new_psw_of self }
+    {
+        match self {
+            Class::External => 88,
+            Class::SupervisorCall => 96,
+            Class::Program => 104,
+            Class::MachineCheck => 112,
+            Class::InputOutput => 120,
+        }
+    }
+}

@@ -1,0 +1,12 @@
+//! Interruptions: the swap of program status words.
+//!
+//! Its one theorem: [`swap`] stores the program status word of a processor, with an interruption code and an instruction
+//! length code, at the old location of its class, and loads the one at the new location; or it answers the page that is
+//! not present, and has changed nothing (IBM System/370 Principles of Operation, GA22-7000, "Interruptions").
+#![tactic(auto)]
+
+mod class;
+mod swap_words;
+
+pub use class::Class;
+pub use swap_words::swap;

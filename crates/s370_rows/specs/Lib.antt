@@ -1,0 +1,5 @@
+pub mod State
+pub mod Formats
+pub mod Arithmetic
+pub mod Registers
+pub mod Rows

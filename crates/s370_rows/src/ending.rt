@@ -1,0 +1,23 @@
+//! How an instruction ends, before the processor goes on.
+use s370_psw::ProgramCode;
+use s370_store::Page;
+
+/// How an instruction ended that was carried out.
+#[derive(Clone, Copy, Debug, PartialEq, Eq)]
+pub enum Ending {
+    /// The next instruction follows.
+    Done,
+    /// A supervisor call with this number; nothing else is done.
+    SupervisorCall(u8),
+    /// An instruction for the supervisor state, which is handed back with nothing done.
+    Privileged,
+}
+
+/// Why an instruction was not carried out. It changed nothing.
+#[derive(Clone, Copy, Debug, PartialEq, Eq)]
+pub enum Refusal {
+    /// It is suppressed by a program interruption.
+    Program(ProgramCode),
+    /// It needs this page, which is not present; nothing is decided before the page is brought.
+    Absent(Page),
+}
