@@ -11,9 +11,12 @@ ghost use Rattle.s370_num.specs.Host.{AppendsFront, Counts, ReadsFront};
 use std::alloc::{AllocError, Global};
 use thiserror::Error;
 
-pub mod counted;
+mod counted;
 pub mod failing;
-pub mod memory;
+mod memory;
+
+pub use counted::Counted;
+pub use memory::Bytes;
 
 /// Why a call of a host file failed.
 #[derive(Clone, Copy, Debug, PartialEq, Eq, Drop, Error)]
@@ -105,3 +108,6 @@ pub fn read_all<R: HostReader>(alloc: Global, reader: &mut R) -> Result<Vec<u8>,
         all.extend_from_slice(&buf[..count])?;
     }
 }
+
+#[cfg(test)]
+mod tests;
