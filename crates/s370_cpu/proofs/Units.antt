@@ -6,7 +6,7 @@ use Rattle.s370_store.specs.declared.Page.{Page}
 use Rattle.s370_rows.specs.declared.cpu.Cpu.{Cpu}
 use Rattle.s370_rows.specs.declared.instruction.Instruction.{Instruction}
 use Rattle.s370_rows.specs.declared.ending.Ending.{Ending}
-use Rattle.s370_rows.specs.declared.ending.Ending.TheVariants.{Done, SupervisorCall, Privileged as HandedBack}
+use Rattle.s370_rows.specs.declared.ending.Ending.TheVariants.{Done, Branch, SupervisorCall, Privileged as HandedBack}
 use Rattle.s370_rows.specs.declared.ending.Refusal.{Refusal}
 use Rattle.s370_rows.specs.declared.ending.Refusal.TheVariants.{Program as Suppressed, Absent as Missing}
 use Rattle.s370_rows.specs.State.{State}
@@ -41,8 +41,9 @@ fetch_misses rows m page present h =
     (refl, h.0, touches_unit rows m f.tests f.result page.0 h.1)
 
 -- a row that meets its definition, and is concluded, makes a unit that does
-concluded_meets : (ts : List Test) (r : Row) (present : ℕ → Bool) (m : State) (i : Instruction) (outcome : Result Ending Refusal) (m' : State) (next ilc : ℕ) → MeetsRow r present m outcome m' → (let s = stopped outcome i next ilc m'.cpu in MeetsUnit (record { tests = ts ++ r.tests; ran = concluded m i next ilc r.result }) present m s.stop (record m' { cpu = s.cpu }))
+pub concluded_meets : (ts : List Test) (r : Row) (present : ℕ → Bool) (m : State) (i : Instruction) (outcome : Result Ending Refusal) (m' : State) (next ilc : ℕ) → MeetsRow r present m outcome m' → (let s = stopped outcome i next ilc m'.cpu in MeetsUnit (record { tests = ts ++ r.tests; ran = concluded m i next ilc r.result }) present m s.stop (record m' { cpu = s.cpu }))
 concluded_meets ts r present m i (Ok Done) m' next ilc h = rw h
+concluded_meets ts r present m i (Ok (Branch a)) m' next ilc h = rw h
 concluded_meets ts r present m i (Ok (SupervisorCall n)) m' next ilc h = rw h
 concluded_meets ts r present m i (Ok HandedBack) m' next ilc h = rw h
 concluded_meets ts r present m i (Err (Suppressed code)) m' next ilc h = rw (h.0, h.1)

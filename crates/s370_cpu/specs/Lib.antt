@@ -3,3 +3,4 @@ pub mod Unit
 pub mod Opcodes
 pub mod Operands
 pub mod Table
+pub mod Control

@@ -4,7 +4,7 @@ use Rattle.s370_psw.specs.declared.ProgramCode.{ProgramCode}
 use Rattle.s370_store.specs.Access.{Test, Touches, IsAway}
 use Rattle.s370_rows.specs.declared.cpu.Cpu.{Cpu}
 use Rattle.s370_rows.specs.declared.ending.Ending.{Ending}
-use Rattle.s370_rows.specs.declared.ending.Ending.TheVariants.{Done, SupervisorCall, Privileged as HandedBack}
+use Rattle.s370_rows.specs.declared.ending.Ending.TheVariants.{Done, Branch, SupervisorCall, Privileged as HandedBack}
 use Rattle.s370_rows.specs.declared.ending.Refusal.{Refusal}
 use Rattle.s370_rows.specs.declared.ending.Refusal.TheVariants.{Program as Suppressed, Absent as Missing}
 use Rattle.s370_rows.specs.declared.instruction.Instruction.{Instruction}
@@ -37,9 +37,11 @@ at_address cpu a = record cpu { psw = record cpu.psw { address = a } }
 abbrev pub interrupted : ProgramCode → ℕ → ℕ → Cpu → Stopped
 interrupted code next ilc cpu = record { stop = Program code ilc; cpu = at_address cpu next }
 
--- an instruction that ends goes on to the next address; one that is handed back leaves the address
+-- an instruction that ends goes on to the next address, or to the one that it branches to; one that is handed back leaves
+-- the address
 abbrev pub ended : Ending → Instruction → ℕ → ℕ → Cpu → Stopped
 ended Done i next ilc cpu = record { stop = DoneStop; cpu = at_address cpu next }
+ended (Branch a) i next ilc cpu = record { stop = DoneStop; cpu = at_address cpu (a % 2 ^ 24) }
 ended (SupervisorCall n) i next ilc cpu = record { stop = Svc n ilc; cpu = at_address cpu next }
 ended HandedBack i next ilc cpu = record { stop = Privileged i ilc; cpu = cpu }
 

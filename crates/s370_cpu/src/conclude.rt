@@ -39,6 +39,10 @@ pub fn conclude(
             cpu.psw.set_address(next);
             Stop::Done
         }
+        Ok(Ending::Branch(address)) => {
+            cpu.psw.set_address(Addr24::wrapping(address));
+            Stop::Done
+        }
         Ok(Ending::SupervisorCall(number)) => {
             cpu.psw.set_address(next);
             Stop::Svc(number, ilc)

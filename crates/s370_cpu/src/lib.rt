@@ -3,16 +3,18 @@
 //! Its one theorem: [`step`] leaves the registers, the program status word, the bytes and the keys, and answers the
 //! stop, that the instruction table in `specs/` does (IBM System/370 Principles of Operation, GA22-7000); or it answers
 //! that a page is not present, which the instruction has to access, and has changed nothing. It is given the registers
-//! and a storage, and it takes no interruption: who calls it swaps the program status words, and does what only the
-//! supervisor state may.
+//! and a storage, and it takes no interruption: who calls it swaps the program status words, and goes on with an
+//! instruction for the supervisor state by [`supervise`], of which the same holds over the table of those.
 #![tactic(auto)]
 
 mod conclude;
+mod control;
 mod fetch;
 mod operands;
 mod table;
 mod unit;
 
 pub use conclude::Stop;
+pub use control::{Control, supervise};
 pub use table::{Opcode, opcode_of};
 pub use unit::step;

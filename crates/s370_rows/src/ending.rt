@@ -7,6 +7,8 @@ use s370_store::Page;
 pub enum Ending {
     /// The next instruction follows.
     Done,
+    /// The next instruction stands at this address, of which 24 bits count.
+    Branch(u32),
     /// A supervisor call with this number; nothing else is done.
     SupervisorCall(u8),
     /// An instruction for the supervisor state, which is handed back with nothing done.
