@@ -1,5 +1,5 @@
 //! One user's storage, lent from the frames.
-ghost use Rattle.std.specs.Prelude.{◌≡◌, ◌*◌, ◌<◌, ◌≤◌, length, IfOk, IfNone, OnOk, OnErr, All, IsSome, Some, None, false};
+ghost use Rattle.std.specs.Prelude.{◌≡◌, ◌*◌, ◌<◌, ◌≤◌, ◌↔◌, length, IfOk, IfSome, IfNone, OnOk, OnErr, All, IsSome, Some, None, false};
 ghost use Rattle.cp_frames.specs.Layout.{bytes_of, frame_of, number_of, free_count, IsBrought, IsZeroPage};
 
 use crate::{FrameNo, Frames, FramesOut, UserNo};
@@ -44,6 +44,17 @@ impl<'a> Dat<'a> {
         ensures zero { IfNone result (IsZeroPage (lent_bytes self.now) page.0) }
     {
         self.frames.frame_of(self.user, page)
+    }
+
+    /// The user's page that stands in a frame; None where no page does, or another user's.
+    pub fn page_in(&self, frame: FrameNo) -> Option<Page>
+        ensures once { (p : Page) → (result ≡ Some p) ↔ (frame_of self.now.frames.now.owners self.now.user.0 p.0 ≡ Some frame.0) }
+        ensures inside { IfSome result (λ p. p.0 * 4096 < length (lent_bytes self.now)) }
+    {
+        match self.frames.page_in(frame) {
+            Some(there) => if there.user.0 == self.user.0 { Some(there.page) } else { None },
+            None => None,
+        }
     }
 
     /// Brings a page into a frame, where it stands in none. No byte of any user changes.

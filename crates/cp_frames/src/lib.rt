@@ -22,6 +22,8 @@ mod numbers;
 mod owners;
 mod pool;
 mod table;
+#[cfg(test)]
+mod tests;
 
 pub use dat::Dat;
 pub use numbers::{FRAME_SIZE, FrameNo, FramesOut, UserNo, UserPage};

@@ -9,17 +9,24 @@
 //! control program has bodies of its own, lent from the frames that its users share.
 #![tactic(auto)]
 
+#[cfg(test)]
+mod examples;
+mod paged;
 mod place;
 mod plain;
 mod protection;
+#[cfg(test)]
+mod tests;
 mod words;
 
 ghost use Rattle.std.specs.Prelude.{◌≡◌, ℕ, ◌+◌, ◌*◌, ◌<◌, ◌≤◌, List, [], ◌∷◌, Bool, length, slice_index, slice_range, slice_set};
 ghost use Rattle.s370_store.specs.Access.{tested, IsVerdict, IsGranted, put};
 
+pub use paged::PagedStorage;
 pub use place::put_at;
 pub use plain::PlainStorage;
 pub use protection::{Keyring, Listed, Open, test_range};
+use thiserror::Error;
 pub use words::{
     check_two, load_byte, load_doubleword, load_halfword, load_word, store_byte, store_doubleword,
     store_halfword, store_word,
@@ -47,13 +54,16 @@ pub struct Page(pub u32);
 ///
 /// The first two are the architecture's exceptions of these names (GA22-7000, "Program Interruption"). A page that is
 /// absent is no exception: whoever lends the storage brings the page, and the access is made again.
-#[derive(Clone, Copy, Debug, PartialEq, Eq)]
+#[derive(Clone, Copy, Debug, PartialEq, Eq, Error)]
 pub enum Fault {
     /// A byte lies beyond the storage.
+    #[error("addressing exception")]
     Addressing,
     /// The key of a byte's block does not let the access pass.
+    #[error("protection exception")]
     Protection,
     /// Size and keys let the access pass, and this page of it is not present.
+    #[error("page {} is absent", .0.0)]
     Absent(Page),
 }
 

@@ -3,7 +3,7 @@ ghost use Rattle.std.specs.Prelude.{◌≡◌, ◌+◌, ◌≤◌, length};
 ghost use Rattle.s370_store.specs.Access.{put};
 
 /// Writes bytes from a place on.
-#[inline]
+#[inline(always)]
 #[tactic(auto, unfolding(crate::specs::Access::put))]
 pub fn put_at(bytes: &mut [u8], start: usize, from: &[u8])
     requires { start + length from.now ≤ length bytes.old }

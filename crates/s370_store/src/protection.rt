@@ -4,10 +4,10 @@ ghost use Rattle.s370_store.specs.Access.{IsVerdict, tested, is_passed};
 
 use crate::{Access, Fault, Range};
 
-/// Whether a PSW key lets an access to a block with this key pass.
-#[inline]
+/// Whether an access with this protection key passes a block with this key in storage.
+#[inline(always)]
 #[tactic(auto, unfolding(crate::specs::Access::is_passed))]
-pub fn passes(access: Access, key: u8, block: u8) -> bool
+fn passes(access: Access, key: u8, block: u8) -> bool
     ensures { result ≡ is_passed access key block }
 {
     match access {
@@ -16,11 +16,12 @@ pub fn passes(access: Access, key: u8, block: u8) -> bool
     }
 }
 
-/// Keys that can be looked up, however they are kept.
+/// Keys in storage that can be looked up, however they are kept.
 pub trait Keyring {
-    /// The key of each block.
+    /// The key of each block of 2048 bytes.
     ghost of_blocks: { Self → List ℕ };
 
+    /// The key of one block.
     fn key_at(&self, block: u32) -> u8
         requires { block < length (of_blocks self.now) }
         ensures { result ≡ slice_index (of_blocks self.now) block };
@@ -29,6 +30,7 @@ pub trait Keyring {
 /// Keys in a list.
 #[derive(Clone, Copy)]
 pub struct Listed<'a> {
+    /// A key for each block.
     pub keys: &'a [u8],
 }
 
@@ -44,6 +46,7 @@ impl<'a> Keyring for Listed<'a> {
 /// The key zero for each block: every key fetches, and none but zero stores.
 #[derive(Clone, Copy)]
 pub struct Open {
+    /// How many blocks there are.
     pub blocks: u32,
 }
 
@@ -56,6 +59,7 @@ impl Keyring for Open {
     }
 }
 
+/// Whether an access with this protection key passes this block.
 #[inline(always)]
 fn block_passes<K: Keyring>(keys: &K, block: u32, access: Access, key: u8) -> bool
     requires { block < length (K.of_blocks keys.now) }
@@ -64,7 +68,10 @@ fn block_passes<K: Keyring>(keys: &K, block: u32, access: Access, key: u8) -> bo
     passes(access, key, keys.key_at(block))
 }
 
-/// The test of one range where every page is present.
+/// The test of an access to one range by size and keys, as if every page were present.
+///
+/// A body's own `check` makes it first, and then looks for the pages. At most 256 bytes lie in one block or in two that
+/// follow one another, so the keys of the first byte and of the last decide.
 #[inline(always)]
 pub fn test_range<K: Keyring>(
     size: u32,

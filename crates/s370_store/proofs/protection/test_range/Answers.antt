@@ -1,6 +1,6 @@
 use Rattle.std.proofs.Common.{arith, refl, ◌≡◌, true, false, ◌+◌, ◌-◌, ◌/◌, get_or, add-zero}
 use Rattle.s370_store.specs.Access.{is_passed}
-use Rattle.s370_store.proofs.Tests.{one_fine, one_beyond, one_forbidden, inside, empty_inside, beyond, permitted_is, key_zero_permits, ends_permit, forbids}
+use Rattle.s370_store.proofs.Verdicts.{one_fine, one_beyond, one_forbidden, inside, empty_inside, beyond, permitted_is, key_zero_permits, ends_permit, forbids}
 use Rattle.s370_store.proofs.protection.test_range.Goals as goal
 
 pub returns-then-count-eq0 : goal.returns-then-count-eq0

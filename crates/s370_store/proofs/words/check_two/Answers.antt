@@ -1,4 +1,4 @@
-use Rattle.s370_store.proofs.Tests.{joined}
+use Rattle.s370_store.proofs.Verdicts.{joined}
 use Rattle.s370_store.proofs.words.check_two.Goals as goal
 
 pub returns : goal.returns
