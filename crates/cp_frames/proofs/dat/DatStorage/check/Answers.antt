@@ -1,6 +1,6 @@
 use Rattle.std.proofs.Common.{rules, arith, ◌≡◌, ◌+◌, ◌-◌, ◌/◌, true, ◌∙◌, sym, ap, false, length, Option, ℕ}
 use Rattle.std.specs.Prelude.{is_some}
-use Rattle.s370_store.proofs.Tests.{ends_here}
+use Rattle.s370_store.proofs.Verdicts.{ends_here}
 use Rattle.cp_frames.specs.Lent.{is_lent_page}
 use Rattle.cp_frames.proofs.dat.DatStorage.check.Goals as goal
 
