@@ -1,0 +1,15 @@
+use Rattle.std.proofs.Common.{◌≡◌, length, sym}
+use Rattle.cp_frames.proofs.Layouts.{whole-cleared, storages-cleared, length-bytes_of}
+use Rattle.cp_frames.proofs.Tables.{tabled-cleared}
+use Rattle.cp_frames.proofs.pool.Frames.release.Goals as goal
+
+pub invariant_of-self : goal.invariant_of-self
+invariant_of-self c = rw c.give_back.ensures (record {
+  whole = whole-cleared c.self.inside.frames.items c.self.inside.owners.items c.self.inside.sizes.items c.args.user.0 c.self.invariant.whole;
+  tabled = tabled-cleared c.self.inside.owners.items c.self.inside.sizes.items c.self.inside.table.items c.forget.new.table.items c.args.user.0 c.self.invariant.tabled c.forget.ensures.size c.forget.ensures.own c.forget.ensures.others;
+})
+
+pub returns-clause-storages : goal.returns-clause-storages
+returns-clause-storages c =
+    let long = length-bytes_of c.self.inside.frames.items c.self.inside.owners.items c.self.inside.sizes.items c.args.user.0 in
+    rw (c.give_back.ensures, ← c.self.view_is, long) (storages-cleared c.self.inside.frames.items c.self.inside.owners.items c.self.inside.sizes.items c.args.user.0)

@@ -1,0 +1,57 @@
+//! Which page stands in each frame.
+ghost use Rattle.std.specs.Prelude.{◌≡◌, ◌<◌, Some, None, false, length, slice_index_or, IsSome, IfOk, IfSome, IfNone, All, replicate};
+ghost use Rattle.cp_frames.specs.Layout.{without, cleared_of};
+
+use crate::{UserNo, UserPage};
+use std::alloc::{AllocError, Global};
+
+/// So many frames with no page in them.
+pub fn free_frames(alloc: Global, count: usize) -> Result<Vec<Option<UserPage>>, AllocError>
+    ensures { IfOk result (λ owners. owners.items ≡ replicate count None) }
+{
+    Ok(vec![in alloc; None; count]?)
+}
+
+/// So many frames that are not pinned.
+pub fn no_pins(alloc: Global, count: usize) -> Result<Vec<bool>, AllocError>
+    ensures { IfOk result (λ pins. pins.items ≡ replicate count false) }
+{
+    Ok(vec![in alloc; false; count]?)
+}
+
+/// A frame with no page in it.
+pub fn first_free(owners: &[Option<UserPage>]) -> Option<usize>
+    ensures within { IfSome result (λ frame. frame < length owners.now) }
+    ensures free { IfSome result (λ frame. slice_index_or owners.now frame None ≡ None) }
+    ensures none { IfNone result (All IsSome owners.now) }
+{
+    for (frame, owner) in owners.iter().enumerate() {
+        if owner.is_none() {
+            return Some(frame);
+        }
+    }
+    None
+}
+
+/// Takes each page of a user out of its frame.
+pub fn give_back(owners: &mut Vec<Option<UserPage>>, user: UserNo)
+    ensures { owners.new.items ≡ cleared_of user.0 owners.old.items }
+{
+    for owner in owners.iter_mut() {
+        *owner = kept(*owner, user);
+    }
+}
+
+/// What is left in a frame when a user leaves.
+fn kept(owner: Option<UserPage>, user: UserNo) -> Option<UserPage>
+    ensures { result ≡ without user.0 owner }
+{
+    match owner {
+        Some(there) => if there.user.0 == user.0 {
+            None
+        } else {
+            Some(there)
+        },
+        None => None,
+    }
+}

@@ -1,0 +1,301 @@
+//! The frames with what stands in them.
+ghost use Rattle.std.specs.Prelude.{◌≡◌, ℕ, ◌+◌, ◌-◌, ◌*◌, ◌/◌, ◌%◌, ◌<◌, ◌≤◌, ◌↔◌, Option, Some, None, true, false, map, length, slice_index_or, slice_set, slice_get, slice_range, IsSome, IfOk, OnOk, OnErr, IfSome, IfNone, All, replicate};
+ghost use Rattle.s370_store.specs.Access.{put, IsGranted};
+ghost use Rattle.cp_frames.specs.Layout.{frame_of, number_of, is_there, IsBrought, IsZeroPage, cleared_of, free_count};
+
+use crate::frame::{blank_frames, clear, copy_in, copy_out};
+use crate::owners::{first_free, free_frames, give_back, no_pins};
+use crate::table::{NOWHERE, SLOTS, empty_table, forget};
+use crate::{FRAME_SIZE, FrameNo, FramesOut, UserNo, UserPage};
+use s370_store::Page;
+use std::alloc::{AllocError, Global};
+use std::marker::Model;
+
+/// All frames of real storage, and which page of which user stands in each.
+///
+/// A page that stands in no frame is all zero. A pin is a mark on a frame that only [`Frames::pin`] and
+/// [`Frames::unpin`] change: the page in a pinned frame is not to be given up for another.
+#[derive(Drop)]
+pub struct Frames {
+    frames: Vec<[u8; FRAME_SIZE]>,
+    owners: Vec<Option<UserPage>>,
+    pins: Vec<bool>,
+    sizes: Vec<u32>,
+    table: Vec<u16>,
+}
+
+impl Model for Frames {
+    ghost use Rattle.cp_frames.specs.Layout.{Pool, storages_of, IsSound};
+
+    ghost Value = { Pool };
+
+    ghost view = { λ f. record { storages = storages_of f.frames.items f.owners.items f.sizes.items; owners = f.owners.items; pins = f.pins.items } };
+
+    ghost invariant = { λ f. IsSound f.frames.items f.owners.items f.sizes.items f.table.items };
+}
+
+impl Frames {
+    ghost use Rattle.cp_frames.specs.Layout.{bytes_of};
+    ghost use Rattle.std.specs.Borrow.{sem};
+    ghost use Rattle.cp_frames.specs.Lending.{LendsFrame};
+
+    /// So many free frames, and a storage of zeros for each user, whose pages are counted in `sizes`.
+    pub fn new(alloc: Global, frames: u16, sizes: Vec<u32>) -> Result<Frames, AllocError>
+        requires frames { frames ≤ 4096 }
+        requires users { length sizes.items ≤ 64 }
+        requires pages { All (λ pages. pages ≤ 1024) sizes.items }
+        ensures owners { IfOk result (λ made. made.owners ≡ replicate frames None) }
+        ensures pins { IfOk result (λ made. made.pins ≡ replicate frames false) }
+        ensures storages { IfOk result (λ made. made.storages ≡ map (λ pages. replicate (pages * 4096) 0) sizes.items) }
+    {
+        let count = usize::from(frames);
+        let slots = SLOTS * sizes.len();
+        let owners = free_frames(alloc, count)?;
+        let pins = no_pins(alloc, count)?;
+        let frames = blank_frames(alloc, count)?;
+        let table = empty_table(alloc, slots)?;
+        Ok(Frames {
+            frames,
+            owners,
+            pins,
+            sizes,
+            table,
+        })
+    }
+
+    /// How many bytes a user has: none where there is no such user.
+    pub fn size(&self, user: UserNo) -> u32
+        ensures { result ≡ length (bytes_of self.now user.0) }
+    {
+        let user = user.0 as usize;
+        if user < self.sizes.len() {
+            self.sizes[user] * 4096
+        } else {
+            0
+        }
+    }
+
+    /// The frame in which a page of a user stands. A page that stands in none is all zero.
+    #[inline(always)]
+    pub fn frame_of(&self, user: UserNo, page: Page) -> Option<FrameNo>
+        requires { page.0 * 4096 < length (bytes_of self.now user.0) }
+        ensures frame { number_of result ≡ frame_of self.now.owners user.0 page.0 }
+        ensures zero { IfNone result (IsZeroPage (bytes_of self.now user.0) page.0) }
+    {
+        let slot = self.table[user.0 as usize * SLOTS + page.0 as usize];
+        if slot == NOWHERE {
+            None
+        } else {
+            Some(FrameNo(slot))
+        }
+    }
+
+    /// The page that stands in a frame.
+    pub fn page_in(&self, frame: FrameNo) -> Option<UserPage>
+        ensures page { result ≡ slice_index_or self.now.owners frame.0 None }
+        ensures once { (p : UserPage) → (result ≡ Some p) ↔ (frame_of self.now.owners p.user.0 p.page.0 ≡ Some frame.0) }
+        ensures inside { IfSome result (λ p. p.page.0 * 4096 < length (bytes_of self.now p.user.0)) }
+    {
+        let frame = frame.0 as usize;
+        if frame < self.owners.len() {
+            self.owners[frame]
+        } else {
+            None
+        }
+    }
+
+    /// Brings a page into a frame, where it stands in none. No byte of any user changes.
+    pub fn bring(&mut self, user: UserNo, page: Page) -> Result<FrameNo, FramesOut>
+        requires { page.0 * 4096 < length (bytes_of self.old user.0) }
+        ensures storages { self.new.storages ≡ self.old.storages }
+        ensures pins { self.new.pins ≡ self.old.pins }
+        ensures there { IfOk result (λ frame. frame_of self.new.owners user.0 page.0 ≡ Some frame.0) }
+        ensures brought { IfOk result (λ frame. IsBrought self.old.owners self.new.owners user.0 page.0 frame.0) }
+        ensures fewer { frame_of self.old.owners user.0 page.0 ≡ None → OnOk result (free_count self.new.owners < free_count self.old.owners) }
+        ensures refused { OnErr result (All IsSome self.old.owners) }
+        ensures absent { OnErr result (frame_of self.old.owners user.0 page.0 ≡ None) }
+        ensures err { OnErr result (self.new ≡ self.old) }
+    {
+        match self.frame_of(user, page) {
+            Some(frame) => return Ok(frame),
+            None => {}
+        }
+        let frame = match first_free(&self.owners) {
+            Some(frame) => frame,
+            None => return Err(FramesOut),
+        };
+        clear(&mut self.frames[frame]);
+        self.owners[frame] = Some(UserPage { user, page });
+        self.table[user.0 as usize * SLOTS + page.0 as usize] = frame as u16;
+        Ok(FrameNo(frame as u16))
+    }
+
+    /// Marks a frame: the page in it is not to be given up for another. Nothing is done past the frames.
+    pub fn pin(&mut self, frame: FrameNo)
+        ensures pins { self.new.pins ≡ slice_set self.old.pins frame.0 true }
+        ensures storages { self.new.storages ≡ self.old.storages }
+        ensures owners { self.new.owners ≡ self.old.owners }
+    {
+        let frame = frame.0 as usize;
+        if frame < self.pins.len() {
+            self.pins[frame] = true;
+        }
+    }
+
+    /// Takes the mark from a frame. Nothing is done past the frames.
+    pub fn unpin(&mut self, frame: FrameNo)
+        ensures pins { self.new.pins ≡ slice_set self.old.pins frame.0 false }
+        ensures storages { self.new.storages ≡ self.old.storages }
+        ensures owners { self.new.owners ≡ self.old.owners }
+    {
+        let frame = frame.0 as usize;
+        if frame < self.pins.len() {
+            self.pins[frame] = false;
+        }
+    }
+
+    /// Whether a frame is pinned.
+    pub fn is_pinned(&self, frame: FrameNo) -> bool
+        ensures { result ≡ slice_index_or self.now.pins frame.0 false }
+    {
+        let frame = frame.0 as usize;
+        if frame < self.pins.len() {
+            self.pins[frame]
+        } else {
+            false
+        }
+    }
+
+    /// Takes all pages of a user out of their frames, after which his storage is all zero.
+    pub fn release(&mut self, user: UserNo)
+        ensures storages { self.new.storages ≡ slice_set self.old.storages user.0 (replicate (length (bytes_of self.old user.0)) 0) }
+        ensures owners { self.new.owners ≡ cleared_of user.0 self.old.owners }
+        ensures pins { self.new.pins ≡ self.old.pins }
+    {
+        give_back(&mut self.owners, user);
+        forget(&mut self.table, user.0 as usize);
+    }
+
+    /// A frame's bytes; None past the frames. What is written there is from then on the content of the page in the frame.
+    pub fn frame_mut(&mut self, frame: FrameNo) -> Option<&mut [u8; FRAME_SIZE]>
+        ensures* writes_back { sem 𝓛 (LendsFrame self.entry frame.0 result) }
+        ensures some { IsSome result ↔ (frame.0 < length self.old.owners) }
+    {
+        self.frames.get_mut(frame.0 as usize)
+    }
+
+    /// A byte of a user's storage, wherever its page stands; None past his storage.
+    pub fn byte(&self, user: UserNo, address: u32) -> Option<u8>
+        ensures { result ≡ slice_get (bytes_of self.now user.0) address }
+    {
+        if address >= self.size(user) {
+            return None;
+        }
+        match self.frame_of(user, Page(address / 4096)) {
+            Some(frame) => Some(self.frames[frame.0 as usize][(address % 4096) as usize]),
+            None => Some(0),
+        }
+    }
+
+    /// Copies bytes of a user out, whose pages stand in frames.
+    #[inline(always)]
+    pub fn load(&self, user: UserNo, start: u32, into: &mut [u8])
+        requires granted { IsGranted (length (bytes_of self.now user.0)) (is_there self.now.owners user.0) start (length into.old) }
+        requires short { length into.old ≤ 256 }
+        ensures { into.new ≡ slice_range (bytes_of self.now user.0) start (start + length into.old) }
+    {
+        if into.is_empty() {
+            return;
+        }
+        if into.len() <= 4096 - start as usize % 4096 {
+            self.load_part(user, start, into);
+        } else {
+            self.load_across(user, start, into);
+        }
+    }
+
+    /// Copies bytes of one page out.
+    #[inline(always)]
+    fn load_part(&self, user: UserNo, start: u32, into: &mut [u8])
+        requires within { start + length into.old ≤ length (bytes_of self.now user.0) }
+        requires some { 0 < length into.old }
+        requires one_page { start % 4096 + length into.old ≤ 4096 }
+        requires present { IsSome (frame_of self.now.owners user.0 (start / 4096)) }
+        ensures read { into.new ≡ slice_range (bytes_of self.now user.0) start (start + length into.old) }
+        ensures fits { length (bytes_of self.now user.0) ≤ 4194304 }
+    {
+        let frame = self.table[user.0 as usize * SLOTS + (start / 4096) as usize] as usize;
+        copy_out(&self.frames[frame], (start % 4096) as usize, into);
+    }
+
+    /// Copies bytes of two pages out.
+    #[inline(never)]
+    fn load_across(&self, user: UserNo, start: u32, into: &mut [u8])
+        requires granted { IsGranted (length (bytes_of self.now user.0)) (is_there self.now.owners user.0) start (length into.old) }
+        requires short { length into.old ≤ 256 }
+        requires across { 4096 - start % 4096 < length into.old }
+        ensures { into.new ≡ slice_range (bytes_of self.now user.0) start (start + length into.old) }
+    {
+        let left = 4096 - start as usize % 4096;
+        let (first, second) = into.split_at_mut(left);
+        self.load_part(user, start, first);
+        self.load_part(user, start + left as u32, second);
+    }
+
+    /// Copies bytes of a user in, whose pages stand in frames. No other byte of any user changes.
+    #[inline(always)]
+    pub fn store(&mut self, user: UserNo, start: u32, from: &[u8])
+        requires granted { IsGranted (length (bytes_of self.old user.0)) (is_there self.old.owners user.0) start (length from.now) }
+        requires short { length from.now ≤ 256 }
+        ensures bytes { bytes_of self.new user.0 ≡ put (bytes_of self.old user.0) start from.now }
+        ensures size { length (bytes_of self.new user.0) ≡ length (bytes_of self.old user.0) }
+        ensures others { self.new.storages ≡ slice_set self.old.storages user.0 (bytes_of self.new user.0) }
+        ensures owners { self.new.owners ≡ self.old.owners }
+        ensures pins { self.new.pins ≡ self.old.pins }
+    {
+        if from.is_empty() {
+            return;
+        }
+        if from.len() <= 4096 - start as usize % 4096 {
+            self.store_part(user, start, from);
+        } else {
+            self.store_across(user, start, from);
+        }
+    }
+
+    /// Copies bytes into one page.
+    #[inline(always)]
+    fn store_part(&mut self, user: UserNo, start: u32, from: &[u8])
+        requires within { start + length from.now ≤ length (bytes_of self.old user.0) }
+        requires some { 0 < length from.now }
+        requires one_page { start % 4096 + length from.now ≤ 4096 }
+        requires present { IsSome (frame_of self.old.owners user.0 (start / 4096)) }
+        ensures bytes { bytes_of self.new user.0 ≡ put (bytes_of self.old user.0) start from.now }
+        ensures size { length (bytes_of self.new user.0) ≡ length (bytes_of self.old user.0) }
+        ensures others { self.new.storages ≡ slice_set self.old.storages user.0 (bytes_of self.new user.0) }
+        ensures owners { self.new.owners ≡ self.old.owners }
+        ensures pins { self.new.pins ≡ self.old.pins }
+        ensures fits { length (bytes_of self.old user.0) ≤ 4194304 }
+    {
+        let frame = self.table[user.0 as usize * SLOTS + (start / 4096) as usize] as usize;
+        copy_in(&mut self.frames[frame], (start % 4096) as usize, from);
+    }
+
+    /// Copies bytes into two pages.
+    #[inline(never)]
+    fn store_across(&mut self, user: UserNo, start: u32, from: &[u8])
+        requires granted { IsGranted (length (bytes_of self.old user.0)) (is_there self.old.owners user.0) start (length from.now) }
+        requires short { length from.now ≤ 256 }
+        requires across { 4096 - start % 4096 < length from.now }
+        ensures bytes { bytes_of self.new user.0 ≡ put (bytes_of self.old user.0) start from.now }
+        ensures size { length (bytes_of self.new user.0) ≡ length (bytes_of self.old user.0) }
+        ensures others { self.new.storages ≡ slice_set self.old.storages user.0 (bytes_of self.new user.0) }
+        ensures owners { self.new.owners ≡ self.old.owners }
+        ensures pins { self.new.pins ≡ self.old.pins }
+    {
+        let left = 4096 - start as usize % 4096;
+        let (first, second) = from.split_at(left);
+        self.store_part(user, start, first);
+        self.store_part(user, start + left as u32, second);
+    }
+}

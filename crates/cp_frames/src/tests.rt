@@ -1,0 +1,141 @@
+//! Two users' pages in few frames.
+
+use super::*;
+use s370_store::{Access, Fault, Keyed, Page, Range, Storage, store_byte};
+use std::alloc::{AllocError, Global};
+use std::process::Abort;
+use std::test::Fail;
+
+const A: UserNo = UserNo(0);
+const B: UserNo = UserNo(1);
+
+/// Frames for user A with two pages and user B with three.
+fn two_users(alloc: Global, frames: u8) -> Result<Frames, AllocError> {
+    let sizes = vec![in alloc; 2u32, 3]?;
+    Frames::new(alloc, u16::from(frames), sizes)
+}
+
+/// Brings a page that is known to be one of the user's.
+fn bring(
+    rt: &impl Abort,
+    frames: &mut Frames,
+    user: UserNo,
+    page: u32,
+) -> Result<FrameNo, FramesOut> {
+    assert!(rt; page < 1024 && page * 4096 < frames.size(user));
+    frames.bring(user, Page(page))
+}
+
+/// The frame of a page that is known to be one of the user's.
+fn frame_of(rt: &impl Abort, frames: &Frames, user: UserNo, page: u32) -> Option<FrameNo> {
+    assert!(rt; page < 1024 && page * 4096 < frames.size(user));
+    frames.frame_of(user, Page(page))
+}
+
+/// A store as a processor makes it: tested, then made.
+fn set<S: Storage>(storage: &mut S, address: u32, byte: u8) -> Result<(), Fault> {
+    let range = Range {
+        start: address,
+        count: 1,
+    };
+    storage.check(range, Access::Store, 0)?;
+    store_byte(storage, address, byte);
+    Ok(())
+}
+
+/// Sets a byte through a user's `Dat`.
+fn write(
+    rt: &impl Abort,
+    frames: &mut Frames,
+    user: UserNo,
+    address: u32,
+    byte: u8,
+) -> Result<(), Fault> {
+    assert!(rt; frames.size(user) <= 12288);
+    let mut keys = [0; 6];
+    let mut dat = Dat::new(frames, &mut keys, user);
+    set(&mut dat, address, byte)
+}
+
+#[test]
+fn pages_of_two_users_in_turn(rt: HostRuntime) -> Result<(), Fail> {
+    let mut frames = two_users(rt.alloc(), 5)?;
+    let pages = [(A, 0), (B, 0), (A, 1), (B, 2)];
+    for (user, page) in pages {
+        assert_eq!(rt; frame_of(&rt, &frames, user, page), None);
+        let frame = bring(&rt, &mut frames, user, page)?;
+        assert_eq!(rt; bring(&rt, &mut frames, user, page), Ok(frame));
+        assert_eq!(rt; frame_of(&rt, &frames, user, page), Some(frame));
+        let owner = UserPage {
+            user,
+            page: Page(page),
+        };
+        assert_eq!(rt; frames.page_in(frame), Some(owner));
+    }
+    assert_eq!(rt; write(&rt, &mut frames, A, 4095, 1), Ok(()));
+    assert_eq!(rt; write(&rt, &mut frames, A, 4096, 2), Ok(()));
+    assert_eq!(rt; write(&rt, &mut frames, B, 4095, 3), Ok(()));
+    assert_eq!(rt; write(&rt, &mut frames, B, 4096, 4), Err(Fault::Absent(Page(1))));
+    assert_eq!(rt; write(&rt, &mut frames, B, 12288, 5), Err(Fault::Addressing));
+    let bytes = [
+        (A, 4095, Some(1)),
+        (A, 4096, Some(2)),
+        (A, 8192, None),
+        (B, 4095, Some(3)),
+        (B, 4096, Some(0)),
+        (UserNo(2), 0, None),
+    ];
+    for (user, address, want) in bytes {
+        assert_eq!(rt; frames.byte(user, address), want, "at {address}");
+    }
+    Ok(())
+}
+
+#[test]
+fn a_range_over_two_frames(rt: HostRuntime) -> Result<(), Fail> {
+    let mut frames = two_users(rt.alloc(), 4)?;
+    for (user, page) in [(B, 1), (A, 0), (B, 0)] {
+        bring(&rt, &mut frames, user, page)?;
+    }
+    assert!(rt; frames.size(B) <= 12288);
+    let mut keys = [0; 6];
+    let mut dat = Dat::new(&mut frames, &mut keys, B);
+    assert_eq!(rt; dat.size(), 12288);
+    assert_eq!(rt; dat.key_of(1), 0);
+    dat.set_key(1, 0x18);
+    let range = Range {
+        start: 4094,
+        count: 4,
+    };
+    assert_eq!(rt; dat.check(range, Access::Store, 3), Err(Fault::Protection));
+    dat.check(range, Access::Store, 0)?;
+    dat.store(4094, &[1, 2, 3, 4]);
+    let mut into = [0; 4];
+    dat.load(4094, &mut into);
+    assert_eq!(rt; into, [1, 2, 3, 4]);
+    Ok(())
+}
+
+#[test]
+fn a_full_pool_and_a_user_who_leaves(rt: HostRuntime) -> Result<(), Fail> {
+    let mut frames = two_users(rt.alloc(), 2)?;
+    let first = bring(&rt, &mut frames, A, 1)?;
+    let second = bring(&rt, &mut frames, B, 0)?;
+    assert_eq!(rt; bring(&rt, &mut frames, A, 0), Err(FramesOut));
+    assert_eq!(rt; write(&rt, &mut frames, A, 4096, 7), Ok(()));
+    match frames.frame_mut(second) {
+        Some(bytes) => bytes[9] = 8,
+        None => {}
+    }
+    frames.pin(second);
+    frames.release(A);
+    assert_eq!(rt; frames.page_in(first), None);
+    assert_eq!(rt; frames.byte(A, 4096), Some(0));
+    assert_eq!(rt; frames.byte(B, 9), Some(8));
+    assert_eq!(rt; frames.is_pinned(second), true);
+    frames.unpin(second);
+    assert_eq!(rt; frames.is_pinned(second), false);
+    assert_eq!(rt; bring(&rt, &mut frames, B, 2), Ok(first));
+    assert_eq!(rt; frames.byte(B, 8192), Some(0));
+    Ok(())
+}
