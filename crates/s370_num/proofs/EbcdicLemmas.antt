@@ -3,7 +3,7 @@ use Rattle.std.proofs.Common.{◌≡◌, ℕ, ◌==◌, Bool, true, false, ◌&&
 use Rattle.std.specs.Prelude.{find, unwrap_or, IsSome}
 use Rattle.std.specs.List.{list_all}
 use Rattle.std.specs.Option.{option_eq, option_map}
-use Rattle.s370_num.specs.Ebcdic.{Letter, alphabet, character_of, byte_of, printable_of}
+use Rattle.s370_num.specs.Ebcdic.{Graphic, alphabet, character_of, byte_of, printable_of}
 
 chosen : {X : Type 0} (p q : X → Bool) (y x : X) (ys : List X) (b c : Bool) → p y ≡ b → q y ≡ c → (c && list_all q ys) ≡ true → cond b (Some y) (find p ys) ≡ Some x → (list_all q ys ≡ true → find p ys ≡ Some x → (p x ≡ true) × (q x ≡ true)) → (p x ≡ true) × (q x ≡ true)
 chosen p q y x ys true true is_p is_q all found later = let same : y ≡ x = cc in (cc, cc)
@@ -19,11 +19,11 @@ is_same : (o : Option ℕ) (x : ℕ) → option_eq nat_eq o (Some x) ≡ true �
 is_same None x same = cc
 is_same (Some y) x same = ap Some (eqb-true y x same)
 
--- this letter alone has its byte, and it alone has its character
-abbrev is_alone : Letter → Bool
-is_alone letter =
-    option_eq nat_eq (character_of letter.byte) (Some letter.character)
-    && option_eq nat_eq (byte_of letter.character) (Some letter.byte)
+-- this graphic alone has its byte, and it alone has its character
+abbrev is_alone : Graphic → Bool
+is_alone graphic =
+    option_eq nat_eq (character_of graphic.byte) (Some graphic.character)
+    && option_eq nat_eq (byte_of graphic.character) (Some graphic.byte)
 
 all_alone : list_all is_alone alphabet ≡ true
 unfolding alphabet
@@ -33,38 +33,38 @@ both : (a b : Bool) → (a && b) ≡ true → (a ≡ true) × (b ≡ true)
 both true b h = (refl, h)
 both false b h = cc
 
--- a letter that stands in the alphabet is found by its byte and by its character
-found_by_both : (letter : Letter) → is_alone letter ≡ true → (character_of letter.byte ≡ Some letter.character) × (byte_of letter.character ≡ Some letter.byte)
-found_by_both letter alone =
-    let parts = both (option_eq nat_eq (character_of letter.byte) (Some letter.character)) (option_eq nat_eq (byte_of letter.character) (Some letter.byte)) alone in
-    (is_same (character_of letter.byte) letter.character parts.0, is_same (byte_of letter.character) letter.byte parts.1)
+-- a graphic that stands in the alphabet is found by its byte and by its character
+found_by_both : (graphic : Graphic) → is_alone graphic ≡ true → (character_of graphic.byte ≡ Some graphic.character) × (byte_of graphic.character ≡ Some graphic.byte)
+found_by_both graphic alone =
+    let parts = both (option_eq nat_eq (character_of graphic.byte) (Some graphic.character)) (option_eq nat_eq (byte_of graphic.character) (Some graphic.byte)) alone in
+    (is_same (character_of graphic.byte) graphic.character parts.0, is_same (byte_of graphic.character) graphic.byte parts.1)
 
-read_letter : (character byte : ℕ) (found : Option Letter) → find (λ letter. letter.character == character) alphabet ≡ found → option_map (λ letter. letter.byte) found ≡ Some byte → character_of byte ≡ Some character
-read_letter character byte None is gives = cc
-read_letter character byte (Some letter) is gives =
-    let passes = find_passes (λ letter. letter.character == character) is_alone alphabet letter all_alone is in
-    let there = found_by_both letter passes.1 in
-    let named : letter.character ≡ character = eqb-true letter.character character passes.0 in
-    let placed : letter.byte ≡ byte = cc in
+read_graphic : (character byte : ℕ) (found : Option Graphic) → find (λ graphic. graphic.character == character) alphabet ≡ found → option_map (λ graphic. graphic.byte) found ≡ Some byte → character_of byte ≡ Some character
+read_graphic character byte None is gives = cc
+read_graphic character byte (Some graphic) is gives =
+    let passes = find_passes (λ graphic. graphic.character == character) is_alone alphabet graphic all_alone is in
+    let there = found_by_both graphic passes.1 in
+    let named : graphic.character ≡ character = eqb-true graphic.character character passes.0 in
+    let placed : graphic.byte ≡ byte = cc in
     let P : ℕ → ℕ → Type 0 = λ b c. character_of b ≡ Some c in
     ap character_of (sym placed) ∙ there.0 ∙ ap Some named
 
 -- a character's byte stands for that character
 pub character_of-byte_of : (character byte : ℕ) → byte_of character ≡ Some byte → character_of byte ≡ Some character
-character_of-byte_of character byte gives = read_letter character byte (find (λ letter. letter.character == character) alphabet) refl gives
+character_of-byte_of character byte gives = read_graphic character byte (find (λ graphic. graphic.character == character) alphabet) refl gives
 
-written_letter : (byte character : ℕ) (found : Option Letter) → find (λ letter. letter.byte == byte) alphabet ≡ found → option_map (λ letter. letter.character) found ≡ Some character → byte_of character ≡ Some byte
-written_letter byte character None is gives = cc
-written_letter byte character (Some letter) is gives =
-    let passes = find_passes (λ letter. letter.byte == byte) is_alone alphabet letter all_alone is in
-    let there = found_by_both letter passes.1 in
-    let placed : letter.byte ≡ byte = eqb-true letter.byte byte passes.0 in
-    let named : letter.character ≡ character = cc in
+written_graphic : (byte character : ℕ) (found : Option Graphic) → find (λ graphic. graphic.byte == byte) alphabet ≡ found → option_map (λ graphic. graphic.character) found ≡ Some character → byte_of character ≡ Some byte
+written_graphic byte character None is gives = cc
+written_graphic byte character (Some graphic) is gives =
+    let passes = find_passes (λ graphic. graphic.byte == byte) is_alone alphabet graphic all_alone is in
+    let there = found_by_both graphic passes.1 in
+    let placed : graphic.byte ≡ byte = eqb-true graphic.byte byte passes.0 in
+    let named : graphic.character ≡ character = cc in
     ap byte_of (sym named) ∙ there.1 ∙ ap Some placed
 
 -- the byte of a byte's character is that byte
 pub byte_of-character_of : (byte character : ℕ) → character_of byte ≡ Some character → byte_of character ≡ Some byte
-byte_of-character_of byte character gives = written_letter byte character (find (λ letter. letter.byte == byte) alphabet) refl gives
+byte_of-character_of byte character gives = written_graphic byte character (find (λ graphic. graphic.byte == byte) alphabet) refl gives
 
 -- what was written is read back
 pub printable_of-byte_of : (character byte : ℕ) → byte_of character ≡ Some byte → printable_of byte ≡ character

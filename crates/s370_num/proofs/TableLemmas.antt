@@ -1,5 +1,5 @@
 -- A table is held against a function at each of its places, by computing.
-use Rattle.std.proofs.Common.{◌≡◌, ℕ, zero, suc, ◌+◌, ◌<◌, List, [], ◌∷◌, get_or, refl, arith, ap, ◌∙◌}
+use Rattle.std.proofs.Common.{◌≡◌, ℕ, zero, suc, ◌+◌, ◌<◌, List, [], ◌∷◌, get_or, arith, ap, ◌∙◌}
 
 -- the function's values at n numbers from this one on
 abbrev pub values : (ℕ → ℕ) → ℕ → ℕ → List ℕ

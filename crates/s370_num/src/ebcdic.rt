@@ -1,8 +1,11 @@
 //! The EBCDIC alphabet of consoles, printers and cards.
+//!
+//! A character is a byte in ASCII. A byte and a character of the alphabet determine each other: what
+//! one of the two functions gives, the other takes back.
 ghost use Rattle.std.specs.Prelude.{◌≡◌, ◌↔◌, Some, IsTrue, IsSome, IfSome, unwrap_or};
 ghost use Rattle.s370_num.specs.Ebcdic.{byte_of, character_of, printable_of};
 
-// For each byte what is printed for it: sixteen to a row, 40 is the blank.
+// For each byte what is printed for it, sixteen to a row; the byte 40 is the blank.
 static PRINTABLE: [u8; 256] = *b"\
     ................\
     ................\
@@ -24,7 +27,7 @@ static PRINTABLE: [u8; 256] = *b"\
 // No character has this byte.
 const NO_BYTE: u8 = 0x00;
 
-// For each character its byte, or `NO_BYTE`: sixteen to a row, the blank is 20.
+// For each character its byte, or `NO_BYTE`, sixteen to a row; the character 20 is the blank.
 static BYTES: [u8; 256] = [
     0x00, 0x00, 0x00, 0x00, 0x00, 0x00, 0x00, 0x00, 0x00, 0x00, 0x00, 0x00, 0x00, 0x00, 0x00, 0x00,
     0x00, 0x00, 0x00, 0x00, 0x00, 0x00, 0x00, 0x00, 0x00, 0x00, 0x00, 0x00, 0x00, 0x00, 0x00, 0x00,
@@ -44,7 +47,9 @@ static BYTES: [u8; 256] = [
     0x00, 0x00, 0x00, 0x00, 0x00, 0x00, 0x00, 0x00, 0x00, 0x00, 0x00, 0x00, 0x00, 0x00, 0x00, 0x00,
 ];
 
-/// What a console or a printer shows for a byte: its character in ASCII, or `.` where it has none.
+/// What a console or a printer shows for an EBCDIC byte: its character, or `.` where it has none.
+///
+/// The byte C8 prints as `H`, and FF as `.`; so does 4B, of which `.` is the character.
 #[inline]
 pub fn printable(byte: u8) -> u8
     ensures character { result ≡ printable_of byte }
@@ -53,9 +58,9 @@ pub fn printable(byte: u8) -> u8
     PRINTABLE[byte as usize]
 }
 
-/// The EBCDIC byte of a character in ASCII, or `None` where the alphabet lacks it.
+/// The EBCDIC byte of a character, or `None` where the alphabet lacks it.
 ///
-/// Every character that has a byte prints as itself.
+/// The byte of `H` is C8; `!` and the line feed have none.
 #[inline]
 pub fn ebcdic_of(character: u8) -> Option<u8>
     ensures byte { result ≡ byte_of character }
@@ -72,7 +77,7 @@ fn byte_or_none(character: u8) -> u8
     BYTES[character as usize]
 }
 
-/// Whether a character in ASCII is of the alphabet, and so has an EBCDIC byte.
+/// Whether a character is of the alphabet, and so has an EBCDIC byte.
 #[inline]
 pub fn is_printable(character: u8) -> bool
     ensures { IsTrue result ↔ IsSome (byte_of character) }

@@ -8,8 +8,8 @@ use std::io::{ErrorKind, Read, Write};
 
 /// A file of the host or a standard stream, and how often it failed.
 ///
-/// A call that was interrupted is made again, and is no failure. A written nothing, where there was
-/// something to write, is one.
+/// A read or a write that was interrupted is made again, and is no failure. A write of nothing, where
+/// there was something to write, is one. A program writes `Counted::new(fs::open(rt, path)?)`.
 #[derive(Drop)]
 pub struct Counted<F> {
     file: F,

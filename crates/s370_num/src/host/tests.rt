@@ -1,5 +1,6 @@
 use crate::host::failing::Failing;
 use crate::host::{Bytes, Counted, HostFault, HostFile, HostWriter, read_all, write_all};
+use std::io::BufWriter;
 use std::test::Fail;
 
 // More than one read takes.
@@ -66,6 +67,16 @@ fn counts_the_failures_of_std(rt: HostRuntime) -> Result<(), Fail> {
     assert_eq!(rt; all.as_slice(), b"HELLO".as_slice());
     assert_eq!(rt; reader.failures(), 0);
     assert_eq!(rt; room, *b"HELL");
+    Ok(())
+}
+
+#[test]
+fn tells_a_flush_that_failed(rt: HostRuntime) -> Result<(), Fail> {
+    let mut room = [0; 4];
+    let held_back = BufWriter::new(rt.alloc(), room.as_mut_slice())?;
+    let mut writer = Failing::new(Counted::new(held_back), u64::MAX);
+    write_all(&mut writer, b"HELLO")?;
+    assert_eq!(rt; number_of(writer.flush())?, 1);
     Ok(())
 }
 
