@@ -1,0 +1,31 @@
+//! Interruptions of a guest.
+ghost use Rattle.std.specs.Prelude.{◌≡◌, ℕ, ◌≤◌, length};
+ghost use Rattle.s370_rows.specs.State.{state_of};
+ghost use Rattle.s370_intr.specs.Swap.{MeetsSwap, swapped};
+
+use crate::registers::VirtualCpu;
+use s370_intr::{Class, swap};
+use s370_psw::Ilc;
+use s370_store::{Page, Storage};
+
+/// Interrupts a guest: its virtual program status word is stored in its own storage, with this code and instruction
+/// length, and the new one of that class is loaded. Where its page 0 is not present that is the error, and nothing is
+/// changed.
+#[inline]
+pub fn reflect<S: Storage>(
+    cpu: &mut VirtualCpu,
+    storage: &mut S,
+    class: Class,
+    code: u16,
+    ilc: Ilc,
+) -> Result<(), Page>
+    requires { 8192 ≤ length (S.bytes storage.old) }
+    ensures reflected { let before = state_of cpu.old.seen (S.bytes storage.old) (S.keys storage.old) in
+        let after = state_of cpu.new.seen (S.bytes storage.new) (S.keys storage.new) in
+        MeetsSwap (swapped before class code ilc) (S.present storage.old) before result after }
+    ensures size { length (S.bytes storage.new) ≡ length (S.bytes storage.old) }
+    ensures present { S.present storage.new ≡ S.present storage.old }
+    ensures rest { S.Keeps storage.old storage.new }
+{
+    swap(&mut cpu.seen, storage, class, code, ilc)
+}

@@ -1,0 +1,30 @@
+//! One unit of a guest over frames, whose pages are brought as it needs them.
+ghost use Rattle.std.specs.Prelude.{◌≡◌, ℕ, ◌≤◌, length};
+ghost use Rattle.s370_rows.specs.State.{state_of};
+ghost use Rattle.cp_frames.specs.Lent.{lent_bytes, lent_keys, KeepsFrames};
+ghost use Rattle.cp_trap.specs.Trap.{IsUnitOf};
+
+use crate::registers::VirtualCpu;
+use crate::whole::unit;
+use cp_frames::{Dat, FramesOut};
+
+/// One whole unit of a guest, after each page was brought that it needs. Where no frame is free for one of them, the guest
+/// is as it was before the unit; the pages that were brought for it stay in their frames.
+#[inline(always)]
+pub fn unit_of(cpu: &mut VirtualCpu, dat: &mut Dat<'_>) -> Result<(), FramesOut>
+    requires { 8192 ≤ length (lent_bytes dat.old) }
+    ensures unit { let before = state_of cpu.old.seen (lent_bytes dat.old) (lent_keys dat.old) in
+        let after = state_of cpu.new.seen (lent_bytes dat.new) (lent_keys dat.new) in
+        IsUnitOf before result after dat.new.frames.now.owners dat.old.user.0 }
+    ensures rest { KeepsFrames dat.old dat.new }
+    ensures pins { dat.new.frames.now.pins ≡ dat.old.frames.now.pins }
+{
+    loop {
+        match unit(cpu, dat) {
+            Ok(()) => return Ok(()),
+            Err(page) => {
+                dat.bring(page)?;
+            }
+        }
+    }
+}
