@@ -8,4 +8,5 @@
 
 pub mod lines;
 pub mod numbers;
+pub mod users;
 pub mod words;
