@@ -1,0 +1,123 @@
+//! The transcript: the lines that a reply gives.
+ghost use Rattle.std.specs.Prelude.{◌≡◌, ℕ, ◌++◌, ◌∷◌, [], IfOk, OnOk, List, map};
+ghost use Rattle.cp_text.specs.Users.{name_of};
+ghost use Rattle.vm370.specs.Transcript.{ending_line, ended, reason_word, reply_lines, telling, told_line};
+
+use cp_text::users::{Named, UserNo, name_of};
+use std::alloc::{AllocError, Global};
+
+/// Why a run of units ended.
+#[derive(Clone, Copy, Debug, PartialEq, Eq, Drop)]
+pub enum Reason {
+    /// All units that were asked for were done.
+    Count,
+    /// The machine waits for an interruption.
+    Wait,
+    /// The machine loaded a wait state that no interruption can end, and stopped.
+    DisabledWait,
+    /// The machine loaded an extended-control PSW, and stopped.
+    EcMode,
+    /// The machine is stopped.
+    Stopped,
+    /// The next unit needs more frames than there are.
+    Frames,
+}
+
+/// How an event ended, where the transcript has a line of its own for that.
+#[derive(Clone, Copy, Debug, PartialEq, Eq, Drop)]
+pub enum Ending {
+    /// After a run: so many units were done, and why no more.
+    Ran(u32, Reason),
+    /// Any other event needed more frames than there are, and did nothing.
+    OutOfFrames,
+}
+
+/// A line that was printed at a user's terminal.
+#[derive(Debug, Drop)]
+pub struct Printed {
+    /// At whose terminal.
+    pub user: UserNo,
+    /// The line's characters, without an end.
+    pub text: Vec<u8>,
+}
+
+/// What is told of an event.
+#[derive(Debug, Drop)]
+pub struct Told {
+    /// The lines that were printed, in their order.
+    pub lines: Vec<Printed>,
+    /// How the event ended.
+    pub ending: Option<Ending>,
+}
+
+impl Reason {
+    /// The reason as the transcript names it.
+    pub fn word(self) -> &'static [u8]
+        ensures { result.now ≡ reason_word self }
+    {
+        match self {
+            Reason::Count => b"COUNT",
+            Reason::Wait => b"WAIT",
+            Reason::DisabledWait => b"DISABLEDWAIT",
+            Reason::EcMode => b"ECMODE",
+            Reason::Stopped => b"STOPPED",
+            Reason::Frames => b"FRAMES",
+        }
+    }
+}
+
+/// The transcript's lines for what an event of this user told, each ended by LF: the lines that were
+/// printed, and then the line of the event's ending, if it has one.
+pub fn print_reply<N: Named>(
+    alloc: Global,
+    users: &[N],
+    user: UserNo,
+    told: &Told,
+) -> Result<Vec<u8>, AllocError>
+    ensures { IfOk result (λ text. text.items ≡ ended (reply_lines (map N.name users.now) user.0 (telling told.now))) }
+{
+    let mut text = Vec::new(alloc);
+    for line in &told.lines {
+        print_told(&mut text, name_of(users, line.user), &line.text)?;
+    }
+    if let Some(ending) = told.ending {
+        print_ending(alloc, &mut text, name_of(users, user), ending)?;
+    }
+    Ok(text)
+}
+
+/// Adds `u: text` and its end.
+fn print_told(out: &mut Vec<u8>, name: &[u8], text: &[u8]) -> Result<(), AllocError>
+    ensures { OnOk result (out.new.items ≡ out.old.items ++ ended (told_line name.now text.now ∷ [])) }
+{
+    out.extend_from_slice(name)?;
+    out.extend_from_slice(b": ")?;
+    out.extend_from_slice(text)?;
+    out.push(b'\n')?;
+    Ok(())
+}
+
+/// Adds the line of an ending and its end.
+fn print_ending(
+    alloc: Global,
+    out: &mut Vec<u8>,
+    name: &[u8],
+    ending: Ending,
+) -> Result<(), AllocError>
+    ensures { OnOk result (out.new.items ≡ out.old.items ++ ended (ending_line name.now ending ∷ [])) }
+{
+    out.extend_from_slice(b"= ")?;
+    out.extend_from_slice(name)?;
+    match ending {
+        Ending::Ran(units, reason) => {
+            let units = units.to_string(alloc)?;
+            out.push(b' ')?;
+            out.extend_from_slice(units.as_bytes())?;
+            out.push(b' ')?;
+            out.extend_from_slice(reason.word())?;
+        }
+        Ending::OutOfFrames => out.extend_from_slice(b" FRAMES")?,
+    }
+    out.push(b'\n')?;
+    Ok(())
+}
