@@ -20,8 +20,11 @@ pub record Telling : Type 0 where
   pub ending : Option Ending
 
 -- what a value tells
+abbrev pub printed : Printed → Line
+printed line = record { user = line.user.0; text = line.text.items }
+
 abbrev pub telling : Told → Telling
-telling told = record { lines = map (λ (line : Printed). record { user = line.user.0; text = line.text.items }) told.lines.items; ending = told.ending }
+telling told = record { lines = map printed told.lines.items; ending = told.ending }
 
 -- why a run ended, in one word
 abbrev pub reason_word : Reason → List ℕ
@@ -36,6 +39,10 @@ reason_word reasons.Frames = codes "FRAMES"
 abbrev pub told_line : List ℕ → List ℕ → List ℕ
 told_line name text = name ++ codes ": " ++ text
 
+-- a printed line, by its user's name
+abbrev pub line_of : List (List ℕ) → Line → List ℕ
+line_of names line = told_line (name_of names line.user) line.text
+
 -- `= u units REASON` after a run, `= u FRAMES` after another event that was out of frames
 abbrev pub ending_line : List ℕ → Ending → List ℕ
 ending_line name (endings.Ran units reason) = codes "= " ++ name ++ codes " " ++ decimal units ++ codes " " ++ reason_word reason
@@ -48,7 +55,7 @@ ending_lines name (Some ending) = ending_line name ending ∷ []
 
 -- the lines of an event of this user: those that were printed, and then that of its ending
 abbrev pub reply_lines : List (List ℕ) → ℕ → Telling → List (List ℕ)
-reply_lines names user told = map (λ (line : Line). told_line (name_of names line.user) line.text) told.lines ++ ending_lines (name_of names user) told.ending
+reply_lines names user told = map (line_of names) told.lines ++ ending_lines (name_of names user) told.ending
 
 -- lines as bytes, each ended by LF
 abbrev pub ended : List (List ℕ) → List ℕ

@@ -1,7 +1,7 @@
 //! The transcript: the lines that a reply gives.
 ghost use Rattle.std.specs.Prelude.{◌≡◌, ℕ, ◌++◌, ◌∷◌, [], IfOk, OnOk, List, map};
 ghost use Rattle.cp_text.specs.Users.{name_of};
-ghost use Rattle.vm370.specs.Transcript.{ending_line, ended, reason_word, reply_lines, telling, told_line};
+ghost use Rattle.vm370.specs.Transcript.{ended, ending_lines, line_of, printed, reason_word, reply_lines, telling, told_line};
 
 use cp_text::users::{Named, UserNo, name_of};
 use std::alloc::{AllocError, Global};
@@ -77,17 +77,27 @@ pub fn print_reply<N: Named>(
     ensures { IfOk result (λ text. text.items ≡ ended (reply_lines (map N.name users.now) user.0 (telling told.now))) }
 {
     let mut text = Vec::new(alloc);
-    for line in &told.lines {
-        print_told(&mut text, name_of(users, line.user), &line.text)?;
-    }
-    if let Some(ending) = told.ending {
-        print_ending(alloc, &mut text, name_of(users, user), ending)?;
-    }
+    print_lines(&mut text, users, &told.lines)?;
+    print_ending(alloc, &mut text, name_of(users, user), told.ending)?;
     Ok(text)
 }
 
+/// Adds the lines that were printed.
+fn print_lines<N: Named>(
+    out: &mut Vec<u8>,
+    users: &[N],
+    lines: &[Printed],
+) -> Result<(), AllocError>
+    ensures { OnOk result (out.new.items ≡ out.old.items ++ ended (map (line_of (map N.name users.now)) (map printed lines.now))) }
+{
+    for line in lines {
+        print_line(out, name_of(users, line.user), &line.text)?;
+    }
+    Ok(())
+}
+
 /// Adds `u: text` and its end.
-fn print_told(out: &mut Vec<u8>, name: &[u8], text: &[u8]) -> Result<(), AllocError>
+fn print_line(out: &mut Vec<u8>, name: &[u8], text: &[u8]) -> Result<(), AllocError>
     ensures { OnOk result (out.new.items ≡ out.old.items ++ ended (told_line name.now text.now ∷ [])) }
 {
     out.extend_from_slice(name)?;
@@ -97,15 +107,18 @@ fn print_told(out: &mut Vec<u8>, name: &[u8], text: &[u8]) -> Result<(), AllocEr
     Ok(())
 }
 
-/// Adds the line of an ending and its end.
+/// Adds the line of an ending and its end, where there is one.
 fn print_ending(
     alloc: Global,
     out: &mut Vec<u8>,
     name: &[u8],
-    ending: Ending,
+    ending: Option<Ending>,
 ) -> Result<(), AllocError>
-    ensures { OnOk result (out.new.items ≡ out.old.items ++ ended (ending_line name.now ending ∷ [])) }
+    ensures { OnOk result (out.new.items ≡ out.old.items ++ ended (ending_lines name.now ending)) }
 {
+    let Some(ending) = ending else {
+        return Ok(());
+    };
     out.extend_from_slice(b"= ")?;
     out.extend_from_slice(name)?;
     match ending {

@@ -1,0 +1,19 @@
+-- Lines that are ended one after another.
+use Rattle.std.proofs.Common.{◌≡◌, ℕ, ◌+◌, ◌<◌, List, [], ◌∷◌, ◌++◌, length, map, get_or, take, refl, ap, sym, ◌∙◌, append_assoc}
+use Rattle.std.proofs.lemmas.List.{take_more, map-append}
+use Rattle.vm370.specs.declared.transcript.Printed.{Printed}
+use Rattle.vm370.specs.Transcript.{ended, line_of, printed}
+
+pub ended_append : (xs ys : List (List ℕ)) → ended (xs ++ ys) ≡ ended xs ++ ended ys
+ended_append [] ys = refl
+ended_append (x ∷ xs) ys = ap (λ (l : List ℕ). x ++ 10 ∷ l) (ended_append xs ys) ∙ sym (append_assoc x (10 ∷ ended xs) (ended ys))
+
+-- the next line is added to those so far
+pub one_more : (names : List (List ℕ)) (front : List ℕ) (lines : List Printed) (i : ℕ) (line : Printed) → i < length lines → line ≡ get_or lines i line
+    → (front ++ ended (map (line_of names) (map printed (take i lines)))) ++ ended (line_of names (printed line) ∷ []) ≡ front ++ ended (map (line_of names) (map printed (take (i + 1) lines)))
+one_more names front lines i line less is =
+    let before = map (line_of names) (map printed (take i lines)) in
+    let last = line_of names (printed line) in
+    let grown : take (i + 1) lines ≡ take i lines ++ line ∷ [] = take_more lines i line less ∙ ap (λ (x : Printed). take i lines ++ x ∷ []) (sym is) in
+    let joined : map (line_of names) (map printed (take i lines ++ line ∷ [])) ≡ before ++ last ∷ [] = rw (map-append printed (take i lines) (line ∷ [])) (map-append (line_of names) (map printed (take i lines)) (printed line ∷ [])) in
+    append_assoc front (ended before) (ended (last ∷ [])) ∙ ap (λ (l : List ℕ). front ++ l) (sym (ended_append before (last ∷ [])) ∙ ap ended (sym joined ∙ ap (λ (l : List Printed). map (line_of names) (map printed l)) (sym grown)))
