@@ -124,3 +124,146 @@ fn read_typed<'a, N: Named>(users: &[N], operands: &'a [u8]) -> Option<Event<'a>
 pub fn reads_grammar()
     ensures { ReadsGrammar }
 {}
+
+#[cfg(test)]
+mod tests {
+    use super::*;
+    use std::test::Fail;
+
+    const A: UserNo = UserNo(0);
+
+    const B: UserNo = UserNo(1);
+
+    /// What a text is read as where its users are A and B.
+    fn read<'a>(alloc: Global, text: &'a [u8]) -> Result<Vec<Event<'a>>, ScriptError> {
+        read_script(alloc, &[b"A".as_slice(), b"B".as_slice()], text)
+    }
+
+    #[test]
+    fn reads_a_whole_script(rt: HostRuntime) -> Result<(), Fail> {
+        let text =
+            b"LINE A LOGON\nLINE A STORE 1000 0A07\nLINE A STORE 60 0000000000000200\nLINE A STORE PSW 00000000 00001000\nLINE A BEGIN\nRUN A 1\nLINE A #CP DISPLAY 20\nLINE A #CP DISPLAY PSW\n";
+        let events = read(rt.alloc(), text)?;
+        let wanted = [
+            Event::Line(A, b"LOGON".as_slice()),
+            Event::Line(A, b"STORE 1000 0A07".as_slice()),
+            Event::Line(A, b"STORE 60 0000000000000200".as_slice()),
+            Event::Line(A, b"STORE PSW 00000000 00001000".as_slice()),
+            Event::Line(A, b"BEGIN".as_slice()),
+            Event::Run(A, 1),
+            Event::Line(A, b"#CP DISPLAY 20".as_slice()),
+            Event::Line(A, b"#CP DISPLAY PSW".as_slice()),
+        ];
+        assert_eq!(rt; events.as_slice(), wanted.as_slice());
+        Ok(())
+    }
+
+    #[test]
+    fn reads_the_example_of_the_formats(rt: HostRuntime) -> Result<(), Fail> {
+        let text =
+            b"* A logs on and runs; B gets an empty line.\nLINE A LOGON\n\nRUN A 0000100\nLINE B\n";
+        let events = read(rt.alloc(), text)?;
+        let wanted = [
+            Event::Line(A, b"LOGON".as_slice()),
+            Event::Run(A, 100),
+            Event::Line(B, b"".as_slice()),
+        ];
+        assert_eq!(rt; events.as_slice(), wanted.as_slice());
+        Ok(())
+    }
+
+    #[test]
+    fn reads_texts_that_name_nothing(rt: HostRuntime) -> Result<(), Fail> {
+        for text in [
+            b"".as_slice(),
+            b"\n\n".as_slice(),
+            b"*".as_slice(),
+            b"* RUN C 0\n*".as_slice(),
+        ] {
+            assert!(rt; read(rt.alloc(), text)?.is_empty(), "{text:?}");
+        }
+        Ok(())
+    }
+
+    #[test]
+    fn reads_one_event(rt: HostRuntime) -> Result<(), Fail> {
+        for (text, event) in [
+            (b"RUN B 1".as_slice(), Event::Run(B, 1)),
+            (b"RUN A 0000001\n".as_slice(), Event::Run(A, 1)),
+            (b"RUN A 1000000\n".as_slice(), Event::Run(A, 1_000_000)),
+            (b"LINE B".as_slice(), Event::Line(B, b"".as_slice())),
+            (b"LINE B ".as_slice(), Event::Line(B, b"".as_slice())),
+            (
+                b"LINE B x y ".as_slice(),
+                Event::Line(B, b"x y ".as_slice()),
+            ),
+            (b"LINE B  x".as_slice(), Event::Line(B, b" x".as_slice())),
+            (
+                b"LINE B x\r\n".as_slice(),
+                Event::Line(B, b"x\r".as_slice()),
+            ),
+            (
+                b"LINE A \t\xC1\xFF".as_slice(),
+                Event::Line(A, b"\t\xC1\xFF".as_slice()),
+            ),
+        ] {
+            assert_eq!(rt;
+                read(rt.alloc(), text)?.as_slice(),
+                [event].as_slice(),
+                "{text:?}"
+            );
+        }
+        Ok(())
+    }
+
+    #[test]
+    fn tells_the_first_bad_line(rt: HostRuntime) {
+        for (text, line) in [
+            // another verb, also in lower case
+            (b"STOP A".as_slice(), 1),
+            (b"RUN A 1\nHALT A 1\nSTOP A\n".as_slice(), 2),
+            (b"run A 1".as_slice(), 1),
+            (b"* comment\n\nLine A x".as_slice(), 3),
+            // an unknown user
+            (b"RUN C 1".as_slice(), 1),
+            (b"LINE a LOGON".as_slice(), 1),
+            (b"RUN A 1\n\n*\nLINE AB x\n".as_slice(), 4),
+            // more than one blank, or one too many
+            (b"LINE  A x".as_slice(), 1),
+            (b"RUN A  1".as_slice(), 1),
+            (b"RUN A 1 ".as_slice(), 1),
+            (b"\n RUN A 1".as_slice(), 2),
+            (b" ".as_slice(), 1),
+            (b" * comment".as_slice(), 1),
+            // words missing or left over
+            (b"RUN".as_slice(), 1),
+            (b"RUN A".as_slice(), 1),
+            (b"LINE".as_slice(), 1),
+            (b"LINE ".as_slice(), 1),
+            (b"LINE A\nRUN A 1 1".as_slice(), 2),
+            // numbers
+            (b"RUN A 0".as_slice(), 1),
+            (b"LINE A\nRUN A 0000000".as_slice(), 2),
+            (b"RUN A 1000001".as_slice(), 1),
+            (b"RUN A 9999999".as_slice(), 1),
+            (b"RUN A 00000001".as_slice(), 1),
+            (b"RUN A 10000000".as_slice(), 1),
+            (b"RUN A +1".as_slice(), 1),
+            (b"RUN A 1x".as_slice(), 1),
+            (b"RUN A ".as_slice(), 1),
+            // CR, tab, bytes above 7F
+            (b"RUN A 1\r\n".as_slice(), 1),
+            (b"\n\r\n".as_slice(), 2),
+            (b"RUN\tA 1".as_slice(), 1),
+            (b"RUN A 1\t".as_slice(), 1),
+            (b"RUN \xC1 1".as_slice(), 1),
+            (b"RUN A 1\n\xFF".as_slice(), 2),
+        ] {
+            match read(rt.alloc(), text) {
+                Ok(_) => panic!(&rt; "{text:?} is read"),
+                Err(ScriptError::Memory) => {}
+                Err(ScriptError::Line(told)) => assert_eq!(rt; told, line, "{text:?}"),
+            }
+        }
+    }
+}

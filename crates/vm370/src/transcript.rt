@@ -134,3 +134,81 @@ fn print_ending(
     out.push(b'\n')?;
     Ok(())
 }
+
+#[cfg(test)]
+mod tests {
+    use super::*;
+    use std::test::Fail;
+
+    /// What is printed of these lines and this ending, for an event of B, where the users are A, B.
+    fn printed(
+        alloc: Global,
+        lines: &[(UserNo, &[u8])],
+        ending: Option<Ending>,
+    ) -> Result<Vec<u8>, AllocError> {
+        let mut told = Told {
+            lines: Vec::new(alloc),
+            ending,
+        };
+        for (user, text) in lines {
+            let text = text.to_vec(alloc)?;
+            told.lines.push(Printed { user: *user, text })?;
+        }
+        print_reply(alloc, &[b"A".as_slice(), b"B".as_slice()], UserNo(1), &told)
+    }
+
+    #[test]
+    fn prints_each_ending(rt: HostRuntime) -> Result<(), Fail> {
+        for (ending, wanted) in [
+            (Ending::Ran(1, Reason::Count), b"= B 1 COUNT\n".as_slice()),
+            (
+                Ending::Ran(1_000_000, Reason::Count),
+                b"= B 1000000 COUNT\n".as_slice(),
+            ),
+            (Ending::Ran(20, Reason::Wait), b"= B 20 WAIT\n".as_slice()),
+            (
+                Ending::Ran(0, Reason::DisabledWait),
+                b"= B 0 DISABLEDWAIT\n".as_slice(),
+            ),
+            (Ending::Ran(7, Reason::EcMode), b"= B 7 ECMODE\n".as_slice()),
+            (
+                Ending::Ran(0, Reason::Stopped),
+                b"= B 0 STOPPED\n".as_slice(),
+            ),
+            (Ending::Ran(3, Reason::Frames), b"= B 3 FRAMES\n".as_slice()),
+            (Ending::OutOfFrames, b"= B FRAMES\n".as_slice()),
+        ] {
+            let text = printed(rt.alloc(), &[], Some(ending))?;
+            assert_eq!(rt; text.as_slice(), wanted);
+        }
+        Ok(())
+    }
+
+    #[test]
+    fn prints_the_lines_before_the_ending(rt: HostRuntime) -> Result<(), Fail> {
+        let stopped = [(UserNo(1), b"STOPPED DISABLED WAIT".as_slice())];
+        let ending = Ending::Ran(0, Reason::DisabledWait);
+        let text = printed(rt.alloc(), &stopped, Some(ending))?;
+        assert_eq!(rt;
+            text.as_slice(),
+            b"B: STOPPED DISABLED WAIT\n= B 0 DISABLEDWAIT\n".as_slice()
+        );
+        Ok(())
+    }
+
+    #[test]
+    fn prints_the_lines_of_several_users(rt: HostRuntime) -> Result<(), Fail> {
+        let sent = [
+            (UserNo(1), b"SENT".as_slice()),
+            (UserNo(0), b"MSG FROM B: HELLO".as_slice()),
+            (UserNo(1), b"".as_slice()),
+        ];
+        let text = printed(rt.alloc(), &sent, None)?;
+        assert_eq!(rt;
+            text.as_slice(),
+            b"B: SENT\nA: MSG FROM B: HELLO\nB: \n".as_slice()
+        );
+        assert!(rt; printed(rt.alloc(), &[], None)?.is_empty());
+        Ok(())
+    }
+}
