@@ -32,3 +32,23 @@ pub fn is_comment(line: &[u8]) -> bool
         [first, ..] => *first == b'*',
     }
 }
+
+#[cfg(test)]
+mod tests {
+    use super::*;
+
+    #[test]
+    fn cuts_lines(rt: HostRuntime) {
+        let (first, rest) = cut_line(b"a\n\nb");
+        assert_eq!(rt; first, b"a".as_slice());
+        assert_eq!(rt; rest, b"\nb".as_slice());
+        assert_eq!(rt; cut_line(b"\nb"), (b"".as_slice(), b"b".as_slice()));
+        assert_eq!(rt; cut_line(b"b"), (b"b".as_slice(), b"".as_slice()));
+    }
+
+    #[test]
+    fn knows_comments(rt: HostRuntime) {
+        assert!(rt; is_comment(b"* A"));
+        assert!(rt; !is_comment(b" *") && !is_comment(b""));
+    }
+}

@@ -26,3 +26,24 @@ pub fn decimal_of(most: usize, digits: &[u8]) -> Option<u32>
     }
     Some(number)
 }
+
+#[cfg(test)]
+mod tests {
+    use super::*;
+
+    #[test]
+    fn reads_decimals(rt: HostRuntime) {
+        for (most, digits, number) in [
+            (9, b"999999999".as_slice(), Some(999_999_999)),
+            (9, b"000000012".as_slice(), Some(12)),
+            (4, b"0403".as_slice(), Some(403)),
+            (4, b"00403".as_slice(), None),
+            (4, b"".as_slice(), None),
+            (4, b"4O3".as_slice(), None),
+            (4, b"+403".as_slice(), None),
+            (0, b"4".as_slice(), None),
+        ] {
+            assert_eq!(rt; decimal_of(most, digits), number);
+        }
+    }
+}

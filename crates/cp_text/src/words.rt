@@ -26,3 +26,28 @@ pub fn words_of<'a>(alloc: Global, line: &'a [u8]) -> Result<Vec<&'a [u8]>, Allo
         .filter(|word| !word.is_empty())
         .collect(alloc)
 }
+
+#[cfg(test)]
+mod tests {
+    use super::*;
+    use std::test::Fail;
+
+    #[test]
+    fn gives_the_words(rt: HostRuntime) -> Result<(), Fail> {
+        let words = words_of(rt.alloc(), b"  USER A   PW\t8K ")?;
+        assert_eq!(rt; words.len(), 3);
+        assert_eq!(rt; words[0], b"USER".as_slice());
+        assert_eq!(rt; words[1], b"A".as_slice());
+        assert_eq!(rt; words[2], b"PW\t8K".as_slice());
+        assert!(rt; words_of(rt.alloc(), b"   ")?.is_empty());
+        Ok(())
+    }
+
+    #[test]
+    fn cuts_at_one_blank(rt: HostRuntime) {
+        let (word, rest) = cut_word(b"LINE  A");
+        assert_eq!(rt; word, b"LINE".as_slice());
+        assert_eq!(rt; rest, Some(b" A".as_slice()));
+        assert_eq!(rt; cut_word(b"LINE").1, None);
+    }
+}
