@@ -1,8 +1,10 @@
 -- Lines that are ended one after another.
 use Rattle.std.proofs.Common.{◌≡◌, ℕ, ◌+◌, ◌<◌, List, [], ◌∷◌, ◌++◌, length, map, get_or, take, refl, ap, sym, ◌∙◌, append_assoc}
 use Rattle.std.proofs.lemmas.List.{take_more, map-append}
+use Rattle.cp_text.specs.Users.{name_of}
 use Rattle.vm370.specs.declared.transcript.Printed.{Printed}
-use Rattle.vm370.specs.Transcript.{ended, line_of, printed}
+use Rattle.vm370.specs.declared.transcript.Told.{Told}
+use Rattle.vm370.specs.Transcript.{ended, ending_lines, line_of, printed, reply_lines, telling}
 
 pub ended_append : (xs ys : List (List ℕ)) → ended (xs ++ ys) ≡ ended xs ++ ended ys
 ended_append [] ys = refl
@@ -17,3 +19,9 @@ one_more names front lines i line less is =
     let grown : take (i + 1) lines ≡ take i lines ++ line ∷ [] = take_more lines i line less ∙ ap (λ (x : Printed). take i lines ++ x ∷ []) (sym is) in
     let joined : map (line_of names) (map printed (take i lines ++ line ∷ [])) ≡ before ++ last ∷ [] = rw (map-append printed (take i lines) (line ∷ [])) (map-append (line_of names) (map printed (take i lines)) (printed line ∷ [])) in
     append_assoc front (ended before) (ended (last ∷ [])) ∙ ap (λ (l : List ℕ). front ++ l) (sym (ended_append before (last ∷ [])) ∙ ap ended (sym joined ∙ ap (λ (l : List Printed). map (line_of names) (map printed l)) (sym grown)))
+
+-- the printed lines and then that of the ending are the lines of a reply
+pub reply_ended : (names : List (List ℕ)) (user : ℕ) (told : Told) (name text front : List ℕ) → name ≡ name_of names user
+    → front ≡ ended (map (line_of names) (map printed told.lines.items)) → text ≡ front ++ ended (ending_lines name told.ending) → text ≡ ended (reply_lines names user (telling told))
+reply_ended names user told name text front named lines all =
+    all ∙ rw (named, lines) (sym (ended_append (map (line_of names) (map printed told.lines.items)) (ending_lines (name_of names user) told.ending)))

@@ -68,6 +68,7 @@ impl Reason {
 
 /// The transcript's lines for what an event of this user told, each ended by LF: the lines that were
 /// printed, and then the line of the event's ending, if it has one.
+#[tactic(auto, using(crate::proofs::Endings::reply_ended))]
 pub fn print_reply<N: Named>(
     alloc: Global,
     users: &[N],
