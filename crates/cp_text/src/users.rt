@@ -31,7 +31,7 @@ impl Named for &[u8] {
     ghost name = { λ s. s.now };
 
     fn name(&self) -> &[u8] {
-        self
+        *self
     }
 }
 

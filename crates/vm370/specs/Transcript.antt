@@ -1,6 +1,7 @@
 -- The lines that a reply gives.
-use Rattle.std.specs.Prelude.{ℕ, List, [], ◌∷◌, ◌++◌, map, codes, Option, Some, None}
+use Rattle.std.specs.Prelude.{ℕ, List, [], ◌∷◌, ◌++◌, ◌≡◌, ◌≢◌, All, map, codes, Option, Some, None}
 use Rattle.std.specs.Fmt.{decimal}
+use Rattle.cp_text.specs.Lines.{lines_of}
 use Rattle.cp_text.specs.Users.{name_of}
 use Rattle.vm370.specs.declared.transcript.Ending.{Ending}
 use Rattle.vm370.specs.declared.transcript.Ending.TheVariants as endings
@@ -61,3 +62,11 @@ reply_lines names user told = map (line_of names) told.lines ++ ending_lines (na
 abbrev pub ended : List (List ℕ) → List ℕ
 ended [] = []
 ended (line ∷ lines) = line ++ 10 ∷ ended lines
+
+-- no LF stands in a line
+abbrev pub HasNoEnd : List ℕ → Type 0
+HasNoEnd line = All (λ c. c ≢ 10) line
+
+-- bytes of lines that hold no LF are these lines and no others
+abbrev pub CutsBack : Type 0
+CutsBack = (lines : List (List ℕ)) → All HasNoEnd lines → lines_of (ended lines) ≡ lines

@@ -1,7 +1,7 @@
 //! The transcript: the lines that a reply gives.
 ghost use Rattle.std.specs.Prelude.{◌≡◌, ℕ, ◌++◌, ◌∷◌, [], IfOk, OnOk, List, map};
 ghost use Rattle.cp_text.specs.Users.{name_of};
-ghost use Rattle.vm370.specs.Transcript.{ended, ending_lines, line_of, printed, reason_word, reply_lines, telling, told_line};
+ghost use Rattle.vm370.specs.Transcript.{CutsBack, ended, ending_lines, line_of, printed, reason_word, reply_lines, telling, told_line};
 
 use cp_text::users::{Named, UserNo, name_of};
 use std::alloc::{AllocError, Global};
@@ -135,6 +135,12 @@ fn print_ending(
     out.push(b'\n')?;
     Ok(())
 }
+
+/// Cut at its LFs, what is printed is the lines that were told, one for one, where no text holds an
+/// LF.
+pub fn cuts_back()
+    ensures { CutsBack }
+{}
 
 #[cfg(test)]
 mod tests {
