@@ -23,6 +23,11 @@ abbrev pub said : Event → Said
 said (events.Run user units) = Run user.0 units
 said (events.Line user text) = Line user.0 text.now
 
+-- whose event it is
+abbrev pub user_in : Said → ℕ
+user_in (Run user units) = user
+user_in (Line user text) = user
+
 -- an event of one of so many users
 abbrev pub IsOfUser : ℕ → Event → Type 0
 IsOfUser users (events.Run user units) = user.0 < users

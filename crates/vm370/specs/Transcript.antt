@@ -20,10 +20,11 @@ pub record Telling : Type 0 where
   pub lines : List Line
   pub ending : Option Ending
 
--- what a value tells
+-- the line that a value is
 abbrev pub printed : Printed → Line
 printed line = record { user = line.user.0; text = line.text.items }
 
+-- what a value tells
 abbrev pub telling : Told → Telling
 telling told = record { lines = map printed told.lines.items; ending = told.ending }
 

@@ -3,7 +3,7 @@ ghost use Rattle.std.specs.Prelude.{◌≡◌, ℕ, ◌<◌, ◌≤◌, ◌+◌,
 ghost use Rattle.std.specs.Option.{option_map};
 ghost use Rattle.cp_text.specs.Lines.{lines_of};
 ghost use Rattle.vm370.specs.Grammar.{ReadsGrammar};
-ghost use Rattle.vm370.specs.Script.{IsOfUser, IsRefusal, is_ignored, operands_of, run_of, said, said_of, script_of, typed_of};
+ghost use Rattle.vm370.specs.Script.{IsOfUser, IsRefusal, is_ignored, operands_of, run_of, said, said_of, script_of, typed_of, user_in};
 
 use cp_text::lines::cut_line;
 use cp_text::numbers::decimal_of;
@@ -25,6 +25,18 @@ pub enum Event<'a> {
     Run(UserNo, u32),
     /// `LINE u text`: this line is typed at the user's terminal. Each byte is a character.
     Line(UserNo, &'a [u8]),
+}
+
+impl Event<'_> {
+    /// Whose event it is.
+    pub fn user(self) -> UserNo
+        ensures { result.0 ≡ user_in (said self.entry) }
+    {
+        match self {
+            Event::Run(user, _) => user,
+            Event::Line(user, _) => user,
+        }
+    }
 }
 
 /// Why a script is refused.
@@ -169,6 +181,7 @@ mod tests {
             Event::Line(B, b"".as_slice()),
         ];
         assert_eq!(rt; events.as_slice(), wanted.as_slice());
+        assert_eq!(rt; (wanted[1].user(), wanted[2].user()), (A, B));
         Ok(())
     }
 
