@@ -22,7 +22,7 @@ pub part_read : (bytes : List (List ℕ)) (owners : List (Option UserPage)) (siz
 part_read bytes owners sizes user start frame n page there is full one inside =
     page_range (get_or (storages_of bytes owners sizes) user []) page start n full one inside (same_bytes bytes owners sizes user start frame page there is)
 
-pub part_written : (bytes : List (List ℕ)) (owners : List (Option UserPage)) (sizes : List ℕ) (user start frame : ℕ) (xs page : List ℕ) → IsWhole bytes owners sizes → frame_of owners user (start / 4096) ≡ Some frame → page ≡ get_or bytes frame [] → length page ≡ 4096 →
+part_written : (bytes : List (List ℕ)) (owners : List (Option UserPage)) (sizes : List ℕ) (user start frame : ℕ) (xs page : List ℕ) → IsWhole bytes owners sizes → frame_of owners user (start / 4096) ≡ Some frame → page ≡ get_or bytes frame [] → length page ≡ 4096 →
     start % 4096 + length xs ≤ 4096 → start + length xs ≤ length (get_or (storages_of bytes owners sizes) user []) →
     storages_of (set bytes frame (put page (start % 4096) xs)) owners sizes ≡ set (storages_of bytes owners sizes) user (put (get_or (storages_of bytes owners sizes) user []) start xs)
 part_written bytes owners sizes user start frame xs page whole there is full one inside =
@@ -30,18 +30,23 @@ part_written bytes owners sizes user start frame xs page whole there is full one
     storages-written bytes owners sizes frame own (put page (start % 4096) xs) whole (frame_room bytes owners sizes user (start / 4096) frame whole there) (page_is owners user (start / 4096) frame there)
     ∙ ap (set (storages_of bytes owners sizes) user) (page_put (get_or (storages_of bytes owners sizes) user []) page xs start full one inside (same_bytes bytes owners sizes user start frame page there is))
 
-pub storages-count : (bytes : List (List ℕ)) (owners : List (Option UserPage)) (sizes : List ℕ) (user : ℕ) → user < length sizes → user < length (storages_of bytes owners sizes)
+storages-count : (bytes : List (List ℕ)) (owners : List (Option UserPage)) (sizes : List ℕ) (user : ℕ) → user < length sizes → user < length (storages_of bytes owners sizes)
 storages-count bytes owners sizes user lt = rw (length-map-range_with_len (λ h. storage_of bytes owners h (get_or sizes h 0)) 0 (length sizes)) lt
 
--- what one user's storage is, and the others, once it was set
-pub stored_bytes : (after before : List (List ℕ)) (user start : ℕ) (xs : List ℕ) → user < length before → start + length xs ≤ length (get_or before user []) → after ≡ set before user (put (get_or before user []) start xs) →
-    get_or after user [] ≡ put (get_or before user []) start xs
-stored_bytes after before user start xs lt inside e = ap (λ (l : List (List ℕ)). get_or l user []) e ∙ get_or-set_same _ _ _ _ lt
+-- a user's storage after bytes were put into it, and the storages of all
+pub record IsStored (before after : List (List ℕ)) (user start : ℕ) (xs : List ℕ) : Type 0 where
+  pub bytes : get_or after user [] ≡ put (get_or before user []) start xs
+  pub size : length (get_or after user []) ≡ length (get_or before user [])
+  pub others : after ≡ set before user (get_or after user [])
 
-pub stored_size : (after before : List (List ℕ)) (user start : ℕ) (xs : List ℕ) → user < length before → start + length xs ≤ length (get_or before user []) → after ≡ set before user (put (get_or before user []) start xs) →
-    length (get_or after user []) ≡ length (get_or before user [])
-stored_size after before user start xs lt inside e = ap length (stored_bytes after before user start xs lt inside e) ∙ length-put (get_or before user []) xs start inside
+stored : (after before : List (List ℕ)) (user start : ℕ) (xs : List ℕ) → user < length before → start + length xs ≤ length (get_or before user []) → after ≡ set before user (put (get_or before user []) start xs) → IsStored before after user start xs
+stored after before user start xs lt inside e =
+    let bytes : get_or after user [] ≡ put (get_or before user []) start xs = ap (λ (l : List (List ℕ)). get_or l user []) e ∙ get_or-set_same _ _ _ _ lt in
+    record { bytes = bytes; size = ap length bytes ∙ length-put (get_or before user []) xs start inside; others = e ∙ ap (set before user) (sym bytes) }
 
-pub stored_others : (after before : List (List ℕ)) (user start : ℕ) (xs : List ℕ) → user < length before → start + length xs ≤ length (get_or before user []) → after ≡ set before user (put (get_or before user []) start xs) →
-    after ≡ set before user (get_or after user [])
-stored_others after before user start xs lt inside e = e ∙ ap (set before user) (sym (stored_bytes after before user start xs lt inside e))
+pub part_stored : (bytes : List (List ℕ)) (owners : List (Option UserPage)) (sizes : List ℕ) (user start frame : ℕ) (xs page : List ℕ) → IsWhole bytes owners sizes → frame_of owners user (start / 4096) ≡ Some frame → page ≡ get_or bytes frame [] → length page ≡ 4096 →
+    start % 4096 + length xs ≤ 4096 → start + length xs ≤ length (get_or (storages_of bytes owners sizes) user []) → user < length sizes →
+    IsStored (storages_of bytes owners sizes) (storages_of (set bytes frame (put page (start % 4096) xs)) owners sizes) user start xs
+part_stored bytes owners sizes user start frame xs page whole there is full one inside within =
+    stored (storages_of (set bytes frame (put page (start % 4096) xs)) owners sizes) (storages_of bytes owners sizes) user start xs (storages-count bytes owners sizes user within) inside
+    (part_written bytes owners sizes user start frame xs page whole there is full one inside)

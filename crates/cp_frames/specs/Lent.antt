@@ -1,9 +1,21 @@
 -- What is seen of one user's lent pages, and what is kept of those who lent them.
-use Rattle.std.specs.Prelude.{◌≡◌, ℕ, List, [], ◌∷◌, zero, suc, Bool, is_some, slice_set, slice_index_or, refl}
+use Rattle.std.specs.Prelude.{◌≡◌, ℕ, List, [], ◌∷◌, zero, suc, Bool, Option, is_some, slice_set, slice_index_or, refl}
 use Rattle.std.proofs.Common.{sym, ◌∙◌, ap}
 use Rattle.cp_frames.specs.declared.dat.Dat.{Dat}
 use Rattle.cp_frames.specs.declared.numbers.UserNo.{UserNo}
-use Rattle.cp_frames.specs.Layout.{Pool, bytes_of, is_there}
+use Rattle.cp_frames.specs.Layout.{Pool, bytes_of, frame_of, is_there}
+
+-- the number of the user
+abbrev pub user_of : Dat → ℕ
+user_of d = d.user.0
+
+-- what is lent from: the storage of each user, and the page in each frame
+abbrev pub lent_pool : Dat → Pool
+lent_pool d = d.frames.now
+
+-- the frame in which one of the user's pages stands
+abbrev pub lent_frame : Dat → ℕ → Option ℕ
+lent_frame d = frame_of d.frames.now.owners d.user.0
 
 -- the storage of the user
 abbrev pub lent_bytes : Dat → List ℕ
