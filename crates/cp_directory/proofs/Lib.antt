@@ -1,0 +1,4 @@
+pub mod Numbers
+pub mod Spellings
+pub mod Places
+pub mod Grammars
