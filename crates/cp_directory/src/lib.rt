@@ -21,3 +21,6 @@ pub use faults::DirError;
 pub use name::UserName;
 pub use reader::{read_directory, reads_grammar};
 pub use storage::StorageSize;
+
+#[cfg(test)]
+mod tests;

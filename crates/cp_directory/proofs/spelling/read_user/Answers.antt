@@ -9,7 +9,7 @@ not_three : {A : Type 0} (f : A → List ℕ) (words : List A) → (length words
 not_three f [] h = refl
 not_three f (a ∷ []) h = refl
 not_three f (a ∷ b ∷ []) h = refl
-not_three f (a ∷ b ∷ c ∷ []) h = elim h [ | inl few ↦ absurd (omega arith) | inr many ↦ absurd (omega arith) ]
+not_three f (a ∷ b ∷ c ∷ []) h = elim h [ inl few ↦ absurd (omega arith) | inr many ↦ absurd (omega arith) ]
 not_three f (a ∷ b ∷ c ∷ d ∷ more) h = refl
 
 pub returns-in_default : goal.returns-in_default
