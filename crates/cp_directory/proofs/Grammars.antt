@@ -8,7 +8,7 @@ use Rattle.cp_text.proofs.Firsts.{first_fault_of}
 use Rattle.cp_directory.specs.Users.{DirectoryUser}
 use Rattle.cp_directory.specs.Statements.{Stated, added, line_placed, placed, stated_by, user_stated, well_formed, words_placed}
 use Rattle.cp_directory.specs.Directories.{at_line, directory_step}
-use Rattle.cp_directory.specs.Grammar.{Breaks, Continues, HasFault, IsDirectory, IsFirstFault, IsIgnored, IsMisspelled, IsUnknown, ReadsGrammar, Says, States, order}
+use Rattle.cp_directory.specs.Grammar.{Continues, HasFault, IsFirstFault, IsIgnored, ReadsGrammar, Says, States, order}
 use Rattle.cp_directory.specs.declared.faults.Fault.{Fault}
 use Rattle.cp_directory.specs.declared.faults.Fault.TheVariants.{UnknownStatement, Syntax, DuplicateUser, DuplicateDevice, BadStorage, BadExtent, Overlap, TooMany}
 use Rattle.cp_directory.proofs.Spellings.{again, found, is_word}

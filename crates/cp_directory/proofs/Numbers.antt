@@ -1,5 +1,5 @@
 -- Numbers of many digits, capped.
-use Rattle.std.proofs.Common.{◌≡◌, ℕ, ◌+◌, ◌*◌, ◌-◌, ◌<◌, suc, List, [], ◌∷◌, length, get_or, drop, min, refl, ap, ◌∙◌, add-one, arith}
+use Rattle.std.proofs.Common.{◌≡◌, ℕ, ◌+◌, ◌*◌, ◌-◌, ◌<◌, suc, List, [], ◌∷◌, length, get_or, drop, min, ap, ◌∙◌, add-one, arith}
 use Rattle.std.proofs.Math.Seq.{drop-cons}
 use Rattle.cp_directory.specs.Sizes.{number}
 

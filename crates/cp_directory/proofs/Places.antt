@@ -1,12 +1,12 @@
 -- A statement after those before it: nothing is wrong with it, or its first fault is.
-use Rattle.std.proofs.Common.{◌≡◌, ℕ, ◌≤◌, ◌⊎◌, inl, inr, Bool, true, false, not, leb, List, [], ◌∷◌, length, codes, Ok, Err, refl, ap, sym, ◌∙◌, subst, arith}
+use Rattle.std.proofs.Common.{◌≡◌, ℕ, ◌≤◌, ◌⊎◌, inl, inr, Bool, true, false, not, leb, List, [], ◌∷◌, length, codes, Ok, Err, refl, sym, ◌∙◌, subst, arith}
 use Rattle.std.specs.List.{list_any}
 use Rattle.std.specs.Str.{bytes_eq}
 use Rattle.std.proofs.lemmas.Bool.Decides.{nat_tests}
 use Rattle.cp_directory.specs.Sizes.{is_size}
 use Rattle.cp_directory.specs.Users.{DirectoryUser}
 use Rattle.cp_directory.specs.Statements.{Stated, User, added, fault_if, first_fault, has_name, placed, unless_fault}
-use Rattle.cp_directory.specs.Grammar.{Breaks, HasFault, IsMisspelled, IsUnknown, Says, SaysWrong, order}
+use Rattle.cp_directory.specs.Grammar.{Breaks, HasFault, IsUnknown, Says, SaysWrong, order}
 use Rattle.cp_directory.specs.declared.faults.Fault.{Fault}
 use Rattle.cp_directory.specs.declared.faults.Fault.TheVariants.{UnknownStatement, Syntax, DuplicateUser, DuplicateDevice, BadStorage, BadExtent, Overlap, TooMany}
 use Rattle.cp_directory.proofs.Spellings.{alike, again}

@@ -1,5 +1,5 @@
 -- The words that say a statement are read as it, and what is read of words they say.
-use Rattle.std.proofs.Common.{◌≡◌, ℕ, ◌+◌, ◌*◌, ◌-◌, ◌<◌, ◌⊎◌, inl, inr, ◌&&◌, Bool, true, false, cond, List, [], ◌∷◌, ◌++◌, length, get_or, take, codes, Option, Some, None, Result, Ok, Err, refl, ap, sym, ◌∙◌, subst, length-append, arith}
+use Rattle.std.proofs.Common.{◌≡◌, ℕ, ◌+◌, ◌*◌, ◌-◌, ◌<◌, inl, inr, ◌&&◌, Bool, true, false, List, [], ◌∷◌, ◌++◌, length, get_or, take, codes, Option, Some, None, Ok, Err, refl, ap, sym, ◌∙◌, subst, length-append, arith}
 use Rattle.std.specs.Option.{option_map}
 use Rattle.std.specs.Str.{bytes_eq}
 use Rattle.std.proofs.Math.Seq.{take-append_seam, take-length, get_or-append_seam}
@@ -9,8 +9,7 @@ use Rattle.cp_text.proofs.Spellings.{chosen}
 use Rattle.cp_directory.specs.Names.{is_name, is_short_word}
 use Rattle.cp_directory.specs.Sizes.{is_number, kilobytes_by, kilobytes_of, number, unit_of}
 use Rattle.cp_directory.specs.Statements.{Stated, User, stated_by, user_of, user_stated, well_formed}
-use Rattle.cp_directory.specs.Grammar.{SaysUser, Says}
-use Rattle.cp_directory.specs.declared.faults.Fault.{Fault}
+use Rattle.cp_directory.specs.Grammar.{Says}
 use Rattle.cp_directory.specs.declared.faults.Fault.TheVariants.{UnknownStatement}
 
 both : (a b : Bool) → (a && b) ≡ true → (a ≡ true) × (b ≡ true)

@@ -1,12 +1,12 @@
 -- The grammar of directories, as a relation between lines and users.
-use Rattle.std.specs.Prelude.{◌≡◌, ℕ, ◌+◌, ◌*◌, ◌<◌, ◌≤◌, ◌⊎◌, true, false, List, [], ◌∷◌, ◌++◌, length, codes, slice_index_or, All, Some, Ok, Err}
-use Rattle.std.specs.List.{list_any}
+use Rattle.std.specs.Prelude.{◌≡◌, ℕ, ◌+◌, ◌*◌, ◌≤◌, ◌⊎◌, true, false, List, [], ◌∷◌, ◌++◌, length, codes, All, Some, Ok, Err}
+use Rattle.std.specs.List.{AllPairs, list_any}
 use Rattle.std.specs.Str.{bytes_eq}
 use Rattle.cp_text.specs.Lines.{is_comment, lines_of}
 use Rattle.cp_text.specs.Words.{words_of}
 use Rattle.cp_directory.specs.Names.{is_name, is_short_word}
 use Rattle.cp_directory.specs.Sizes.{is_number, is_size, number, unit_of}
-use Rattle.cp_directory.specs.Users.{DirectoryUser, nobody}
+use Rattle.cp_directory.specs.Users.{DirectoryUser}
 use Rattle.cp_directory.specs.Statements.{Stated, User, added, has_name}
 use Rattle.cp_directory.specs.Directories.{directory_of}
 use Rattle.cp_directory.specs.declared.faults.Fault.{Fault}
@@ -118,13 +118,9 @@ ReadsGrammar = (text : List ℕ) →
     × ((users : List DirectoryUser) → IsDirectory (lines_of text) users → directory_of text ≡ Ok users)
     × ((number : ℕ) (fault : Fault) → directory_of text ≡ Err (number, fault) → IsFirstFault (lines_of text) number fault)
 
--- what every directory keeps: at most 64 users, of different names, and each name and size as it may be
+-- what the users of every directory keep: they are at most 64, of different names, and each name and size is one that a user may have
 pub record IsLawful (users : List DirectoryUser) : Type 0 where
   pub few : length users ≤ 64
-  pub different : (i j : ℕ) → i < j → j < length users → bytes_eq (slice_index_or users i nobody).name (slice_index_or users j nobody).name ≡ false
+  pub different : AllPairs (λ one other. bytes_eq one.name other.name ≡ false) users
   pub named : All (λ user. is_name user.name ≡ true) users
   pub sized : All (λ user. (2 ≤ user.pages) × (user.pages ≤ 1024)) users
-
--- what the lines of a directory state is lawful
-abbrev pub KeepsLaws : Type 0
-KeepsLaws = (lines : List (List ℕ)) (users : List DirectoryUser) → IsDirectory lines users → IsLawful users

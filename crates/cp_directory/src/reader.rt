@@ -1,7 +1,7 @@
 //! The reader of directories: line by line, and each statement after those before it.
 ghost use Rattle.std.specs.Prelude.{◌≡◌, IfOk, IfErr, Ok};
 ghost use Rattle.cp_directory.specs.Directories.{IsRefusal, Places, directory_of};
-ghost use Rattle.cp_directory.specs.Grammar.{ReadsGrammar};
+ghost use Rattle.cp_directory.specs.Grammar.{IsLawful, ReadsGrammar};
 ghost use Rattle.cp_directory.specs.Spelled.{kilobytes, stated};
 ghost use Rattle.cp_directory.specs.Statements as said;
 ghost use Rattle.cp_directory.specs.Statements.{line_placed, placed};
@@ -20,9 +20,11 @@ const USERS: usize = 64;
 /// The directory that a text states.
 ///
 /// A text outside the grammar is refused by its first faulty line and that line's first fault, and
-/// [`DirError::Memory`] is the answer only where a growth was refused.
+/// [`DirError::Memory`] is the answer only where a growth was refused. A directory has at most 64
+/// users, and their names differ.
 pub fn read_directory(alloc: Global, text: &[u8]) -> Result<Directory, DirError>
     ensures ok { IfOk result (λ users. directory_of text.now ≡ Ok users) }
+    ensures lawful { IfOk result IsLawful }
     ensures err { IfErr result (IsRefusal (directory_of text.now)) }
 {
     let mut directory = Directory::new(alloc);

@@ -1,4 +1,4 @@
-use Rattle.std.proofs.Common.{◌≡◌, ℕ, List, ◌∙◌, rules, tests, refl, arith, eqb, leb, length, false, true, ◌≤◌, ◌<◌, sym}
+use Rattle.std.proofs.Common.{◌≡◌, ℕ, List, ◌∙◌, rules, tests, refl, arith, eqb, leb, length, false, true, ◌≤◌}
 use Rattle.std.specs.List.{list_all}
 use Rattle.std.proofs.lemmas.Bool.Decides.{nat_tests}
 use Rattle.std.proofs.lemmas.Iterator.{YieldsList-from_slice}
