@@ -5,11 +5,18 @@ use std::test::Fail;
 /// The example of docs/FORMATS.md.
 const EXAMPLE: &[u8] = b"* two users\nUSER ALPHA SECRET 4M\n\nUSER B2 X 12K\n";
 
-/// How many users a text states, or its fault; want of memory stands apart.
-fn told(alloc: Global, text: &[u8]) -> Result<Result<usize, DirError>, AllocError> {
+/// The directory of a text, or its fault; want of memory stands apart.
+fn read(alloc: Global, text: &[u8]) -> Result<Result<Directory, DirError>, AllocError> {
     match read_directory(alloc, text) {
-        Ok(directory) => Ok(Ok(directory.len())),
         Err(DirError::Memory) => Err(AllocError),
+        answer => Ok(answer),
+    }
+}
+
+/// How many users a text states, or its fault.
+fn told(alloc: Global, text: &[u8]) -> Result<Result<usize, DirError>, AllocError> {
+    match read(alloc, text)? {
+        Ok(directory) => Ok(Ok(directory.len())),
         Err(error) => Ok(Err(error)),
     }
 }
@@ -83,7 +90,7 @@ fn reads_sizes(rt: HostRuntime) -> Result<(), Fail> {
     ] {
         let mut text = b"USER A P ".to_vec(rt.alloc())?;
         text.extend_from_slice(size)?;
-        let got = match read_directory(rt.alloc(), text.as_slice()) {
+        let got = match read(rt.alloc(), text.as_slice())? {
             Ok(directory) => {
                 assert_eq!(rt; directory.len(), 1);
                 Ok(directory.storage(0).pages())
