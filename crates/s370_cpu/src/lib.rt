@@ -9,10 +9,11 @@
 
 mod conclude;
 mod fetch;
+mod opcodes;
 mod operands;
-mod table;
+#[cfg(test)]
+mod tests;
 mod unit;
 
 pub use conclude::Stop;
-pub use table::{Opcode, opcode_of};
 pub use unit::step;
