@@ -7,6 +7,8 @@
 
 mod class;
 mod swap_words;
+#[cfg(test)]
+mod tests;
 
 pub use class::Class;
 pub use swap_words::swap;
