@@ -1,0 +1,303 @@
+//! The program status word in basic control mode.
+
+ghost use Rattle.std.specs.Prelude.{◌≡◌, ℕ, ◌+◌, ◌*◌, ◌^◌, ◌<◌, ◌≤◌, ◌==◌};
+ghost use Rattle.s370_psw.specs.Laws.{IsInRange, ReadsBack, LoadsBack, HoldsCodes, WritesBack, WritesAllBack};
+
+use crate::length::Ilc;
+use byteorder::{BigEndian, ByteOrder};
+use s370_num::Addr24;
+use std::marker::Model;
+
+/// A program status word as the processor holds it: without interruption code and instruction length
+/// code, which it has only where it is stored (GA22-7000, "Program-Status-Word Format in BC Mode").
+#[derive(Clone, Copy, PartialEq, Eq, Debug)]
+pub struct Psw {
+    system_mask: u8,
+    key: u8,
+    extended: bool,
+    machine_check: bool,
+    wait: bool,
+    problem: bool,
+    condition: u8,
+    program_mask: u8,
+    address: Addr24,
+}
+
+impl Model for Psw {
+    ghost use Rattle.std.specs.Prelude.{◌≡◌, ℕ, ◌^◌, ◌<◌};
+    ghost use Rattle.s370_psw.specs.Fields.{Fields};
+
+    ghost Value = { Fields };
+
+    ghost view = { λ p. record { system_mask = p.system_mask; key = p.key; extended = p.extended; machine_check = p.machine_check; wait = p.wait; problem = p.problem; condition = p.condition; program_mask = p.program_mask; address = p.address } };
+
+    ghost invariant = { λ p. (p.key < 16) × (p.condition < 4) × (p.program_mask < 16) };
+
+    ghost inverse = { λ p. record { system_mask = p.system_mask; key = p.key; extended = p.extended; machine_check = p.machine_check; wait = p.wait; problem = p.problem; condition = p.condition; program_mask = p.program_mask; address = p.address } };
+}
+
+/// Between storage and the processor.
+impl Psw {
+    ghost use Rattle.s370_psw.specs.Fields.{fields_of, word_of, loaded, stored};
+
+    /// The PSW that these eight bytes load. Bits 16 to 33 are dropped.
+    #[inline]
+    pub fn from_bytes(bytes: &[u8; 8]) -> Psw
+        ensures { result ≡ loaded bytes.now }
+    {
+        Psw::from_word(BigEndian::read_u64(bytes))
+    }
+
+    /// The eight bytes that are stored with an interruption code and an instruction length code.
+    #[inline]
+    pub fn to_bytes(self, code: u16, length_code: Ilc) -> [u8; 8]
+        ensures { result ≡ stored self code length_code }
+    {
+        let mut bytes = [0; 8];
+        BigEndian::write_u64(&mut bytes, self.to_word(code, length_code));
+        bytes
+    }
+
+    /// The PSW that these 64 bits load. Bits 16 to 33 are dropped.
+    #[inline]
+    pub fn from_word(word: u64) -> Psw
+        ensures { result ≡ fields_of word }
+    {
+        Psw {
+            system_mask: (word >> 56) as u8,
+            key: (word >> 52 & 0xF) as u8,
+            extended: word >> 51 & 1 == 1,
+            machine_check: word >> 50 & 1 == 1,
+            wait: word >> 49 & 1 == 1,
+            problem: word >> 48 & 1 == 1,
+            condition: (word >> 28 & 3) as u8,
+            program_mask: (word >> 24 & 0xF) as u8,
+            address: Addr24::wrapping((word & 0xFF_FFFF) as u32),
+        }
+    }
+
+    /// The 64 bits that are stored with an interruption code and an instruction length code.
+    #[inline]
+    pub fn to_word(self, code: u16, length_code: Ilc) -> u64
+        ensures { result ≡ word_of self code length_code }
+    {
+        let masks = self.system_mask as u64 * 0x100_0000_0000_0000
+            + self.key as u64 * 0x10_0000_0000_0000;
+        let flags = self.extended as u64 * 0x8_0000_0000_0000
+            + self.machine_check as u64 * 0x4_0000_0000_0000
+            + self.wait as u64 * 0x2_0000_0000_0000
+            + self.problem as u64 * 0x1_0000_0000_0000;
+        let codes = code as u64 * 0x1_0000_0000 + length_code.get() as u64 * 0x4000_0000;
+        let program = self.condition as u64 * 0x1000_0000 + self.program_mask as u64 * 0x100_0000;
+        masks + flags + codes + program + self.address.get() as u64
+    }
+}
+
+/// What the fields say.
+impl Psw {
+    ghost use Rattle.s370_psw.specs.Fields.{enables_channel, enables_external};
+
+    /// Where the next instruction stands.
+    #[inline(always)]
+    pub fn address(&self) -> Addr24
+        ensures { result ≡ self.now.address }
+    {
+        self.address
+    }
+
+    /// The key that storage accesses are tested with.
+    #[inline(always)]
+    pub fn key(&self) -> u8
+        ensures value { result ≡ self.now.key }
+        ensures below { result < 16 }
+    {
+        self.key
+    }
+
+    /// The condition code.
+    #[inline(always)]
+    pub fn condition(&self) -> u8
+        ensures value { result ≡ self.now.condition }
+        ensures below { result < 4 }
+    {
+        self.condition
+    }
+
+    /// The four masks of program exceptions: fixed-point overflow is the leftmost.
+    #[inline(always)]
+    pub fn program_mask(&self) -> u8
+        ensures value { result ≡ self.now.program_mask }
+        ensures below { result < 16 }
+    {
+        self.program_mask
+    }
+
+    /// The eight masks of interruptions: channel 0 is the leftmost.
+    #[inline(always)]
+    pub fn system_mask(&self) -> u8
+        ensures { result ≡ self.now.system_mask }
+    {
+        self.system_mask
+    }
+
+    /// Extended control mode is asked for (bit 12).
+    #[inline(always)]
+    pub fn is_ec(&self) -> bool
+        ensures { result ≡ self.now.extended }
+    {
+        self.extended
+    }
+
+    /// Machine checks may interrupt (bit 13).
+    #[inline(always)]
+    pub fn machine_check(&self) -> bool
+        ensures { result ≡ self.now.machine_check }
+    {
+        self.machine_check
+    }
+
+    /// The processor waits for an interruption (bit 14).
+    #[inline(always)]
+    pub fn waits(&self) -> bool
+        ensures { result ≡ self.now.wait }
+    {
+        self.wait
+    }
+
+    /// Privileged instructions are refused (bit 15).
+    #[inline(always)]
+    pub fn is_problem(&self) -> bool
+        ensures { result ≡ self.now.problem }
+    {
+        self.problem
+    }
+
+    /// A device of this channel may interrupt: channels 0 to 5 have a mask each, the higher ones share
+    /// one.
+    #[inline(always)]
+    pub fn enables_channel(&self, channel: u8) -> bool
+        ensures { result ≡ enables_channel self.now channel }
+    {
+        let place = if channel < 6 { channel } else { 6 };
+        self.system_mask >> (7 - place) & 1 == 1
+    }
+
+    /// An external condition may interrupt.
+    #[inline(always)]
+    pub fn enables_external(&self) -> bool
+        ensures { result ≡ enables_external self.now }
+    {
+        self.system_mask & 1 == 1
+    }
+
+    /// Neither a channel nor an external condition may interrupt.
+    #[inline(always)]
+    pub fn is_disabled(&self) -> bool
+        ensures { result ≡ (self.now.system_mask == 0) }
+    {
+        self.system_mask == 0
+    }
+}
+
+/// What instructions change.
+impl Psw {
+    #[inline(always)]
+    pub fn set_system_mask(&mut self, mask: u8)
+        ensures { self.new ≡ record self.old { system_mask = mask } }
+    {
+        self.system_mask = mask;
+    }
+
+    #[inline(always)]
+    pub fn set_address(&mut self, address: Addr24)
+        ensures { self.new ≡ record self.old { address = address } }
+    {
+        self.address = address;
+    }
+
+    #[inline(always)]
+    pub fn set_condition(&mut self, condition: u8)
+        requires { condition < 4 }
+        ensures { self.new ≡ record self.old { condition = condition } }
+    {
+        self.condition = condition;
+    }
+
+    #[inline(always)]
+    pub fn set_program_mask(&mut self, mask: u8)
+        requires { mask < 16 }
+        ensures { self.new ≡ record self.old { program_mask = mask } }
+    {
+        self.program_mask = mask;
+    }
+
+    #[inline(always)]
+    pub fn set_wait(&mut self, wait: bool)
+        ensures { self.new ≡ record self.old { wait = wait } }
+    {
+        self.wait = wait;
+    }
+
+    #[inline(always)]
+    pub fn set_problem(&mut self, problem: bool)
+        ensures { self.new ≡ record self.old { problem = problem } }
+    {
+        self.problem = problem;
+    }
+}
+
+/// Each field of any PSW is no wider than its bits, so that the laws below hold of it.
+#[inline(always)]
+pub fn fields_in_range(psw: &Psw)
+    ensures { IsInRange psw.now }
+{
+    let _ = psw.address.get();
+    let _mask = psw.system_mask;
+}
+
+/// The laws of storing and loading: a PSW that is stored with any codes and loaded again is the PSW,
+/// its codes stand in their bits, and a PSW that is loaded and stored again has the bits that it had,
+/// but for those of the codes.
+pub fn storing_and_loading()
+    ensures reads_back { ReadsBack }
+    ensures loads_back { LoadsBack }
+    ensures holds_codes { HoldsCodes }
+    ensures writes_back { WritesBack }
+    ensures writes_all_back { WritesAllBack }
+{}
+
+#[cfg(test)]
+mod tests {
+    use super::*;
+    use crate::program::ProgramCode;
+
+    // A PSW whose bit 14 is one waits; one of zeros but for its first byte enables what the byte says.
+    #[test]
+    fn loads(rt: HostRuntime) {
+        let waiting = Psw::from_bytes(&[0, 2, 0, 0, 0, 0, 0, 0]);
+        assert!(rt; waiting.waits());
+        assert!(rt; waiting.is_disabled());
+        assert!(rt; !waiting.is_problem());
+        let enabled = Psw::from_bytes(&[0x02, 0, 0, 0, 0, 0, 0, 0]);
+        assert!(rt; enabled.enables_channel(6));
+        assert!(rt; enabled.enables_channel(31));
+        assert!(rt; !enabled.enables_channel(5));
+        assert!(rt; !enabled.enables_external());
+    }
+
+    // Old PSWs of a supervisor call and of a program interruption.
+    #[test]
+    fn stores(rt: HostRuntime) {
+        let called = Psw::from_word(0x1002);
+        assert_eq!(rt;
+            called.to_bytes(7, Ilc::ONE),
+            [0, 0, 0, 7, 0x40, 0, 0x10, 2]
+        );
+        let refused = Psw::from_word(0x104);
+        let code = ProgramCode::Addressing.number();
+        assert_eq!(rt;
+            refused.to_bytes(code, Ilc::TWO),
+            [0, 0, 0, 5, 0x80, 0, 1, 4]
+        );
+    }
+}
