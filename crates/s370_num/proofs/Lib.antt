@@ -1,1 +1,3 @@
 mod Text
+pub mod EbcdicLemmas
+pub mod TableLemmas

@@ -1,1 +1,4 @@
 pub mod Address
+pub mod Counted
+pub mod Ebcdic
+pub mod Host

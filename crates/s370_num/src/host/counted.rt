@@ -1,0 +1,92 @@
+//! A reader or a writer of std with a count of its failures.
+ghost use Rattle.std.specs.Prelude.{◌≡◌};
+ghost use Rattle.s370_num.specs.Host.{one_more};
+ghost use Rattle.s370_num.specs.Counted.{failures_of, file_of};
+
+use crate::host::{HostFault, HostFile, HostReader, HostWriter};
+use std::io::{ErrorKind, Read, Write};
+
+/// A file of the host or a standard stream, and how often it failed.
+///
+/// A read or a write that was interrupted is made again, and is no failure. A write of nothing, where
+/// there was something to write, is one. A program writes `Counted::new(fs::open(rt, path)?)`.
+#[derive(Drop)]
+pub struct Counted<F> {
+    file: F,
+    failures: u64,
+}
+
+impl<F> Counted<F> {
+    /// The file, of which no call has failed yet.
+    pub fn new(file: F) -> Counted<F>
+        ensures file { file_of result ≡ file }
+        ensures none { failures_of result ≡ 0 }
+    {
+        Counted { file, failures: 0 }
+    }
+
+    fn fail(&mut self) -> HostFault
+        ensures file { self.new.file ≡ self.old.file }
+        ensures more { self.new.failures ≡ one_more self.old.failures }
+        ensures fault { result ≡ HostFault.Device self.new.failures }
+    {
+        self.failures = self.failures.saturating_add(1);
+        HostFault::Device(self.failures)
+    }
+}
+
+impl<F> HostFile for Counted<F> {
+    ghost failures = { λ s. s.failures };
+
+    fn failures(&self) -> u64 {
+        self.failures
+    }
+}
+
+impl<R: Read> HostReader for Counted<R> {
+    ghost remaining = { λ s. R.remaining s.file };
+
+    fn read(&mut self, buf: &mut [u8]) -> Result<usize, HostFault> {
+        'tries: for _ in 0..u64::MAX {
+            match self.file.read(buf) {
+                Ok(count) => return Ok(count),
+                Err(error) => {
+                    if error.kind() != ErrorKind::Interrupted {
+                        return Err(self.fail());
+                    }
+                }
+            }
+        }
+        Err(self.fail())
+    }
+}
+
+impl<W: Write> HostWriter for Counted<W> {
+    ghost contents = { λ s. W.contents s.file };
+
+    fn write(&mut self, bytes: &[u8]) -> Result<usize, HostFault> {
+        'tries: for _ in 0..u64::MAX {
+            match self.file.write(bytes) {
+                Ok(count) => {
+                    if count == 0 && !bytes.is_empty() {
+                        return Err(self.fail());
+                    }
+                    return Ok(count);
+                }
+                Err(error) => {
+                    if error.kind() != ErrorKind::Interrupted {
+                        return Err(self.fail());
+                    }
+                }
+            }
+        }
+        Err(self.fail())
+    }
+
+    fn flush(&mut self) -> Result<(), HostFault> {
+        match self.file.flush() {
+            Ok(()) => Ok(()),
+            Err(_) => Err(self.fail()),
+        }
+    }
+}
