@@ -1,9 +1,9 @@
 -- The commands, by the words of their texts.
-use Rattle.std.specs.Prelude.{ℕ, ◌==◌, if◌then◌else◌, List, [], ◌∷◌, ◌++◌, codes, Option, Some, None, Result, Ok, Err}
+use Rattle.std.specs.Prelude.{ℕ, ◌+◌, ◌*◌, ◌^◌, ◌==◌, if◌then◌else◌, List, [], ◌∷◌, codes, Option, Some, None, Result, Ok, Err}
 use Rattle.std.specs.Option.{option_map}
 use Rattle.std.specs.Str.{bytes_eq}
 use Rattle.cp_console.specs.Words.{words_of}
-use Rattle.cp_console.specs.Operands.{address_of, register_of, contents_of, bytes_of, half_of}
+use Rattle.cp_console.specs.Operands.{address_of, register_of, contents_of, bytes_of}
 use Rattle.cp_console.specs.declared.commands.Place.{Place}
 use Rattle.cp_console.specs.declared.commands.Place.TheVariants as places
 use Rattle.cp_console.specs.declared.commands.Change.{Change}
@@ -50,9 +50,9 @@ begin_of (word ∷ words) = operand 1 address_of (word ∷ words) (λ address. e
 abbrev pub display_of : List (List ℕ) → Result Command CommandError
 display_of words = operand 1 place_of words (λ place. ended 2 (Display place))
 
--- what a place is given: the PSW its two halves, a register its contents, storage some bytes
+-- what a place is given: the PSW its two halves, a register its contents, storage some bytes from the address on
 abbrev pub change_of : Place → List (List ℕ) → Result Command CommandError
-change_of places.Psw words = operand 2 half_of words (λ left rest. operand 3 half_of rest (λ right. ended 4 (Store (changes.Psw (left ++ right)))))
+change_of places.Psw words = operand 2 contents_of words (λ left rest. operand 3 contents_of rest (λ right. ended 4 (Store (changes.Psw (left * 2 ^ 32 + right)))))
 change_of (places.General register) words = operand 2 contents_of words (λ contents. ended 3 (Store (changes.General register contents)))
 change_of (places.Storage address) words = operand 2 bytes_of words (λ bytes. ended 3 (Store (changes.Storage address bytes)))
 

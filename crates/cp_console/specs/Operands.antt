@@ -23,7 +23,7 @@ hexadecimal least most digits =
 abbrev pub address_of : List ℕ → Option ℕ
 address_of word = hexadecimal 1 6 word
 
--- the contents of a register are 8 hexadecimal digits
+-- the contents of a register, and either half of a PSW, are 8 hexadecimal digits
 abbrev pub contents_of : List ℕ → Option ℕ
 contents_of word = hexadecimal 8 8 word
 
@@ -47,7 +47,3 @@ bytes_spelled (left ∷ right ∷ digits) = option_and_then (λ byte. option_map
 -- what is stored is 1 to 16 bytes, each of two hexadecimal digits
 abbrev pub bytes_of : List ℕ → Option (List ℕ)
 bytes_of word = if nat_le 2 (length word) && nat_le (length word) 32 then bytes_spelled word else None
-
--- half of a PSW is four bytes, each of two hexadecimal digits
-abbrev pub half_of : List ℕ → Option (List ℕ)
-half_of word = if length word == 8 then bytes_spelled word else None

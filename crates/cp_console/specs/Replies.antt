@@ -1,35 +1,30 @@
 -- The texts of replies, and which of them a console keeps.
-use Rattle.std.specs.Prelude.{ℕ, ◌+◌, ◌*◌, ◌/◌, ◌%◌, ◌^◌, Bool, true, false, zero, suc, List, [], ◌∷◌, ◌++◌, codes, decimal, slice_range}
-use Rattle.std.specs.List.{flat_map}
-use Rattle.s370_num.specs.Address.{digit_of}
+use Rattle.std.specs.Prelude.{ℕ, ◌+◌, ◌*◌, ◌/◌, ◌%◌, ◌^◌, Bool, true, false, List, ◌++◌, codes, decimal, slice_range}
+use Rattle.std.specs.Int.{w32, from_be_bytes}
+use Rattle.s370_num.specs.Address.{address_text, word_text}
 use Rattle.cp_console.specs.declared.replies.Reply.{Reply}
 use Rattle.cp_console.specs.declared.replies.Reply.TheVariants.{LogonOk, AlreadyLoggedOn, NotLoggedOn, Psw, General, Storage, Stored, AddressPastStorage, UnknownCommand, BadOperand, NoConsole, StoppedDisabledWait, StoppedEcMode}
 
--- the last so many hexadecimal digits of a number
-abbrev pub hexadecimal_text : ℕ → ℕ → List ℕ
-hexadecimal_text zero n = []
-hexadecimal_text (suc count) n = digit_of (n / 16 ^ count % 16) ∷ hexadecimal_text count n
-
--- bytes as two hexadecimal digits each, after a blank
-abbrev pub bytes_text : List ℕ → List ℕ
-bytes_text bytes = 32 ∷ flat_map (hexadecimal_text 2) bytes
+-- the word that four bytes are, from this one on
+abbrev pub word_at : List ℕ → ℕ → ℕ
+word_at bytes at = from_be_bytes w32 (slice_range bytes at (at + 4))
 
 -- a PSW as two words
-abbrev pub psw_text : List ℕ → List ℕ
-psw_text psw = codes "PSW" ++ bytes_text (slice_range psw 0 4) ++ bytes_text (slice_range psw 4 8)
-
--- sixteen bytes of storage as four words, after the address of the first of them, which is a multiple of sixteen
-abbrev pub storage_text : ℕ → List ℕ → List ℕ
-storage_text address bytes =
-    hexadecimal_text 6 (address / 16 * 16)
-    ++ bytes_text (slice_range bytes 0 4) ++ bytes_text (slice_range bytes 4 8)
-    ++ bytes_text (slice_range bytes 8 12) ++ bytes_text (slice_range bytes 12 16)
+abbrev pub psw_text : ℕ → List ℕ
+psw_text psw = codes "PSW " ++ word_text (psw / 2 ^ 32) ++ codes " " ++ word_text (psw % 2 ^ 32)
 
 -- a register's number and contents
 abbrev pub general_text : ℕ → ℕ → List ℕ
-general_text register contents = codes "GPR " ++ decimal register ++ codes " = " ++ hexadecimal_text 8 contents
+general_text register contents = codes "GPR " ++ (decimal register ++ (codes " = " ++ word_text contents))
 
--- the place of an operand
+-- the address rounded down to a multiple of sixteen, and the four words of storage there
+abbrev pub storage_text : ℕ → List ℕ → List ℕ
+storage_text address bytes =
+    address_text (address / 16 * 16)
+    ++ codes " " ++ word_text (word_at bytes 0) ++ codes " " ++ word_text (word_at bytes 4)
+    ++ codes " " ++ word_text (word_at bytes 8) ++ codes " " ++ word_text (word_at bytes 12)
+
+-- the place of a wrong, missing or surplus word
 abbrev pub operand_text : ℕ → List ℕ
 operand_text place = codes "BAD OPERAND " ++ decimal place
 

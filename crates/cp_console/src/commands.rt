@@ -3,9 +3,7 @@ ghost use Rattle.std.specs.Prelude.{◌≡◌, ◌++◌, Option, Result};
 ghost use Rattle.cp_console.specs.Commands.{begin_of, change_of, command_named, command_of, display_of, ended, logon_of, numbered_place, place_of, store_of};
 ghost use Rattle.cp_console.specs.Words.{words_of};
 
-use crate::operands::{
-    Register, StoredBytes, address_of, bytes_of, contents_of, half_of, register_of,
-};
+use crate::operands::{Register, StoredBytes, address_of, bytes_of, contents_of, register_of};
 use crate::words::cut_word;
 use s370_num::{Addr24, Word};
 use thiserror::Error;
@@ -24,8 +22,8 @@ pub enum Place {
 /// What a place is given.
 #[derive(Clone, Copy, Debug, PartialEq, Eq)]
 pub enum Change {
-    /// The eight bytes of the PSW.
-    Psw([u8; 8]),
+    /// The 64 bits of the PSW.
+    Psw(u64),
     /// The contents of a general register.
     General(Register, Word),
     /// Bytes of storage from an address on.
@@ -48,7 +46,7 @@ pub enum Command {
 }
 
 /// Why a text is no command.
-#[derive(Debug, Drop, Error, PartialEq, Eq)]
+#[derive(Clone, Copy, Debug, PartialEq, Eq, Drop, Error)]
 pub enum CommandError {
     /// No memory was left. No command takes any so far.
     #[error("no memory is left")]
@@ -148,22 +146,17 @@ fn read_psw(operands: &[u8]) -> Result<Command, CommandError>
     let Some((word, rest)) = cut_word(operands) else {
         return Err(CommandError::Operand(2));
     };
-    let Some(left) = half_of(word) else {
+    let Some(left) = contents_of(word) else {
         return Err(CommandError::Operand(2));
     };
     let Some((word, rest)) = cut_word(rest) else {
         return Err(CommandError::Operand(3));
     };
-    let Some(right) = half_of(word) else {
+    let Some(right) = contents_of(word) else {
         return Err(CommandError::Operand(3));
     };
-    let [a, b, c, d] = left;
-    let [e, f, g, h] = right;
-    ended(
-        4,
-        Command::Store(Change::Psw([a, b, c, d, e, f, g, h])),
-        rest,
-    )
+    let psw = u64::from(left.unsigned()) * 0x1_0000_0000 + u64::from(right.unsigned());
+    ended(4, Command::Store(Change::Psw(psw)), rest)
 }
 
 /// The contents that a register is given.

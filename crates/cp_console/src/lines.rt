@@ -1,16 +1,17 @@
 //! A line as it was typed, and whom it speaks to.
 ghost use Rattle.std.specs.Prelude.{◌≡◌, ◌≤◌, length, take};
-ghost use Rattle.cp_console.specs.Lines.{character_of, cleaned, is_printable};
+ghost use Rattle.cp_console.specs.Lines.{character_of, cleaned};
 ghost use Rattle.cp_console.specs.Asked.{asked};
 ghost use Rattle.cp_console.specs.Words.{asked_of};
 
 use crate::words::cut_word;
+use s370_num::ebcdic::is_printable;
 use std::marker::Model;
 
 /// The most characters of a line that are taken.
 pub const LINE_LENGTH: usize = 130;
 
-/// A line as the program takes it: at most [`LINE_LENGTH`] characters, each of the code table.
+/// A line as the program takes it: at most [`LINE_LENGTH`] characters, each of the EBCDIC alphabet.
 #[derive(Debug, Drop)]
 pub struct ConsoleText {
     characters: [u8; 130],
@@ -62,17 +63,11 @@ fn first_characters(typed: &[u8]) -> &[u8]
     }
 }
 
-/// The character itself, or a blank in place of one that the code table does not have.
+/// The character itself, or a blank in place of one that the EBCDIC alphabet does not have.
 fn character_of(c: u8) -> u8
     ensures { result ≡ character_of c }
 {
     if is_printable(c) { c } else { b' ' }
-}
-
-fn is_printable(c: u8) -> bool
-    ensures { result ≡ is_printable c }
-{
-    32 <= c && c <= 122
 }
 
 /// What a line asks for.

@@ -1,6 +1,6 @@
 //! The operands of commands: addresses, registers and the bytes that are stored.
 ghost use Rattle.std.specs.Prelude.{◌≡◌, ◌+◌, ◌*◌, ◌^◌, ◌<◌, ◌≤◌, ◌++◌, ◌∷◌, [], length, IfSome, IfNone, Option, Some, None};
-ghost use Rattle.cp_console.specs.Operands.{address_of, byte_of, bytes_of, bytes_spelled, contents_of, digit_value, half_of, hexadecimal, register_of};
+ghost use Rattle.cp_console.specs.Operands.{address_of, byte_of, bytes_of, bytes_spelled, contents_of, digit_value, hexadecimal, register_of};
 
 use s370_num::{Addr24, Word};
 use std::marker::Model;
@@ -180,21 +180,6 @@ pub fn bytes_of(word: &[u8]) -> Option<StoredBytes>
         return None;
     }
     bytes_spelled(word)
-}
-
-/// Half of a PSW, 8 hexadecimal digits.
-pub fn half_of(word: &[u8]) -> Option<[u8; 4]>
-    ensures { result ≡ half_of word.now }
-{
-    match word {
-        [a, b, c, d, e, f, g, h] => Some([
-            byte_of(*a, *b)?,
-            byte_of(*c, *d)?,
-            byte_of(*e, *f)?,
-            byte_of(*g, *h)?,
-        ]),
-        _ => None,
-    }
 }
 
 /// The byte that two hexadecimal digits spell.

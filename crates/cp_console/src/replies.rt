@@ -14,8 +14,8 @@ pub enum Reply {
     AlreadyLoggedOn,
     /// A line of a user who is not logged on.
     NotLoggedOn,
-    /// The eight bytes of the PSW.
-    Psw([u8; 8]),
+    /// The 64 bits of the PSW.
+    Psw(u64),
     /// The contents of a general register.
     General(Register, Word),
     /// An address of storage, and the sixteen bytes at that address rounded down to a multiple of sixteen.
