@@ -1,3 +1,9 @@
+<<<<<<< HEAD
 pub mod EbcdicLemmas
 pub mod TableLemmas
 mod Text
+=======
+mod Text
+pub mod EbcdicLemmas
+pub mod TableLemmas
+>>>>>>> console
