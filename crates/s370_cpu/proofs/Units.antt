@@ -16,12 +16,12 @@ use Rattle.s370_cpu.specs.declared.conclude.Stop.TheVariants.{Program, Absent}
 use Rattle.s370_cpu.specs.Fetch.{fetched, halfwords_of}
 use Rattle.s370_cpu.specs.Unit.{MeetsUnit, Stopped, stopped, concluded, unit_after, unit_over}
 
-touches_left : (ts us : List Test) (page : ℕ) → Touches ts page → Touches (ts ++ us) page
+pub touches_left : (ts us : List Test) (page : ℕ) → Touches ts page → Touches (ts ++ us) page
 touches_left [] us page h = absurd h
 touches_left (t ∷ ts) us page (inl x) = inl x
 touches_left (t ∷ ts) us page (inr x) = inr (touches_left ts us page x)
 
-touches_right : (ts us : List Test) (page : ℕ) → Touches us page → Touches (ts ++ us) page
+pub touches_right : (ts us : List Test) (page : ℕ) → Touches us page → Touches (ts ++ us) page
 touches_right [] us page h = h
 touches_right (t ∷ ts) us page h = inr (touches_right ts us page h)
 
