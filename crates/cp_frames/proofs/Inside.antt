@@ -1,5 +1,5 @@
 -- The place of a page in the table, and its frame, by the parts of Frames.
-use Rattle.std.proofs.Common.{◌≡◌, ℕ, ◌+◌, ◌*◌, ◌/◌, ◌<◌, List, [], length, get_or, Option, Some, sym, ◌∙◌, ap, refl, arith}
+use Rattle.std.proofs.Common.{◌≡◌, ℕ, ◌+◌, ◌*◌, ◌/◌, ◌<◌, List, [], length, get_or, Some, sym, ◌∙◌, ap, refl, arith}
 use Rattle.std.specs.Prelude.{IsSome}
 use Rattle.cp_frames.specs.declared.pool.Frames.TheInside.{Inside}
 use Rattle.cp_frames.specs.Layout.{frame_of, storages_of, IsSound}

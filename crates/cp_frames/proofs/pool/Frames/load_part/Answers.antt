@@ -1,4 +1,4 @@
-use Rattle.std.proofs.Common.{◌≡◌, ◌/◌, ◌*◌, ◌≤◌, ◌+◌, ◌∙◌, arith, length, [], sym}
+use Rattle.std.proofs.Common.{◌/◌, ◌≤◌, ◌+◌, ◌∙◌, arith, length, []}
 use Rattle.std.proofs.lemmas.List.{get_or_read}
 use Rattle.cp_frames.proofs.Layouts.{length-bytes_of}
 use Rattle.cp_frames.proofs.Inside.{bytes_in, place_in, slot_in}

@@ -1,4 +1,3 @@
-use Rattle.std.proofs.Common.{◌≡◌, length, sym}
 use Rattle.cp_frames.proofs.Layouts.{frame_of-cleared, whole-cleared, storages-cleared, length-bytes_of}
 use Rattle.cp_frames.proofs.Tables.{tabled-cleared}
 use Rattle.cp_frames.proofs.pool.Frames.release.Goals as goal

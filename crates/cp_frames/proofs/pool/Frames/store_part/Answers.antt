@@ -1,11 +1,8 @@
-use Rattle.std.proofs.Common.{◌≡◌, ◌/◌, ◌%◌, ◌*◌, ◌≤◌, ◌+◌, ◌∙◌, arith, length, []}
-use Rattle.std.proofs.Math.ListN.{set}
+use Rattle.std.proofs.Common.{◌/◌, ◌≤◌, ◌+◌, arith, length, []}
 use Rattle.std.proofs.lemmas.List.{get_or_read}
-use Rattle.s370_store.specs.Access.{put}
-use Rattle.cp_frames.specs.Layout.{storages_of}
-use Rattle.cp_frames.proofs.Layouts.{user_with, length-bytes_of}
+use Rattle.cp_frames.proofs.Layouts.{length-bytes_of}
 use Rattle.cp_frames.proofs.Inside.{bytes_in, place_in, slot_in}
-use Rattle.cp_frames.proofs.PageParts.{IsStored, part_stored}
+use Rattle.cp_frames.proofs.PageParts.{part_stored}
 use Rattle.cp_frames.proofs.pool.Frames.store_part.Goals as goal
 
 pub index-requires : goal.index-requires
