@@ -1,9 +1,3 @@
-<<<<<<< HEAD
 pub mod EbcdicLemmas
 pub mod TableLemmas
 mod Text
-=======
-mod Text
-pub mod EbcdicLemmas
-pub mod TableLemmas
->>>>>>> console

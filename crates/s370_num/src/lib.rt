@@ -1,4 +1,3 @@
-<<<<<<< HEAD
 //! What every part of the system stands on: storage addresses, words and device addresses, each a type of
 //! its own that agrees with the whole number which it stands for; EBCDIC; and files of the host whose
 //! failures are counted.
@@ -6,16 +5,6 @@
 //! What is written in EBCDIC is read back as it was. What passes through a file of the host is what was
 //! given: `write_all` appends all the bytes or a beginning of them, `read_all` gives all that is left, and
 //! each failure of the host is counted and told by its number.
-=======
-//! What every part of the system stands on: the numbers of the machine, EBCDIC, and files of the host
-//! whose failures are counted.
-//!
-//! Storage addresses, words and device addresses are types of their own, each of which agrees with the
-//! whole number which it stands for. What is written in EBCDIC is read back as it was. What passes
-//! through a file of the host is what was given: `write_all` appends all the bytes or a beginning of
-//! them, `read_all` gives all that is left, and each failure of the host is counted and told by its
-//! number.
->>>>>>> console
 #![tactic(auto)]
 
 mod address;
