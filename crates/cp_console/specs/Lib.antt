@@ -3,5 +3,6 @@ pub mod Words
 pub mod Asked
 pub mod StoredBytes
 pub mod Operands
+pub mod Output
 pub mod Commands
 pub mod Replies

@@ -10,6 +10,7 @@
 pub mod commands;
 pub mod lines;
 mod operands;
+pub mod output;
 pub mod printing;
 pub mod replies;
 mod words;
