@@ -50,8 +50,8 @@ fn reads_commands(rt: HostRuntime) {
             Command::Display(Place::Storage(page_one)),
         ),
         (
-            b"STORE PSW 00020000 00001000".as_slice(),
-            Command::Store(Change::Psw(0x0002_0000_0000_1000)),
+            b"STORE PSW 00000000 00001000".as_slice(),
+            Command::Store(Change::Psw(0x1000)),
         ),
         (
             b"STORE G2 00001FFF".as_slice(),
@@ -67,6 +67,10 @@ fn reads_commands(rt: HostRuntime) {
 fn reads_the_bytes_to_store(rt: HostRuntime) {
     for (text, bytes) in [
         (b"STORE 1000 0A07".as_slice(), b"\x0A\x07".as_slice()),
+        (
+            b"STORE 60 0000000000000200".as_slice(),
+            b"\x00\x00\x00\x00\x00\x00\x02\x00".as_slice(),
+        ),
         (
             b"STORE 0 000102030405060708090A0B0C0D0E0F".as_slice(),
             b"\x00\x01\x02\x03\x04\x05\x06\x07\x08\x09\x0A\x0B\x0C\x0D\x0E\x0F".as_slice(),
