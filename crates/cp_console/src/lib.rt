@@ -16,3 +16,6 @@ pub mod replies;
 mod words;
 
 pub use operands::{Register, StoredBytes};
+
+#[cfg(test)]
+mod tests;

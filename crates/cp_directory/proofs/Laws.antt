@@ -1,5 +1,5 @@
 -- What the lines of a directory state is lawful.
-use Rattle.std.proofs.Common.{◌≡◌, ℕ, ◌/◌, ◌<◌, ◌≤◌, inl, inr, Bool, true, false, List, [], ◌∷◌, length, Ok, refl, sym, subst, length-append, arith}
+use Rattle.std.proofs.Common.{◌≡◌, ℕ, ◌/◌, ◌<◌, ◌≤◌, inl, inr, true, false, List, [], ◌∷◌, length, Ok, sym, subst, length-append, arith}
 use Rattle.std.specs.Str.{bytes_eq}
 use Rattle.std.proofs.lemmas.Bool.Decides.{nat_tests}
 use Rattle.std.proofs.lemmas.List.Elements.{All-nil, All-push}
@@ -14,14 +14,7 @@ use Rattle.cp_directory.specs.Directories.{directory_of}
 use Rattle.cp_directory.specs.Grammar.{Continues, IsLawful, States}
 use Rattle.cp_directory.specs.declared.faults.Fault.TheVariants.{DuplicateUser, BadStorage, TooMany}
 use Rattle.cp_directory.proofs.Grammars.{reads}
-
-never : (b : Bool) → (b ≡ true → ⊥) → b ≡ false
-never true h = absurd (h refl)
-never false h = refl
-
-always : (b : Bool) → (b ≡ false → ⊥) → b ≡ true
-always true h = refl
-always false h = absurd (h refl)
+use Rattle.cp_directory.proofs.Places.{always, never}
 
 within : (k : ℕ) → is_size k ≡ true → (2 ≤ k / 4) × (k / 4 ≤ 1024)
 within k h =

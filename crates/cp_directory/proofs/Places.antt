@@ -11,9 +11,15 @@ use Rattle.cp_directory.specs.declared.faults.Fault.{Fault}
 use Rattle.cp_directory.specs.declared.faults.Fault.TheVariants.{UnknownStatement, Syntax, DuplicateUser, DuplicateDevice, BadStorage, BadExtent, Overlap, TooMany}
 use Rattle.cp_directory.proofs.Spellings.{alike, again}
 
-never : (b : Bool) → (b ≡ true → ⊥) → b ≡ false
+-- a test that cannot pass fails
+pub never : (b : Bool) → (b ≡ true → ⊥) → b ≡ false
 never true h = absurd (h refl)
 never false h = refl
+
+-- a test that cannot fail passes
+pub always : (b : Bool) → (b ≡ false → ⊥) → b ≡ true
+always true h = refl
+always false h = absurd (h refl)
 
 kept : (b : Bool) → (b ≡ false → ⊥) → not b ≡ false
 kept true h = refl

@@ -59,12 +59,12 @@ sized word k h = sized_by word (take (length word - 1) word) (get_or word (lengt
 front : (digits : List ℕ) (letter : ℕ) → length (digits ++ letter ∷ []) - 1 ≡ length digits
 front digits letter = omega (arith, length-append digits (letter ∷ []))
 
-sized_parts : (digits word before : List ℕ) (letter last unit : ℕ) → before ≡ digits → last ≡ letter → is_number digits ≡ true → unit_of letter ≡ Some unit → kilobytes_by before last ≡ Some (number 0 digits * unit)
-sized_parts digits word before letter last unit e l counted measured = rw (e, l, counted, measured) refl
+sized_parts : (digits before : List ℕ) (letter last unit : ℕ) → before ≡ digits → last ≡ letter → is_number digits ≡ true → unit_of letter ≡ Some unit → kilobytes_by before last ≡ Some (number 0 digits * unit)
+sized_parts digits before letter last unit e l counted measured = rw (e, l, counted, measured) refl
 
 sized_again : (digits : List ℕ) (letter unit : ℕ) → is_number digits ≡ true → unit_of letter ≡ Some unit → kilobytes_of (digits ++ letter ∷ []) ≡ Some (number 0 digits * unit)
 sized_again digits letter unit counted measured =
-    sized_parts digits (digits ++ letter ∷ []) _ letter _ unit
+    sized_parts digits _ letter _ unit
     (ap (λ n. take n (digits ++ letter ∷ [])) (front digits letter) ∙ take-append_seam digits (letter ∷ []))
     (ap (λ n. get_or (digits ++ letter ∷ []) n 0) (front digits letter) ∙ get_or-append_seam digits letter [] 0)
     counted

@@ -10,7 +10,7 @@ use std::alloc::{AllocError, Global};
 use std::marker::Model;
 
 /// A user that a directory states.
-#[derive(Drop)]
+#[derive(Debug, Drop)]
 pub struct User {
     name: UserName,
     storage: StorageSize,
@@ -55,7 +55,7 @@ impl User {
 }
 
 /// The users of a directory, in the order of their lines.
-#[derive(Drop)]
+#[derive(Debug, Drop)]
 pub struct Directory {
     users: Vec<User>,
 }

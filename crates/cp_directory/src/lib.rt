@@ -9,12 +9,12 @@
 //! in the order in which they are told. A new statement is a case in each.
 #![tactic(auto)]
 
-pub mod directory;
-pub mod faults;
-pub mod name;
-pub mod reader;
+mod directory;
+mod faults;
+mod name;
+mod reader;
 mod spelling;
-pub mod storage;
+mod storage;
 
 pub use directory::{Directory, User};
 pub use faults::DirError;

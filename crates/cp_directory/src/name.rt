@@ -6,7 +6,7 @@ use cp_text::numbers::is_digit;
 use std::marker::Model;
 
 /// A user's name: one to eight of `A` to `Z` and `0` to `9`, the first a letter, and not `SYSTEM`.
-#[derive(Drop)]
+#[derive(Debug, Drop)]
 pub struct UserName {
     bytes: [u8; 8],
     len: usize,

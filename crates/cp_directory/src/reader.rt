@@ -22,6 +22,12 @@ const USERS: usize = 64;
 /// A text outside the grammar is refused by its first faulty line and that line's first fault, and
 /// [`DirError::Memory`] is the answer only where a growth was refused. A directory has at most 64
 /// users, and their names differ.
+///
+/// ```text
+/// let directory = read_directory(alloc, b"USER ALPHA SECRET 4M\n")?;
+/// let alpha = directory.position(b"ALPHA"); // Some(0)
+/// let pages = directory.storage(0).pages(); // 1024
+/// ```
 pub fn read_directory(alloc: Global, text: &[u8]) -> Result<Directory, DirError>
     ensures ok { IfOk result (λ users. directory_of text.now ≡ Ok users) }
     ensures lawful { IfOk result IsLawful }

@@ -147,23 +147,33 @@ fn reads_the_example_and_each_beginning(rt: HostRuntime) -> Result<(), Fail> {
 #[test]
 fn has_room_for_64_users(rt: HostRuntime) -> Result<(), Fail> {
     let mut text = Vec::new(rt.alloc());
-    for i in 0..65u8 {
+    for i in 0..64u8 {
         text.extend_from_slice(b"USER U")?;
         text.push(b'0' + i / 10)?;
         text.push(b'0' + i % 10)?;
         text.extend_from_slice(b" P 8K\n")?;
     }
-    assert_eq!(rt; text.len(), 910);
-    assert_eq!(rt; told(rt.alloc(), &text[..896])?, Ok(64));
+    let length = text.len();
+    assert_eq!(rt; told(rt.alloc(), text.as_slice())?, Ok(64));
     for (last, want) in [
         (b"USER NEW P 8K".as_slice(), DirError::TooMany(65)),
         (b"USER NEW P 9K", DirError::BadStorage(65)),
         (b"USER U63 P 9K", DirError::DuplicateUser(65)),
         (b"* \nUSER U64 P 8K", DirError::TooMany(66)),
     ] {
-        text.truncate(896);
+        text.truncate(length);
         text.extend_from_slice(last)?;
         assert_eq!(rt; told(rt.alloc(), text.as_slice())?, Err(want), "{last:?}");
     }
+    Ok(())
+}
+
+#[test]
+fn explains_a_fault(rt: HostRuntime) -> Result<(), Fail> {
+    let text = format!(in rt.alloc(); "{}", DirError::Overlap(3, 7))?;
+    assert_eq!(rt;
+        text.as_str(),
+        "line 7: the cylinders overlap those of line 3"
+    );
     Ok(())
 }

@@ -5,7 +5,7 @@ ghost use Rattle.s370_cpu.specs.Opcodes.{opcode_at};
 use s370_rows::Arithmetic;
 
 /// A row of the instruction table, or a family of rows that differ by their operation.
-#[derive(Clone, Copy, Debug, PartialEq, Eq)]
+#[derive(Clone, Copy)]
 pub enum Opcode {
     /// No instruction has this operation code.
     Invalid,

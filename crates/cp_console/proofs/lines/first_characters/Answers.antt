@@ -4,7 +4,7 @@ use Rattle.std.proofs.Math.Seq.{take_all}
 use Rattle.cp_console.proofs.lines.first_characters.Goals as goal
 
 pub slice_bounds-result-end : goal.slice_bounds-result-end
-slice_bounds-result-end c = sym (length-take-le 130 c.args.typed.now (omega arith))
+slice_bounds-result-end c = sym (length-take-le _ c.args.typed.now (omega arith))
 
 pub returns-then-typed-gt-LINE_LENGTH-clause-bound : goal.returns-then-typed-gt-LINE_LENGTH-clause-bound
 returns-then-typed-gt-LINE_LENGTH-clause-bound c = omega (arith, length-take-le 130 c.args.typed.now (omega arith))
