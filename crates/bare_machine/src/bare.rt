@@ -94,11 +94,11 @@ impl Bare {
         match ran.reason {
             Reason::EcMode => {
                 self.mode = Mode::Stopped;
-                self.output.print(Reply::StoppedEcMode);
+                self.output.print(&Reply::StoppedEcMode);
             }
             Reason::DisabledWait => {
                 self.mode = Mode::Stopped;
-                self.output.print(Reply::StoppedDisabledWait);
+                self.output.print(&Reply::StoppedDisabledWait);
             }
             Reason::Stopped | Reason::Count | Reason::Wait => {}
         }

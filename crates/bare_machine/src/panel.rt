@@ -119,7 +119,7 @@ impl Bare {
     {
         self.output.make_room(2)?;
         let reply = shown(place, &self.cpu, &self.storage);
-        self.output.print(reply);
+        self.output.print(&reply);
         Ok(Some(reply))
     }
 
@@ -130,7 +130,7 @@ impl Bare {
     {
         self.output.make_room(2)?;
         let reply = given(change, &mut self.cpu, &mut self.storage);
-        self.output.print(reply);
+        self.output.print(&reply);
         Ok(Some(reply))
     }
 }

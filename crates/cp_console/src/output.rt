@@ -45,12 +45,12 @@ impl ConsoleOutput {
     }
 
     /// Prints a line where there is room. This takes no memory.
-    pub fn print(&mut self, reply: Reply)
+    pub fn print(&mut self, reply: &Reply)
         requires { 0 < self.old.room }
-        ensures lines { self.new.lines ≡ self.old.lines ++ text_of reply ∷ [] }
+        ensures lines { self.new.lines ≡ self.old.lines ++ text_of reply.now ∷ [] }
         ensures room { self.new.room + 1 ≡ self.old.room }
     {
-        self.lines.push_reserved(reply);
+        self.lines.push_reserved(*reply);
     }
 
     /// How many lines were printed.
