@@ -5,3 +5,4 @@ pub mod StoredBytes
 pub mod Operands
 pub mod Commands
 pub mod Replies
+pub mod Grammar
