@@ -6,3 +6,4 @@ pub mod Operands
 pub mod Output
 pub mod Commands
 pub mod Replies
+pub mod Grammar

@@ -1,6 +1,7 @@
 //! The commands, and how their texts are read.
 ghost use Rattle.std.specs.Prelude.{◌≡◌, ◌++◌, Option, Result};
 ghost use Rattle.cp_console.specs.Commands.{begin_of, change_of, command_named, command_of, display_of, ended, logon_of, numbered_place, place_of, store_of};
+ghost use Rattle.cp_console.specs.Grammar.{ReadsGrammar};
 ghost use Rattle.cp_console.specs.Words.{words_of};
 
 use crate::operands::{Register, StoredBytes, address_of, bytes_of, contents_of, register_of};
@@ -68,6 +69,12 @@ pub fn read_command(text: &[u8]) -> Result<Command, CommandError>
     };
     read_named(name, operands)
 }
+
+/// A text is read as the command that its words spell; another text is told by its first word, where no
+/// command has it, or by the first place where the words before begin a command and go no further.
+pub fn reads_grammar()
+    ensures { ReadsGrammar }
+{}
 
 /// The command of a name, with its operands.
 fn read_named(name: &[u8], operands: &[u8]) -> Result<Command, CommandError>
