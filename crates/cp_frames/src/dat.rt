@@ -17,7 +17,7 @@ pub struct Dat<'a> {
 }
 
 impl<'a> Dat<'a> {
-    ghost use Rattle.cp_frames.specs.Lent.{lent_bytes, lent_keys, lent_pool, lent_frame, is_lent_page, user_of};
+    ghost use Rattle.cp_frames.specs.Lent.{lent_bytes, lent_keys, lent_pool, lent_frame, is_lent_page, user_of, KeepsFrames};
 
     /// Lends a user's pages, with a key for each 2048 bytes of his storage. A user who is not there has no bytes.
     pub fn new(frames: &'a mut Frames, keys: &'a mut [u8], user: UserNo) -> Dat<'a>
@@ -26,7 +26,7 @@ impl<'a> Dat<'a> {
         ensures same_keys { result.keys.ghost_name ≡ keys.entry.ghost_name }
         ensures frames { result.frames.now ≡ frames.old }
         ensures keys { result.keys.now ≡ keys.old }
-        ensures user { result.user ≡ user }
+        ensures user { user_of result ≡ user.0 }
     {
         let size = frames.size(user);
         Dat {
@@ -64,9 +64,7 @@ impl<'a> Dat<'a> {
     /// Brings a page into a frame, where it stands in none. No byte of any user changes.
     pub fn bring(&mut self, page: Page) -> Result<FrameNo, FramesOut>
         requires { page.0 * 4096 < length (lent_bytes self.old) }
-        ensures same_frames { self.new.frames.ghost_name ≡ self.old.frames.ghost_name }
-        ensures same_keys { self.new.keys.ghost_name ≡ self.old.keys.ghost_name }
-        ensures same_user { self.new.user ≡ self.old.user }
+        ensures rest { KeepsFrames self.old self.new }
         ensures storages { (lent_pool self.new).storages ≡ (lent_pool self.old).storages }
         ensures pins { (lent_pool self.new).pins ≡ (lent_pool self.old).pins }
         ensures keys { lent_keys self.new ≡ lent_keys self.old }
