@@ -1,12 +1,11 @@
 -- What a change of an owner or a byte does to each user's storage.
-use Rattle.std.proofs.Common.{◌⊎◌, inl, inr, replicate, ◌≡◌, ◌≢◌, ℕ, zero, suc, ◌+◌, ◌-◌, ◌*◌, ◌/◌, ◌%◌, ◌<◌, ◌≤◌, List, [], ◌∷◌, length, get_or, Bool, true, false, cond, map, Option, Some, None, refl, zero-add, get_or-set_other, get_or-set_same, sym, ◌∙◌, ap, arith, rules}
+use Rattle.std.proofs.Common.{replicate, ◌≡◌, ◌≢◌, ℕ, zero, suc, ◌+◌, ◌-◌, ◌*◌, ◌/◌, ◌%◌, ◌<◌, ◌≤◌, List, [], ◌∷◌, length, get_or, Bool, true, false, cond, map, Option, Some, None, refl, zero-add, get_or-set_other, get_or-set_same, sym, ◌∙◌, ap, arith}
 use Rattle.std.proofs.Math.Decide.{dec_lt}
-use Rattle.std.specs.Prelude.{OnSome, ◌==◌, if◌then◌else◌}
+use Rattle.std.specs.Prelude.{◌==◌, if◌then◌else◌}
 use Rattle.std.proofs.Math.ListN.{set, length-set, get_or-map, length-map}
-use Rattle.std.specs.List.{position_from, range_with_len, slice_get}
+use Rattle.std.specs.List.{position_from, range_with_len}
 use Rattle.std.proofs.lemmas.List.FromFn.{fill_by_all, get_or-map-range_with_len, length-map-range_with_len}
 use Rattle.std.proofs.lemmas.List.{get_or_past}
-use Rattle.std.proofs.lemmas.Option.{slice_get-get_or}
 use Rattle.std.proofs.lemmas.Bool.Decides.{nat_tests}
 use Rattle.std.proofs.lemmas.Grind.{common_steps}
 use Rattle.cp_frames.specs.declared.numbers.UserPage.{UserPage}
@@ -344,15 +343,6 @@ storages-none bytes frames sizes =
     (λ h _ _. map_range_const (byte_at bytes (replicate frames None) h) 0 (get_or sizes h 0 * 4096) (λ k. ap (λ o. byte_in bytes o (k % 4096)) (frame_of-none h (k / 4096) frames)))
     ∙ sym (fill_by_all (λ h. zeros (get_or sizes h 0)) (map zeros sizes) (length sizes) (zeros 0) (length-map sizes zeros) (λ k lt. get_or-map zeros sizes k 0))
 
--- a byte of a page that stands in no frame
-pub absent-read : (bytes : List (List ℕ)) (owners : List (Option UserPage)) (sizes : List ℕ) (user address : ℕ) → address < length (get_or (storages_of bytes owners sizes) user []) →
-    frame_of owners user (address / 4096) ≡ None → slice_get (get_or (storages_of bytes owners sizes) user []) address ≡ Some 0
-absent-read bytes owners sizes user address lt nowhere =
-    let in_user = user_with bytes owners sizes user address lt in
-    let zero_there : get_or (get_or (storages_of bytes owners sizes) user []) address 0 ≡ 0 =
-    rw (bytes_of-storages bytes owners sizes user in_user.0, get_or-storage_of bytes owners user (get_or sizes user 0) address in_user.1, nowhere) refl in
-    slice_get-get_or (get_or (storages_of bytes owners sizes) user []) address 0 lt ∙ ap Some zero_there
-
 -- a page that stands in no frame is all zero
 pub absent-zero : (bytes : List (List ℕ)) (owners : List (Option UserPage)) (sizes : List ℕ) (user page : ℕ) → frame_of owners user page ≡ None → IsZeroPage (get_or (storages_of bytes owners sizes) user []) page
 absent-zero bytes owners sizes user page nowhere address e =
@@ -380,7 +370,3 @@ pub written-view : (bytes : List (List ℕ)) (owners : List (Option UserPage)) (
     let after : Pool = record { storages = storages_of (set bytes frame written) owners sizes; owners = owners; pins = pins } in
     after ≡ written_frame before frame written
 written-view bytes owners sizes frame written pins whole = written-view_at bytes owners sizes frame written pins (get_or owners frame None) whole refl
-
-pub on_some : {A : Type 0} (r : Option A) (P : Type 0) → P → OnSome r P
-on_some None P p = tt
-on_some (Some x) P p = p

@@ -1,14 +1,14 @@
 -- What the table of frames tells.
-use Rattle.std.proofs.Common.{replicate, ◌≡◌, ◌≢◌, ℕ, zero, suc, ◌+◌, ◌-◌, ◌*◌, ◌/◌, ◌%◌, ◌<◌, ◌≤◌, List, [], ◌∷◌, length, get_or, Bool, true, false, cond, map, Option, Some, None, refl, get_or-set_other, get_or-set_same, sym, ◌∙◌, ap, arith, rules}
+use Rattle.std.proofs.Common.{replicate, ◌≡◌, ◌≢◌, ℕ, zero, suc, ◌+◌, ◌*◌, ◌/◌, ◌<◌, ◌≤◌, List, [], length, get_or, Bool, true, false, cond, Option, Some, None, refl, get_or-set_other, get_or-set_same, sym, ◌∙◌, ap, arith}
 use Rattle.std.proofs.Math.Decide.{dec_lt}
-use Rattle.std.specs.Prelude.{IfSome, IsSome, All, ◌==◌, if◌then◌else◌}
+use Rattle.std.specs.Prelude.{IfSome, IsSome, All, ◌==◌}
 use Rattle.std.proofs.Math.ListN.{set, length-map, length-set, length-replicate}
 use Rattle.std.proofs.lemmas.List.{get_or-replicate, get_or_past}
 use Rattle.std.proofs.lemmas.Bool.Decides.{nat_tests}
 use Rattle.std.proofs.lemmas.Grind.{common_steps}
 use Rattle.cp_frames.specs.declared.numbers.UserPage.{UserPage}
 use Rattle.cp_frames.specs.Layout.{owned, cleared_of, frame_of, is_page, storages_of, held, IsWhole, IsTabled, IsSound}
-use Rattle.cp_frames.proofs.Layouts.{length-bytes_of, frame_of-cleared, frame_of_other-cleared, dec_eq, user_with, frame_of-brought, frame_of_other-brought, frame_of-none, frame_found, frame_room}
+use Rattle.cp_frames.proofs.Layouts.{length-bytes_of, frame_of-cleared, frame_of_other-cleared, dec_eq, user_with, frame_of-brought, frame_of_other-brought, frame_of-none, frame_found}
 
 -- the place of a page's slot
 pub record IsPlace (sizes table : List ℕ) (user page : ℕ) : Type 0 where

@@ -1,5 +1,5 @@
 -- What frames, and the pages that stand in them, mean: the storage of each user.
-use Rattle.std.specs.Prelude.{◌≡◌, ℕ, ◌+◌, ◌*◌, ◌/◌, ◌%◌, ◌<◌, ◌≤◌, Bool, true, false, ◌&&◌, ◌==◌, if◌then◌else◌, List, [], map, length, slice_index, slice_index_or, Option, Some, None, MatchOption, count_by, is_none, is_some, slice_set}
+use Rattle.std.specs.Prelude.{◌≡◌, ℕ, ◌+◌, ◌*◌, ◌/◌, ◌%◌, ◌<◌, ◌≤◌, Bool, false, ◌&&◌, ◌==◌, if◌then◌else◌, List, [], map, length, slice_index, slice_index_or, Option, Some, None, MatchOption, count_by, is_none, is_some, slice_set}
 use Rattle.std.specs.List.{position_from, range_with_len}
 use Rattle.cp_frames.specs.declared.numbers.UserPage.{UserPage}
 use Rattle.cp_frames.specs.declared.numbers.FrameNo.{FrameNo}

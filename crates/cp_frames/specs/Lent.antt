@@ -1,9 +1,20 @@
 -- What is seen of one user's lent pages, and what is kept of those who lent them.
-use Rattle.std.specs.Prelude.{◌≡◌, ℕ, List, [], ◌∷◌, zero, suc, Bool, is_some, slice_set, slice_index_or, refl}
+use Rattle.std.specs.Prelude.{◌≡◌, ℕ, List, [], ◌∷◌, zero, suc, Bool, Option, is_some, slice_set, slice_index_or, refl}
 use Rattle.std.proofs.Common.{sym, ◌∙◌, ap}
 use Rattle.cp_frames.specs.declared.dat.Dat.{Dat}
-use Rattle.cp_frames.specs.declared.numbers.UserNo.{UserNo}
-use Rattle.cp_frames.specs.Layout.{Pool, bytes_of, is_there}
+use Rattle.cp_frames.specs.Layout.{Pool, bytes_of, frame_of, is_there}
+
+-- the number of the user
+abbrev pub user_of : Dat → ℕ
+user_of d = d.user.0
+
+-- what is lent from: the storage of each user, and the page in each frame
+abbrev pub lent_pool : Dat → Pool
+lent_pool d = d.frames.now
+
+-- the frame in which one of the user's pages stands
+abbrev pub lent_frame : Dat → ℕ → Option ℕ
+lent_frame d = frame_of d.frames.now.owners d.user.0
 
 -- the storage of the user
 abbrev pub lent_bytes : Dat → List ℕ
@@ -21,7 +32,7 @@ is_lent_page d = is_there d.frames.now.owners d.user.0
 pub record KeepsRest (old new : Dat) : Type 0 where
   pub same_frames : new.frames.ghost_name ≡ old.frames.ghost_name
   pub same_keys : new.keys.ghost_name ≡ old.keys.ghost_name
-  pub same_user : new.user ≡ old.user
+  pub same_user : new.user.0 ≡ old.user.0
   pub same_owners : new.frames.now.owners ≡ old.frames.now.owners
   pub same_pins : new.frames.now.pins ≡ old.frames.now.pins
   pub others : new.frames.now.storages ≡ slice_set old.frames.now.storages old.user.0 (bytes_of new.frames.now old.user.0)
@@ -30,7 +41,7 @@ pub record KeepsRest (old new : Dat) : Type 0 where
 pub record KeepsFrames (old new : Dat) : Type 0 where
   pub same_frames : new.frames.ghost_name ≡ old.frames.ghost_name
   pub same_keys : new.keys.ghost_name ≡ old.keys.ghost_name
-  pub same_user : new.user ≡ old.user
+  pub same_user : new.user.0 ≡ old.user.0
   pub others : new.frames.now.storages ≡ slice_set old.frames.now.storages old.user.0 (bytes_of new.frames.now old.user.0)
 
 set_own : {X : Type 0} (xs : List X) (i : ℕ) (d : X) → xs ≡ slice_set xs i (slice_index_or xs i d)
@@ -43,14 +54,14 @@ set_again [] i y z = refl
 set_again (x ∷ xs) zero y z = refl
 set_again (x ∷ xs) (suc i) y z = ap (λ ys. x ∷ ys) (set_again xs i y z)
 
-others_on : (before middle after : Pool) (user other : UserNo) → other ≡ user → middle.storages ≡ slice_set before.storages user.0 (bytes_of middle user.0) → after.storages ≡ slice_set middle.storages other.0 (bytes_of after other.0) →
-    after.storages ≡ slice_set before.storages user.0 (bytes_of after user.0)
+others_on : (before middle after : Pool) (user other : ℕ) → other ≡ user → middle.storages ≡ slice_set before.storages user (bytes_of middle user) → after.storages ≡ slice_set middle.storages other (bytes_of after other) →
+    after.storages ≡ slice_set before.storages user (bytes_of after user)
 others_on before middle after user other same one two =
-    let own : slice_set middle.storages other.0 (bytes_of after other.0) ≡ slice_set middle.storages user.0 (bytes_of after user.0) =
-    ap (λ (u : UserNo). slice_set middle.storages u.0 (bytes_of after u.0)) same in
-    let first : slice_set middle.storages user.0 (bytes_of after user.0) ≡ slice_set (slice_set before.storages user.0 (bytes_of middle user.0)) user.0 (bytes_of after user.0) =
-    ap (λ xs. slice_set xs user.0 (bytes_of after user.0)) one in
-    two ∙ (own ∙ (first ∙ set_again before.storages user.0 (bytes_of middle user.0) (bytes_of after user.0)))
+    let own : slice_set middle.storages other (bytes_of after other) ≡ slice_set middle.storages user (bytes_of after user) =
+    ap (λ u. slice_set middle.storages u (bytes_of after u)) same in
+    let first : slice_set middle.storages user (bytes_of after user) ≡ slice_set (slice_set before.storages user (bytes_of middle user)) user (bytes_of after user) =
+    ap (λ xs. slice_set xs user (bytes_of after user)) one in
+    two ∙ (own ∙ (first ∙ set_again before.storages user (bytes_of middle user) (bytes_of after user)))
 
 pub keeps_rest_same : (s : Dat) → KeepsRest s s
 keeps_rest_same s = record { same_frames = refl; same_keys = refl; same_user = refl; same_owners = refl; same_pins = refl; others = set_own s.frames.now.storages s.user.0 [] }
@@ -62,7 +73,7 @@ keeps_rest_on s t u a b = record {
   same_user = b.same_user ∙ a.same_user;
   same_owners = b.same_owners ∙ a.same_owners;
   same_pins = b.same_pins ∙ a.same_pins;
-  others = others_on s.frames.now t.frames.now u.frames.now s.user t.user a.same_user a.others b.others;
+  others = others_on s.frames.now t.frames.now u.frames.now s.user.0 t.user.0 a.same_user a.others b.others;
 }
 
 pub keeps_frames : (s t : Dat) → KeepsRest s t → KeepsFrames s t
@@ -76,11 +87,11 @@ keeps_frames_on s t u a b = record {
   same_frames = b.same_frames ∙ a.same_frames;
   same_keys = b.same_keys ∙ a.same_keys;
   same_user = b.same_user ∙ a.same_user;
-  others = others_on s.frames.now t.frames.now u.frames.now s.user t.user a.same_user a.others b.others;
+  others = others_on s.frames.now t.frames.now u.frames.now s.user.0 t.user.0 a.same_user a.others b.others;
 }
 
 -- where a page is brought, no byte of anyone changes
-pub keeps_brought : (s t : Dat) → t.frames.ghost_name ≡ s.frames.ghost_name → t.keys.ghost_name ≡ s.keys.ghost_name → t.user ≡ s.user → t.frames.now.storages ≡ s.frames.now.storages → KeepsFrames s t
+pub keeps_brought : (s t : Dat) → t.frames.ghost_name ≡ s.frames.ghost_name → t.keys.ghost_name ≡ s.keys.ghost_name → t.user.0 ≡ s.user.0 → t.frames.now.storages ≡ s.frames.now.storages → KeepsFrames s t
 keeps_brought s t frames keys user same = record {
   same_frames = frames;
   same_keys = keys;

@@ -1,6 +1,6 @@
 //! One user's storage, lent from the frames.
 ghost use Rattle.std.specs.Prelude.{◌≡◌, ◌*◌, ◌<◌, ◌≤◌, ◌↔◌, length, IfOk, IfSome, IfNone, OnOk, OnErr, All, IsSome, Some, None, false};
-ghost use Rattle.cp_frames.specs.Layout.{bytes_of, frame_of, number_of, free_count, IsBrought, IsZeroPage};
+ghost use Rattle.cp_frames.specs.Layout.{bytes_of, number_of, free_count, IsBrought, IsZeroPage};
 
 use crate::{FrameNo, Frames, FramesOut, UserNo};
 use s370_store::{Access, Fault, Keyed, Listed, Page, Range, Storage, test_range};
@@ -17,7 +17,7 @@ pub struct Dat<'a> {
 }
 
 impl<'a> Dat<'a> {
-    ghost use Rattle.cp_frames.specs.Lent.{lent_bytes, is_lent_page};
+    ghost use Rattle.cp_frames.specs.Lent.{lent_bytes, lent_keys, lent_pool, lent_frame, is_lent_page, user_of, KeepsFrames};
 
     /// Lends a user's pages, with a key for each 2048 bytes of his storage. A user who is not there has no bytes.
     pub fn new(frames: &'a mut Frames, keys: &'a mut [u8], user: UserNo) -> Dat<'a>
@@ -26,7 +26,7 @@ impl<'a> Dat<'a> {
         ensures same_keys { result.keys.ghost_name ≡ keys.entry.ghost_name }
         ensures frames { result.frames.now ≡ frames.old }
         ensures keys { result.keys.now ≡ keys.old }
-        ensures user { result.user ≡ user }
+        ensures user { user_of result ≡ user.0 }
     {
         let size = frames.size(user);
         Dat {
@@ -40,7 +40,7 @@ impl<'a> Dat<'a> {
     /// The frame in which a page stands. A page that stands in none is all zero.
     pub fn frame_of(&self, page: Page) -> Option<FrameNo>
         requires { page.0 * 4096 < length (lent_bytes self.now) }
-        ensures frame { number_of result ≡ frame_of self.now.frames.now.owners self.now.user.0 page.0 }
+        ensures frame { number_of result ≡ lent_frame self.now page.0 }
         ensures zero { IfNone result (IsZeroPage (lent_bytes self.now) page.0) }
     {
         self.frames.frame_of(self.user, page)
@@ -48,11 +48,15 @@ impl<'a> Dat<'a> {
 
     /// The user's page that stands in a frame; None where no page does, or another user's.
     pub fn page_in(&self, frame: FrameNo) -> Option<Page>
-        ensures once { (p : Page) → (result ≡ Some p) ↔ (frame_of self.now.frames.now.owners self.now.user.0 p.0 ≡ Some frame.0) }
+        ensures once { (p : Page) → (result ≡ Some p) ↔ (lent_frame self.now p.0 ≡ Some frame.0) }
         ensures inside { IfSome result (λ p. p.0 * 4096 < length (lent_bytes self.now)) }
     {
         match self.frames.page_in(frame) {
-            Some(there) => if there.user.0 == self.user.0 { Some(there.page) } else { None },
+            Some(there) => if there.user.0 == self.user.0 {
+                Some(there.page)
+            } else {
+                None
+            },
             None => None,
         }
     }
@@ -60,18 +64,16 @@ impl<'a> Dat<'a> {
     /// Brings a page into a frame, where it stands in none. No byte of any user changes.
     pub fn bring(&mut self, page: Page) -> Result<FrameNo, FramesOut>
         requires { page.0 * 4096 < length (lent_bytes self.old) }
-        ensures same_frames { self.new.frames.ghost_name ≡ self.old.frames.ghost_name }
-        ensures same_keys { self.new.keys.ghost_name ≡ self.old.keys.ghost_name }
-        ensures same_user { self.new.user ≡ self.old.user }
-        ensures storages { self.new.frames.now.storages ≡ self.old.frames.now.storages }
-        ensures pins { self.new.frames.now.pins ≡ self.old.frames.now.pins }
-        ensures keys { self.new.keys.now ≡ self.old.keys.now }
-        ensures brought { IfOk result (λ frame. IsBrought self.old.frames.now.owners self.new.frames.now.owners self.old.user.0 page.0 frame.0) }
-        ensures there { IfOk result (λ frame. frame_of self.new.frames.now.owners self.new.user.0 page.0 ≡ Some frame.0) }
-        ensures fewer { is_lent_page self.old page.0 ≡ false → OnOk result (free_count self.new.frames.now.owners < free_count self.old.frames.now.owners) }
-        ensures refused { OnErr result (All IsSome self.old.frames.now.owners) }
+        ensures rest { KeepsFrames self.old self.new }
+        ensures storages { (lent_pool self.new).storages ≡ (lent_pool self.old).storages }
+        ensures pins { (lent_pool self.new).pins ≡ (lent_pool self.old).pins }
+        ensures keys { lent_keys self.new ≡ lent_keys self.old }
+        ensures brought { IfOk result (λ frame. IsBrought (lent_pool self.old).owners (lent_pool self.new).owners (user_of self.old) page.0 frame.0) }
+        ensures there { IfOk result (λ frame. lent_frame self.new page.0 ≡ Some frame.0) }
+        ensures fewer { is_lent_page self.old page.0 ≡ false → OnOk result (free_count (lent_pool self.new).owners < free_count (lent_pool self.old).owners) }
+        ensures refused { OnErr result (All IsSome (lent_pool self.old).owners) }
         ensures absent { OnErr result (is_lent_page self.old page.0 ≡ false) }
-        ensures err { OnErr result (self.new.frames.now.owners ≡ self.old.frames.now.owners) }
+        ensures err { OnErr result ((lent_pool self.new).owners ≡ (lent_pool self.old).owners) }
     {
         match self.frames.bring(self.user, page) {
             Ok(frame) => return Ok(frame),

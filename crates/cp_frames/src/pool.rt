@@ -80,6 +80,7 @@ impl Frames {
     pub fn frame_of(&self, user: UserNo, page: Page) -> Option<FrameNo>
         requires { page.0 * 4096 < length (bytes_of self.now user.0) }
         ensures frame { number_of result ≡ frame_of self.now.owners user.0 page.0 }
+        ensures within { IfSome result (λ frame. frame.0 < length self.now.owners) }
         ensures zero { IfNone result (IsZeroPage (bytes_of self.now user.0) page.0) }
     {
         let slot = self.table[user.0 as usize * SLOTS + page.0 as usize];
@@ -110,6 +111,7 @@ impl Frames {
         ensures storages { self.new.storages ≡ self.old.storages }
         ensures pins { self.new.pins ≡ self.old.pins }
         ensures there { IfOk result (λ frame. frame_of self.new.owners user.0 page.0 ≡ Some frame.0) }
+        ensures within { IfOk result (λ frame. frame.0 < length self.new.owners) }
         ensures brought { IfOk result (λ frame. IsBrought self.old.owners self.new.owners user.0 page.0 frame.0) }
         ensures fewer { frame_of self.old.owners user.0 page.0 ≡ None → OnOk result (free_count self.new.owners < free_count self.old.owners) }
         ensures refused { OnErr result (All IsSome self.old.owners) }
@@ -170,6 +172,7 @@ impl Frames {
     pub fn release(&mut self, user: UserNo)
         ensures storages { self.new.storages ≡ slice_set self.old.storages user.0 (replicate (length (bytes_of self.old user.0)) 0) }
         ensures owners { self.new.owners ≡ cleared_of user.0 self.old.owners }
+        ensures gone { (page : ℕ) → frame_of self.new.owners user.0 page ≡ None }
         ensures pins { self.new.pins ≡ self.old.pins }
     {
         give_back(&mut self.owners, user);

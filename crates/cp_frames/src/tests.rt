@@ -7,6 +7,7 @@ use std::process::Abort;
 use std::test::Fail;
 
 const A: UserNo = UserNo(0);
+
 const B: UserNo = UserNo(1);
 
 /// Frames for user A with two pages and user B with three.
@@ -75,8 +76,14 @@ fn pages_of_two_users_in_turn(rt: HostRuntime) -> Result<(), Fail> {
     assert_eq!(rt; write(&rt, &mut frames, A, 4095, 1), Ok(()));
     assert_eq!(rt; write(&rt, &mut frames, A, 4096, 2), Ok(()));
     assert_eq!(rt; write(&rt, &mut frames, B, 4095, 3), Ok(()));
-    assert_eq!(rt; write(&rt, &mut frames, B, 4096, 4), Err(Fault::Absent(Page(1))));
-    assert_eq!(rt; write(&rt, &mut frames, B, 12288, 5), Err(Fault::Addressing));
+    assert_eq!(rt;
+        write(&rt, &mut frames, B, 4096, 4),
+        Err(Fault::Absent(Page(1)))
+    );
+    assert_eq!(rt;
+        write(&rt, &mut frames, B, 12288, 5),
+        Err(Fault::Addressing)
+    );
     let bytes = [
         (A, 4095, Some(1)),
         (A, 4096, Some(2)),

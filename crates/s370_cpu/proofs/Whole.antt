@@ -12,8 +12,8 @@ use Rattle.s370_rows.specs.State.{State}
 use Rattle.s370_rows.specs.Rows.{Row, Left, judged, suppressed}
 use Rattle.s370_cpu.specs.declared.conclude.Stop.{Stop}
 use Rattle.s370_cpu.specs.declared.conclude.Stop.TheVariants.{Done, Program, Svc, Privileged, Absent}
-use Rattle.s370_cpu.specs.declared.table.Opcode.{Opcode}
-use Rattle.s370_cpu.specs.declared.table.Opcode.TheVariants.{Invalid, Privileged as Supervised, SupervisorCall, Register, Word, StoreWord}
+use Rattle.s370_cpu.specs.declared.opcodes.Opcode.{Opcode}
+use Rattle.s370_cpu.specs.declared.opcodes.Opcode.TheVariants.{Invalid, Privileged as Supervised, SupervisorCall, Register, Word, StoreWord}
 use Rattle.s370_cpu.specs.declared.control.Control.{Control}
 use Rattle.s370_cpu.specs.declared.control.Control.TheVariants.{SetSystemMask, LoadPsw, Other}
 use Rattle.s370_cpu.specs.Fetch.{fetched}

@@ -7,8 +7,8 @@ use Rattle.s370_rows.specs.Formats.{r1_of, r2_of}
 use Rattle.s370_rows.specs.State.{State}
 use Rattle.s370_rows.specs.Registers.{arithmetic}
 use Rattle.s370_rows.specs.Rows.{Row, unchecked, suppressed, over, unchanged}
-use Rattle.s370_cpu.specs.declared.table.Opcode.{Opcode}
-use Rattle.s370_cpu.specs.declared.table.Opcode.TheVariants.{Invalid, Privileged, SupervisorCall, Register, Word, StoreWord}
+use Rattle.s370_cpu.specs.declared.opcodes.Opcode.{Opcode}
+use Rattle.s370_cpu.specs.declared.opcodes.Opcode.TheVariants.{Invalid, Privileged, SupervisorCall, Register, Word, StoreWord}
 use Rattle.s370_cpu.specs.Opcodes.{opcode_at}
 use Rattle.s370_cpu.specs.Operands.{word_operation, word_store}
 use Rattle.s370_cpu.specs.Unit.{Unit, unit_over}

@@ -10,11 +10,12 @@
 mod conclude;
 mod control;
 mod fetch;
+mod opcodes;
 mod operands;
-mod table;
+#[cfg(test)]
+mod tests;
 mod unit;
 
 pub use conclude::Stop;
-pub use control::{Control, supervise};
-pub use table::{Opcode, opcode_of};
+pub use control::supervise;
 pub use unit::step;

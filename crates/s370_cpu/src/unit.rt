@@ -7,8 +7,8 @@ ghost use Rattle.s370_cpu.specs.Unit.{MeetsUnit};
 
 use crate::conclude::{Stop, conclude};
 use crate::fetch::{fetch, length_of};
+use crate::opcodes::{Opcode, opcode_of};
 use crate::operands::{store_row, word_row};
-use crate::table::{Opcode, opcode_of};
 use s370_psw::{Ilc, ProgramCode};
 use s370_rows::{Cpu, Ending, Instruction, Refusal, arithmetic_row};
 use s370_store::Storage;

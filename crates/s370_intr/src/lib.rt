@@ -10,6 +10,8 @@
 mod class;
 mod stops;
 mod swap_words;
+#[cfg(test)]
+mod tests;
 
 pub use class::Class;
 pub use stops::interrupt;

@@ -37,6 +37,22 @@ impl PlainStorage {
     {
         &self.bytes
     }
+
+    /// The key of each of its blocks.
+    pub fn keys(&self) -> &[u8]
+        ensures { result.now ≡ plain_keys self.now }
+    {
+        &self.keys
+    }
+
+    /// Makes all its bytes and keys zero.
+    pub fn clear(&mut self)
+        ensures bytes { plain_bytes self.new ≡ replicate (length (plain_bytes self.old)) 0 }
+        ensures keys { plain_keys self.new ≡ replicate (length (plain_keys self.old)) 0 }
+    {
+        self.bytes.fill(0);
+        self.keys.fill(0);
+    }
 }
 
 impl Storage for PlainStorage {

@@ -1,8 +1,8 @@
-use Rattle.std.proofs.Common.{◌≡◌, ◌/◌, ◌%◌, ◌<◌, Some, None, sym, ◌∙◌, ap, refl, arith, length, get_or, []}
+use Rattle.std.proofs.Common.{◌≡◌, ◌/◌, ◌%◌, ◌<◌, Some, sym, ◌∙◌, ap, refl, arith, length, get_or, []}
 use Rattle.std.proofs.lemmas.List.{get_or_read}
 use Rattle.std.proofs.lemmas.Option.{slice_get-get_or}
 use Rattle.cp_frames.specs.Layout.{frame_of, storages_of, bytes_of}
-use Rattle.cp_frames.proofs.Layouts.{absent-zero, load-read, frame_room}
+use Rattle.cp_frames.proofs.Layouts.{load-read, frame_room}
 use Rattle.cp_frames.proofs.pool.Frames.byte.Goals as goal
 
 pub index-requires : goal.index-requires

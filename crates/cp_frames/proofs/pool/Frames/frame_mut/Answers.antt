@@ -1,7 +1,5 @@
-use Rattle.std.proofs.Common.{List, ℕ, ◌≡◌, ◌/◌, ◌%◌, Some, None, sym, ◌∙◌, ap, refl, arith, length, get_or, [], ◌<◌, ◌*◌}
-use Rattle.std.proofs.lemmas.List.{get_or_read}
-use Rattle.cp_frames.specs.Layout.{frame_of, storages_of}
-use Rattle.cp_frames.specs.Layout.{Pool, written_frame, written_page}
+use Rattle.std.proofs.Common.{List, ℕ, ◌∙◌, ap, refl, arith}
+use Rattle.cp_frames.specs.Layout.{Pool, written_frame}
 use Rattle.cp_frames.proofs.Layouts.{written-view}
 use Rattle.cp_frames.proofs.pool.Frames.frame_mut.Goals as goal
 

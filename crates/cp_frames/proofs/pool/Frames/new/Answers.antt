@@ -1,5 +1,4 @@
 use Rattle.std.proofs.Common.{arith, rules, ◌∙◌, ap, replicate, None, ◌*◌, ℕ, length, ◌≡◌}
-use Rattle.std.proofs.lemmas.Grind.{common_steps}
 use Rattle.cp_frames.proofs.Layouts.{storages-none}
 use Rattle.cp_frames.proofs.Tables.{sound-none}
 use Rattle.cp_frames.proofs.pool.Frames.new.Goals as goal

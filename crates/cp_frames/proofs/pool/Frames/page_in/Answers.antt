@@ -1,4 +1,4 @@
-use Rattle.std.proofs.Common.{arith, None, ◌∙◌, sym, ap}
+use Rattle.std.proofs.Common.{arith, None, sym}
 use Rattle.std.proofs.lemmas.List.{get_or_read, get_or_past}
 use Rattle.cp_frames.proofs.Tables.{page_inverse, page_inside}
 use Rattle.cp_frames.proofs.pool.Frames.page_in.Goals as goal

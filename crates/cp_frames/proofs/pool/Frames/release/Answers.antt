@@ -1,5 +1,4 @@
-use Rattle.std.proofs.Common.{◌≡◌, length, sym}
-use Rattle.cp_frames.proofs.Layouts.{whole-cleared, storages-cleared, length-bytes_of}
+use Rattle.cp_frames.proofs.Layouts.{frame_of-cleared, whole-cleared, storages-cleared, length-bytes_of}
 use Rattle.cp_frames.proofs.Tables.{tabled-cleared}
 use Rattle.cp_frames.proofs.pool.Frames.release.Goals as goal
 
@@ -13,3 +12,6 @@ pub returns-clause-storages : goal.returns-clause-storages
 returns-clause-storages c =
     let long = length-bytes_of c.self.inside.frames.items c.self.inside.owners.items c.self.inside.sizes.items c.args.user.0 in
     rw (c.give_back.ensures, ← c.self.view_is, long) (storages-cleared c.self.inside.frames.items c.self.inside.owners.items c.self.inside.sizes.items c.args.user.0)
+
+pub returns-clause-gone : goal.returns-clause-gone
+returns-clause-gone c page = rw c.give_back.ensures (frame_of-cleared c.self.inside.owners.items c.args.user.0 page)

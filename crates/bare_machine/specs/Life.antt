@@ -1,0 +1,20 @@
+-- The life of a bare machine: one event after another.
+use Rattle.std.specs.Prelude.{ℕ, List, [], ◌∷◌}
+use Rattle.bare_machine.specs.Machine.{Machine}
+use Rattle.bare_machine.specs.Run.{run}
+use Rattle.bare_machine.specs.Panel.{line}
+
+-- what can happen to a machine: it is let run for at most so many units, or a line is typed
+pub data Event : Type 0 where
+  Units : ℕ → Event
+  Line : List ℕ → Event
+
+-- the machine after an event
+abbrev pub after : Event → Machine → Machine
+after (Units n) m = (run n m).machine
+after (Line text) m = (line text m).machine
+
+-- the machine after events, in order
+abbrev pub life : List Event → Machine → Machine
+life [] m = m
+life (event ∷ events) m = life events (after event m)

@@ -1,0 +1,208 @@
+-- The commands are read exactly as their words spell them.
+use Rattle.std.proofs.Common.{◌≡◌, ℕ, ◌+◌, ◌*◌, ◌^◌, Bool, true, false, cond, List, [], ◌∷◌, ◌++◌, codes, Option, Some, None, Result, Ok, Err, refl}
+use Rattle.std.specs.Str.{bytes_eq}
+use Rattle.std.proofs.lemmas.Slice.Eq.{bytes_eq-Decides}
+use Rattle.cp_console.specs.Words.{words_of}
+use Rattle.cp_console.specs.Operands.{address_of, contents_of, bytes_of}
+use Rattle.cp_console.specs.Commands.{operand_read, operand, ended, place_of, logon_of, begin_of, display_of, change_of, store_of, command_by, command_of}
+use Rattle.cp_console.specs.Grammar.{Begins, IsFirstWrong, IsUnknown, ReadsGrammar, Spells, SpellsBegin, SpellsDisplay, SpellsPsw, SpellsGeneral, SpellsStorage, Stops, Tells}
+use Rattle.cp_console.specs.declared.commands.Place.{Place}
+use Rattle.cp_console.specs.declared.commands.Place.TheVariants as places
+use Rattle.cp_console.specs.declared.commands.Change.TheVariants as changes
+use Rattle.cp_console.specs.declared.commands.Command.{Command}
+use Rattle.cp_console.specs.declared.commands.Command.TheVariants.{Nothing, Logon, Begin, Display, Store}
+use Rattle.cp_console.specs.declared.commands.CommandError.{CommandError}
+use Rattle.cp_console.specs.declared.commands.CommandError.TheVariants.{Memory, Unknown, Operand}
+
+again : (words : List (List ℕ)) (command : Command) → Spells words command → command_by words ≡ Ok command
+again words Nothing h = rw h refl
+again words Logon h = rw h refl
+again words (Begin None) h = rw h refl
+again words (Begin (Some address)) h = rw (h.spelled, h.read) refl
+again words (Display place) h = rw (h.spelled, h.read) refl
+again words (Store (changes.Psw psw)) h = rw (h.spelled, h.read, h.left_read, h.right_read, h.joined) refl
+again words (Store (changes.General register contents)) h = rw (h.spelled, h.read, h.digits_read) refl
+again words (Store (changes.Storage address bytes)) h = rw (h.spelled, h.read, h.digits_read) refl
+
+-- words that are refused spell nothing
+missing : (words : List (List ℕ)) (fault : CommandError) → command_by words ≡ Err fault → (command : Command) → Spells words command → ⊥
+missing words fault refused command h = let read : command_by words ≡ Ok command = again words command h in cc
+
+-- words that are refused whatever follows begin nothing
+never : (words : List (List ℕ)) (fault : CommandError) → ((rest : List (List ℕ)) → command_by (words ++ rest) ≡ Err fault) → Begins words → ⊥
+never words fault refused h = missing (words ++ h.rest) fault (refused h.rest) h.command h.whole
+
+abbrev zeros : List ℕ
+zeros = codes "00000000"
+
+-- beginnings of each command
+display_begins : Begins (codes "DISPLAY" ∷ [])
+display_begins = record { rest = codes "PSW" ∷ []; command = Display places.Psw; whole = record { word = codes "PSW"; spelled = refl; read = refl } }
+
+store_begins : Begins (codes "STORE" ∷ [])
+store_begins =
+    record {
+      rest = codes "PSW" ∷ zeros ∷ zeros ∷ [];
+      command = Store (changes.Psw (0 * 2 ^ 32 + 0));
+      whole = record { word = codes "PSW"; left = zeros; right = zeros; high = 0; low = 0; spelled = refl; read = refl; left_read = refl; right_read = refl; joined = refl };
+    }
+
+psw_begins : (word : List ℕ) → place_of word ≡ Some places.Psw → Begins (codes "STORE" ∷ word ∷ [])
+psw_begins word h =
+    record {
+      rest = zeros ∷ zeros ∷ [];
+      command = Store (changes.Psw (0 * 2 ^ 32 + 0));
+      whole = record { word = word; left = zeros; right = zeros; high = 0; low = 0; spelled = refl; read = h; left_read = refl; right_read = refl; joined = refl };
+    }
+
+half_begins : (word left : List ℕ) (high : ℕ) → place_of word ≡ Some places.Psw → contents_of left ≡ Some high → Begins (codes "STORE" ∷ word ∷ left ∷ [])
+half_begins word left high h k =
+    record {
+      rest = zeros ∷ [];
+      command = Store (changes.Psw (high * 2 ^ 32 + 0));
+      whole = record { word = word; left = left; right = zeros; high = high; low = 0; spelled = refl; read = h; left_read = k; right_read = refl; joined = refl };
+    }
+
+general_begins : (word : List ℕ) (register : ℕ) → place_of word ≡ Some (places.General register) → Begins (codes "STORE" ∷ word ∷ [])
+general_begins word register h =
+    record { rest = zeros ∷ []; command = Store (changes.General register 0); whole = record { word = word; digits = zeros; spelled = refl; read = h; digits_read = refl } }
+
+storage_begins : (word : List ℕ) (address : ℕ) → place_of word ≡ Some (places.Storage address) → Begins (codes "STORE" ∷ word ∷ [])
+storage_begins word address h =
+    record { rest = codes "00" ∷ []; command = Store (changes.Storage address (0 ∷ [])); whole = record { word = word; digits = codes "00"; spelled = refl; read = h; digits_read = refl } }
+
+-- words that spell a command begin one
+whole_begins : (words : List (List ℕ)) (command : Command) → Spells (words ++ []) command → Begins words
+whole_begins words command h = record { rest = []; command = command; whole = h }
+
+tells_logon : (operands : List (List ℕ)) → Tells (codes "LOGON" ∷ operands) (logon_of operands)
+tells_logon [] = refl
+tells_logon (word ∷ words) =
+    record { front = codes "LOGON" ∷ []; after = word ∷ words; split = refl; counted = refl; begins = whole_begins (codes "LOGON" ∷ []) Logon refl; stops = never (codes "LOGON" ∷ word ∷ []) (Operand 1) (λ rest. refl) }
+
+begin_on : (word : List ℕ) (words : List (List ℕ)) (o : Option ℕ) → address_of word ≡ o → Tells (codes "BEGIN" ∷ word ∷ words) (operand_read 1 o (λ address. ended 2 (Begin (Some address)) words))
+begin_on word words None h =
+    record { front = codes "BEGIN" ∷ []; after = word ∷ words; split = refl; counted = refl; begins = whole_begins (codes "BEGIN" ∷ []) (Begin None) refl; stops = never (codes "BEGIN" ∷ word ∷ []) (Operand 1) (λ rest. rw h refl) }
+begin_on word [] (Some address) h = record { word = word; spelled = refl; read = h }
+begin_on word (more ∷ words) (Some address) h =
+    record {
+      front = codes "BEGIN" ∷ word ∷ [];
+      after = more ∷ words;
+      split = refl;
+      counted = refl;
+      begins = whole_begins (codes "BEGIN" ∷ word ∷ []) (Begin (Some address)) (record { word = word; spelled = refl; read = h });
+      stops = never (codes "BEGIN" ∷ word ∷ more ∷ []) (Operand 2) (λ rest. rw h refl);
+    }
+
+tells_begin : (operands : List (List ℕ)) → Tells (codes "BEGIN" ∷ operands) (begin_of operands)
+tells_begin [] = refl
+tells_begin (word ∷ words) = begin_on word words (address_of word) refl
+
+display_on : (word : List ℕ) (words : List (List ℕ)) (o : Option Place) → place_of word ≡ o → Tells (codes "DISPLAY" ∷ word ∷ words) (operand_read 1 o (λ place. ended 2 (Display place) words))
+display_on word words None h =
+    record { front = codes "DISPLAY" ∷ []; after = word ∷ words; split = refl; counted = refl; begins = display_begins; stops = never (codes "DISPLAY" ∷ word ∷ []) (Operand 1) (λ rest. rw h refl) }
+display_on word [] (Some place) h = record { word = word; spelled = refl; read = h }
+display_on word (more ∷ words) (Some place) h =
+    record {
+      front = codes "DISPLAY" ∷ word ∷ [];
+      after = more ∷ words;
+      split = refl;
+      counted = refl;
+      begins = whole_begins (codes "DISPLAY" ∷ word ∷ []) (Display place) (record { word = word; spelled = refl; read = h });
+      stops = never (codes "DISPLAY" ∷ word ∷ more ∷ []) (Operand 2) (λ rest. rw h refl);
+    }
+
+tells_display : (operands : List (List ℕ)) → Tells (codes "DISPLAY" ∷ operands) (display_of operands)
+tells_display [] = record { front = codes "DISPLAY" ∷ []; after = []; split = refl; counted = refl; begins = display_begins; stops = missing (codes "DISPLAY" ∷ []) (Operand 1) refl }
+tells_display (word ∷ words) = display_on word words (place_of word) refl
+
+right_on : (word left right : List ℕ) (words : List (List ℕ)) (high : ℕ) (o : Option ℕ) → place_of word ≡ Some places.Psw → contents_of left ≡ Some high → contents_of right ≡ o
+    → Tells (codes "STORE" ∷ word ∷ left ∷ right ∷ words) (operand_read 3 o (λ low. ended 4 (Store (changes.Psw (high * 2 ^ 32 + low))) words))
+right_on word left right words high None p h k =
+    record { front = codes "STORE" ∷ word ∷ left ∷ []; after = right ∷ words; split = refl; counted = refl; begins = half_begins word left high p h; stops = never (codes "STORE" ∷ word ∷ left ∷ right ∷ []) (Operand 3) (λ rest. rw (p, h, k) refl) }
+right_on word left right [] high (Some low) p h k =
+    record { word = word; left = left; right = right; high = high; low = low; spelled = refl; read = p; left_read = h; right_read = k; joined = refl }
+right_on word left right (more ∷ words) high (Some low) p h k =
+    record {
+      front = codes "STORE" ∷ word ∷ left ∷ right ∷ [];
+      after = more ∷ words;
+      split = refl;
+      counted = refl;
+      begins = whole_begins (codes "STORE" ∷ word ∷ left ∷ right ∷ []) (Store (changes.Psw (high * 2 ^ 32 + low)))
+          (record { word = word; left = left; right = right; high = high; low = low; spelled = refl; read = p; left_read = h; right_read = k; joined = refl });
+      stops = never (codes "STORE" ∷ word ∷ left ∷ right ∷ more ∷ []) (Operand 4) (λ rest. rw (p, h, k) refl);
+    }
+
+left_on : (word left : List ℕ) (words : List (List ℕ)) (o : Option ℕ) → place_of word ≡ Some places.Psw → contents_of left ≡ o
+    → Tells (codes "STORE" ∷ word ∷ left ∷ words) (operand_read 2 o (λ high. operand 3 contents_of words (λ low. ended 4 (Store (changes.Psw (high * 2 ^ 32 + low))))))
+left_on word left words None p h =
+    record { front = codes "STORE" ∷ word ∷ []; after = left ∷ words; split = refl; counted = refl; begins = psw_begins word p; stops = never (codes "STORE" ∷ word ∷ left ∷ []) (Operand 2) (λ rest. rw (p, h) refl) }
+left_on word left [] (Some high) p h =
+    record { front = codes "STORE" ∷ word ∷ left ∷ []; after = []; split = refl; counted = refl; begins = half_begins word left high p h; stops = missing (codes "STORE" ∷ word ∷ left ∷ []) (Operand 3) (rw (p, h) refl) }
+left_on word left (right ∷ words) (Some high) p h = right_on word left right words high (contents_of right) p h refl
+
+general_on : (word digits : List ℕ) (words : List (List ℕ)) (register : ℕ) (o : Option ℕ) → place_of word ≡ Some (places.General register) → contents_of digits ≡ o
+    → Tells (codes "STORE" ∷ word ∷ digits ∷ words) (operand_read 2 o (λ contents. ended 3 (Store (changes.General register contents)) words))
+general_on word digits words register None p h =
+    record { front = codes "STORE" ∷ word ∷ []; after = digits ∷ words; split = refl; counted = refl; begins = general_begins word register p; stops = never (codes "STORE" ∷ word ∷ digits ∷ []) (Operand 2) (λ rest. rw (p, h) refl) }
+general_on word digits [] register (Some contents) p h = record { word = word; digits = digits; spelled = refl; read = p; digits_read = h }
+general_on word digits (more ∷ words) register (Some contents) p h =
+    record {
+      front = codes "STORE" ∷ word ∷ digits ∷ [];
+      after = more ∷ words;
+      split = refl;
+      counted = refl;
+      begins = whole_begins (codes "STORE" ∷ word ∷ digits ∷ []) (Store (changes.General register contents)) (record { word = word; digits = digits; spelled = refl; read = p; digits_read = h });
+      stops = never (codes "STORE" ∷ word ∷ digits ∷ more ∷ []) (Operand 3) (λ rest. rw (p, h) refl);
+    }
+
+storage_on : (word digits : List ℕ) (words : List (List ℕ)) (address : ℕ) (o : Option (List ℕ)) → place_of word ≡ Some (places.Storage address) → bytes_of digits ≡ o
+    → Tells (codes "STORE" ∷ word ∷ digits ∷ words) (operand_read 2 o (λ bytes. ended 3 (Store (changes.Storage address bytes)) words))
+storage_on word digits words address None p h =
+    record { front = codes "STORE" ∷ word ∷ []; after = digits ∷ words; split = refl; counted = refl; begins = storage_begins word address p; stops = never (codes "STORE" ∷ word ∷ digits ∷ []) (Operand 2) (λ rest. rw (p, h) refl) }
+storage_on word digits [] address (Some bytes) p h = record { word = word; digits = digits; spelled = refl; read = p; digits_read = h }
+storage_on word digits (more ∷ words) address (Some bytes) p h =
+    record {
+      front = codes "STORE" ∷ word ∷ digits ∷ [];
+      after = more ∷ words;
+      split = refl;
+      counted = refl;
+      begins = whole_begins (codes "STORE" ∷ word ∷ digits ∷ []) (Store (changes.Storage address bytes)) (record { word = word; digits = digits; spelled = refl; read = p; digits_read = h });
+      stops = never (codes "STORE" ∷ word ∷ digits ∷ more ∷ []) (Operand 3) (λ rest. rw (p, h) refl);
+    }
+
+change_on : (word : List ℕ) (words : List (List ℕ)) (place : Place) → place_of word ≡ Some place → Tells (codes "STORE" ∷ word ∷ words) (change_of place words)
+change_on word [] places.Psw p =
+    record { front = codes "STORE" ∷ word ∷ []; after = []; split = refl; counted = refl; begins = psw_begins word p; stops = missing (codes "STORE" ∷ word ∷ []) (Operand 2) (rw p refl) }
+change_on word (left ∷ words) places.Psw p = left_on word left words (contents_of left) p refl
+change_on word [] (places.General register) p =
+    record { front = codes "STORE" ∷ word ∷ []; after = []; split = refl; counted = refl; begins = general_begins word register p; stops = missing (codes "STORE" ∷ word ∷ []) (Operand 2) (rw p refl) }
+change_on word (digits ∷ words) (places.General register) p = general_on word digits words register (contents_of digits) p refl
+change_on word [] (places.Storage address) p =
+    record { front = codes "STORE" ∷ word ∷ []; after = []; split = refl; counted = refl; begins = storage_begins word address p; stops = missing (codes "STORE" ∷ word ∷ []) (Operand 2) (rw p refl) }
+change_on word (digits ∷ words) (places.Storage address) p = storage_on word digits words address (bytes_of digits) p refl
+
+store_on : (word : List ℕ) (words : List (List ℕ)) (o : Option Place) → place_of word ≡ o → Tells (codes "STORE" ∷ word ∷ words) (operand_read 1 o (λ place. change_of place words))
+store_on word words None h =
+    record { front = codes "STORE" ∷ []; after = word ∷ words; split = refl; counted = refl; begins = store_begins; stops = never (codes "STORE" ∷ word ∷ []) (Operand 1) (λ rest. rw h refl) }
+store_on word words (Some place) h = change_on word words place h
+
+tells_store : (operands : List (List ℕ)) → Tells (codes "STORE" ∷ operands) (store_of operands)
+tells_store [] = record { front = codes "STORE" ∷ []; after = []; split = refl; counted = refl; begins = store_begins; stops = missing (codes "STORE" ∷ []) (Operand 1) refl }
+tells_store (word ∷ words) = store_on word words (place_of word) refl
+
+named_on : (name : List ℕ) (operands : List (List ℕ)) (a b c d : Bool) → bytes_eq name (codes "LOGON") ≡ a → bytes_eq name (codes "BEGIN") ≡ b → bytes_eq name (codes "DISPLAY") ≡ c → bytes_eq name (codes "STORE") ≡ d
+    → Tells (name ∷ operands) (cond a (logon_of operands) (cond b (begin_of operands) (cond c (display_of operands) (cond d (store_of operands) (Err Unknown)))))
+named_on name operands true b c d e f g h = rw ((bytes_eq-Decides name (codes "LOGON")).0 e) (tells_logon operands)
+named_on name operands false true c d e f g h = rw ((bytes_eq-Decides name (codes "BEGIN")).0 f) (tells_begin operands)
+named_on name operands false false true d e f g h = rw ((bytes_eq-Decides name (codes "DISPLAY")).0 g) (tells_display operands)
+named_on name operands false false false true e f g h = rw ((bytes_eq-Decides name (codes "STORE")).0 h) (tells_store operands)
+named_on name operands false false false false e f g h =
+    record { name = name; operands = operands; split = refl; unknown = never (name ∷ []) Unknown (λ rest. rw (e, f, g, h) refl) }
+
+tells : (words : List (List ℕ)) → Tells words (command_by words)
+tells [] = refl
+tells (name ∷ operands) = named_on name operands (bytes_eq name (codes "LOGON")) (bytes_eq name (codes "BEGIN")) (bytes_eq name (codes "DISPLAY")) (bytes_eq name (codes "STORE")) refl refl refl refl
+
+pub reads : ReadsGrammar
+reads text = (tells (words_of text), again (words_of text))

@@ -1,0 +1,5 @@
+use Rattle.std.proofs.Common.{rules}
+use Rattle.cp_console.proofs.printing.general_text.Goals as goal
+
+pub returns : goal.returns
+returns c = rw (← c.number-number.ensures.value) c.format.ensures.ok

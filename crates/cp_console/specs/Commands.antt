@@ -1,0 +1,79 @@
+-- The commands, by the words of their texts.
+use Rattle.std.specs.Prelude.{ℕ, ◌+◌, ◌*◌, ◌^◌, ◌==◌, if◌then◌else◌, List, [], ◌∷◌, codes, Option, Some, None, Result, Ok, Err}
+use Rattle.std.specs.Option.{option_map}
+use Rattle.std.specs.Str.{bytes_eq}
+use Rattle.cp_console.specs.Words.{words_of}
+use Rattle.cp_console.specs.Operands.{address_of, register_of, contents_of, bytes_of}
+use Rattle.cp_console.specs.declared.commands.Place.{Place}
+use Rattle.cp_console.specs.declared.commands.Place.TheVariants as places
+use Rattle.cp_console.specs.declared.commands.Change.{Change}
+use Rattle.cp_console.specs.declared.commands.Change.TheVariants as changes
+use Rattle.cp_console.specs.declared.commands.Command.{Command}
+use Rattle.cp_console.specs.declared.commands.Command.TheVariants.{Nothing, Logon, Begin, Display, Store}
+use Rattle.cp_console.specs.declared.commands.CommandError.{CommandError}
+use Rattle.cp_console.specs.declared.commands.CommandError.TheVariants.{Unknown, Operand}
+
+-- what follows an operand that was read; one that was not is told by its place
+abbrev pub operand_read : {A : Type 0} → ℕ → Option A → (A → Result Command CommandError) → Result Command CommandError
+operand_read place None next = Err (Operand place)
+operand_read place (Some a) next = next a
+
+-- the word at this place is an operand by this rule, and the words after it are read next; a missing word is told by its place
+abbrev pub operand : {A : Type 0} → ℕ → (List ℕ → Option A) → List (List ℕ) → (A → List (List ℕ) → Result Command CommandError) → Result Command CommandError
+operand place rule [] next = Err (Operand place)
+operand place rule (word ∷ words) next = operand_read place (rule word) (λ a. next a words)
+
+-- no word is left; a surplus one is told by its place
+abbrev pub ended : ℕ → Command → List (List ℕ) → Result Command CommandError
+ended place command [] = Ok command
+ended place command (word ∷ words) = Err (Operand place)
+
+-- `G` and a register's number, or an address of storage
+abbrev pub numbered_place : List ℕ → Option Place
+numbered_place [] = None
+numbered_place (c ∷ cs) = if c == 71 then option_map places.General (register_of cs) else option_map places.Storage (address_of (c ∷ cs))
+
+-- what is displayed or changed: `PSW`, a register or storage
+abbrev pub place_of : List ℕ → Option Place
+place_of word = if bytes_eq word (codes "PSW") then Some places.Psw else numbered_place word
+
+-- `LOGON`
+abbrev pub logon_of : List (List ℕ) → Result Command CommandError
+logon_of words = ended 1 Logon words
+
+-- `BEGIN`, which may name an address
+abbrev pub begin_of : List (List ℕ) → Result Command CommandError
+begin_of [] = Ok (Begin None)
+begin_of (word ∷ words) = operand 1 address_of (word ∷ words) (λ address. ended 2 (Begin (Some address)))
+
+-- `DISPLAY` and a place
+abbrev pub display_of : List (List ℕ) → Result Command CommandError
+display_of words = operand 1 place_of words (λ place. ended 2 (Display place))
+
+-- what a place is given: the PSW its two halves, a register its contents, storage some bytes from the address on
+abbrev pub change_of : Place → List (List ℕ) → Result Command CommandError
+change_of places.Psw words = operand 2 contents_of words (λ left rest. operand 3 contents_of rest (λ right. ended 4 (Store (changes.Psw (left * 2 ^ 32 + right)))))
+change_of (places.General register) words = operand 2 contents_of words (λ contents. ended 3 (Store (changes.General register contents)))
+change_of (places.Storage address) words = operand 2 bytes_of words (λ bytes. ended 3 (Store (changes.Storage address bytes)))
+
+-- `STORE`, a place and what it is given
+abbrev pub store_of : List (List ℕ) → Result Command CommandError
+store_of words = operand 1 place_of words change_of
+
+-- by the first word, which is the command's name
+abbrev pub command_named : List ℕ → List (List ℕ) → Result Command CommandError
+command_named name operands =
+    if bytes_eq name (codes "LOGON") then logon_of operands
+    else if bytes_eq name (codes "BEGIN") then begin_of operands
+    else if bytes_eq name (codes "DISPLAY") then display_of operands
+    else if bytes_eq name (codes "STORE") then store_of operands
+    else Err Unknown
+
+-- by its words; a text without a word asks for nothing
+abbrev pub command_by : List (List ℕ) → Result Command CommandError
+command_by [] = Ok Nothing
+command_by (name ∷ operands) = command_named name operands
+
+-- the command that a text is, or why it is none
+abbrev pub command_of : List ℕ → Result Command CommandError
+command_of text = command_by (words_of text)

@@ -1,0 +1,104 @@
+-- What it is for words to spell a command, and to be no command.
+use Rattle.std.specs.Prelude.{◌≡◌, ℕ, ◌+◌, ◌*◌, ◌^◌, List, [], ◌∷◌, ◌++◌, length, codes, Some, None, Result, Ok, Err}
+use Rattle.cp_console.specs.Words.{words_of}
+use Rattle.cp_console.specs.Operands.{address_of, contents_of, bytes_of}
+use Rattle.cp_console.specs.Commands.{command_of, place_of}
+use Rattle.cp_console.specs.declared.commands.Place.{Place}
+use Rattle.cp_console.specs.declared.commands.Place.TheVariants as places
+use Rattle.cp_console.specs.declared.commands.Change.TheVariants as changes
+use Rattle.cp_console.specs.declared.commands.Command.{Command}
+use Rattle.cp_console.specs.declared.commands.Command.TheVariants.{Nothing, Logon, Begin, Display, Store}
+use Rattle.cp_console.specs.declared.commands.CommandError.{CommandError}
+use Rattle.cp_console.specs.declared.commands.CommandError.TheVariants.{Memory, Unknown, Operand}
+
+-- `BEGIN` and the word of an address
+pub record SpellsBegin (words : List (List ℕ)) (address : ℕ) : Type 0 where
+  pub word : List ℕ
+  pub spelled : words ≡ codes "BEGIN" ∷ word ∷ []
+  pub read : address_of word ≡ Some address
+
+-- `DISPLAY` and the word of a place
+pub record SpellsDisplay (words : List (List ℕ)) (place : Place) : Type 0 where
+  pub word : List ℕ
+  pub spelled : words ≡ codes "DISPLAY" ∷ word ∷ []
+  pub read : place_of word ≡ Some place
+
+-- `STORE PSW` and the two halves
+pub record SpellsPsw (words : List (List ℕ)) (psw : ℕ) : Type 0 where
+  pub word : List ℕ
+  pub left : List ℕ
+  pub right : List ℕ
+  pub high : ℕ
+  pub low : ℕ
+  pub spelled : words ≡ codes "STORE" ∷ word ∷ left ∷ right ∷ []
+  pub read : place_of word ≡ Some places.Psw
+  pub left_read : contents_of left ≡ Some high
+  pub right_read : contents_of right ≡ Some low
+  pub joined : psw ≡ high * 2 ^ 32 + low
+
+-- `STORE`, the word of a register and its contents
+pub record SpellsGeneral (words : List (List ℕ)) (register contents : ℕ) : Type 0 where
+  pub word : List ℕ
+  pub digits : List ℕ
+  pub spelled : words ≡ codes "STORE" ∷ word ∷ digits ∷ []
+  pub read : place_of word ≡ Some (places.General register)
+  pub digits_read : contents_of digits ≡ Some contents
+
+-- `STORE`, the word of an address and the bytes
+pub record SpellsStorage (words : List (List ℕ)) (address : ℕ) (bytes : List ℕ) : Type 0 where
+  pub word : List ℕ
+  pub digits : List ℕ
+  pub spelled : words ≡ codes "STORE" ∷ word ∷ digits ∷ []
+  pub read : place_of word ≡ Some (places.Storage address)
+  pub digits_read : bytes_of digits ≡ Some bytes
+
+-- the words spell a command
+abbrev pub Spells : List (List ℕ) → Command → Type 0
+Spells words Nothing = words ≡ []
+Spells words Logon = words ≡ codes "LOGON" ∷ []
+Spells words (Begin None) = words ≡ codes "BEGIN" ∷ []
+Spells words (Begin (Some address)) = SpellsBegin words address
+Spells words (Display place) = SpellsDisplay words place
+Spells words (Store (changes.Psw psw)) = SpellsPsw words psw
+Spells words (Store (changes.General register contents)) = SpellsGeneral words register contents
+Spells words (Store (changes.Storage address bytes)) = SpellsStorage words address bytes
+
+-- the words begin a command: with some words after them they spell one
+pub record Begins (words : List (List ℕ)) : Type 0 where
+  pub rest : List (List ℕ)
+  pub command : Command
+  pub whole : Spells (words ++ rest) command
+
+-- no command has this first word
+pub record IsUnknown (words : List (List ℕ)) : Type 0 where
+  pub name : List ℕ
+  pub operands : List (List ℕ)
+  pub split : words ≡ name ∷ operands
+  pub unknown : Begins (name ∷ []) → ⊥
+
+-- these words go no further: alone they spell no command, or with the next word they begin none
+abbrev pub Stops : List (List ℕ) → List (List ℕ) → Type 0
+Stops front [] = (command : Command) → Spells front command → ⊥
+Stops front (word ∷ more) = Begins (front ++ word ∷ []) → ⊥
+
+-- the name and the operands before this place begin a command, and the word at the place is wrong, missing or surplus
+pub record IsFirstWrong (words : List (List ℕ)) (place : ℕ) : Type 0 where
+  pub front : List (List ℕ)
+  pub after : List (List ℕ)
+  pub split : words ≡ front ++ after
+  pub counted : length front ≡ place
+  pub begins : Begins front
+  pub stops : Stops front after
+
+-- what an answer tells of the words
+abbrev pub Tells : List (List ℕ) → Result Command CommandError → Type 0
+Tells words (Ok command) = Spells words command
+Tells words (Err Memory) = ⊥
+Tells words (Err Unknown) = IsUnknown words
+Tells words (Err (Operand place)) = IsFirstWrong words place
+
+-- each text is read as what its words spell, and refused by its first wrong word where they spell nothing
+abbrev pub ReadsGrammar : Type 0
+ReadsGrammar = (text : List ℕ) →
+    Tells (words_of text) (command_of text)
+    × ((command : Command) → Spells (words_of text) command → command_of text ≡ Ok command)

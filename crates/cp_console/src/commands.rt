@@ -1,0 +1,206 @@
+//! The commands, and how their texts are read.
+ghost use Rattle.std.specs.Prelude.{◌≡◌, ◌++◌, Option, Result};
+ghost use Rattle.cp_console.specs.Commands.{begin_of, change_of, command_named, command_of, display_of, ended, logon_of, numbered_place, place_of, store_of};
+ghost use Rattle.cp_console.specs.Grammar.{ReadsGrammar};
+ghost use Rattle.cp_console.specs.Words.{words_of};
+
+use crate::operands::{Register, StoredBytes, address_of, bytes_of, contents_of, register_of};
+use crate::words::cut_word;
+use s370_num::{Addr24, Word};
+use thiserror::Error;
+
+/// What of a machine is displayed or changed.
+#[derive(Clone, Copy, Debug, PartialEq, Eq)]
+pub enum Place {
+    /// The PSW.
+    Psw,
+    /// A general register.
+    General(Register),
+    /// Storage at an address.
+    Storage(Addr24),
+}
+
+/// What a place is given.
+#[derive(Clone, Copy, Debug, PartialEq, Eq)]
+pub enum Change {
+    /// The 64 bits of the PSW.
+    Psw(u64),
+    /// The contents of a general register.
+    General(Register, Word),
+    /// Bytes of storage from an address on.
+    Storage(Addr24, StoredBytes),
+}
+
+/// A command of the operator of a machine.
+#[derive(Clone, Copy, Debug, PartialEq, Eq)]
+pub enum Command {
+    /// A text without a word, which does nothing.
+    Nothing,
+    /// `LOGON`.
+    Logon,
+    /// `BEGIN`: the machine runs, at an address where one is given.
+    Begin(Option<Addr24>),
+    /// `DISPLAY`.
+    Display(Place),
+    /// `STORE`.
+    Store(Change),
+}
+
+/// Why a text is no command.
+#[derive(Clone, Copy, Debug, PartialEq, Eq, Drop, Error)]
+pub enum CommandError {
+    /// No memory was left. No command takes any so far.
+    #[error("no memory is left")]
+    Memory,
+    /// The first word is no command.
+    #[error("this command does not exist")]
+    Unknown,
+    /// The first word that is wrong, missing or surplus, counted from 1 after the command's name.
+    #[error("operand {0} is wrong, missing or surplus")]
+    Operand(u64),
+}
+
+/// The command that a text is.
+pub fn read_command(text: &[u8]) -> Result<Command, CommandError>
+    ensures { result ≡ command_of text.now }
+{
+    let Some((name, operands)) = cut_word(text) else {
+        return Ok(Command::Nothing);
+    };
+    read_named(name, operands)
+}
+
+/// A text is read as the command that its words spell; another text is told by its first word, where no
+/// command has it, or by the first place where the words before begin a command and go no further.
+pub fn reads_grammar()
+    ensures { ReadsGrammar }
+{}
+
+/// The command of a name, with its operands.
+fn read_named(name: &[u8], operands: &[u8]) -> Result<Command, CommandError>
+    ensures { result ≡ command_named name.now (words_of operands.now) }
+{
+    if name == b"LOGON".as_slice() {
+        ended(1, Command::Logon, operands)
+    } else if name == b"BEGIN".as_slice() {
+        read_begin(operands)
+    } else if name == b"DISPLAY".as_slice() {
+        read_display(operands)
+    } else if name == b"STORE".as_slice() {
+        read_store(operands)
+    } else {
+        Err(CommandError::Unknown)
+    }
+}
+
+/// The command, where no operand is left; a surplus one is told by its place.
+fn ended(place: u64, command: Command, operands: &[u8]) -> Result<Command, CommandError>
+    ensures { result ≡ ended place command (words_of operands.now) }
+{
+    match cut_word(operands) {
+        None => Ok(command),
+        Some(_) => Err(CommandError::Operand(place)),
+    }
+}
+
+/// `BEGIN`, which may name an address.
+fn read_begin(operands: &[u8]) -> Result<Command, CommandError>
+    ensures { result ≡ begin_of (words_of operands.now) }
+{
+    let Some((word, rest)) = cut_word(operands) else {
+        return Ok(Command::Begin(None));
+    };
+    let Some(address) = address_of(word) else {
+        return Err(CommandError::Operand(1));
+    };
+    ended(2, Command::Begin(Some(address)), rest)
+}
+
+/// `DISPLAY` and a place.
+fn read_display(operands: &[u8]) -> Result<Command, CommandError>
+    ensures { result ≡ display_of (words_of operands.now) }
+{
+    let Some((word, rest)) = cut_word(operands) else {
+        return Err(CommandError::Operand(1));
+    };
+    let Some(place) = place_of(word) else {
+        return Err(CommandError::Operand(1));
+    };
+    ended(2, Command::Display(place), rest)
+}
+
+/// `STORE`, a place and what it is given.
+fn read_store(operands: &[u8]) -> Result<Command, CommandError>
+    ensures { result ≡ store_of (words_of operands.now) }
+{
+    let Some((word, rest)) = cut_word(operands) else {
+        return Err(CommandError::Operand(1));
+    };
+    let Some(place) = place_of(word) else {
+        return Err(CommandError::Operand(1));
+    };
+    match place {
+        Place::Psw => read_psw(rest),
+        Place::General(register) => read_general(register, rest),
+        Place::Storage(address) => read_storage(address, rest),
+    }
+}
+
+/// The two halves that the PSW is given.
+fn read_psw(operands: &[u8]) -> Result<Command, CommandError>
+    ensures { result ≡ change_of Place.Psw (words_of operands.now) }
+{
+    let Some((word, rest)) = cut_word(operands) else {
+        return Err(CommandError::Operand(2));
+    };
+    let Some(left) = contents_of(word) else {
+        return Err(CommandError::Operand(2));
+    };
+    let Some((word, rest)) = cut_word(rest) else {
+        return Err(CommandError::Operand(3));
+    };
+    let Some(right) = contents_of(word) else {
+        return Err(CommandError::Operand(3));
+    };
+    let psw = u64::from(left.unsigned()) * 0x1_0000_0000 + u64::from(right.unsigned());
+    ended(4, Command::Store(Change::Psw(psw)), rest)
+}
+
+/// The contents that a register is given.
+fn read_general(register: Register, operands: &[u8]) -> Result<Command, CommandError>
+    ensures { result ≡ change_of (Place.General register) (words_of operands.now) }
+{
+    let Some((word, rest)) = cut_word(operands) else {
+        return Err(CommandError::Operand(2));
+    };
+    let Some(contents) = contents_of(word) else {
+        return Err(CommandError::Operand(2));
+    };
+    ended(3, Command::Store(Change::General(register, contents)), rest)
+}
+
+/// The bytes that storage is given from an address on.
+fn read_storage(address: Addr24, operands: &[u8]) -> Result<Command, CommandError>
+    ensures { result ≡ change_of (Place.Storage address) (words_of operands.now) }
+{
+    let Some((word, rest)) = cut_word(operands) else {
+        return Err(CommandError::Operand(2));
+    };
+    let Some(bytes) = bytes_of(word) else {
+        return Err(CommandError::Operand(2));
+    };
+    ended(3, Command::Store(Change::Storage(address, bytes)), rest)
+}
+
+/// What is displayed or changed: `PSW`, a register or storage.
+fn place_of(word: &[u8]) -> Option<Place>
+    ensures { result ≡ place_of word.now }
+{
+    if word == b"PSW".as_slice() {
+        return Some(Place::Psw);
+    }
+    match word {
+        [b'G', number @ ..] => Some(Place::General(register_of(number)?)),
+        _ => Some(Place::Storage(address_of(word)?)),
+    }
+}

@@ -1,0 +1,99 @@
+//! A line as it was typed, and whom it speaks to.
+ghost use Rattle.std.specs.Prelude.{◌≡◌, ◌≤◌, length, take};
+ghost use Rattle.cp_console.specs.Lines.{character_of, cleaned};
+ghost use Rattle.cp_console.specs.Asked.{asked};
+ghost use Rattle.cp_console.specs.Words.{asked_of};
+
+use crate::words::cut_word;
+use s370_num::ebcdic::is_printable;
+use std::marker::Model;
+
+/// The most characters of a line that are taken.
+pub const LINE_LENGTH: usize = 130;
+
+/// A line as the program takes it: at most [`LINE_LENGTH`] characters, each of the EBCDIC alphabet.
+#[derive(Debug, Drop)]
+pub struct ConsoleText {
+    characters: [u8; 130],
+    count: usize,
+}
+
+impl Model for ConsoleText {
+    ghost use Rattle.std.specs.Prelude.{ℕ, ◌≤◌, List, take};
+
+    ghost Value = { List ℕ };
+
+    ghost view = { λ t. take t.count t.characters };
+
+    ghost invariant = { λ t. t.count ≤ 130 };
+}
+
+impl ConsoleText {
+    /// The line that these characters are taken as.
+    pub fn new(typed: &[u8]) -> ConsoleText
+        ensures { result ≡ cleaned typed.now }
+    {
+        let taken = first_characters(typed);
+        let mut characters = [b' '; 130];
+        for (place, c) in taken.iter().enumerate() {
+            characters[place] = character_of(*c);
+        }
+        let count = taken.len();
+        ConsoleText { characters, count }
+    }
+
+    /// The characters of the line.
+    pub fn as_slice(&self) -> &[u8]
+        ensures value { result.now ≡ self.now }
+        ensures bound { length result.now ≤ LINE_LENGTH }
+    {
+        &self.characters[..self.count]
+    }
+}
+
+/// The characters of a line that are taken.
+fn first_characters(typed: &[u8]) -> &[u8]
+    ensures value { result.now ≡ take 130 typed.now }
+    ensures bound { length result.now ≤ 130 }
+{
+    if typed.len() > LINE_LENGTH {
+        &typed[..LINE_LENGTH]
+    } else {
+        typed
+    }
+}
+
+/// The character itself, or a blank in place of one that the EBCDIC alphabet does not have.
+fn character_of(c: u8) -> u8
+    ensures { result ≡ character_of c }
+{
+    if is_printable(c) { c } else { b' ' }
+}
+
+/// What a line asks for.
+#[derive(Clone, Copy, Debug, PartialEq, Eq, Drop)]
+pub enum Asked<'a> {
+    /// `#CP` alone: the machine stops, and nothing is said.
+    Stop,
+    /// `#CP` and a command's text.
+    Command(&'a [u8]),
+    /// Any other line: a command to a machine that is stopped, a console line to one that runs.
+    Plain(&'a [u8]),
+}
+
+/// What a line asks for, by its first word. The line is one that was cut and cleaned.
+pub fn asked_by(line: &[u8]) -> Asked<'_>
+    ensures { asked result ≡ asked_of line.now }
+{
+    let Some((first, rest)) = cut_word(line) else {
+        return Asked::Plain(line);
+    };
+    if first != b"#CP".as_slice() {
+        return Asked::Plain(line);
+    }
+    if cut_word(rest).is_none() {
+        Asked::Stop
+    } else {
+        Asked::Command(rest)
+    }
+}

@@ -1,0 +1,192 @@
+//! The operands of commands: addresses, registers and the bytes that are stored.
+ghost use Rattle.std.specs.Prelude.{◌≡◌, ◌+◌, ◌*◌, ◌^◌, ◌<◌, ◌≤◌, ◌++◌, ◌∷◌, [], length, IfSome, IfNone, Option, Some, None};
+ghost use Rattle.cp_console.specs.Operands.{address_of, byte_of, bytes_of, bytes_spelled, contents_of, digit_value, hexadecimal, register_of};
+
+use s370_num::{Addr24, Word};
+use std::marker::Model;
+
+/// The number of a general register, 0 to 15.
+#[derive(Clone, Copy, Debug, PartialEq, Eq)]
+pub struct Register {
+    number: u8,
+}
+
+impl Model for Register {
+    ghost use Rattle.std.specs.Prelude.{ℕ, ◌<◌};
+
+    ghost Value = { ℕ };
+
+    ghost view = { λ r. r.number };
+
+    ghost invariant = { λ r. r.number < 16 };
+
+    ghost inverse = { λ n. record { number = n } };
+}
+
+impl Register {
+    /// The register of this number.
+    pub fn new(number: u8) -> Register
+        requires { number < 16 }
+        ensures { result ≡ number }
+    {
+        Register { number }
+    }
+
+    /// The register's number.
+    pub fn number(self) -> u8
+        ensures value { result ≡ self }
+        ensures below { result < 16 }
+    {
+        self.number
+    }
+}
+
+/// The bytes that a command stores: at most sixteen.
+#[derive(Clone, Copy, Debug, PartialEq, Eq)]
+pub struct StoredBytes {
+    bytes: [u8; 16],
+    count: usize,
+}
+
+impl Model for StoredBytes {
+    ghost use Rattle.std.specs.Prelude.{◌≡◌, ℕ, ◌-◌, ◌≤◌, ◌++◌, List, length, take, replicate};
+    ghost use Rattle.cp_console.specs.StoredBytes.{IsPadded};
+
+    ghost Value = { List ℕ };
+
+    ghost view = { λ s. take s.count s.bytes };
+
+    ghost invariant = { λ s. IsPadded s.bytes s.count };
+
+    ghost inverse = { λ xs. record { bytes = xs ++ replicate (16 - length xs) 0; count = length xs } };
+}
+
+impl StoredBytes {
+    /// No bytes.
+    fn new() -> StoredBytes
+        ensures { result ≡ [] }
+    {
+        StoredBytes {
+            bytes: [0; 16],
+            count: 0,
+        }
+    }
+
+    /// These bytes and one more, at the end.
+    fn with(self, byte: u8) -> StoredBytes
+        requires { length self < 16 }
+        ensures { result ≡ self ++ byte ∷ [] }
+    {
+        let mut bytes = self.bytes;
+        bytes[self.count] = byte;
+        StoredBytes {
+            bytes,
+            count: self.count + 1,
+        }
+    }
+
+    /// The bytes in the order in which they are stored.
+    pub fn as_slice(&self) -> &[u8]
+        ensures value { result.now ≡ self.now }
+        ensures bound { length result.now ≤ 16 }
+    {
+        &self.bytes[..self.count]
+    }
+}
+
+/// The value of a hexadecimal digit, 0 to 9 or A to F.
+fn digit_value(c: u8) -> Option<u8>
+    ensures value { result ≡ digit_value c }
+    ensures below { IfSome result (λ digit. digit < 16) }
+{
+    match c {
+        b'0'..=b'9' => Some(c - b'0'),
+        b'A'..=b'F' => Some(c - b'A' + 10),
+        _ => None,
+    }
+}
+
+/// The number that at least and at most so many hexadecimal digits spell.
+fn hexadecimal(least: usize, most: usize, digits: &[u8]) -> Option<u32>
+    requires { most ≤ 8 }
+    ensures value { result ≡ hexadecimal least most digits.now }
+    ensures below { IfSome result (λ number. number < 16 ^ most) }
+{
+    if digits.len() < least || digits.len() > most {
+        return None;
+    }
+    let mut number = 0;
+    for c in digits {
+        number = number * 16 + u32::from(digit_value(*c)?);
+    }
+    Some(number)
+}
+
+/// An address of storage, 1 to 6 hexadecimal digits.
+pub fn address_of(word: &[u8]) -> Option<Addr24>
+    ensures { result ≡ address_of word.now }
+{
+    Addr24::new(hexadecimal(1, 6, word)?)
+}
+
+/// The contents of a register, 8 hexadecimal digits.
+pub fn contents_of(word: &[u8]) -> Option<Word>
+    ensures { result ≡ contents_of word.now }
+{
+    Some(Word::from_unsigned(hexadecimal(8, 8, word)?))
+}
+
+/// The number of a register, decimal without a leading zero.
+pub fn register_of(word: &[u8]) -> Option<Register>
+    ensures { result ≡ register_of word.now }
+{
+    match word {
+        [units @ b'0'..=b'9'] => Some(Register::new(*units - b'0')),
+        [b'1', units @ b'0'..=b'5'] => Some(Register::new(*units - b'0' + 10)),
+        _ => None,
+    }
+}
+
+/// The bytes that pairs of hexadecimal digits spell.
+fn bytes_spelled(word: &[u8]) -> Option<StoredBytes>
+    requires { length word.now ≤ 32 }
+    ensures { result ≡ bytes_spelled word.now }
+{
+    let mut bytes = StoredBytes::new();
+    let mut rest = word;
+    'pairs: while let Some((left, right, after)) = cut_pair(rest) {
+        bytes = bytes.with(byte_of(left, right)?);
+        rest = after;
+    }
+    if rest.is_empty() { Some(bytes) } else { None }
+}
+
+/// The first two digits, and those after them.
+fn cut_pair(digits: &[u8]) -> Option<(u8, u8, &[u8])>
+    ensures found { IfSome result (λ cut. digits.now ≡ cut.0 ∷ cut.1 ∷ cut.2.now) }
+    ensures none { IfNone result (length digits.now < 2) }
+{
+    match digits {
+        [left, right, rest @ ..] => Some((*left, *right, rest)),
+        _ => None,
+    }
+}
+
+/// The bytes to be stored, 1 to 16 of them, each of two hexadecimal digits.
+pub fn bytes_of(word: &[u8]) -> Option<StoredBytes>
+    ensures { result ≡ bytes_of word.now }
+{
+    if word.len() < 2 || word.len() > 32 {
+        return None;
+    }
+    bytes_spelled(word)
+}
+
+/// The byte that two hexadecimal digits spell.
+fn byte_of(left: u8, right: u8) -> Option<u8>
+    ensures { result ≡ byte_of left right }
+{
+    let high = digit_value(left)?;
+    let low = digit_value(right)?;
+    Some(high * 16 + low)
+}

@@ -1,0 +1,81 @@
+//! The texts of replies.
+ghost use Rattle.std.specs.Prelude.{◌≡◌, ◌+◌, ◌*◌, ◌/◌, ◌≤◌, IfOk, length, string_bytes};
+ghost use Rattle.cp_console.specs.Replies.{general_text, psw_text, storage_text, text_of, word_at};
+
+use crate::operands::Register;
+use crate::replies::Reply;
+use byteorder::{BigEndian, ByteOrder};
+use s370_num::{Addr24, Word};
+use std::alloc::{AllocError, Global};
+
+/// The text of a reply, without the end of a line. Only want of memory is an error.
+pub fn reply(alloc: Global, answer: &Reply) -> Result<Vec<u8>, AllocError>
+    ensures { IfOk result (λ text. text.items ≡ text_of answer.now) }
+{
+    let text = reply_text(alloc, answer)?;
+    Ok(text.into_bytes())
+}
+
+fn reply_text(alloc: Global, answer: &Reply) -> Result<String, AllocError>
+    ensures { IfOk result (λ text. string_bytes text ≡ text_of answer.now) }
+{
+    match answer {
+        Reply::LogonOk => "LOGON OK".to_string(alloc),
+        Reply::AlreadyLoggedOn => "ALREADY LOGGED ON".to_string(alloc),
+        Reply::NotLoggedOn => "NOT LOGGED ON".to_string(alloc),
+        Reply::Psw(psw) => psw_text(alloc, *psw),
+        Reply::General(register, contents) => general_text(alloc, *register, *contents),
+        Reply::Storage(address, bytes) => storage_text(alloc, *address, bytes),
+        Reply::Stored => "STORED".to_string(alloc),
+        Reply::AddressPastStorage => "ADDRESS PAST STORAGE".to_string(alloc),
+        Reply::UnknownCommand => "UNKNOWN COMMAND".to_string(alloc),
+        Reply::BadOperand(place) => format!(in alloc; "BAD OPERAND {place}"),
+        Reply::NoConsole => "NO CONSOLE".to_string(alloc),
+        Reply::StoppedDisabledWait => "STOPPED DISABLED WAIT".to_string(alloc),
+        Reply::StoppedEcMode => "STOPPED EC MODE".to_string(alloc),
+    }
+}
+
+/// `PSW` and its two words.
+fn psw_text(alloc: Global, psw: u64) -> Result<String, AllocError>
+    ensures { IfOk result (λ text. string_bytes text ≡ psw_text psw) }
+{
+    let left = Word::from_unsigned((psw / 0x1_0000_0000) as u32);
+    let right = Word::from_unsigned((psw % 0x1_0000_0000) as u32);
+    format!(in alloc; "PSW {left} {right}")
+}
+
+/// A register's number and contents.
+fn general_text(alloc: Global, register: Register, contents: Word) -> Result<String, AllocError>
+    ensures { IfOk result (λ text. string_bytes text ≡ general_text register contents) }
+{
+    let number = register.number();
+    format!(in alloc; "GPR {number} = {contents}")
+}
+
+/// The address of a line of storage, and its four words.
+fn storage_text(alloc: Global, address: Addr24, bytes: &[u8; 16]) -> Result<String, AllocError>
+    ensures { IfOk result (λ text. string_bytes text ≡ storage_text address bytes.now) }
+{
+    let line = line_of(address);
+    let first = word_at(bytes, 0);
+    let second = word_at(bytes, 4);
+    let third = word_at(bytes, 8);
+    let fourth = word_at(bytes, 12);
+    format!(in alloc; "{line} {first} {second} {third} {fourth}")
+}
+
+/// The address rounded down to a multiple of sixteen.
+fn line_of(address: Addr24) -> Addr24
+    ensures { result ≡ address / 16 * 16 }
+{
+    Addr24::wrapping(address.get() / 16 * 16)
+}
+
+/// The word that four bytes are.
+fn word_at(bytes: &[u8], at: usize) -> Word
+    requires { at + 4 ≤ length bytes.now }
+    ensures { result ≡ word_at bytes.now at }
+{
+    Word::from_unsigned(BigEndian::read_u32(&bytes[at..at + 4]))
+}

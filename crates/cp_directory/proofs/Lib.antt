@@ -1,0 +1,5 @@
+pub mod Numbers
+pub mod Spellings
+pub mod Places
+pub mod Grammars
+pub mod Laws

@@ -1,0 +1,53 @@
+-- The directory that a text states, and the fault of another text.
+use Rattle.std.specs.Prelude.{◌≡◌, ℕ, List, [], Result, Ok, Err}
+use Rattle.cp_text.specs.Lines.{lines_of, read_lines}
+use Rattle.cp_directory.specs.Users.{DirectoryUser}
+use Rattle.cp_directory.specs.Statements.{line_placed}
+use Rattle.cp_directory.specs.declared.faults.Fault.{Fault}
+use Rattle.cp_directory.specs.declared.faults.Fault.TheVariants as faults
+use Rattle.cp_directory.specs.declared.faults.DirError.{DirError}
+use Rattle.cp_directory.specs.declared.faults.DirError.TheVariants as errors
+use Rattle.cp_directory.specs.declared.faults.LineError.{LineError}
+use Rattle.cp_directory.specs.declared.faults.LineError.TheVariants as lines
+
+-- a fault with the number of its line
+abbrev pub at_line : {A : Type 0} → ℕ → Result A Fault → Result A (ℕ × Fault)
+at_line number (Ok a) = Ok a
+at_line number (Err fault) = Err (number, fault)
+
+-- the users after one more line, or that line and its first fault
+abbrev pub directory_step : ℕ → List DirectoryUser → List ℕ → Result (List DirectoryUser) (ℕ × Fault)
+directory_step number users line = at_line number (line_placed users line)
+
+-- the users that a text states, or its first faulty line and the first fault of that line
+abbrev pub directory_of : List ℕ → Result (List DirectoryUser) (ℕ × Fault)
+directory_of text = read_lines directory_step 1 [] (lines_of text)
+
+-- a fault is told with the number of its line
+abbrev pub told : ℕ → Fault → DirError
+told number faults.UnknownStatement = errors.UnknownStatement number
+told number faults.Syntax = errors.Syntax number
+told number faults.DuplicateUser = errors.DuplicateUser number
+told number faults.DuplicateDevice = errors.DuplicateDevice number
+told number faults.BadStorage = errors.BadStorage number
+told number faults.BadExtent = errors.BadExtent number
+told number (faults.Overlap first) = errors.Overlap first number
+told number faults.TooMany = errors.TooMany number
+
+-- why a directory is not read: a growth was refused, or its first faulty line has this fault first
+abbrev pub IsRefusal : Result (List DirectoryUser) (ℕ × Fault) → DirError → Type 0
+IsRefusal directory errors.Memory = Unit {0}
+IsRefusal directory (errors.UnknownStatement number) = directory ≡ Err (number, faults.UnknownStatement)
+IsRefusal directory (errors.Syntax number) = directory ≡ Err (number, faults.Syntax)
+IsRefusal directory (errors.DuplicateUser number) = directory ≡ Err (number, faults.DuplicateUser)
+IsRefusal directory (errors.DuplicateDevice number) = directory ≡ Err (number, faults.DuplicateDevice)
+IsRefusal directory (errors.BadStorage number) = directory ≡ Err (number, faults.BadStorage)
+IsRefusal directory (errors.BadExtent number) = directory ≡ Err (number, faults.BadExtent)
+IsRefusal directory (errors.Overlap first number) = directory ≡ Err (number, faults.Overlap first)
+IsRefusal directory (errors.TooMany number) = directory ≡ Err (number, faults.TooMany)
+
+-- a line that was read left these users, or was refused for this fault
+abbrev pub Places : Result (List DirectoryUser) Fault → List DirectoryUser → Result (Unit {0}) LineError → Type 0
+Places placed new (Ok done) = placed ≡ Ok new
+Places placed new (Err lines.Memory) = Unit {0}
+Places placed new (Err (lines.Fault fault)) = placed ≡ Err fault

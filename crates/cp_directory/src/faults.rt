@@ -1,0 +1,80 @@
+//! The faults of a directory.
+ghost use Rattle.std.specs.Prelude.{◌≡◌};
+
+use thiserror::Error;
+
+/// Why a directory is not read. A line's number counts from 1; it is the first faulty line, and the
+/// fault is that line's first in the order of docs/FORMATS.md.
+#[derive(Clone, Copy, Debug, PartialEq, Eq, Drop, Error)]
+pub enum DirError {
+    /// The allocator refused a growth.
+    #[error("no memory is left for the directory")]
+    Memory,
+    /// The line's words do not have the form of their statement.
+    #[error("line {0}: the operands are not those of the statement")]
+    Syntax(usize),
+    /// The line's first word names no statement.
+    #[error("line {0}: no such statement")]
+    UnknownStatement(usize),
+    /// An earlier line states a user of this name.
+    #[error("line {0}: an earlier line has a user of this name")]
+    DuplicateUser(usize),
+    /// The user has a device at this address, or one of this kind where it can have but one.
+    #[error("line {0}: the user has this device already")]
+    DuplicateDevice(usize),
+    /// The storage is not one that a user may have.
+    #[error("line {0}: storage is 8K to 4096K in steps of 4K, or 1M to 4M")]
+    BadStorage(usize),
+    /// The cylinders are not those of a volume.
+    #[error("line {0}: no volume has these cylinders")]
+    BadExtent(usize),
+    /// The extent shares a cylinder with that of an earlier line, told first.
+    #[error("line {1}: the cylinders overlap those of line {0}")]
+    Overlap(usize, usize),
+    /// A limit on users or devices is passed.
+    #[error("line {0}: this is past the limit, which is 64 users")]
+    TooMany(usize),
+}
+
+/// A fault of one line.
+#[derive(Clone, Copy, Debug, PartialEq, Eq, Drop)]
+pub enum Fault {
+    UnknownStatement,
+    Syntax,
+    DuplicateUser,
+    DuplicateDevice,
+    BadStorage,
+    BadExtent,
+    /// The number of the earliest line whose extent this one overlaps.
+    Overlap(usize),
+    TooMany,
+}
+
+/// Why a line is not read.
+#[derive(Clone, Copy, Debug, PartialEq, Eq, Drop)]
+pub enum LineError {
+    /// The allocator refused a growth.
+    Memory,
+    /// The line's first fault.
+    Fault(Fault),
+}
+
+impl Fault {
+    ghost use Rattle.cp_directory.specs.Directories.{told};
+
+    /// The refusal of a directory for this fault of the line of this number.
+    pub fn at(self, line: usize) -> DirError
+        ensures { result ≡ told line self }
+    {
+        match self {
+            Fault::UnknownStatement => DirError::UnknownStatement(line),
+            Fault::Syntax => DirError::Syntax(line),
+            Fault::DuplicateUser => DirError::DuplicateUser(line),
+            Fault::DuplicateDevice => DirError::DuplicateDevice(line),
+            Fault::BadStorage => DirError::BadStorage(line),
+            Fault::BadExtent => DirError::BadExtent(line),
+            Fault::Overlap(first) => DirError::Overlap(first, line),
+            Fault::TooMany => DirError::TooMany(line),
+        }
+    }
+}

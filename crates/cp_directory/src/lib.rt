@@ -1,0 +1,26 @@
+//! The directory: the text that names the users of the program and the storage that each has.
+//!
+//! A text of the grammar of docs/FORMATS.md is read as exactly the users that it states, and every
+//! other text is refused by its first faulty line and that line's first fault ([`read_directory`]).
+//! What the grammar says is proved of the reader by [`reads_grammar`].
+//!
+//! A line is judged in two steps. [`spelling`] reads what its words state, whatever stands before
+//! it. [`reader`] then finds the statement's place among the lines before it, by a list of faults
+//! in the order in which they are told. A new statement is a case in each.
+#![tactic(auto)]
+
+mod directory;
+mod faults;
+mod name;
+mod reader;
+mod spelling;
+mod storage;
+
+pub use directory::{Directory, User};
+pub use faults::DirError;
+pub use name::UserName;
+pub use reader::{read_directory, reads_grammar};
+pub use storage::StorageSize;
+
+#[cfg(test)]
+mod tests;

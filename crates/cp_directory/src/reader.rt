@@ -1,0 +1,108 @@
+//! The reader of directories: line by line, and each statement after those before it.
+ghost use Rattle.std.specs.Prelude.{◌≡◌, IfOk, IfErr, Ok};
+ghost use Rattle.cp_directory.specs.Directories.{IsRefusal, Places, directory_of};
+ghost use Rattle.cp_directory.specs.Grammar.{IsLawful, ReadsGrammar};
+ghost use Rattle.cp_directory.specs.Spelled.{kilobytes, stated};
+ghost use Rattle.cp_directory.specs.Statements as said;
+ghost use Rattle.cp_directory.specs.Statements.{line_placed, placed};
+
+use crate::directory::{Directory, User};
+use crate::faults::{DirError, Fault, LineError};
+use crate::name::UserName;
+use crate::spelling::{SpelledSize, Statement, read_statement, size_of};
+use cp_text::lines::{cut_line, is_comment};
+use cp_text::words::words_of;
+use std::alloc::Global;
+
+/// The most users that a directory has.
+const USERS: usize = 64;
+
+/// The directory that a text states.
+///
+/// A text outside the grammar is refused by its first faulty line and that line's first fault, and
+/// [`DirError::Memory`] is the answer only where a growth was refused. A directory has at most 64
+/// users, and their names differ.
+///
+/// ```text
+/// let directory = read_directory(alloc, b"USER ALPHA SECRET 4M\n")?;
+/// let alpha = directory.position(b"ALPHA"); // Some(0)
+/// let pages = directory.storage(0).pages(); // 1024
+/// ```
+pub fn read_directory(alloc: Global, text: &[u8]) -> Result<Directory, DirError>
+    ensures ok { IfOk result (λ users. directory_of text.now ≡ Ok users) }
+    ensures lawful { IfOk result IsLawful }
+    ensures err { IfErr result (IsRefusal (directory_of text.now)) }
+{
+    let mut directory = Directory::new(alloc);
+    let mut rest = text;
+    let mut number = 1;
+    while !rest.is_empty() {
+        let (line, after) = cut_line(rest);
+        match read_line(alloc, &mut directory, line) {
+            Ok(()) => {}
+            Err(LineError::Memory) => return Err(DirError::Memory),
+            Err(LineError::Fault(fault)) => return Err(fault.at(number)),
+        }
+        rest = after;
+        number += 1;
+    }
+    Ok(directory)
+}
+
+/// Reads one line after those that the directory has.
+fn read_line(alloc: Global, directory: &mut Directory, line: &[u8]) -> Result<(), LineError>
+    ensures { Places (line_placed directory.old line.now) directory.new result }
+{
+    if is_comment(line) {
+        return Ok(());
+    }
+    let words = match words_of(alloc, line) {
+        Ok(words) => words,
+        Err(_) => return Err(LineError::Memory),
+    };
+    match words.as_slice() {
+        [] => Ok(()),
+        [verb, operands @ ..] => match read_statement(verb, operands) {
+            Ok(statement) => place(directory, statement),
+            Err(fault) => Err(LineError::Fault(fault)),
+        },
+    }
+}
+
+/// Adds what a statement states, or finds its first fault by what the directory has.
+fn place(directory: &mut Directory, statement: Statement<'_>) -> Result<(), LineError>
+    ensures { Places (placed directory.old (stated statement.entry)) directory.new result }
+{
+    match statement {
+        Statement::User(name, size) => place_user(directory, name, size),
+    }
+}
+
+fn place_user(
+    directory: &mut Directory,
+    name: UserName,
+    spelled: SpelledSize<'_>,
+) -> Result<(), LineError>
+    ensures { Places (placed directory.old (said.User name (kilobytes spelled.entry))) directory.new result }
+{
+    if directory.contains(name.as_bytes()) {
+        return Err(LineError::Fault(Fault::DuplicateUser));
+    }
+    let size = match size_of(spelled) {
+        Some(size) => size,
+        None => return Err(LineError::Fault(Fault::BadStorage)),
+    };
+    if directory.len() >= USERS {
+        return Err(LineError::Fault(Fault::TooMany));
+    }
+    match directory.push(User::new(name, size)) {
+        Ok(()) => Ok(()),
+        Err(_) => Err(LineError::Memory),
+    }
+}
+
+/// What [`read_directory`] reads is what the grammar says, and the fault that it tells is the first
+/// fault of the first faulty line.
+pub fn reads_grammar()
+    ensures { ReadsGrammar }
+{}

@@ -1,0 +1,145 @@
+//! What a line's words state, whatever stands before the line.
+ghost use Rattle.std.specs.Prelude.{◌≡◌, map, min};
+ghost use Rattle.std.specs.Option.{option_map};
+ghost use Rattle.std.specs.List.{list_all};
+ghost use Rattle.cp_text.specs.Numbers.{is_digit};
+ghost use Rattle.cp_directory.specs.Sizes.{is_number, kilobytes_of, kilobytes_by, pages_of, number, unit_of};
+ghost use Rattle.cp_directory.specs.Statements.{stated_by, user_of, user_stated, well_formed};
+ghost use Rattle.cp_directory.specs.Spelled.{kilobytes, kilobytes_in, stated, stated_result};
+
+use crate::faults::Fault;
+use crate::name::{UserName, is_short_word};
+use crate::storage::StorageSize;
+use cp_text::numbers::is_digit;
+
+/// The letter of a size.
+#[derive(Clone, Copy, Debug)]
+pub enum Unit {
+    Kilobyte,
+    Megabyte,
+}
+
+/// A size as it is spelled: a number of any length, and its unit.
+#[derive(Clone, Copy, Debug)]
+pub struct SpelledSize<'a> {
+    pub digits: &'a [u8],
+    pub unit: Unit,
+}
+
+/// What a line states.
+#[derive(Drop)]
+pub enum Statement<'a> {
+    /// A user of this name, with storage of this size.
+    User(UserName, SpelledSize<'a>),
+}
+
+/// The statement that begins with this word and has these operands.
+pub fn read_statement<'a>(verb: &[u8], operands: &[&'a [u8]]) -> Result<Statement<'a>, Fault>
+    ensures { stated_result result ≡ stated_by verb.now (map (λ w. w.now) operands.now) }
+{
+    if verb == b"USER".as_slice() {
+        well_formed(read_user(operands))
+    } else {
+        Err(Fault::UnknownStatement)
+    }
+}
+
+/// Operands that do not have the form of their statement are a fault of syntax.
+fn well_formed(statement: Option<Statement<'_>>) -> Result<Statement<'_>, Fault>
+    ensures { stated_result result ≡ well_formed (option_map stated statement.entry) }
+{
+    match statement {
+        Some(statement) => Ok(statement),
+        None => Err(Fault::Syntax),
+    }
+}
+
+/// `USER name password storage`
+fn read_user<'a>(operands: &[&'a [u8]]) -> Option<Statement<'a>>
+    ensures { option_map stated result ≡ user_stated (map (λ w. w.now) operands.now) }
+{
+    match operands {
+        [name, password, size] => user_of(name, password, size),
+        _ => None,
+    }
+}
+
+fn user_of<'a>(name: &[u8], password: &[u8], size: &'a [u8]) -> Option<Statement<'a>>
+    ensures { option_map stated result ≡ user_of name.now password.now size.now }
+{
+    let name = UserName::new(name)?;
+    if !is_short_word(password) {
+        return None;
+    }
+    let size = read_size(size)?;
+    Some(Statement::User(name, size))
+}
+
+/// A number and the letter of a unit.
+fn read_size(word: &[u8]) -> Option<SpelledSize<'_>>
+    ensures { option_map kilobytes result ≡ kilobytes_of word.now }
+{
+    match word {
+        [digits @ .., letter] => size_by(digits, *letter),
+        [] => None,
+    }
+}
+
+fn size_by(digits: &[u8], letter: u8) -> Option<SpelledSize<'_>>
+    ensures { option_map kilobytes result ≡ kilobytes_by digits.now letter }
+{
+    if !is_number(digits) {
+        return None;
+    }
+    let unit = unit_of(letter)?;
+    Some(SpelledSize { digits, unit })
+}
+
+fn unit_of(letter: u8) -> Option<Unit>
+    ensures { option_map kilobytes_in result ≡ unit_of letter }
+{
+    match letter {
+        b'K' => Some(Unit::Kilobyte),
+        b'M' => Some(Unit::Megabyte),
+        _ => None,
+    }
+}
+
+/// Whether these are one or more digits, of which the first is not `0`.
+fn is_number(digits: &[u8]) -> bool
+    ensures { result ≡ is_number digits.now }
+{
+    match digits {
+        [] => false,
+        [first, ..] => *first != b'0' && all_digits(digits),
+    }
+}
+
+fn all_digits(digits: &[u8]) -> bool
+    ensures { result ≡ list_all is_digit digits.now }
+{
+    digits.iter().all(|c| is_digit(*c))
+}
+
+/// The size that is spelled, where a storage may have it.
+pub fn size_of(spelled: SpelledSize<'_>) -> Option<StorageSize>
+    ensures { result ≡ pages_of (kilobytes spelled.entry) }
+{
+    let number = capped_number(spelled.digits);
+    match spelled.unit {
+        Unit::Kilobyte => StorageSize::from_kilobytes(number),
+        Unit::Megabyte => StorageSize::from_kilobytes(number * 1024),
+    }
+}
+
+/// The number that digits spell, or 9999 where it is more.
+fn capped_number(digits: &[u8]) -> u32
+    ensures { result ≡ min 9999 (number 0 digits.now) }
+{
+    let mut number = 0;
+    for digit in digits {
+        let value = u32::from(digit.saturating_sub(b'0'));
+        number = (number * 10 + value).min(9999);
+    }
+    number
+}

@@ -1,0 +1,22 @@
+-- The words of a line.
+use Rattle.std.specs.Prelude.{◌≡◌, ℕ, ◌==◌, false, not, if◌then◌else◌, List, [], ◌∷◌, length, Option, Some, None}
+use Rattle.std.specs.List.{filter, slice_split}
+
+-- what stands before the first blank
+abbrev pub word_of : List ℕ → List ℕ
+word_of [] = []
+word_of (c ∷ cs) = if c == 32 then [] else c ∷ word_of cs
+
+-- what stands after the first blank, where there is one
+abbrev pub after_word : List ℕ → Option (List ℕ)
+after_word [] = None
+after_word (c ∷ cs) = if c == 32 then Some cs else after_word cs
+
+-- no blank stands there
+abbrev pub NoBlank : List ℕ → Type 0
+NoBlank [] = Unit {0}
+NoBlank (c ∷ cs) = (c == 32 ≡ false) × NoBlank cs
+
+-- the words of a line, separated by any number of blanks
+abbrev pub words_of : List ℕ → List (List ℕ)
+words_of line = filter (λ word. not (length word == 0)) (slice_split (λ c. c == 32) line)

@@ -1,0 +1,282 @@
+//! The script: which texts are scripts, and the events that a script names.
+ghost use Rattle.std.specs.Prelude.{◌≡◌, ℕ, ◌<◌, ◌≤◌, ◌+◌, ◌∷◌, List, Option, Some, None, IfOk, IfErr, IfSome, All, Ok, Err, length, map};
+ghost use Rattle.std.specs.Option.{option_map};
+ghost use Rattle.cp_text.specs.Lines.{lines_of};
+ghost use Rattle.vm370.specs.Grammar.{ReadsGrammar};
+ghost use Rattle.vm370.specs.Script.{IsOfUser, IsRefusal, is_ignored, operands_of, run_of, said, said_of, script_of, typed_of, user_in};
+
+use cp_text::lines::cut_line;
+use cp_text::numbers::decimal_of;
+use cp_text::users::{Named, UserNo, user_of};
+use cp_text::words::cut_word;
+use std::alloc::Global;
+use thiserror::Error;
+
+/// The most decimal digits of a number in a script.
+const DIGITS: usize = 7;
+
+/// The most units of one `RUN`.
+const MOST_UNITS: u32 = 1_000_000;
+
+/// An event that a script names.
+#[derive(Clone, Copy, Debug, PartialEq, Eq, Drop)]
+pub enum Event<'a> {
+    /// `RUN u n`: so many units of this user, 1 to 1,000,000.
+    Run(UserNo, u32),
+    /// `LINE u text`: this line is typed at the user's terminal. Each byte is a character.
+    Line(UserNo, &'a [u8]),
+}
+
+impl Event<'_> {
+    /// Whose event it is.
+    pub fn user(self) -> UserNo
+        ensures { result.0 ≡ user_in (said self.entry) }
+    {
+        match self {
+            Event::Run(user, _) => user,
+            Event::Line(user, _) => user,
+        }
+    }
+}
+
+/// Why a script is refused.
+#[derive(Clone, Copy, Debug, PartialEq, Eq, Drop, Error)]
+pub enum ScriptError {
+    /// There was no memory for the events.
+    #[error("no memory for the script's events")]
+    Memory,
+    /// The first line, counted from 1, that is no line of a script.
+    #[error("line {0} of the script names an unknown user or is misspelled")]
+    Line(u64),
+}
+
+/// The events that a script names, in the order of its lines. The whole text is judged: where one of
+/// its lines is no line of a script, the first such line is told. The events borrow their texts from
+/// the script.
+pub fn read_script<'a, N: Named>(
+    alloc: Global,
+    users: &[N],
+    text: &'a [u8],
+) -> Result<Vec<Event<'a>>, ScriptError>
+    ensures ok { IfOk result (λ events. script_of (map N.name users.now) text.now ≡ Ok (map said events.items)) }
+    ensures users { IfOk result (λ events. All (IsOfUser (length users.now)) events.items) }
+    ensures err { IfErr result (IsRefusal (script_of (map N.name users.now) text.now)) }
+{
+    let mut events = Vec::new(alloc);
+    let mut rest = text;
+    let mut number = 1;
+    while !rest.is_empty() {
+        let (line, after) = cut_line(rest);
+        if !is_ignored(line) {
+            let event = read_event(users, line).ok_or(ScriptError::Line(number))?;
+            events.push(event).map_err(|_| ScriptError::Memory)?;
+        }
+        rest = after;
+        number += 1;
+    }
+    Ok(events)
+}
+
+/// Whether a line is empty or a comment.
+fn is_ignored(line: &[u8]) -> bool
+    ensures { result ≡ is_ignored line.now }
+{
+    match line {
+        [] => true,
+        [first, ..] => *first == b'*',
+    }
+}
+
+/// The event that a line names, by its first word.
+fn read_event<'a, N: Named>(users: &[N], line: &'a [u8]) -> Option<Event<'a>>
+    ensures users { IfSome result (IsOfUser (length users.now)) }
+    ensures said { option_map said result ≡ said_of (map N.name users.now) line.now }
+{
+    let (verb, operands) = cut_word(line);
+    let operands = operands?;
+    if verb == b"RUN".as_slice() {
+        read_run(users, operands)
+    } else if verb == b"LINE".as_slice() {
+        read_typed(users, operands)
+    } else {
+        None
+    }
+}
+
+/// `RUN u n`, after its first word.
+fn read_run<'a, N: Named>(users: &[N], operands: &'a [u8]) -> Option<Event<'a>>
+    ensures users { IfSome result (IsOfUser (length users.now)) }
+    ensures said { option_map said result ≡ run_of (map N.name users.now) operands.now }
+{
+    let (name, digits) = cut_word(operands);
+    let user = user_of(users, name)?;
+    let units = decimal_of(DIGITS, digits?)?;
+    if 1 <= units && units <= MOST_UNITS {
+        Some(Event::Run(user, units))
+    } else {
+        None
+    }
+}
+
+/// `LINE u text`, after its first word; an empty text may lack the blank before it.
+fn read_typed<'a, N: Named>(users: &[N], operands: &'a [u8]) -> Option<Event<'a>>
+    ensures users { IfSome result (IsOfUser (length users.now)) }
+    ensures said { option_map said result ≡ typed_of (map N.name users.now) operands.now }
+{
+    let (name, text) = cut_word(operands);
+    let user = user_of(users, name)?;
+    match text {
+        Some(text) => Some(Event::Line(user, text)),
+        None => Some(Event::Line(user, &[])),
+    }
+}
+
+/// A script is read as its events, nothing else is accepted, and a text that is no script is refused
+/// at its first bad line.
+pub fn reads_grammar()
+    ensures { ReadsGrammar }
+{}
+
+#[cfg(test)]
+mod tests {
+    use super::*;
+    use std::test::Fail;
+
+    const A: UserNo = UserNo(0);
+
+    const B: UserNo = UserNo(1);
+
+    /// What a text is read as where its users are A and B.
+    fn read<'a>(alloc: Global, text: &'a [u8]) -> Result<Vec<Event<'a>>, ScriptError> {
+        read_script(alloc, &[b"A".as_slice(), b"B".as_slice()], text)
+    }
+
+    #[test]
+    fn reads_a_whole_script(rt: HostRuntime) -> Result<(), Fail> {
+        let text =
+            b"LINE A LOGON\nLINE A STORE 1000 0A07\nLINE A STORE 60 0000000000000200\nLINE A STORE PSW 00000000 00001000\nLINE A BEGIN\nRUN A 1\nLINE A #CP DISPLAY 20\nLINE A #CP DISPLAY PSW\n";
+        let events = read(rt.alloc(), text)?;
+        let wanted = [
+            Event::Line(A, b"LOGON".as_slice()),
+            Event::Line(A, b"STORE 1000 0A07".as_slice()),
+            Event::Line(A, b"STORE 60 0000000000000200".as_slice()),
+            Event::Line(A, b"STORE PSW 00000000 00001000".as_slice()),
+            Event::Line(A, b"BEGIN".as_slice()),
+            Event::Run(A, 1),
+            Event::Line(A, b"#CP DISPLAY 20".as_slice()),
+            Event::Line(A, b"#CP DISPLAY PSW".as_slice()),
+        ];
+        assert_eq!(rt; events.as_slice(), wanted.as_slice());
+        Ok(())
+    }
+
+    #[test]
+    fn reads_the_example_of_the_formats(rt: HostRuntime) -> Result<(), Fail> {
+        let text =
+            b"* A logs on and runs; B gets an empty line.\nLINE A LOGON\n\nRUN A 0000100\nLINE B\n";
+        let events = read(rt.alloc(), text)?;
+        let wanted = [
+            Event::Line(A, b"LOGON".as_slice()),
+            Event::Run(A, 100),
+            Event::Line(B, b"".as_slice()),
+        ];
+        assert_eq!(rt; events.as_slice(), wanted.as_slice());
+        assert_eq!(rt; (wanted[1].user(), wanted[2].user()), (A, B));
+        Ok(())
+    }
+
+    #[test]
+    fn reads_texts_that_name_nothing(rt: HostRuntime) -> Result<(), Fail> {
+        for text in [
+            b"".as_slice(),
+            b"\n\n".as_slice(),
+            b"*".as_slice(),
+            b"* RUN C 0\n*".as_slice(),
+        ] {
+            assert!(rt; read(rt.alloc(), text)?.is_empty(), "{text:?}");
+        }
+        Ok(())
+    }
+
+    #[test]
+    fn reads_one_event(rt: HostRuntime) -> Result<(), Fail> {
+        for (text, event) in [
+            (b"RUN B 1".as_slice(), Event::Run(B, 1)),
+            (b"RUN A 0000001\n".as_slice(), Event::Run(A, 1)),
+            (b"RUN A 1000000\n".as_slice(), Event::Run(A, 1_000_000)),
+            (b"LINE B".as_slice(), Event::Line(B, b"".as_slice())),
+            (b"LINE B ".as_slice(), Event::Line(B, b"".as_slice())),
+            (
+                b"LINE B x y ".as_slice(),
+                Event::Line(B, b"x y ".as_slice()),
+            ),
+            (b"LINE B  x".as_slice(), Event::Line(B, b" x".as_slice())),
+            (
+                b"LINE B x\r\n".as_slice(),
+                Event::Line(B, b"x\r".as_slice()),
+            ),
+            (
+                b"LINE A \t\xC1\xFF".as_slice(),
+                Event::Line(A, b"\t\xC1\xFF".as_slice()),
+            ),
+        ] {
+            assert_eq!(rt;
+                read(rt.alloc(), text)?.as_slice(),
+                [event].as_slice(),
+                "{text:?}"
+            );
+        }
+        Ok(())
+    }
+
+    #[test]
+    fn tells_the_first_bad_line(rt: HostRuntime) {
+        for (text, line) in [
+            // another verb, also in lower case
+            (b"STOP A".as_slice(), 1),
+            (b"RUN A 1\nHALT A 1\nSTOP A\n".as_slice(), 2),
+            (b"run A 1".as_slice(), 1),
+            (b"* comment\n\nLine A x".as_slice(), 3),
+            // an unknown user
+            (b"RUN C 1".as_slice(), 1),
+            (b"LINE a LOGON".as_slice(), 1),
+            (b"RUN A 1\n\n*\nLINE AB x\n".as_slice(), 4),
+            // more than one blank, or one too many
+            (b"LINE  A x".as_slice(), 1),
+            (b"RUN A  1".as_slice(), 1),
+            (b"RUN A 1 ".as_slice(), 1),
+            (b"\n RUN A 1".as_slice(), 2),
+            (b" ".as_slice(), 1),
+            (b" * comment".as_slice(), 1),
+            // words missing or left over
+            (b"RUN".as_slice(), 1),
+            (b"RUN A".as_slice(), 1),
+            (b"LINE".as_slice(), 1),
+            (b"LINE ".as_slice(), 1),
+            (b"LINE A\nRUN A 1 1".as_slice(), 2),
+            // numbers
+            (b"RUN A 0".as_slice(), 1),
+            (b"LINE A\nRUN A 0000000".as_slice(), 2),
+            (b"RUN A 1000001".as_slice(), 1),
+            (b"RUN A 9999999".as_slice(), 1),
+            (b"RUN A 00000001".as_slice(), 1),
+            (b"RUN A 10000000".as_slice(), 1),
+            (b"RUN A +1".as_slice(), 1),
+            (b"RUN A 1x".as_slice(), 1),
+            (b"RUN A ".as_slice(), 1),
+            // CR, tab, bytes above 7F
+            (b"RUN A 1\r\n".as_slice(), 1),
+            (b"\n\r\n".as_slice(), 2),
+            (b"RUN\tA 1".as_slice(), 1),
+            (b"RUN A 1\t".as_slice(), 1),
+            (b"RUN \xC1 1".as_slice(), 1),
+            (b"RUN A 1\n\xFF".as_slice(), 2),
+        ] {
+            match read(rt.alloc(), text) {
+                Ok(_) => panic!(&rt; "{text:?} is read"),
+                Err(ScriptError::Memory) => {}
+                Err(ScriptError::Line(told)) => assert_eq!(rt; told, line, "{text:?}"),
+            }
+        }
+    }
+}
