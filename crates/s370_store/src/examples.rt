@@ -1,5 +1,5 @@
 //! How a lender meets the trait: one user's part of a storage that two users share, and what `Keeps` then tells.
-ghost use Rattle.std.specs.Prelude.{◌≡◌, ◌≢◌, ℕ, ◌+◌, ◌*◌, ◌<◌, ◌≤◌, ◌/◌, List, [], Bool, true, false, length, slice_index_or, slice_set, refl, OnErr};
+ghost use Rattle.std.specs.Prelude.{◌≡◌, ◌≢◌, ℕ, ◌+◌, ◌<◌, ◌≤◌, [], true, length, slice_index_or, slice_set, refl, OnErr};
 ghost use Rattle.std.proofs.Common.{◌∙◌};
 ghost use Rattle.s370_store.specs.Access.{put};
 

@@ -35,14 +35,18 @@ pub use words::{
 /// What is done with a range of bytes.
 #[derive(Clone, Copy, Debug, PartialEq, Eq)]
 pub enum Access {
+    /// The bytes are read.
     Fetch,
+    /// The bytes are written.
     Store,
 }
 
-/// Bytes that follow one another: the address of the first, and how many there are.
+/// Bytes that follow one another, by their addresses.
 #[derive(Clone, Copy, Debug, PartialEq, Eq)]
 pub struct Range {
+    /// The address of the first byte.
     pub start: u32,
+    /// How many bytes there are.
     pub count: u32,
 }
 
@@ -68,6 +72,16 @@ pub enum Fault {
 }
 
 /// Bytes with a key for each 2048 of them, in pages of 4096 that may be absent.
+///
+/// An access is tested first, and only then made:
+///
+/// ```
+/// storage.check(Range { start, count: 4 }, Access::Store, key)?;
+/// store_word(storage, start, word);
+/// ```
+///
+/// A body that is lent from a larger whole says by `Keeps` what of that whole stays: code written over any storage
+/// promises `Keeps`, and so whoever lent it knows that nobody else's bytes or keys were touched.
 pub trait Storage {
     /// The bytes, also those of pages that are absent.
     ghost bytes: { Self → List ℕ };
@@ -114,7 +128,7 @@ pub trait Storage {
     ghost keeps_on: { (s t u : Self) → Keeps s t → Keeps t u → Keeps s u };
 }
 
-/// A storage whose keys can be read and set one by one.
+/// A storage whose keys can be read and set one by one, as a storage with fixed keys can't.
 pub trait Keyed: Storage {
     /// The key in storage of a block of 2048 bytes.
     fn key_of(&self, block: u32) -> u8

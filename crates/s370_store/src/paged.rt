@@ -1,5 +1,5 @@
 //! A storage with absent pages, for the tests of code that is written over any storage.
-ghost use Rattle.std.specs.Prelude.{◌≡◌, ℕ, ◌+◌, ◌*◌, ◌<◌, ◌≤◌, ◌/◌, List, Bool, true, false, length, replicate, slice_index_or, slice_set, IfOk};
+ghost use Rattle.std.specs.Prelude.{◌≡◌, ◌*◌, ◌<◌, ◌≤◌, false, length, replicate, slice_index_or, slice_set, IfOk};
 
 use crate::place::put_at;
 use crate::protection::{Listed, test_range};
