@@ -1,10 +1,11 @@
 //! Storage addresses, words and device addresses.
 
-ghost use Rattle.std.specs.Prelude.{◌≡◌, ℕ, ◌+◌, ◌*◌, ◌/◌, ◌%◌, ◌^◌, ◌<◌, ◌↔◌, IsSome, IfSome};
+ghost use Rattle.std.specs.Prelude.{◌≡◌, ℕ, ◌+◌, ◌*◌, ◌/◌, ◌%◌, ◌^◌, ◌<◌, ◌↔◌, IsSome, IfSome, Some};
 ghost use Rattle.std.specs.Int.{w32, cast_signed, cast_unsigned, from_be_bytes, to_be_bytes};
-ghost use Rattle.s370_num.specs.Address.{storage_address, channel_of};
+ghost use Rattle.s370_num.specs.Address.{storage_address, channel_of, address_text, word_text, device_text};
 
 use byteorder::{BigEndian, ByteOrder};
+use std::fmt;
 use std::marker::Model;
 
 /// An address of main storage: a number below 2^24.
@@ -178,5 +179,77 @@ impl DevAddr {
         ensures { result ≡ channel_of self }
     {
         (self.value >> 8) as u8
+    }
+}
+
+impl fmt::Display for Addr24 {
+    ghost output = { λ address. Some (address_text address) };
+
+    /// Six hexadecimal digits.
+    fn fmt<W: fmt::Write>(&self, f: &mut fmt::Formatter<W>) -> fmt::Result {
+        let [_, high, middle, low] = self.value.to_be_bytes();
+        write!(f, "{high:02X}{middle:02X}{low:02X}")
+    }
+}
+
+impl fmt::Display for Word {
+    ghost output = { λ word. Some (word_text word) };
+
+    /// Eight hexadecimal digits.
+    fn fmt<W: fmt::Write>(&self, f: &mut fmt::Formatter<W>) -> fmt::Result {
+        let [highest, high, middle, low] = self.bits.to_be_bytes();
+        write!(f, "{highest:02X}{high:02X}{middle:02X}{low:02X}")
+    }
+}
+
+impl fmt::Display for DevAddr {
+    ghost output = { λ device. Some (device_text device) };
+
+    /// Three hexadecimal digits, or four where the channel needs two.
+    fn fmt<W: fmt::Write>(&self, f: &mut fmt::Formatter<W>) -> fmt::Result {
+        let [channel, unit] = self.value.to_be_bytes();
+        write!(f, "{channel:X}{unit:02X}")
+    }
+}
+
+#[cfg(test)]
+mod tests {
+    use super::*;
+
+    // A device has three digits, or four where its channel needs two; addresses and words have all of theirs.
+    #[test]
+    fn prints(rt: HostRuntime) -> Result<(), std::test::Fail> {
+        for (device, text) in [
+            (0x009, "009"),
+            (0x01F, "01F"),
+            (0x190, "190"),
+            (0x1A0F, "1A0F"),
+        ] {
+            assert_eq!(rt; DevAddr::new(device).to_string(rt.alloc())?.as_str(), text);
+        }
+        assert_eq!(rt;
+            Addr24::wrapping(0x100_12AC).to_string(rt.alloc())?.as_str(),
+            "0012AC"
+        );
+        assert_eq!(rt;
+            Word::from_signed(-2).to_string(rt.alloc())?.as_str(),
+            "FFFFFFFE"
+        );
+        Ok(())
+    }
+
+    #[test]
+    fn counts(rt: HostRuntime) {
+        assert_eq!(rt;
+            Addr24::new(0xFF_FFFF).map(|address| address.wrapping_add(3).get()),
+            Some(2)
+        );
+        assert_eq!(rt; Addr24::new(0x100_0000), None);
+        assert_eq!(rt; Word::from_bytes(&[0x80, 0, 0, 1]).signed(), -0x7FFF_FFFF);
+        assert_eq!(rt;
+            Word::from_unsigned(0xC1C2_C3C4).to_bytes(),
+            [0xC1, 0xC2, 0xC3, 0xC4]
+        );
+        assert_eq!(rt; DevAddr::new(0x190).channel(), 1);
     }
 }

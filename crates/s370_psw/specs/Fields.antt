@@ -1,6 +1,7 @@
 -- The program status word of basic control mode, as fields of 64 bits of which bit 0 is the leftmost
 -- (GA22-7000, "Program-Status-Word Format in BC Mode").
-use Rattle.std.specs.Prelude.{ℕ, ◌+◌, ◌-◌, ◌*◌, ◌/◌, ◌%◌, ◌^◌, ◌==◌, nat_lt, Bool, cond, if◌then◌else◌}
+use Rattle.std.specs.Prelude.{ℕ, ◌+◌, ◌-◌, ◌*◌, ◌/◌, ◌%◌, ◌^◌, ◌==◌, nat_lt, Bool, List, cond, if◌then◌else◌}
+use Rattle.std.specs.Int.{w64, from_be_bytes, to_be_bytes}
 
 pub record Fields : Type 0 where
   pub system_mask : ℕ
@@ -39,6 +40,13 @@ abbrev pub word_of : Fields → ℕ → ℕ → ℕ
 word_of f code length_code =
     f.system_mask * 2 ^ 56 + f.key * 2 ^ 52 + bit f.extended * 2 ^ 51 + bit f.machine_check * 2 ^ 50 + bit f.wait * 2 ^ 49 + bit f.problem * 2 ^ 48
     + code * 2 ^ 32 + length_code * 2 ^ 30 + f.condition * 2 ^ 28 + f.program_mask * 2 ^ 24 + f.address
+
+-- the PSW that eight bytes of storage load, and the eight bytes that a PSW is stored as
+abbrev pub loaded : List ℕ → Fields
+loaded bytes = fields_of (from_be_bytes w64 bytes)
+
+abbrev pub stored : Fields → ℕ → ℕ → List ℕ
+stored f code length_code = to_be_bytes w64 (word_of f code length_code)
 
 -- bit k of the system mask is one
 abbrev pub is_masked_in : Fields → ℕ → Bool

@@ -1,6 +1,6 @@
 -- What a PSW loses and keeps between storage and the processor.
 use Rattle.std.specs.Prelude.{◌≡◌, ℕ, ◌+◌, ◌*◌, ◌^◌, ◌<◌}
-use Rattle.s370_psw.specs.Fields.{Fields, bits, fields_of, word_of}
+use Rattle.s370_psw.specs.Fields.{Fields, bits, fields_of, word_of, loaded, stored}
 
 -- each field is no wider than its bits
 pub record IsInRange (f : Fields) : Type 0 where
@@ -10,9 +10,12 @@ pub record IsInRange (f : Fields) : Type 0 where
   pub program_mask : f.program_mask < 2 ^ 4
   pub address : f.address < 2 ^ 24
 
--- a PSW that is stored and loaded again is the PSW
+-- a PSW that is stored and loaded again is the PSW: of its 64 bits, and of its eight bytes
 abbrev pub ReadsBack : Type 0
 ReadsBack = (f : Fields) (code length_code : ℕ) → IsInRange f → code < 2 ^ 16 → length_code < 2 ^ 2 → fields_of (word_of f code length_code) ≡ f
+
+abbrev pub LoadsBack : Type 0
+LoadsBack = (f : Fields) (code length_code : ℕ) → IsInRange f → code < 2 ^ 16 → length_code < 2 ^ 2 → loaded (stored f code length_code) ≡ f
 
 -- a stored PSW has its two codes in bits 16 to 31 and 32 to 33
 abbrev pub HoldsCodes : Type 0

@@ -8,4 +8,4 @@ mod psw;
 
 pub use length::Ilc;
 pub use program::ProgramCode;
-pub use psw::{Psw, storing_and_loading};
+pub use psw::{Psw, fields_in_range, storing_and_loading};

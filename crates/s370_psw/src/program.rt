@@ -1,7 +1,7 @@
 //! The causes of program interruptions.
 
 ghost use Rattle.std.specs.Prelude.{◌≡◌, Some};
-ghost use Rattle.s370_psw.specs.ProgramCode.{program_number};
+ghost use Rattle.s370_psw.specs.ProgramCode.{program_number, program_name};
 
 use std::fmt;
 
@@ -39,7 +39,9 @@ impl ProgramCode {
     }
 
     /// The name of the cause, for messages.
-    pub fn as_str(self) -> &'static str {
+    pub fn as_str(self) -> &'static str
+        ensures { result.now ≡ program_name self }
+    {
         match self {
             ProgramCode::Operation => "operation",
             ProgramCode::PrivilegedOperation => "privileged operation",
@@ -55,6 +57,8 @@ impl ProgramCode {
 }
 
 impl fmt::Display for ProgramCode {
+    ghost output = { λ code. Some (program_name code) };
+
     fn fmt<W: fmt::Write>(&self, f: &mut fmt::Formatter<W>) -> fmt::Result {
         f.pad(self.as_str())
     }

@@ -1,7 +1,7 @@
 //! The program status word in basic control mode.
 
 ghost use Rattle.std.specs.Prelude.{◌≡◌, ℕ, ◌+◌, ◌*◌, ◌^◌, ◌<◌, ◌≤◌, ◌==◌};
-ghost use Rattle.s370_psw.specs.Laws.{ReadsBack, HoldsCodes, WritesBack, WritesAllBack};
+ghost use Rattle.s370_psw.specs.Laws.{IsInRange, ReadsBack, LoadsBack, HoldsCodes, WritesBack, WritesAllBack};
 
 use crate::length::Ilc;
 use byteorder::{BigEndian, ByteOrder};
@@ -38,13 +38,12 @@ impl Model for Psw {
 
 /// Between storage and the processor.
 impl Psw {
-    ghost use Rattle.std.specs.Int.{w64, from_be_bytes, to_be_bytes};
-    ghost use Rattle.s370_psw.specs.Fields.{fields_of, word_of};
+    ghost use Rattle.s370_psw.specs.Fields.{fields_of, word_of, loaded, stored};
 
     /// The PSW that these eight bytes load. Bits 16 to 33 are dropped.
     #[inline]
     pub fn from_bytes(bytes: &[u8; 8]) -> Psw
-        ensures { result ≡ fields_of (from_be_bytes w64 bytes.now) }
+        ensures { result ≡ loaded bytes.now }
     {
         Psw::from_word(BigEndian::read_u64(bytes))
     }
@@ -52,7 +51,7 @@ impl Psw {
     /// The eight bytes that are stored with an interruption code and an instruction length code.
     #[inline]
     pub fn to_bytes(self, code: u16, length_code: Ilc) -> [u8; 8]
-        ensures { result ≡ to_be_bytes w64 (word_of self code length_code) }
+        ensures { result ≡ stored self code length_code }
     {
         let mut bytes = [0; 8];
         BigEndian::write_u64(&mut bytes, self.to_word(code, length_code));
@@ -247,12 +246,58 @@ impl Psw {
     }
 }
 
+/// Each field of any PSW is no wider than its bits, so that the laws below hold of it.
+#[inline(always)]
+pub fn fields_in_range(psw: &Psw)
+    ensures { IsInRange psw.now }
+{
+    let _ = psw.address.get();
+    let _mask = psw.system_mask;
+}
+
 /// The laws of storing and loading: a PSW that is stored with any codes and loaded again is the PSW,
 /// its codes stand in their bits, and a PSW that is loaded and stored again has the bits that it had,
 /// but for those of the codes.
 pub fn storing_and_loading()
     ensures reads_back { ReadsBack }
+    ensures loads_back { LoadsBack }
     ensures holds_codes { HoldsCodes }
     ensures writes_back { WritesBack }
     ensures writes_all_back { WritesAllBack }
 {}
+
+#[cfg(test)]
+mod tests {
+    use super::*;
+    use crate::program::ProgramCode;
+
+    // A PSW whose bit 14 is one waits; one of zeros but for its first byte enables what the byte says.
+    #[test]
+    fn loads(rt: HostRuntime) {
+        let waiting = Psw::from_bytes(&[0, 2, 0, 0, 0, 0, 0, 0]);
+        assert!(rt; waiting.waits());
+        assert!(rt; waiting.is_disabled());
+        assert!(rt; !waiting.is_problem());
+        let enabled = Psw::from_bytes(&[0x02, 0, 0, 0, 0, 0, 0, 0]);
+        assert!(rt; enabled.enables_channel(6));
+        assert!(rt; enabled.enables_channel(31));
+        assert!(rt; !enabled.enables_channel(5));
+        assert!(rt; !enabled.enables_external());
+    }
+
+    // Old PSWs of a supervisor call and of a program interruption.
+    #[test]
+    fn stores(rt: HostRuntime) {
+        let called = Psw::from_word(0x1002);
+        assert_eq!(rt;
+            called.to_bytes(7, Ilc::ONE),
+            [0, 0, 0, 7, 0x40, 0, 0x10, 2]
+        );
+        let refused = Psw::from_word(0x104);
+        let code = ProgramCode::Addressing.number();
+        assert_eq!(rt;
+            refused.to_bytes(code, Ilc::TWO),
+            [0, 0, 0, 5, 0x80, 0, 1, 4]
+        );
+    }
+}

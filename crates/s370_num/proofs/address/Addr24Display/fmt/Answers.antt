@@ -1,0 +1,20 @@
+-- Each of the three holes writes two digits.
+use Rattle.std.proofs.Common.{◌≡◌, ◌/◌, ◌%◌, ◌^◌, ◌<◌, refl, arith}
+use Rattle.std.specs.Fmt.{styled_digits_output}
+use Rattle.s370_num.proofs.Text.{address_shown}
+use Rattle.s370_num.proofs.address.Addr24Display.fmt.Goals as goal
+
+pub returns-clause-writes : goal.returns-clause-writes
+returns-clause-writes g c =
+    let n = c.self.inside.value in
+    let small : n < 2 ^ 24 = c.self.invariant in
+    let high : n / 65536 % 256 ≡ n / 65536 = omega arith in
+    let first = styled_digits_output c.in_radix.result c.laid_out.result in
+    let second = styled_digits_output c.in_radix-2.result c.laid_out-2.result in
+    let third = styled_digits_output c.in_radix-3.result c.laid_out-3.result in
+    let bytes = c.to_be_bytes.ensures in
+    rw (
+      address_shown first second third n small (rw (c.laid_out.ensures, c.in_radix.ensures, bytes, high) refl)
+          (rw (c.laid_out-2.ensures, c.in_radix-2.ensures, bytes) refl) (rw (c.laid_out-3.ensures, c.in_radix-3.ensures, bytes) refl),
+      c.self.view_is,
+    ) at c.write.ensures.writes
