@@ -1,86 +1,11 @@
-//! How the trait is met: by a storage with absent pages, and by one user's part of a storage that two users share.
-ghost use Rattle.std.specs.Prelude.{◌≡◌, ◌≢◌, ℕ, ◌+◌, ◌*◌, ◌<◌, ◌≤◌, ◌/◌, List, [], Bool, true, false, length, slice_index_or, slice_set, refl, OnErr};
+//! How a lender meets the trait: one user's part of a storage that two users share, and what `Keeps` then tells.
+ghost use Rattle.std.specs.Prelude.{◌≡◌, ◌≢◌, ℕ, ◌+◌, ◌<◌, ◌≤◌, [], true, length, slice_index_or, slice_set, refl, OnErr};
 ghost use Rattle.std.proofs.Common.{◌∙◌};
 ghost use Rattle.s370_store.specs.Access.{put};
 
 use crate::place::put_at;
 use crate::protection::{Listed, test_range};
-use crate::{Access, Fault, Keyed, Page, Range, Storage, store_byte, store_doubleword};
-
-/// A storage of which pages may be absent.
-#[derive(Drop)]
-pub struct PagedStorage {
-    pub bytes: Vec<u8>,
-    pub keys: Vec<u8>,
-    pub present: Vec<bool>,
-    pub ghost at_most_4_mib: { length bytes.items ≤ 4194304 },
-    pub ghost a_key_a_block: { length bytes.items ≡ 2048 * length keys.items },
-    pub ghost a_flag_a_page: { length bytes.items ≡ 4096 * length present.items },
-}
-
-impl Storage for PagedStorage {
-    ghost bytes = { λ s. s.bytes.items };
-
-    ghost keys = { λ s. s.keys.items };
-
-    ghost present = { λ s page. slice_index_or s.present.items page false };
-
-    ghost Keeps = { λ _ _. Unit {0} };
-
-    fn size(&self) -> u32 {
-        self.bytes.len() as u32
-    }
-
-    fn check(&self, range: Range, access: Access, key: u8) -> Result<(), Fault> {
-        let keys = Listed { keys: &self.keys };
-        test_range(self.bytes.len() as u32, &keys, range, access, key)?;
-        let Range { start, count } = range;
-        if count == 0 {
-            return Ok(());
-        }
-        let first = start / 4096;
-        if !flag_at(&self.present, first) {
-            return Err(Fault::Absent(Page(first)));
-        }
-        let last = (start + (count - 1)) / 4096;
-        if !flag_at(&self.present, last) {
-            return Err(Fault::Absent(Page(last)));
-        }
-        Ok(())
-    }
-
-    fn load(&self, start: u32, into: &mut [u8]) {
-        let first = start as usize;
-        let end = first + into.len();
-        into.copy_from_slice(&self.bytes[first..end]);
-    }
-
-    fn store(&mut self, start: u32, from: &[u8]) {
-        put_at(&mut self.bytes, start as usize, from);
-    }
-
-    ghost keeps_same = { λ s. tt };
-
-    ghost keeps_on = { λ s t u a b. tt };
-}
-
-impl Keyed for PagedStorage {
-    fn key_of(&self, block: u32) -> u8 {
-        self.keys[block as usize]
-    }
-
-    fn set_key(&mut self, block: u32, key: u8) {
-        self.keys[block as usize] = key;
-    }
-}
-
-/// A flag of a list.
-fn flag_at(flags: &[bool], place: u32) -> bool
-    requires { place < length flags.now }
-    ensures { result ≡ slice_index_or flags.now place false }
-{
-    flags[place as usize]
-}
+use crate::{Access, Fault, Keyed, Range, Storage, store_byte, store_doubleword};
 
 /// Two users' storages side by side: a page and the keys of its two blocks each.
 #[derive(Drop)]

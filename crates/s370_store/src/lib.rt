@@ -11,6 +11,7 @@
 
 #[cfg(test)]
 mod examples;
+mod paged;
 mod place;
 mod plain;
 mod protection;
@@ -21,9 +22,11 @@ mod words;
 ghost use Rattle.std.specs.Prelude.{◌≡◌, ℕ, ◌+◌, ◌*◌, ◌<◌, ◌≤◌, List, [], ◌∷◌, Bool, length, slice_index, slice_range, slice_set};
 ghost use Rattle.s370_store.specs.Access.{tested, IsVerdict, IsGranted, put};
 
+pub use paged::PagedStorage;
 pub use place::put_at;
 pub use plain::PlainStorage;
 pub use protection::{Keyring, Listed, Open, test_range};
+use thiserror::Error;
 pub use words::{
     check_two, load_byte, load_doubleword, load_halfword, load_word, store_byte, store_doubleword,
     store_halfword, store_word,
@@ -32,14 +35,18 @@ pub use words::{
 /// What is done with a range of bytes.
 #[derive(Clone, Copy, Debug, PartialEq, Eq)]
 pub enum Access {
+    /// The bytes are read.
     Fetch,
+    /// The bytes are written.
     Store,
 }
 
-/// Bytes that follow one another: the address of the first, and how many there are.
+/// Bytes that follow one another, by their addresses.
 #[derive(Clone, Copy, Debug, PartialEq, Eq)]
 pub struct Range {
+    /// The address of the first byte.
     pub start: u32,
+    /// How many bytes there are.
     pub count: u32,
 }
 
@@ -51,17 +58,30 @@ pub struct Page(pub u32);
 ///
 /// The first two are the architecture's exceptions of these names (GA22-7000, "Program Interruption"). A page that is
 /// absent is no exception: whoever lends the storage brings the page, and the access is made again.
-#[derive(Clone, Copy, Debug, PartialEq, Eq)]
+#[derive(Clone, Copy, Debug, PartialEq, Eq, Error)]
 pub enum Fault {
     /// A byte lies beyond the storage.
+    #[error("addressing exception")]
     Addressing,
     /// The key of a byte's block does not let the access pass.
+    #[error("protection exception")]
     Protection,
     /// Size and keys let the access pass, and this page of it is not present.
+    #[error("page {} is absent", .0.0)]
     Absent(Page),
 }
 
 /// Bytes with a key for each 2048 of them, in pages of 4096 that may be absent.
+///
+/// An access is tested first, and only then made:
+///
+/// ```
+/// storage.check(Range { start, count: 4 }, Access::Store, key)?;
+/// store_word(storage, start, word);
+/// ```
+///
+/// A body that is lent from a larger whole says by `Keeps` what of that whole stays: code written over any storage
+/// promises `Keeps`, and so whoever lent it knows that nobody else's bytes or keys were touched.
 pub trait Storage {
     /// The bytes, also those of pages that are absent.
     ghost bytes: { Self → List ℕ };
@@ -108,7 +128,7 @@ pub trait Storage {
     ghost keeps_on: { (s t u : Self) → Keeps s t → Keeps t u → Keeps s u };
 }
 
-/// A storage whose keys can be read and set one by one.
+/// A storage whose keys can be read and set one by one, as a storage with fixed keys can't.
 pub trait Keyed: Storage {
     /// The key in storage of a block of 2048 bytes.
     fn key_of(&self, block: u32) -> u8

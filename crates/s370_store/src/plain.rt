@@ -1,5 +1,5 @@
 //! A storage that is all there: what a bare machine has.
-ghost use Rattle.std.specs.Prelude.{◌≡◌, ℕ, ◌+◌, ◌*◌, ◌<◌, ◌≤◌, ◌/◌, List, Bool, true, length, replicate, IfOk, vec_len};
+ghost use Rattle.std.specs.Prelude.{◌≡◌, ◌*◌, ◌≤◌, true, length, replicate, IfOk};
 
 use crate::place::put_at;
 use crate::protection::{Listed, test_range};

@@ -1,5 +1,5 @@
 //! The test of an access by size and keys, the one that each storage makes (GA22-7000, "Protection").
-ghost use Rattle.std.specs.Prelude.{◌≡◌, ◌+◌, ◌*◌, ◌<◌, ◌≤◌, [], ◌∷◌, true, length, slice_index, ℕ, List, replicate};
+ghost use Rattle.std.specs.Prelude.{◌≡◌, ◌*◌, ◌<◌, ◌≤◌, [], ◌∷◌, true, length, slice_index, ℕ, List, replicate};
 ghost use Rattle.s370_store.specs.Access.{IsVerdict, tested, is_passed};
 
 use crate::{Access, Fault, Range};

@@ -1,9 +1,7 @@
 //! Access by table, from the rule; and each body of the trait once.
-ghost use Rattle.std.specs.Prelude.{IfOk, ◌≡◌, replicate, length};
-ghost use Rattle.s370_store.specs.Plain.{plain_keys};
 
 use super::*;
-use crate::examples::{PagedStorage, Shared, stamp_for};
+use crate::examples::{Shared, stamp_for};
 use std::alloc::{AllocError, Global};
 use std::test::Fail;
 
@@ -89,15 +87,10 @@ fn leftmost_byte_comes_first(rt: HostRuntime) -> Result<(), Fail> {
 
 #[test]
 fn a_page_is_absent_only_where_the_key_matches(rt: HostRuntime) -> Result<(), Fail> {
-    let bytes = vec![in rt.alloc(); 0u8; 8192]?;
-    let keys = vec![in rt.alloc(); 7u8; 4]?;
-    let mut present = vec![in rt.alloc(); true; 2]?;
-    present[1] = false;
-    let storage = PagedStorage {
-        bytes,
-        keys,
-        present,
-    };
+    let mut storage = PagedStorage::new(rt.alloc(), 2)?;
+    storage.set_present(Page(0), true);
+    storage.set_key(1, 7);
+    storage.set_key(2, 7);
     let range = Range {
         start: 4095,
         count: 2,

@@ -2,7 +2,7 @@
 //!
 //! Numbers stand in storage with their leftmost byte first (GA22-7000, "Information Formats"). Each of these is one
 //! `load` or `store`, so what they require is that `check` granted the range.
-ghost use Rattle.std.specs.Prelude.{◌≡◌, ℕ, ◌+◌, ◌*◌, ◌<◌, ◌≤◌, [], ◌∷◌, length, slice_index, slice_range};
+ghost use Rattle.std.specs.Prelude.{◌≡◌, ◌+◌, ◌≤◌, [], ◌∷◌, length, slice_index, slice_range};
 ghost use Rattle.std.specs.Int.{w16, w32, w64, from_be_bytes, to_be_bytes};
 ghost use Rattle.s370_store.specs.Access.{tested, IsVerdict, join_of, IsGranted, put};
 

@@ -1,7 +1,7 @@
 use Rattle.std.proofs.Common.{rules, arith, ◌+◌, ◌-◌, ◌/◌, true, ◌≡◌}
-use Rattle.std.specs.Prelude.{slice_index_or, false}
+use Rattle.s370_store.specs.Paged.{is_present}
 use Rattle.s370_store.proofs.Verdicts.{ends_here}
-use Rattle.s370_store.proofs.examples.PagedStorageStorage.check.Goals as goal
+use Rattle.s370_store.proofs.paged.PagedStorageStorage.check.Goals as goal
 
 pub flag_at-requires : goal.flag_at-requires
 flag_at-requires c = let g = c.in_ok-test_range.ensures.1.0 (omega arith) in omega arith
@@ -14,7 +14,7 @@ flag_at-requires-2 c = let g = c.in_ok-test_range.ensures.1.0 (omega arith) in o
 
 pub returns : goal.returns
 returns c =
-    let first_here : slice_index_or c.args.self.now.present.items (c.args.range.start / 4096) false ≡ true = cc in
-    let last_here : slice_index_or c.args.self.now.present.items ((c.args.range.start + (c.args.range.count - 1)) / 4096) false ≡ true = cc in
+    let first_here : is_present c.args.self.now (c.args.range.start / 4096) ≡ true = cc in
+    let last_here : is_present c.args.self.now ((c.args.range.start + (c.args.range.count - 1)) / 4096) ≡ true = cc in
     let g = c.in_ok-test_range.ensures.1.0 (omega arith) in
-    (search rules, (λ some. record { inside = omega arith; here = ends_here (λ page. slice_index_or c.args.self.now.present.items page false) _ _ _ (omega arith) (omega arith) first_here last_here }, tt))
+    (search rules, (λ some. record { inside = omega arith; here = ends_here (is_present c.args.self.now) _ _ _ (omega arith) (omega arith) first_here last_here }, tt))

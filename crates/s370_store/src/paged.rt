@@ -1,0 +1,118 @@
+//! A storage with absent pages, for the tests of code that is written over any storage.
+ghost use Rattle.std.specs.Prelude.{◌≡◌, ◌*◌, ◌<◌, ◌≤◌, false, length, replicate, slice_index_or, slice_set, IfOk};
+
+use crate::place::put_at;
+use crate::protection::{Listed, test_range};
+use crate::{Access, Fault, Keyed, Page, Range, Storage};
+use std::alloc::{AllocError, Global};
+
+/// A storage of up to 4 MiB of which pages may be absent: their bytes are kept, and can't be reached.
+///
+/// The bodies that the product runs on have their own ways to bring a page; here the test that owns it says which are
+/// there.
+#[derive(Drop)]
+pub struct PagedStorage {
+    bytes: Vec<u8>,
+    keys: Vec<u8>,
+    present: Vec<bool>,
+    ghost at_most_4_mib: { length bytes.items ≤ 4194304 },
+    ghost a_key_a_block: { length bytes.items ≡ 2048 * length keys.items },
+    ghost a_flag_a_page: { length bytes.items ≡ 4096 * length present.items },
+}
+
+impl PagedStorage {
+    ghost use Rattle.s370_store.specs.Paged.{paged_bytes, paged_keys, paged_flags};
+
+    /// A storage of this many pages of 4096 bytes, all zero and all absent, with keys that are all zero.
+    pub fn new(alloc: Global, pages: u32) -> Result<PagedStorage, AllocError>
+        requires { pages ≤ 1024 }
+        ensures bytes { IfOk result (λ s. paged_bytes s ≡ replicate (4096 * pages) 0) }
+        ensures keys { IfOk result (λ s. paged_keys s ≡ replicate (2 * pages) 0) }
+        ensures absent { IfOk result (λ s. paged_flags s ≡ replicate pages false) }
+    {
+        let bytes = vec![in alloc; 0u8; 4096 * pages as usize]?;
+        let keys = vec![in alloc; 0u8; 2 * pages as usize]?;
+        let present = vec![in alloc; false; pages as usize]?;
+        Ok(PagedStorage {
+            bytes,
+            keys,
+            present,
+        })
+    }
+
+    /// Says whether a page is present.
+    pub fn set_present(&mut self, page: Page, present: bool)
+        requires { page.0 < length (paged_flags self.old) }
+        ensures flags { paged_flags self.new ≡ slice_set (paged_flags self.old) page.0 present }
+        ensures bytes { paged_bytes self.new ≡ paged_bytes self.old }
+        ensures keys { paged_keys self.new ≡ paged_keys self.old }
+    {
+        self.present[page.0 as usize] = present;
+    }
+}
+
+impl Storage for PagedStorage {
+    ghost use Rattle.s370_store.specs.Paged.{paged_bytes, paged_keys, is_present};
+
+    ghost bytes = { paged_bytes };
+
+    ghost keys = { paged_keys };
+
+    ghost present = { is_present };
+
+    ghost Keeps = { λ _ _. Unit {0} };
+
+    fn size(&self) -> u32 {
+        self.bytes.len() as u32
+    }
+
+    fn check(&self, range: Range, access: Access, key: u8) -> Result<(), Fault> {
+        let keys = Listed { keys: &self.keys };
+        test_range(self.bytes.len() as u32, &keys, range, access, key)?;
+        let Range { start, count } = range;
+        if count == 0 {
+            return Ok(());
+        }
+        let first = start / 4096;
+        if !flag_at(&self.present, first) {
+            return Err(Fault::Absent(Page(first)));
+        }
+        let last = (start + (count - 1)) / 4096;
+        if !flag_at(&self.present, last) {
+            return Err(Fault::Absent(Page(last)));
+        }
+        Ok(())
+    }
+
+    fn load(&self, start: u32, into: &mut [u8]) {
+        let first = start as usize;
+        let end = first + into.len();
+        into.copy_from_slice(&self.bytes[first..end]);
+    }
+
+    fn store(&mut self, start: u32, from: &[u8]) {
+        put_at(&mut self.bytes, start as usize, from);
+    }
+
+    ghost keeps_same = { λ s. tt };
+
+    ghost keeps_on = { λ s t u a b. tt };
+}
+
+impl Keyed for PagedStorage {
+    fn key_of(&self, block: u32) -> u8 {
+        self.keys[block as usize]
+    }
+
+    fn set_key(&mut self, block: u32, key: u8) {
+        self.keys[block as usize] = key;
+    }
+}
+
+/// A flag of a list.
+fn flag_at(flags: &[bool], place: u32) -> bool
+    requires { place < length flags.now }
+    ensures { result ≡ slice_index_or flags.now place false }
+{
+    flags[place as usize]
+}
