@@ -1,5 +1,5 @@
 -- A unit that is one instruction, whatever the table has: GA22-7000, "Program Interruption" and "Instruction Fetching".
-use Rattle.std.specs.Prelude.{◌≡◌, ℕ, ◌+◌, ◌*◌, ◌%◌, ◌^◌, Bool, List, [], ◌++◌, length, Result, Ok, Err}
+use Rattle.std.specs.Prelude.{◌≡◌, ℕ, ◌+◌, ◌*◌, ◌%◌, ◌^◌, Bool, List, ◌++◌, length, Result, Ok, Err}
 use Rattle.s370_psw.specs.declared.ProgramCode.{ProgramCode}
 use Rattle.s370_store.specs.Access.{Test, Touches, IsAway}
 use Rattle.s370_rows.specs.declared.cpu.Cpu.{Cpu}
@@ -12,7 +12,7 @@ use Rattle.s370_rows.specs.State.{State}
 use Rattle.s370_rows.specs.Rows.{Row, Left}
 use Rattle.s370_cpu.specs.declared.conclude.Stop.{Stop}
 use Rattle.s370_cpu.specs.declared.conclude.Stop.TheVariants.{Done as DoneStop, Program, Svc, Privileged, Absent}
-use Rattle.s370_cpu.specs.Fetch.{Fetched, fetched, halfwords_of}
+use Rattle.s370_cpu.specs.Fetch.{fetched, halfwords_of}
 
 -- how an instruction stops, and the registers that it leaves
 pub record Stopped : Type 0 where

@@ -2,7 +2,7 @@
 use super::{Stop, step};
 use s370_psw::{Ilc, ProgramCode, Psw};
 use s370_rows::{Cpu, Instruction};
-use s370_store::{Access, Keyed, PlainStorage, Range, Storage, load_word};
+use s370_store::{Access, Keyed, Page, PagedStorage, PlainStorage, Range, Storage, load_word};
 use std::alloc::Global;
 use std::test::Fail;
 
@@ -48,7 +48,7 @@ fn ran(
     })
 }
 
-fn place(storage: &mut PlainStorage, start: u32, bytes: &[u8]) -> Result<(), Fail> {
+fn place<S: Storage>(storage: &mut S, start: u32, bytes: &[u8]) -> Result<(), Fail> {
     if bytes.is_empty() || bytes.len() > 256 {
         return Ok(());
     }
@@ -234,4 +234,32 @@ fn handed_back(opcode: u8) -> Stop {
         third_half: 0,
     };
     Stop::Privileged(instruction, Ilc::TWO)
+}
+
+/// A load across the end of the first of two pages, of which the second may be absent: the stop, the address and register 1
+/// afterwards.
+fn load_across(alloc: Global, second_page: bool) -> Result<(Stop, u32, u32), Fail> {
+    let mut storage = PagedStorage::new(alloc, 2)?;
+    storage.set_present(Page(0), true);
+    storage.set_present(Page(1), second_page);
+    let mut cpu = Cpu {
+        general: [0; 16],
+        control: [0; 16],
+        psw: Psw::from_word(0x100),
+    };
+    place(&mut storage, 0x100, &[0x58, 0x10, 0x0F, 0xFE])?;
+    place(&mut storage, 0xFFE, &[0xAB, 0xCD])?;
+    let stop = step(&mut cpu, &mut storage);
+    Ok((stop, cpu.psw.address().get(), cpu.general[1]))
+}
+
+#[test]
+fn an_absent_page(rt: HostRuntime) -> Result<(), Fail> {
+    let alloc = rt.alloc();
+    assert_eq!(rt;
+        load_across(alloc, false)?,
+        (Stop::Absent(Page(1)), 0x100, 0)
+    );
+    assert_eq!(rt; load_across(alloc, true)?, (Stop::Done, 0x104, 0xABCD0000));
+    Ok(())
 }

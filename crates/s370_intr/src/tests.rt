@@ -2,7 +2,9 @@
 use super::{Class, swap};
 use s370_psw::{Ilc, Psw};
 use s370_rows::Cpu;
-use s370_store::{Access, PlainStorage, Range, Storage, load_doubleword, store_doubleword};
+use s370_store::{
+    Access, Page, PagedStorage, PlainStorage, Range, Storage, load_doubleword, store_doubleword,
+};
 use std::alloc::Global;
 use std::test::Fail;
 
@@ -57,5 +59,21 @@ fn swaps(rt: HostRuntime) -> Result<(), Fail> {
         0x300,
     )?;
     assert_eq!(rt; timer, (0x300, 0x01000080_00000104));
+    Ok(())
+}
+
+#[test]
+fn an_absent_page(rt: HostRuntime) -> Result<(), Fail> {
+    let mut storage = PagedStorage::new(rt.alloc(), 2)?;
+    let mut cpu = Cpu {
+        general: [0; 16],
+        control: [0; 16],
+        psw: Psw::from_word(0x104),
+    };
+    let large = storage.size() >= 8192;
+    assert!(rt; large);
+    let swapped = swap(&mut cpu, &mut storage, Class::Program, 5, Ilc::TWO);
+    assert_eq!(rt; swapped, Err(Page(0)));
+    assert_eq!(rt; cpu.psw.to_word(0, Ilc::ZERO), 0x104);
     Ok(())
 }
