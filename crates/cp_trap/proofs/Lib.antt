@@ -1,1 +1,2 @@
 mod Missed
+mod Supplied

@@ -1,1 +1,2 @@
 pub mod Trap
+pub mod Supply

@@ -1,14 +1,11 @@
--- What a unit of a guest may answer, over storage whose pages may be absent, and over frames.
-use Rattle.std.specs.Prelude.{◌≡◌, ℕ, Bool, List, length, All, IsSome, Option, Result, Ok, Err, ⊤}
+-- What a unit of a guest may answer, over storage whose pages may be absent.
+use Rattle.std.specs.Prelude.{◌≡◌, ℕ, Bool, length, Result, Ok, Err, ⊤}
 use Rattle.s370_store.specs.Access.{Touches, IsAway}
 use Rattle.s370_store.specs.declared.Page.{Page}
 use Rattle.s370_rows.specs.State.{State}
 use Rattle.s370_cpu.specs.declared.conclude.Stop.{Stop}
 use Rattle.s370_cpu.specs.declared.conclude.Stop.TheVariants.{Done as DoneStop, Program, Absent as AbsentStop}
 use Rattle.s370_intr.specs.Units.{one_unit, needs_of}
-use Rattle.cp_frames.specs.declared.numbers.FramesOut.{FramesOut}
-use Rattle.cp_frames.specs.declared.numbers.UserPage.{UserPage}
-use Rattle.cp_frames.specs.Layout.{is_there}
 use Rattle.cp_trap.specs.declared.privileged.Simulated.{Simulated}
 use Rattle.cp_trap.specs.declared.privileged.Simulated.TheVariants.{Done, Refused, Absent}
 
@@ -24,16 +21,3 @@ abbrev pub MeetsOneUnit : (ℕ → Bool) → State → Result ⊤ Page → State
 MeetsOneUnit present old (Ok _) new = new ≡ one_unit old
 MeetsOneUnit present old (Err page) new =
     (new ≡ old) × IsAway (length old.bytes) present page.0 × Touches (needs_of old) page.0
-
--- the unit at a state needs a page of the storage that stands in no frame, and every frame is taken
-pub record Lacks (m : State) (owners : List (Option UserPage)) (user : ℕ) : Type 0 where
-  pub page : ℕ
-  pub away : IsAway (length m.bytes) (is_there owners user) page
-  pub touched : Touches (needs_of m) page
-  pub full : All IsSome owners
-
--- what one unit of a user may answer over frames, and leave of a state: the unit; or nothing changed, and the unit lacks a
--- page
-abbrev pub IsUnitOf : State → Result ⊤ FramesOut → State → List (Option UserPage) → ℕ → Type 0
-IsUnitOf old (Ok _) new owners user = new ≡ one_unit old
-IsUnitOf old (Err _) new owners user = (new ≡ old) × Lacks new owners user

@@ -18,6 +18,8 @@ mod privileged;
 mod reflection;
 mod registers;
 mod supply;
+#[cfg(test)]
+mod tests;
 mod whole;
 
 pub use privileged::{Simulated, simulate};
