@@ -16,6 +16,7 @@ pub fn unit_of(cpu: &mut VirtualCpu, dat: &mut Dat<'_>) -> Result<(), FramesOut>
     ensures unit { let before = state_of cpu.old.seen (lent_bytes dat.old) (lent_keys dat.old) in
         let after = state_of cpu.new.seen (lent_bytes dat.new) (lent_keys dat.new) in
         IsUnitOf before result after dat.new.frames.now.owners dat.old.user.0 }
+    ensures size { length (lent_bytes dat.new) ≡ length (lent_bytes dat.old) }
     ensures rest { KeepsFrames dat.old dat.new }
     ensures pins { dat.new.frames.now.pins ≡ dat.old.frames.now.pins }
 {

@@ -1,0 +1,10 @@
+//! The control program: many users on one System/370.
+#![tactic(auto)]
+
+mod events;
+mod places;
+mod run;
+
+pub use events::{Answer, End, Ran};
+pub use places::{change_over, display_over};
+pub use run::spell_over;
