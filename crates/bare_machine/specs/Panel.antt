@@ -1,7 +1,7 @@
 -- What a line of the operator does to a machine, and what is replied (docs/COMMANDS.md).
 use Rattle.std.specs.Prelude.{ℕ, if◌then◌else◌, Bool, List, Option, Some, None, Result, Ok, Err}
 use Rattle.cp_console.specs.Lines.{cleaned}
-use Rattle.cp_console.specs.Words.{Asked, Stop, Command as ToControlProgram, Plain, asked_of}
+use Rattle.cp_console.specs.Asked.{Asked, Stop, Command as ToControlProgram, Plain, asked_of}
 use Rattle.cp_console.specs.Commands.{command_of}
 use Rattle.cp_console.specs.Replies.{text_of, is_panel}
 use Rattle.cp_console.specs.declared.commands.Command.{Command}

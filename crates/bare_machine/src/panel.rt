@@ -4,14 +4,14 @@ ghost use Rattle.s370_store.specs.Plain.{plain_bytes};
 ghost use Rattle.cp_panel.specs.Places.{changed, displayed, stored};
 ghost use Rattle.cp_console.specs.Replies.{is_panel};
 ghost use Rattle.cp_console.specs.Commands.{command_of};
-ghost use Rattle.cp_console.specs.Words.{asked_of};
+ghost use Rattle.cp_console.specs.Asked.{asked_of};
 ghost use Rattle.bare_machine.specs.Panel.{commanded, line, obeyed, off_line, on_line};
 ghost use Rattle.bare_machine.specs.Plain.{state_at};
 
 use crate::bare::Bare;
 use crate::state::Mode;
 use cp_console::commands::{Change, Command, CommandError, Place, read_command};
-use cp_console::lines::{Asked, ConsoleText, asked_by};
+use cp_console::lines::{Asked, ConsoleText, asked_of};
 use cp_console::replies::Reply;
 use cp_panel::{change, display};
 use s370_num::Addr24;
@@ -50,7 +50,7 @@ impl Bare {
         ensures ok { IfOk result (λ reply. on_line mode (asked_of text.now) self.old ≡ record { machine = self.new; reply = reply }) }
         ensures err { OnErr result (self.new ≡ self.old) }
     {
-        match asked_by(text) {
+        match asked_of(text) {
             Asked::Stop => {
                 self.stop();
                 Ok(None)

@@ -1,18 +1,18 @@
 -- The commands are read exactly as their words spell them.
-use Rattle.std.proofs.Common.{◌≡◌, ℕ, ◌+◌, ◌*◌, ◌^◌, Bool, true, false, cond, List, [], ◌∷◌, ◌++◌, codes, Option, Some, None, Result, Ok, Err, refl}
+use Rattle.std.proofs.Common.{◌≡◌, ℕ, ◌+◌, ◌*◌, ◌^◌, Bool, true, false, cond, List, [], ◌∷◌, ◌++◌, codes, Option, Some, None, Ok, Err, refl}
 use Rattle.std.specs.Str.{bytes_eq}
 use Rattle.std.proofs.lemmas.Slice.Eq.{bytes_eq-Decides}
 use Rattle.cp_console.specs.Words.{words_of}
 use Rattle.cp_console.specs.Operands.{address_of, contents_of, bytes_of}
-use Rattle.cp_console.specs.Commands.{operand_read, operand, ended, place_of, logon_of, begin_of, display_of, change_of, store_of, command_by, command_of}
-use Rattle.cp_console.specs.Grammar.{Begins, IsFirstWrong, IsUnknown, ReadsGrammar, Spells, SpellsBegin, SpellsDisplay, SpellsPsw, SpellsGeneral, SpellsStorage, Stops, Tells}
+use Rattle.cp_console.specs.Commands.{operand_read, operand, ended, place_of, logon_of, begin_of, display_of, change_of, store_of, command_by}
+use Rattle.cp_console.specs.Grammar.{Begins, ReadsGrammar, Spells, Tells}
 use Rattle.cp_console.specs.declared.commands.Place.{Place}
 use Rattle.cp_console.specs.declared.commands.Place.TheVariants as places
 use Rattle.cp_console.specs.declared.commands.Change.TheVariants as changes
 use Rattle.cp_console.specs.declared.commands.Command.{Command}
 use Rattle.cp_console.specs.declared.commands.Command.TheVariants.{Nothing, Logon, Begin, Display, Store}
 use Rattle.cp_console.specs.declared.commands.CommandError.{CommandError}
-use Rattle.cp_console.specs.declared.commands.CommandError.TheVariants.{Memory, Unknown, Operand}
+use Rattle.cp_console.specs.declared.commands.CommandError.TheVariants.{Unknown, Operand}
 
 again : (words : List (List ℕ)) (command : Command) → Spells words command → command_by words ≡ Ok command
 again words Nothing h = rw h refl

@@ -6,7 +6,6 @@ use Rattle.cp_console.specs.Words.{words_of}
 use Rattle.cp_console.specs.Operands.{address_of, register_of, contents_of, bytes_of}
 use Rattle.cp_console.specs.declared.commands.Place.{Place}
 use Rattle.cp_console.specs.declared.commands.Place.TheVariants as places
-use Rattle.cp_console.specs.declared.commands.Change.{Change}
 use Rattle.cp_console.specs.declared.commands.Change.TheVariants as changes
 use Rattle.cp_console.specs.declared.commands.Command.{Command}
 use Rattle.cp_console.specs.declared.commands.Command.TheVariants.{Nothing, Logon, Begin, Display, Store}

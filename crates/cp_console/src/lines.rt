@@ -1,8 +1,7 @@
 //! A line as it was typed, and whom it speaks to.
 ghost use Rattle.std.specs.Prelude.{◌≡◌, ◌≤◌, length, take};
 ghost use Rattle.cp_console.specs.Lines.{character_of, cleaned};
-ghost use Rattle.cp_console.specs.Asked.{asked};
-ghost use Rattle.cp_console.specs.Words.{asked_of};
+ghost use Rattle.cp_console.specs.Asked.{asked, asked_of};
 
 use crate::words::cut_word;
 use s370_num::ebcdic::is_printable;
@@ -82,7 +81,7 @@ pub enum Asked<'a> {
 }
 
 /// What a line asks for, by its first word. The line is one that was cut and cleaned.
-pub fn asked_by(line: &[u8]) -> Asked<'_>
+pub fn asked_of(line: &[u8]) -> Asked<'_>
     ensures { asked result ≡ asked_of line.now }
 {
     let Some((first, rest)) = cut_word(line) else {

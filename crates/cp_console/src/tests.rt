@@ -1,6 +1,6 @@
 //! Lines, commands and replies as an operator meets them.
 use crate::commands::{Change, Command, CommandError, Place, read_command};
-use crate::lines::{Asked, ConsoleText, asked_by};
+use crate::lines::{Asked, ConsoleText, asked_of};
 use crate::operands::Register;
 use crate::printing::reply;
 use crate::replies::Reply;
@@ -21,13 +21,13 @@ fn cleans(rt: HostRuntime) {
 
 #[test]
 fn tells_what_a_line_asks_for(rt: HostRuntime) {
-    assert_eq!(rt; asked_by(b"#CP"), Asked::Stop);
-    assert_eq!(rt; asked_by(b"  #CP  "), Asked::Stop);
-    assert_eq!(rt; asked_by(b"#CP DISPLAY 20"), Asked::Command(b"DISPLAY 20"));
-    assert_eq!(rt; asked_by(b" #CP  BEGIN "), Asked::Command(b" BEGIN "));
-    assert_eq!(rt; asked_by(b"#CPX"), Asked::Plain(b"#CPX"));
-    assert_eq!(rt; asked_by(b"BEGIN #CP"), Asked::Plain(b"BEGIN #CP"));
-    assert_eq!(rt; asked_by(b"  "), Asked::Plain(b"  "));
+    assert_eq!(rt; asked_of(b"#CP"), Asked::Stop);
+    assert_eq!(rt; asked_of(b"  #CP  "), Asked::Stop);
+    assert_eq!(rt; asked_of(b"#CP DISPLAY 20"), Asked::Command(b"DISPLAY 20"));
+    assert_eq!(rt; asked_of(b" #CP  BEGIN "), Asked::Command(b" BEGIN "));
+    assert_eq!(rt; asked_of(b"#CPX"), Asked::Plain(b"#CPX"));
+    assert_eq!(rt; asked_of(b"BEGIN #CP"), Asked::Plain(b"BEGIN #CP"));
+    assert_eq!(rt; asked_of(b"  "), Asked::Plain(b"  "));
 }
 
 #[test]

@@ -1,6 +1,6 @@
 -- What is seen of one user's lent pages, and what is kept of those who lent them.
-use Rattle.std.specs.Prelude.{◌≡◌, ℕ, List, [], ◌∷◌, zero, suc, Bool, Option, is_some, slice_set, slice_index_or, refl}
-use Rattle.std.proofs.Common.{sym, ◌∙◌, ap}
+use Rattle.std.specs.Prelude.{◌≡◌, ℕ, List, [], ◌∷◌, zero, suc, Bool, Option, slice_set, slice_index_or, refl}
+use Rattle.std.proofs.Common.{◌∙◌, ap}
 use Rattle.cp_frames.specs.declared.dat.Dat.{Dat}
 use Rattle.cp_frames.specs.Layout.{Pool, bytes_of, frame_of, is_there}
 
@@ -76,6 +76,7 @@ keeps_rest_on s t u a b = record {
   others = others_on s.frames.now t.frames.now u.frames.now s.user.0 t.user.0 a.same_user a.others b.others;
 }
 
+-- what callers say of many steps
 pub keeps_frames : (s t : Dat) → KeepsRest s t → KeepsFrames s t
 keeps_frames s t k = record { same_frames = k.same_frames; same_keys = k.same_keys; same_user = k.same_user; others = k.others }
 
@@ -88,13 +89,4 @@ keeps_frames_on s t u a b = record {
   same_keys = b.same_keys ∙ a.same_keys;
   same_user = b.same_user ∙ a.same_user;
   others = others_on s.frames.now t.frames.now u.frames.now s.user.0 t.user.0 a.same_user a.others b.others;
-}
-
--- where a page is brought, no byte of anyone changes
-pub keeps_brought : (s t : Dat) → t.frames.ghost_name ≡ s.frames.ghost_name → t.keys.ghost_name ≡ s.keys.ghost_name → t.user.0 ≡ s.user.0 → t.frames.now.storages ≡ s.frames.now.storages → KeepsFrames s t
-keeps_brought s t frames keys user same = record {
-  same_frames = frames;
-  same_keys = keys;
-  same_user = user;
-  others = same ∙ (set_own s.frames.now.storages s.user.0 [] ∙ ap (λ xs. slice_set s.frames.now.storages s.user.0 (slice_index_or xs s.user.0 [])) (sym same));
 }

@@ -108,6 +108,10 @@ fn a_range_over_two_frames(rt: HostRuntime) -> Result<(), Fail> {
     let mut keys = [0; 6];
     let mut dat = Dat::new(&mut frames, &mut keys, B);
     assert_eq!(rt; dat.size(), 12288);
+    let frame = dat.bring(Page(2))?;
+    assert_eq!(rt; dat.page_in(frame), Some(Page(2)));
+    assert_eq!(rt; dat.size(), 12288);
+    assert_eq!(rt; dat.frame_of(Page(2)), Some(frame));
     assert_eq!(rt; dat.key_of(1), 0);
     dat.set_key(1, 0x18);
     let range = Range {

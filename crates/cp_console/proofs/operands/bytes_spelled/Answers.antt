@@ -1,4 +1,4 @@
-use Rattle.std.proofs.Common.{◌≡◌, ◌+◌, ◌*◌, ◌≤◌, ◌∷◌, ◌++◌, [], ◌∙◌, List, ℕ, Some, sym, length, length-append, arith, ap}
+use Rattle.std.proofs.Common.{◌≡◌, ◌∷◌, ◌++◌, [], ◌∙◌, Some, sym, length, length-append, arith, ap}
 use Rattle.std.specs.Option.{option_map}
 use Rattle.cp_console.specs.Operands.{byte_of, bytes_spelled}
 use Rattle.cp_console.proofs.Spellings.{spelled_more}

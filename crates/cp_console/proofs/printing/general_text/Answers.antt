@@ -1,4 +1,3 @@
-use Rattle.std.proofs.Common.{rules}
 use Rattle.cp_console.proofs.printing.general_text.Goals as goal
 
 pub returns : goal.returns
