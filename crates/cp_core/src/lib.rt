@@ -4,7 +4,9 @@
 mod events;
 mod places;
 mod run;
+mod seat;
 
 pub use events::{Answer, End, Ran};
 pub use places::{change_over, display_over};
 pub use run::spell_over;
+pub use seat::Seat;

@@ -12,15 +12,15 @@ use cp_panel::{change, display};
 use cp_trap::VirtualCpu;
 
 /// What a place holds, after each page was brought that is shown.
-fn display_on(cpu: &VirtualCpu, dat: &mut Dat<'_>, place: Place) -> Result<Reply, FramesOut>
+fn display_on(cpu: &VirtualCpu, dat: &mut Dat<'_>, place: &Place) -> Result<Reply, FramesOut>
     ensures shown { let s = state_of cpu.now.seen (lent_bytes dat.old) (lent_keys dat.old) in
-        DisplaysOver place s result (lent_pool dat.new).owners (user_of dat.old) }
+        DisplaysOver place.now s result (lent_pool dat.new).owners (user_of dat.old) }
     ensures bytes { lent_bytes dat.new ≡ lent_bytes dat.old }
     ensures keys { lent_keys dat.new ≡ lent_keys dat.old }
     ensures rest { KeepsFrames dat.old dat.new }
 {
     loop {
-        match display(place, &cpu.seen, dat) {
+        match display(*place, &cpu.seen, dat) {
             Ok(reply) => return Ok(reply),
             Err(page) => {
                 dat.bring(page)?;
@@ -35,11 +35,11 @@ pub fn display_over(
     frames: &mut Frames,
     keys: &mut [u8],
     user: UserNo,
-    place: Place,
+    place: &Place,
 ) -> Result<Reply, FramesOut>
     requires keyed { length (bytes_of frames.old user.0) ≤ 2048 * length keys.old }
     ensures shown { let s = state_of cpu.now.seen (bytes_of frames.old user.0) keys.old in
-        DisplaysOver place s result frames.new.owners user.0 }
+        DisplaysOver place.now s result frames.new.owners user.0 }
     ensures bytes { bytes_of frames.new user.0 ≡ bytes_of frames.old user.0 }
     ensures keys { keys.new ≡ keys.old }
     ensures others { frames.new.storages ≡ slice_set frames.old.storages user.0 (bytes_of frames.new user.0) }
@@ -52,16 +52,16 @@ pub fn display_over(
 fn change_on(
     cpu: &mut VirtualCpu,
     dat: &mut Dat<'_>,
-    change_of: Change,
+    change_of: &Change,
 ) -> Result<Reply, FramesOut>
     ensures changed { let before = state_of cpu.old.seen (lent_bytes dat.old) (lent_keys dat.old) in
         let after = state_of cpu.new.seen (lent_bytes dat.new) (lent_keys dat.new) in
-        ChangesOver change_of before result after (lent_pool dat.new).owners (user_of dat.old) }
+        ChangesOver change_of.now before result after (lent_pool dat.new).owners (user_of dat.old) }
     ensures size { length (lent_bytes dat.new) ≡ length (lent_bytes dat.old) }
     ensures rest { KeepsFrames dat.old dat.new }
 {
     loop {
-        match change(change_of, &mut cpu.seen, dat) {
+        match change(*change_of, &mut cpu.seen, dat) {
             Ok(reply) => return Ok(reply),
             Err(page) => {
                 dat.bring(page)?;
@@ -76,12 +76,12 @@ pub fn change_over(
     frames: &mut Frames,
     keys: &mut [u8],
     user: UserNo,
-    change_of: Change,
+    change_of: &Change,
 ) -> Result<Reply, FramesOut>
     requires keyed { length (bytes_of frames.old user.0) ≤ 2048 * length keys.old }
     ensures changed { let before = state_of cpu.old.seen (bytes_of frames.old user.0) keys.old in
         let after = state_of cpu.new.seen (bytes_of frames.new user.0) keys.new in
-        ChangesOver change_of before result after frames.new.owners user.0 }
+        ChangesOver change_of.now before result after frames.new.owners user.0 }
     ensures size { length (bytes_of frames.new user.0) ≡ length (bytes_of frames.old user.0) }
     ensures others { frames.new.storages ≡ slice_set frames.old.storages user.0 (bytes_of frames.new user.0) }
 {

@@ -4,11 +4,11 @@ use Rattle.cp_frames.specs.Layout.{free_count}
 use Rattle.cp_frames.specs.Lent.{KeepsFrames, lent_bytes, lent_keys, lent_pool}
 use Rattle.cp_core.proofs.places.change_on.Given as goal
 
-abbrev pub invariant-loop-page : goal.invariant-loop-page
-invariant-loop-page l = record {
+abbrev pub invariant-loop-reply : goal.invariant-loop-reply
+invariant-loop-reply l = record {
   state : state_of l.cpu.seen (lent_bytes l.dat) (lent_keys l.dat) ≡ state_of l.fn.cpu.seen (lent_bytes l.fn.dat) (lent_keys l.fn.dat);
   rest : KeepsFrames l.fn.dat l.dat;
 }
 
-abbrev pub decreases-loop-page : goal.decreases-loop-page
-decreases-loop-page l = free_count (lent_pool l.dat).owners
+abbrev pub decreases-loop-reply : goal.decreases-loop-reply
+decreases-loop-reply l = free_count (lent_pool l.dat).owners
