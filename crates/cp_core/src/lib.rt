@@ -2,6 +2,7 @@
 #![tactic(auto)]
 
 mod events;
+mod panel;
 mod places;
 mod run;
 mod seat;

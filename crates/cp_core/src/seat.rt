@@ -1,39 +1,30 @@
 //! A user's machine, of which the storage stands in frames.
-ghost use Rattle.std.specs.Prelude.{◌≡◌, ◌≤◌, ℕ, List, Some, IfOk, OnErr, length, replicate, slice_set};
+ghost use Rattle.std.specs.Prelude.{◌≡◌, ◌≤◌, ℕ, List, length, replicate, slice_set};
 ghost use Rattle.cp_frames.specs.Layout.{bytes_of};
-ghost use Rattle.cp_console.specs.Asked.{asked_of};
-ghost use Rattle.cp_console.specs.Commands.{command_of};
-ghost use Rattle.bare_machine.specs.Machine.{Machine, cleared, reset_cpu};
+ghost use Rattle.bare_machine.specs.Machine.{cleared, reset_cpu};
 ghost use Rattle.bare_machine.specs.Run.{halted};
-ghost use Rattle.bare_machine.specs.Panel.{commanded, line, obeyed, off_line, on_line};
-ghost use Rattle.cp_core.specs.Seats.{Fits, Seated, machine_of};
+ghost use Rattle.cp_core.specs.Seats.{Fits, machine_of};
 ghost use Rattle.cp_core.specs.Runs.{TellsRun};
-ghost use Rattle.cp_core.specs.Lines.{Answers, TellsLine, asked_needs, command_needs};
 
-use crate::events::{Answer, End, Ran};
-use crate::places::{change_over, display_over};
+use crate::events::{End, Ran};
 use crate::run::spell_over;
 use bare_machine::{Mode, Pending, Reason};
-use cp_console::commands::{Change, Command, CommandError, Place, read_command};
-use cp_console::lines::{Asked, ConsoleText, asked_of};
 use cp_console::output::ConsoleOutput;
 use cp_console::replies::Reply;
-use cp_frames::{Frames, FramesOut, UserNo};
+use cp_frames::{Frames, UserNo};
 use cp_trap::VirtualCpu;
-use s370_num::Addr24;
 use s370_psw::Psw;
 use s370_rows::Cpu;
-use std::alloc::{AllocError, Global};
 use std::marker::Model;
 
 /// A user's machine but for its storage.
 #[derive(Drop)]
 pub struct Seat {
-    cpu: VirtualCpu,
-    keys: Vec<u8>,
-    pending: Pending,
-    mode: Mode,
-    output: ConsoleOutput,
+    pub(crate) cpu: VirtualCpu,
+    pub(crate) keys: Vec<u8>,
+    pub(crate) pending: Pending,
+    pub(crate) mode: Mode,
+    pub(crate) output: ConsoleOutput,
 }
 
 impl Model for Seat {
@@ -113,5 +104,19 @@ impl Seat {
             }
             Reason::Stopped | Reason::Count | Reason::Wait => {}
         }
+    }
+
+    /// LOGON: a reset machine with zeros everywhere; what was printed stays. Its pages leave their frames.
+    pub(crate) fn clear(&mut self, frames: &mut Frames, user: UserNo)
+        requires { Fits self.old (bytes_of frames.old user.0) }
+        ensures machine { machine_of self.new (bytes_of frames.new user.0) ≡ cleared (machine_of self.old (bytes_of frames.old user.0)) }
+        ensures others { frames.new.storages ≡ slice_set frames.old.storages user.0 (bytes_of frames.new user.0) }
+        ensures fits { Fits self.new (bytes_of frames.new user.0) }
+    {
+        self.cpu = reset_cpu();
+        self.keys.fill(0);
+        self.pending = NOTHING;
+        self.mode = Mode::Stopped;
+        frames.release(user);
     }
 }
