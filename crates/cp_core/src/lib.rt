@@ -6,8 +6,10 @@ mod panel;
 mod places;
 mod run;
 mod seat;
+mod system;
 
-pub use events::{Answer, End, Ran};
+pub use events::{Answer, BootError, CpError, End, Event, Ran, Reply};
 pub use places::{change_over, display_over};
 pub use run::spell_over;
 pub use seat::Seat;
+pub use system::System;

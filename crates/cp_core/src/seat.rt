@@ -1,7 +1,7 @@
 //! A user's machine, of which the storage stands in frames.
-ghost use Rattle.std.specs.Prelude.{◌≡◌, ◌≤◌, ℕ, List, length, replicate, slice_set};
+ghost use Rattle.std.specs.Prelude.{◌≡◌, ◌≤◌, ◌*◌, ℕ, List, IfOk, length, replicate, slice_set};
 ghost use Rattle.cp_frames.specs.Layout.{bytes_of};
-ghost use Rattle.bare_machine.specs.Machine.{cleared, reset_cpu};
+ghost use Rattle.bare_machine.specs.Machine.{cleared, reset_cpu, unused};
 ghost use Rattle.bare_machine.specs.Run.{halted};
 ghost use Rattle.cp_core.specs.Seats.{Fits, machine_of};
 ghost use Rattle.cp_core.specs.Runs.{TellsRun};
@@ -15,6 +15,7 @@ use cp_frames::{Frames, UserNo};
 use cp_trap::VirtualCpu;
 use s370_psw::Psw;
 use s370_rows::Cpu;
+use std::alloc::{AllocError, Global};
 use std::marker::Model;
 
 /// A user's machine but for its storage.
@@ -61,6 +62,21 @@ fn reset_cpu() -> VirtualCpu
 }
 
 impl Seat {
+    /// A machine that is off, with zero keys for this many pages of 4096 bytes.
+    pub fn new(alloc: Global, pages: u32) -> Result<Seat, AllocError>
+        requires { pages ≤ 1024 }
+        ensures { IfOk result (λ seat. (bytes : List ℕ) → machine_of seat bytes ≡ unused bytes (replicate (pages * 2) 0)) }
+    {
+        let keys = vec![in alloc; 0u8; pages as usize * 2]?;
+        Ok(Seat {
+            cpu: reset_cpu(),
+            keys,
+            pending: NOTHING,
+            mode: Mode::Off,
+            output: ConsoleOutput::new(alloc),
+        })
+    }
+
     /// Lets the machine run for at most so many units. This takes no memory.
     pub fn run(&mut self, frames: &mut Frames, user: UserNo, count: u32) -> Ran
         requires { Fits self.old (bytes_of frames.old user.0) }
