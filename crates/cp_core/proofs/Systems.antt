@@ -46,12 +46,12 @@ change seats storages storages' users ms user seat seat' whole e h same others =
     let b' = get_or storages' user [] in
     let s : seat ≡ get_or seats user no_seat = same ∙ get_or_default seats user seat no_seat inside in
     let o : get_or ms user nobody ≡ machine_of seat (get_or storages user []) =
-      ap (λ (xs : List Machine). get_or xs user nobody) (sym e) ∙ get-machines seats storages user no_seat [] nobody inside same_length
-      ∙ ap (λ (x : Seated). machine_of x (get_or storages user [])) (sym s) in
+    ap (λ (xs : List Machine). get_or xs user nobody) (sym e) ∙ get-machines seats storages user no_seat [] nobody inside same_length
+    ∙ ap (λ (x : Seated). machine_of x (get_or storages user [])) (sym s) in
     let all : machines_of (set seats user seat') storages' ≡ set ms user (machine_of seat' b') =
-      ap (λ (x : List (List ℕ)). machines_of (set seats user seat') x) others ∙ set-machines seats storages user seat' b' ∙ ap (λ (x : List Machine). set x user (machine_of seat' b')) e in
+    ap (λ (x : List (List ℕ)). machines_of (set seats user seat') x) others ∙ set-machines seats storages user seat' b' ∙ ap (λ (x : List Machine). set x user (machine_of seat' b')) e in
     let n : get_or (machines_of (set seats user seat') storages') user nobody ≡ machine_of seat' b' =
-      ap (λ (x : List Machine). get_or x user nobody) all ∙ get_or-set_same ms user (machine_of seat' b') nobody h in
+    ap (λ (x : List Machine). get_or x user nobody) all ∙ get_or-set_same ms user (machine_of seat' b') nobody h in
     record { old = o; new = n; machines = all ∙ ap (λ (x : Machine). set ms user x) (sym n) }
 
 -- the seat of a user fits his storage

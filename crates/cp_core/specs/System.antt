@@ -54,6 +54,11 @@ abbrev pub user_of : Event → ℕ
 user_of (Run user units) = user.0
 user_of (Line user typed) = user.0
 
+-- the events that may take memory
+abbrev pub IsLine : Event → Type 0
+IsLine (Run user units) = ⊥
+IsLine (Line user typed) = Unit {0}
+
 -- of the units that were asked for, those that were done where frames were lacking
 abbrev pub units_of : ℕ → ℕ → End → ℕ
 units_of asked done (Ended reason) = asked

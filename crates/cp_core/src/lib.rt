@@ -12,4 +12,4 @@ pub use events::{Answer, BootError, CpError, End, Event, Ran, Reply};
 pub use places::{change_over, display_over};
 pub use run::spell_over;
 pub use seat::Seat;
-pub use system::System;
+pub use system::{System, each_is_bare};
