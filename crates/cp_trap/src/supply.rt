@@ -19,6 +19,7 @@ pub fn unit_of(cpu: &mut VirtualCpu, dat: &mut Dat<'_>) -> Result<(), FramesOut>
     ensures supply { let before = state_of cpu.old.seen (lent_bytes dat.old) (lent_keys dat.old) in
         Supplies before (user_of dat.old) (lent_pool dat.old).owners (lent_pool dat.new).owners }
     ensures pins { (lent_pool dat.new).pins ≡ (lent_pool dat.old).pins }
+    ensures size { length (lent_bytes dat.new) ≡ length (lent_bytes dat.old) }
     ensures rest { KeepsFrames dat.old dat.new }
 {
     loop {

@@ -1,0 +1,5 @@
+pub mod Seats
+pub mod Runs
+pub mod Lines
+pub mod Whole
+pub mod System

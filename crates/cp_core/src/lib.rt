@@ -1,0 +1,15 @@
+//! The control program: many users on one System/370.
+#![tactic(auto)]
+
+mod events;
+mod panel;
+mod places;
+mod run;
+mod seat;
+mod system;
+
+pub use events::{Answer, BootError, CpError, End, Event, Ran, Reply};
+pub use places::{change_over, display_over};
+pub use run::spell_over;
+pub use seat::Seat;
+pub use system::{System, each_is_bare};
