@@ -11,6 +11,8 @@ mod bare;
 mod panel;
 mod run;
 mod state;
+#[cfg(test)]
+mod tests;
 
 pub use bare::Bare;
 pub use state::{Mode, Pending, Ran, Reason};

@@ -1,0 +1,345 @@
+//! Machines as their operators meet them: what is typed and replied, what a run tells, and what it leaves.
+use super::{Bare, Mode, Pending, Ran, Reason};
+use cp_console::printing;
+use cp_console::replies::Reply;
+use s370_store::{Access, Keyed, PlainStorage, Range, Storage};
+use std::alloc::Global;
+use std::process::Abort;
+use std::test::Fail;
+
+/// A machine of 8 KiB that is on, with all zero.
+fn machine(alloc: Global) -> Result<Bare, Fail> {
+    let mut machine = Bare::new(alloc, PlainStorage::new(alloc, 4)?);
+    machine.line(b"LOGON")?;
+    Ok(machine)
+}
+
+/// The text of a reply, and none where nothing is replied.
+fn text_of(alloc: Global, reply: Option<Reply>) -> Result<Vec<u8>, Fail> {
+    match reply {
+        Some(reply) => Ok(printing::reply(alloc, &reply)?),
+        None => Ok(Vec::new(alloc)),
+    }
+}
+
+/// Types lines, each with the reply that is wanted.
+fn session(
+    rt: &(impl Abort + AllocGlobal),
+    machine: &mut Bare,
+    lines: &[(&str, &str)],
+) -> Result<(), Fail> {
+    for (line, wanted) in lines {
+        let reply = machine.line(line.as_bytes())?;
+        let said = text_of(rt.alloc(), reply)?;
+        assert_eq!(rt; said.as_slice(), wanted.as_bytes(), "to {line}");
+    }
+    Ok(())
+}
+
+/// Types lines that are each answered `STORED`, and then BEGIN.
+fn begin(rt: &(impl Abort + AllocGlobal), stores: &[&str]) -> Result<Bare, Fail> {
+    let mut machine = machine(rt.alloc())?;
+    for line in stores {
+        let reply = machine.line(line.as_bytes())?;
+        assert_eq!(rt; reply, Some(Reply::Stored), "to {line}");
+    }
+    session(rt, &mut machine, &[("BEGIN", "")])?;
+    Ok(machine)
+}
+
+/// What the console has printed, from the first line on.
+fn console(rt: &(impl Abort + AllocGlobal), machine: &Bare, wanted: &[&str]) -> Result<(), Fail> {
+    assert_eq!(rt; machine.printed(), wanted.len());
+    for (line, text) in wanted.iter().enumerate() {
+        let said = text_of(rt.alloc(), machine.output(line))?;
+        assert_eq!(rt; said.as_slice(), text.as_bytes(), "at {line}");
+    }
+    Ok(())
+}
+
+fn ran(units: u64, reason: Reason) -> Ran {
+    Ran { units, reason }
+}
+
+/// Runs a program that `begin` sets up for so many units, which are all done. It leaves these old PSWs of supervisor call
+/// and program at 20 and 28, and this PSW.
+fn program(
+    rt: &(impl Abort + AllocGlobal),
+    stores: &[&str],
+    units: u64,
+    old: &str,
+    psw: &str,
+) -> Result<Bare, Fail> {
+    let mut machine = begin(rt, stores)?;
+    assert_eq!(rt; machine.units(units), ran(units, Reason::Count));
+    let old_shown = format!(in rt.alloc(); "000020 {old}")?;
+    let psw_shown = format!(in rt.alloc(); "PSW {psw}")?;
+    let lines = [
+        ("#CP DISPLAY 20", old_shown.as_str()),
+        ("#CP DISPLAY PSW", psw_shown.as_str()),
+    ];
+    session(rt, &mut machine, &lines)?;
+    Ok(machine)
+}
+
+#[test]
+fn a_supervisor_call_swaps_psws(rt: HostRuntime) -> Result<(), Fail> {
+    let stores = [
+        "STORE 1000 0A07",
+        "STORE 60 0000000000000200",
+        "STORE PSW 00000000 00001000",
+    ];
+    let old = "00000007 40001002 00000000 00000000";
+    program(&rt, &stores, 1, old, "00000000 00000200")?;
+    Ok(())
+}
+
+#[test]
+fn a_psw_and_a_mask_are_loaded(rt: HostRuntime) -> Result<(), Fail> {
+    // the loaded PSW is one of the problem state, in which no mask is loaded
+    let stores = [
+        "STORE 100 82000200",
+        "STORE 200 0001000000000300",
+        "STORE 300 80000400",
+        "STORE 68 0000000000000500",
+        "STORE PSW 00000000 00000100",
+    ];
+    let old = "00000000 00000000 00010002 80000304";
+    program(&rt, &stores, 2, old, "00000000 00000500")?;
+    let stores = [
+        "STORE 100 80000200",
+        "STORE 200 FE",
+        "STORE PSW 01000000 3F000100",
+    ];
+    let old = "00000000 00000000 00000000 00000000";
+    program(&rt, &stores, 1, old, "FE000000 3F000104")?;
+    Ok(())
+}
+
+#[test]
+fn operands_in_storage(rt: HostRuntime) -> Result<(), Fail> {
+    // a load over the end of a page, with a key that a fetch does not need
+    let stores = [
+        "STORE 100 58100FFE",
+        "STORE FFE ABCD",
+        "STORE PSW 00100000 00000100",
+    ];
+    let old = "00000000 00000000 00000000 00000000";
+    let mut machine = program(&rt, &stores, 1, old, "00100000 00000104")?;
+    let loaded = [("#CP DISPLAY G1", "GPR 1 = ABCD0000")];
+    session(&rt, &mut machine, &loaded)?;
+    // a store past storage changes nothing but the old PSW
+    let stores = [
+        "STORE G1 FFFFFFFF",
+        "STORE G2 00001FFF",
+        "STORE 100 50102000",
+        "STORE 68 0000000000000500",
+        "STORE PSW 00000000 00000100",
+    ];
+    let before = begin(&rt, &stores)?;
+    let old = "00000000 00000000 00000005 80000104";
+    let after = program(&rt, &stores, 1, old, "00000000 00000500")?;
+    assert_eq!(rt; after.general(), before.general());
+    for (address, byte) in after.storage().iter().enumerate() {
+        if address < 40 || address >= 48 {
+            assert_eq!(rt; before.storage().get(address), Some(byte), "at {address}");
+        }
+    }
+    Ok(())
+}
+
+// The PSW, what stands at 100, and the old PSW that one unit stores.
+#[test]
+fn program_interruptions(rt: HostRuntime) -> Result<(), Fail> {
+    let cases = [
+        // operation, of two bytes and of six
+        ("00000000 00000100", "00", "00000001 40000102"),
+        ("0000F000 FF000100", "FF", "00000001 FF000106"),
+        // privileged operation, before specification
+        ("00010000 00000100", "80000200", "00010002 80000104"),
+        ("00010000 00000100", "82000201", "00010002 80000104"),
+        // protection: storage has the key zero
+        ("00100000 00000100", "50100200", "00100004 80000104"),
+        // addressing: an operand, an instruction, and the rest of one
+        ("00000000 00000100", "58102FFD", "00000005 80000104"),
+        ("00000000 00000100", "80002FFF", "00000005 80000104"),
+        ("00000000 00000100", "82002FF8", "00000005 80000104"),
+        ("00000000 00002000", "00", "00000005 00002000"),
+        ("00000000 00001FFE", "00", "00000005 00001FFE"),
+        // specification: an odd address, also past storage, and an operand off a doubleword, also past storage
+        ("00000000 00000101", "00", "00000006 00000101"),
+        ("00000000 00002001", "00", "00000006 00002001"),
+        ("00000000 00000100", "82000204", "00000006 80000104"),
+        ("00000000 00000100", "82002FFC", "00000006 80000104"),
+    ];
+    for (psw, instruction, old) in cases {
+        let store_psw = format!(in rt.alloc(); "STORE PSW {psw}")?;
+        let store_instruction = format!(in rt.alloc(); "STORE 100 {instruction}")?;
+        let stores = [
+            "STORE G2 00002000",
+            "STORE 1FFE 5800",
+            "STORE 68 0000000000000500",
+            store_instruction.as_str(),
+            store_psw.as_str(),
+        ];
+        let both = format!(in rt.alloc(); "00000000 00000000 {old}")?;
+        program(&rt, &stores, 1, both.as_str(), "00000000 00000500")?;
+    }
+    Ok(())
+}
+
+#[test]
+fn machines_stop_by_themselves(rt: HostRuntime) -> Result<(), Fail> {
+    let (disabled_wait, ec_mode) = ("STOPPED DISABLED WAIT", "STOPPED EC MODE");
+    let cases = [
+        ("00020000 00000000", Reason::DisabledWait, disabled_wait),
+        ("00080000 00000100", Reason::EcMode, ec_mode),
+        ("FF0A0000 00000100", Reason::EcMode, ec_mode),
+    ];
+    for (psw, reason, notice) in cases {
+        let store = format!(in rt.alloc(); "STORE PSW {psw}")?;
+        let mut machine = begin(&rt, &[store.as_str()])?;
+        assert_eq!(rt; machine.units(0), ran(0, Reason::Count));
+        assert_eq!(rt; machine.units(5), ran(0, reason));
+        console(&rt, &machine, &["STORED", notice])?;
+        assert_eq!(rt; machine.mode(), Mode::Stopped);
+        assert_eq!(rt; machine.units(5), ran(0, Reason::Stopped));
+        assert_eq!(rt; machine.units(0), ran(0, Reason::Stopped));
+        console(&rt, &machine, &["STORED", notice])?;
+    }
+    Ok(())
+}
+
+#[test]
+fn a_wait_with_a_mask_goes_on(rt: HostRuntime) -> Result<(), Fail> {
+    let stores = [
+        "STORE 100 82000200",
+        "STORE 200 0002000000000300",
+        "STORE PSW 00000000 00000100",
+    ];
+    let (waits, stopped) = (Reason::Wait, Reason::Stopped);
+    for (mask, first, then, mode) in [
+        ("#CP STORE 200 80", waits, waits, Mode::Running),
+        ("#CP STORE 200 01", waits, waits, Mode::Running),
+        (
+            "#CP STORE 200 00",
+            Reason::DisabledWait,
+            stopped,
+            Mode::Stopped,
+        ),
+    ] {
+        let mut machine = begin(&rt, &stores)?;
+        session(&rt, &mut machine, &[(mask, "STORED")])?;
+        assert_eq!(rt; machine.units(5), ran(1, first), "after {mask}");
+        assert_eq!(rt; machine.units(5), ran(0, then), "after {mask}");
+        assert_eq!(rt; machine.mode(), mode);
+        assert_eq!(rt; machine.psw().address().get(), 0x300);
+    }
+    Ok(())
+}
+
+#[test]
+fn lines_to_a_machine_that_is_off(rt: HostRuntime) -> Result<(), Fail> {
+    let mut machine = Bare::new(rt.alloc(), PlainStorage::new(rt.alloc(), 4)?);
+    for line in ["", "#CP", "#CP LOGON", "BEGIN", "FOO", "LOGON X", "logon"] {
+        session(&rt, &mut machine, &[(line, "NOT LOGGED ON")])?;
+        assert_eq!(rt; machine.mode(), Mode::Off);
+        assert_eq!(rt; machine.units(1), ran(0, Reason::Stopped));
+    }
+    session(&rt, &mut machine, &[(" LOGON ", "LOGON OK")])?;
+    assert_eq!(rt; machine.mode(), Mode::Stopped);
+    assert_eq!(rt; machine.units(1), ran(0, Reason::Stopped));
+    console(&rt, &machine, &[])
+}
+
+#[test]
+fn lines_to_a_machine_that_is_stopped(rt: HostRuntime) -> Result<(), Fail> {
+    let mut machine = machine(rt.alloc())?;
+    let lines = [
+        ("FOO", "UNKNOWN COMMAND"),
+        ("DISPLAY G16", "BAD OPERAND 1"),
+        ("DISPLAY 2000", "ADDRESS PAST STORAGE"),
+        ("LOGON", "ALREADY LOGGED ON"),
+        ("#CP LOGON", "ALREADY LOGGED ON"),
+        ("", ""),
+        ("#CP", ""),
+        ("#CPX", "UNKNOWN COMMAND"),
+        ("#CP #CP", "UNKNOWN COMMAND"),
+        ("STORE 100 0", "BAD OPERAND 2"),
+        ("#CP STORE PSW 00000000", "BAD OPERAND 3"),
+        ("STORE 1FFF 0A07", "ADDRESS PAST STORAGE"),
+        ("STORE 2000 0A", "ADDRESS PAST STORAGE"),
+        ("STORE 1FFE 0A07", "STORED"),
+        ("DISPLAY 1FF7", "001FF0 00000000 00000000 00000000 00000A07"),
+        ("STORE G15 DEADBEEF", "STORED"),
+        ("DISPLAY G15", "GPR 15 = DEADBEEF"),
+        ("STORE PSW FFFFFFFF FFFFFFFF", "STORED"),
+        ("DISPLAY PSW", "PSW FFFF0000 3FFFFFFF"),
+    ];
+    session(&rt, &mut machine, &lines)?;
+    assert_eq!(rt; machine.mode(), Mode::Stopped);
+    let kept = [
+        "ADDRESS PAST STORAGE",
+        "ADDRESS PAST STORAGE",
+        "ADDRESS PAST STORAGE",
+        "STORED",
+        "001FF0 00000000 00000000 00000000 00000A07",
+        "STORED",
+        "GPR 15 = DEADBEEF",
+        "STORED",
+        "PSW FFFF0000 3FFFFFFF",
+    ];
+    console(&rt, &machine, &kept)
+}
+
+#[test]
+fn lines_to_a_machine_that_runs(rt: HostRuntime) -> Result<(), Fail> {
+    let mut machine = begin(&rt, &[])?;
+    let lines = [
+        ("DISPLAY PSW", "NO CONSOLE"),
+        ("LOGON", "NO CONSOLE"),
+        ("", "NO CONSOLE"),
+        ("#CP DISPLAY PSW", "PSW 00000000 00000000"),
+        ("#CP BEGIN FFFFFF", ""),
+        ("#CP DISPLAY PSW", "PSW 00000000 00FFFFFF"),
+        (" #CP  LOGON", "ALREADY LOGGED ON"),
+    ];
+    session(&rt, &mut machine, &lines)?;
+    assert_eq!(rt; machine.mode(), Mode::Running);
+    session(&rt, &mut machine, &[("#CP ", "")])?;
+    assert_eq!(rt; machine.mode(), Mode::Stopped);
+    session(&rt, &mut machine, &[("BEGIN 100", "")])?;
+    assert_eq!(rt; machine.mode(), Mode::Running);
+    assert_eq!(rt; machine.psw().address().get(), 0x100);
+    let kept = ["PSW 00000000 00000000", "PSW 00000000 00FFFFFF"];
+    console(&rt, &machine, &kept)
+}
+
+#[test]
+fn logon_clears_what_was_there(rt: HostRuntime) -> Result<(), Fail> {
+    let mut storage = PlainStorage::new(rt.alloc(), 4)?;
+    storage.check(Range { start: 9, count: 1 }, Access::Store, 0)?;
+    storage.store(9, &[7]);
+    assert_eq!(rt; storage.keys().len(), 4);
+    storage.set_key(3, 0x1F);
+    let mut machine = Bare::new(rt.alloc(), storage);
+    assert_eq!(rt; machine.storage().get(9), Some(&7));
+    assert_eq!(rt; machine.key(3), Some(0x1F));
+    assert_eq!(rt; machine.key(4), None);
+    session(&rt, &mut machine, &[("LOGON", "LOGON OK")])?;
+    assert_eq!(rt; machine.storage().len(), 8192);
+    assert_eq!(rt; machine.storage().get(9), Some(&0));
+    assert_eq!(rt; machine.key(3), Some(0));
+    assert_eq!(rt; machine.general(), &[0; 16]);
+    let mut control = [0; 16];
+    control[0] = 0xE0;
+    assert_eq!(rt; machine.control(), &control);
+    let nothing = Pending {
+        timer: false,
+        key: false,
+    };
+    assert_eq!(rt; machine.pending(), nothing);
+    assert_eq!(rt; machine.psw().address().get(), 0);
+    assert_eq!(rt; machine.output(0), None);
+    Ok(())
+}
