@@ -7,5 +7,7 @@
 //! ([`transcript::print_reply`]).
 #![tactic(auto)]
 
+pub mod replies;
 pub mod script;
+pub mod session;
 pub mod transcript;
