@@ -1,6 +1,7 @@
 //! The control program: many users on one System/370.
 #![tactic(auto)]
 
+mod boot;
 mod events;
 mod panel;
 mod places;
@@ -8,6 +9,7 @@ mod run;
 mod seat;
 mod system;
 
+pub use boot::Sizes;
 pub use events::{Answer, BootError, CpError, End, Event, Ran, Reply};
 pub use places::{change_over, display_over};
 pub use run::spell_over;
