@@ -1,5 +1,5 @@
 //! Instructions as an independent System/370 executed them, and the ends of fetches.
-use super::{Stop, step};
+use super::{Stop, step, supervise};
 use s370_psw::{Ilc, ProgramCode, Psw};
 use s370_rows::{Cpu, Instruction};
 use s370_store::{Access, Keyed, PlainStorage, Range, Storage, load_word};
@@ -15,16 +15,16 @@ struct Outcome {
     operand: u32,
 }
 
-/// One unit over 4 MiB, with an instruction at the address of the program status word and a word of an operand. Of the
-/// keys, each with an address in its block, the five bits on the left count. What is not named is zero.
-fn ran(
+/// A processor over 4 MiB, with an instruction at the address of the program status word and the bytes of an operand. Of
+/// the keys, each with an address in its block, the five bits on the left count. What is not named is zero.
+fn ready(
     alloc: Global,
     psw: u64,
     general: &[(u8, u32)],
     keys: &[(u32, u8)],
     instruction: &[u8],
-    operand: (u32, u32),
-) -> Result<Outcome, Fail> {
+    operand: (u32, &[u8]),
+) -> Result<(Cpu, PlainStorage), Fail> {
     let mut storage = PlainStorage::new(alloc, 2048)?;
     for (address, key) in keys {
         set_key(&mut storage, *address, *key);
@@ -37,8 +37,22 @@ fn ran(
     for (register, value) in general {
         cpu.general[(*register & 15) as usize] = *value;
     }
-    place(&mut storage, operand.0, &operand.1.to_be_bytes())?;
+    place(&mut storage, operand.0, operand.1)?;
     place(&mut storage, cpu.psw.address().get(), instruction)?;
+    Ok((cpu, storage))
+}
+
+/// One unit of a processor that is ready, with a word of an operand.
+fn ran(
+    alloc: Global,
+    psw: u64,
+    general: &[(u8, u32)],
+    keys: &[(u32, u8)],
+    instruction: &[u8],
+    operand: (u32, u32),
+) -> Result<Outcome, Fail> {
+    let word = operand.1.to_be_bytes();
+    let (mut cpu, mut storage) = ready(alloc, psw, general, keys, instruction, (operand.0, &word))?;
     let stop = step(&mut cpu, &mut storage);
     Ok(Outcome {
         stop,
@@ -223,6 +237,72 @@ fn privileged_instructions(rt: HostRuntime) -> Result<(), Fail> {
     )?;
     assert_eq!(rt; unit.stop, handed_back(0x82));
     assert_eq!(rt; unit.psw, 0x00010000_00000300);
+    Ok(())
+}
+
+// The program status word, a base register, the key of a block, the instruction and its operand; then the end and the
+// program status word that is left.
+#[test]
+fn instructions_for_the_supervisor(rt: HostRuntime) -> Result<(), Fail> {
+    let cases = [
+        (
+            0x2EE00000_18086886,
+            (1, 0x83085D09),
+            (0x086800, 0xE8),
+            0x80FF1C27_u32,
+            (0x086930, 0x57000000_00000000_u64),
+            Stop::Done,
+            0x57E00000_1808688A,
+        ),
+        (
+            0x21600000_0F0C8024,
+            (3, 0x5E3FFFFF),
+            (0x3FF800, 0x58),
+            0x80003000,
+            (0, 0),
+            Stop::Program(ProgramCode::Protection, Ilc::TWO),
+            0x21600000_0F0C8028,
+        ),
+        (
+            0x03100000_18062068,
+            (14, 0xF0846DE9),
+            (0x062000, 0xB0),
+            0x8001E000,
+            (0, 0),
+            Stop::Program(ProgramCode::Addressing, Ilc::TWO),
+            0x03100000_1806206C,
+        ),
+        (
+            0x00000000_380B9032,
+            (3, 0x000B8836),
+            (0x0B9000, 0xF8),
+            0x82EC3FC2,
+            (0x0B97F8, 0xC0000000_0A0B90F0),
+            Stop::Done,
+            0xC0000000_0A0B90F0,
+        ),
+        (
+            0x00100000_1018B816,
+            (11, 0x0018B990),
+            (0x18C000, 0x08),
+            0x825DB7B0,
+            (0x18C140, 0xD9040000_4F18B8F2),
+            Stop::Program(ProgramCode::Protection, Ilc::TWO),
+            0x00100000_1018B81A,
+        ),
+    ];
+    for (psw, base, key, instruction, (at, operand), stop, left) in cases {
+        let bytes = instruction.to_be_bytes();
+        let doubleword = operand.to_be_bytes();
+        let operand = (at, doubleword.as_slice());
+        let (mut cpu, mut storage) = ready(rt.alloc(), psw, &[base], &[key], &bytes, operand)?;
+        let end = match step(&mut cpu, &mut storage) {
+            Stop::Privileged(i, ilc) => supervise(&mut cpu, &mut storage, i, ilc),
+            end => end,
+        };
+        assert_eq!(rt; end, stop);
+        assert_eq!(rt; cpu.psw.to_word(0, Ilc::ZERO), left);
+    }
     Ok(())
 }
 
