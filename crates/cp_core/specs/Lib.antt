@@ -2,4 +2,5 @@ pub mod Seats
 pub mod Runs
 pub mod Lines
 pub mod Whole
+pub mod Sizes
 pub mod System

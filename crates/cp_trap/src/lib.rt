@@ -6,12 +6,18 @@
 //! that the unit needs.
 //!
 //! The real machine runs a guest in the problem state, always: [`step`](s370_cpu::step) hands every privileged
-//! instruction back, whatever the program status word of the guest says. What the guest believes to be its own
-//! registers is the [`VirtualCpu`]. Each instruction that is handed back goes to [`simulate`], which carries it out on the
+//! instruction back, whatever the program status word of the guest says. What the guest takes for the real registers is
+//! the [`VirtualCpu`]. Each instruction that is handed back goes to [`simulate`], which carries it out on the
 //! virtual registers where they are in the supervisor state, and refuses it in the virtual problem state alone. An
 //! interruption is given to the guest by [`reflect`], which swaps the virtual program status words in the guest's own
 //! storage. A page that is not present, at whichever of these steps, leaves everything as it was before the unit:
 //! [`unit_of`] brings the page and tries the unit again.
+//!
+//! ```
+//! let mut cpu = VirtualCpu { seen };
+//! let mut storage = Dat::new(&mut frames, keys, UserNo(0));
+//! unit_of(&mut cpu, &mut storage)?;
+//! ```
 #![tactic(auto)]
 
 mod privileged;

@@ -1,0 +1,51 @@
+-- The parts of a system at boot.
+use Rattle.std.proofs.Common.{◌≡◌, ℕ, ◌+◌, ◌*◌, ◌<◌, ◌≤◌, List, [], ◌∷◌, ◌++◌, length, map, get_or, zero, suc, refl, sym, ◌∙◌, ap, arith, replicate}
+use Rattle.std.proofs.lemmas.List.{length-replicate}
+use Rattle.cp_directory.specs.Users.{DirectoryUser}
+use Rattle.bare_machine.specs.Machine.{Machine}
+use Rattle.cp_core.specs.Seats.{Seated, machine_of, Fits}
+use Rattle.cp_core.specs.System.{machines_of, new_machine}
+use Rattle.cp_core.specs.Whole.{AreNew, IsNew, IsWhole, no_seat}
+
+-- one seat more
+pub new_more : (seats : List Seated) (users : List DirectoryUser) (seat : Seated) (user : DirectoryUser) → AreNew seats users → IsNew seat user → AreNew (seats ++ seat ∷ []) (users ++ user ∷ [])
+new_more [] [] seat user h n = (n, tt)
+new_more [] (u ∷ us) seat user h n = absurd h
+new_more (s ∷ ss) [] seat user h n = absurd h
+new_more (s ∷ ss) (u ∷ us) seat user h n = (h.0, new_more ss us seat user h.1 n)
+
+-- the storages of these users at boot
+abbrev pub blank : List DirectoryUser → List (List ℕ)
+blank users = map (λ pages. replicate (pages * 4096) 0) (map (λ (user : DirectoryUser). user.pages) users)
+
+pub new_machines : (seats : List Seated) (users : List DirectoryUser) → AreNew seats users → machines_of seats (blank users) ≡ map new_machine users
+new_machines [] [] h = refl
+new_machines [] (u ∷ us) h = absurd h
+new_machines (s ∷ ss) [] h = absurd h
+new_machines (s ∷ ss) (u ∷ us) h = rw (h.0.off (replicate (u.pages * 4096) 0), new_machines ss us h.1) refl
+
+length_new : (seats : List Seated) (users : List DirectoryUser) → AreNew seats users → length seats ≡ length users
+length_new [] [] h = refl
+length_new [] (u ∷ us) h = absurd h
+length_new (s ∷ ss) [] h = absurd h
+length_new (s ∷ ss) (u ∷ us) h = ap suc (length_new ss us h.1)
+
+length_blank : (users : List DirectoryUser) → length (blank users) ≡ length users
+length_blank [] = refl
+length_blank (u ∷ us) = ap suc (length_blank us)
+
+fits_new : (seat : Seated) (user : DirectoryUser) → IsNew seat user → Fits seat (replicate (user.pages * 4096) 0)
+fits_new seat user n =
+    let keys : length seat.keys ≡ user.pages * 2 = ap (λ (m : Machine). length m.processor.keys) (n.off []) ∙ length-replicate {A = ℕ} (user.pages * 2) 0 in
+    let bytes : length {A = ℕ} (replicate (user.pages * 4096) 0) ≡ user.pages * 4096 = length-replicate {A = ℕ} (user.pages * 4096) 0 in
+    record { large = omega (arith, bytes, n.sized); keyed = omega (arith, bytes, keys) }
+
+all_fit : (seats : List Seated) (users : List DirectoryUser) → AreNew seats users → (k : ℕ) → k < length users → Fits (get_or seats k no_seat) (get_or (blank users) k [])
+all_fit [] [] h k l = absurd (omega arith)
+all_fit [] (u ∷ us) h k l = absurd h
+all_fit (s ∷ ss) [] h k l = absurd h
+all_fit (s ∷ ss) (u ∷ us) h zero l = fits_new s u h.0
+all_fit (s ∷ ss) (u ∷ us) h (suc k) l = all_fit ss us h.1 k (omega arith)
+
+pub whole_new : (seats : List Seated) (users : List DirectoryUser) → AreNew seats users → length users ≤ 64 → IsWhole seats (blank users) users
+whole_new seats users h few = record { seated = length_new seats users h; stored = length_blank users; few = few; fits = all_fit seats users h }

@@ -1,0 +1,115 @@
+//! Boot: a system from a directory.
+ghost use Rattle.std.specs.Prelude.{◌≡◌, ◌*◌, ◌<◌, ◌≤◌, ◌↔◌, ℕ, All, IfOk, IfSome, IsSome, length, map};
+ghost use Rattle.cp_core.specs.System.{booted};
+ghost use Rattle.cp_core.specs.Whole.{AreNew};
+
+use crate::events::BootError;
+use crate::seat::Seat;
+use crate::system::System;
+use cp_directory::{Directory, User};
+use cp_frames::Frames;
+use std::alloc::{AllocError, Global};
+use std::marker::Model;
+
+/// How many frames and slots a system has.
+#[derive(Clone, Copy, Debug, PartialEq, Eq)]
+pub struct Sizes {
+    frames: u16,
+    slots: u32,
+}
+
+impl Model for Sizes {
+    ghost use Rattle.std.specs.Prelude.{◌≤◌};
+    ghost use Rattle.cp_core.specs.Sizes.{SystemSizes};
+
+    ghost Value = { SystemSizes };
+
+    ghost view = { λ s. record { frames = s.frames; slots = s.slots } };
+
+    ghost invariant = { λ s. (s.frames ≤ 4096) × (s.slots ≤ 65536) };
+
+    ghost inverse = { λ v. record { frames = v.frames; slots = v.slots } };
+}
+
+impl Sizes {
+    /// So many frames of real storage and slots for pages, if there are no more than 4096 and 65,536.
+    pub fn new(frames: u32, slots: u32) -> Option<Sizes>
+        ensures some { IsSome result ↔ ((frames ≤ 4096) × (slots ≤ 65536)) }
+        ensures value { IfSome result (λ sizes. sizes ≡ record { frames = frames; slots = slots }) }
+    {
+        if frames > 4096 {
+            return None;
+        }
+        if slots > 65536 {
+            return None;
+        }
+        Some(Sizes {
+            frames: frames as u16,
+            slots,
+        })
+    }
+
+    /// How many frames.
+    pub fn frames(self) -> u16
+        ensures value { result ≡ self.frames }
+        ensures most { result ≤ 4096 }
+    {
+        self.frames
+    }
+}
+
+impl System {
+    /// The system that a directory states, on so many frames: every user is off, and storage is zero.
+    ///
+    /// No slots are used yet.
+    pub fn boot(alloc: Global, directory: Directory, sizes: Sizes) -> Result<System, BootError>
+        requires { length directory ≤ 64 }
+        ensures ok { IfOk result (λ system. system ≡ booted directory sizes.frames) }
+        ensures too_few { (result ≡ Err BootError.TooFewFrames) ↔ (sizes.frames < 16) }
+    {
+        if sizes.frames() < 16 {
+            return Err(BootError::TooFewFrames);
+        }
+        let seats = match seats_of(alloc, directory.users()) {
+            Ok(seats) => seats,
+            Err(_) => return Err(BootError::Memory),
+        };
+        let pages = match pages_of(alloc, directory.users()) {
+            Ok(pages) => pages,
+            Err(_) => return Err(BootError::Memory),
+        };
+        match Frames::new(alloc, sizes.frames(), pages) {
+            Ok(frames) => Ok(System {
+                directory,
+                seats,
+                frames,
+                is_spent: false,
+            }),
+            Err(_) => Err(BootError::Memory),
+        }
+    }
+}
+
+/// A seat for each user.
+fn seats_of(alloc: Global, users: &[User]) -> Result<Vec<Seat>, AllocError>
+    ensures { IfOk result (λ seats. AreNew seats.items users.now) }
+{
+    let mut seats = Vec::new(alloc);
+    for user in users {
+        let seat = Seat::new(alloc, user.storage().pages())?;
+        seats.push(seat)?;
+    }
+    Ok(seats)
+}
+
+/// How many pages of storage each user has.
+fn pages_of(alloc: Global, users: &[User]) -> Result<Vec<u32>, AllocError>
+    ensures pages { IfOk result (λ pages. pages.items ≡ map (λ user. user.pages) users.now) }
+    ensures few { IfOk result (λ pages. All (λ count. count ≤ 1024) pages.items) }
+{
+    let mut pages = Vec::new(alloc);
+    for user in users {
+        pages.push(user.storage().pages())?;
+    }
+    Ok(pages)
+}
