@@ -1,3 +1,5 @@
 pub mod Script
 pub mod Grammar
 pub mod Transcript
+pub mod Options
+pub mod Faults

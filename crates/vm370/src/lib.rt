@@ -7,5 +7,7 @@
 //! ([`transcript::print_reply`]).
 #![tactic(auto)]
 
+pub mod arguments;
+pub mod faults;
 pub mod script;
 pub mod transcript;
