@@ -7,6 +7,8 @@
 //! ([`transcript::print_reply`]).
 #![tactic(auto)]
 
+pub mod arguments;
+pub mod faults;
 pub mod replies;
 pub mod script;
 pub mod session;

@@ -1,0 +1,56 @@
+-- What the program says of its failure, and its exit status.
+use Rattle.std.specs.Prelude.{ℕ, List, ◌++◌, ◌∷◌, codes}
+use Rattle.std.specs.Fmt.{decimal}
+use Rattle.cp_core.specs.declared.events.BootError.{BootError}
+use Rattle.cp_core.specs.declared.events.BootError.TheVariants as boots
+use Rattle.cp_directory.specs.declared.faults.DirError.{DirError}
+use Rattle.cp_directory.specs.declared.faults.DirError.TheVariants as directories
+use Rattle.vm370.specs.declared.faults.Failure.{Failure}
+use Rattle.vm370.specs.declared.faults.Failure.TheVariants as failures
+
+-- a directory that was not read: the name of its fault, and the numbers of its lines
+abbrev pub directory_text : DirError → List ℕ
+directory_text directories.Memory = codes "fault: memory Memory"
+directory_text (directories.Syntax line) = codes "fault: directory Syntax " ++ decimal line
+directory_text (directories.UnknownStatement line) = codes "fault: directory UnknownStatement " ++ decimal line
+directory_text (directories.DuplicateUser line) = codes "fault: directory DuplicateUser " ++ decimal line
+directory_text (directories.DuplicateDevice line) = codes "fault: directory DuplicateDevice " ++ decimal line
+directory_text (directories.BadStorage line) = codes "fault: directory BadStorage " ++ decimal line
+directory_text (directories.BadExtent line) = codes "fault: directory BadExtent " ++ decimal line
+directory_text (directories.Overlap first line) = codes "fault: directory Overlap " ++ (decimal first ++ (codes " " ++ decimal line))
+directory_text (directories.TooMany line) = codes "fault: directory TooMany " ++ decimal line
+
+-- a system that was not booted
+abbrev pub boot_text : BootError → List ℕ
+boot_text boots.Memory = codes "fault: memory Memory"
+boot_text boots.TooFewFrames = codes "fault: boot TooFewFrames"
+
+-- the line of a failure
+abbrev pub fault_text : Failure → List ℕ
+fault_text (failures.Directory error) = directory_text error
+fault_text (failures.Boot error) = boot_text error
+fault_text (failures.Script line) = codes "fault: script Line " ++ decimal line
+fault_text (failures.File count) = codes "fault: file Device " ++ decimal count
+fault_text failures.Memory = codes "fault: memory Memory"
+fault_text failures.Spent = codes "fault: memory Spent"
+fault_text failures.Usage = codes "usage: vm370 DIRECTORY SCRIPT"
+
+-- a directory that is refused is refused input, unless memory was
+abbrev pub directory_status : DirError → ℕ
+directory_status directories.Memory = 4
+directory_status _ = 1
+
+-- so is what can't be booted
+abbrev pub boot_status : BootError → ℕ
+boot_status boots.Memory = 4
+boot_status _ = 1
+
+-- refused input is 1, a wrong use 2, a file that failed 3, memory 4
+abbrev pub status_of : Failure → ℕ
+status_of (failures.Directory error) = directory_status error
+status_of (failures.Boot error) = boot_status error
+status_of (failures.Script line) = 1
+status_of (failures.File count) = 3
+status_of failures.Memory = 4
+status_of failures.Spent = 4
+status_of failures.Usage = 2

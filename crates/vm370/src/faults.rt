@@ -1,0 +1,135 @@
+//! What the program says of its failure, and its exit status.
+ghost use Rattle.std.specs.Prelude.{◌≡◌, IfOk, string_bytes};
+ghost use Rattle.vm370.specs.Faults.{boot_text, directory_text, fault_text, status_of};
+
+use cp_core::BootError;
+use cp_directory::DirError;
+use std::alloc::{AllocError, Global};
+
+/// Why the program ends before its end.
+#[derive(Debug, Drop, PartialEq, Eq)]
+pub enum Failure {
+    /// The directory was not read.
+    Directory(DirError),
+    /// The system was not booted.
+    Boot(BootError),
+    /// This line of the script, counted from 1, is the first that is refused.
+    Script(u64),
+    /// A file of the host failed, for this time in number.
+    File(u64),
+    /// A growth was refused.
+    Memory,
+    /// An earlier event was refused memory, and the system does no more.
+    Spent,
+    /// The words are not those of the program.
+    Usage,
+}
+
+/// The line that is printed for a failure, without its end: `fault:`, what failed, the name of the
+/// refusal and its numbers.
+pub fn fault_line(alloc: Global, failure: &Failure) -> Result<String, AllocError>
+    ensures { IfOk result (λ line. string_bytes line ≡ fault_text failure.now) }
+{
+    match failure {
+        Failure::Directory(error) => directory_line(alloc, *error),
+        Failure::Boot(error) => boot_line(alloc, error),
+        Failure::Script(line) => format!(in alloc; "fault: script Line {line}"),
+        Failure::File(count) => format!(in alloc; "fault: file Device {count}"),
+        Failure::Memory => String::from_str(alloc, "fault: memory Memory"),
+        Failure::Spent => String::from_str(alloc, "fault: memory Spent"),
+        Failure::Usage => String::from_str(alloc, "usage: vm370 DIRECTORY SCRIPT"),
+    }
+}
+
+/// The line for a directory that was not read.
+fn directory_line(alloc: Global, error: DirError) -> Result<String, AllocError>
+    ensures { IfOk result (λ line. string_bytes line ≡ directory_text error) }
+{
+    match error {
+        DirError::Memory => String::from_str(alloc, "fault: memory Memory"),
+        DirError::Syntax(line) => format!(in alloc; "fault: directory Syntax {line}"),
+        DirError::UnknownStatement(line) => {
+            format!(in alloc; "fault: directory UnknownStatement {line}")
+        }
+        DirError::DuplicateUser(line) => format!(in alloc; "fault: directory DuplicateUser {line}"),
+        DirError::DuplicateDevice(line) => {
+            format!(in alloc; "fault: directory DuplicateDevice {line}")
+        }
+        DirError::BadStorage(line) => format!(in alloc; "fault: directory BadStorage {line}"),
+        DirError::BadExtent(line) => format!(in alloc; "fault: directory BadExtent {line}"),
+        DirError::Overlap(first, line) => format!(in alloc;
+            "fault: directory Overlap {first} {line}"
+        ),
+        DirError::TooMany(line) => format!(in alloc; "fault: directory TooMany {line}"),
+    }
+}
+
+/// The line for a system that was not booted.
+fn boot_line(alloc: Global, error: &BootError) -> Result<String, AllocError>
+    ensures { IfOk result (λ line. string_bytes line ≡ boot_text error.now) }
+{
+    match error {
+        BootError::Memory => String::from_str(alloc, "fault: memory Memory"),
+        BootError::TooFewFrames => String::from_str(alloc, "fault: boot TooFewFrames"),
+    }
+}
+
+/// The exit status of a failure: 1 where input was refused, 2 for a wrong use, 3 where a file of the
+/// host failed, 4 where memory did.
+pub fn status(failure: &Failure) -> u8
+    ensures { result ≡ status_of failure.now }
+{
+    match failure {
+        Failure::Directory(DirError::Memory) => 4,
+        Failure::Directory(_) => 1,
+        Failure::Boot(BootError::Memory) => 4,
+        Failure::Boot(_) => 1,
+        Failure::Script(_) => 1,
+        Failure::File(_) => 3,
+        Failure::Memory => 4,
+        Failure::Spent => 4,
+        Failure::Usage => 2,
+    }
+}
+
+#[cfg(test)]
+mod tests {
+    use super::*;
+    use std::test::Fail;
+
+    #[test]
+    fn tells_each_failure(rt: HostRuntime) -> Result<(), Fail> {
+        for (failure, line, code) in [
+            (
+                Failure::Directory(DirError::DuplicateUser(2)),
+                "fault: directory DuplicateUser 2",
+                1,
+            ),
+            (
+                Failure::Directory(DirError::Overlap(2, 4)),
+                "fault: directory Overlap 2 4",
+                1,
+            ),
+            (
+                Failure::Directory(DirError::Memory),
+                "fault: memory Memory",
+                4,
+            ),
+            (
+                Failure::Boot(BootError::TooFewFrames),
+                "fault: boot TooFewFrames",
+                1,
+            ),
+            (Failure::Boot(BootError::Memory), "fault: memory Memory", 4),
+            (Failure::Script(3), "fault: script Line 3", 1),
+            (Failure::File(1), "fault: file Device 1", 3),
+            (Failure::Memory, "fault: memory Memory", 4),
+            (Failure::Spent, "fault: memory Spent", 4),
+        ] {
+            assert_eq!(rt; fault_line(rt.alloc(), &failure)?.as_str(), line);
+            assert_eq!(rt; status(&failure), code, "{line}");
+        }
+        assert_eq!(rt; status(&Failure::Usage), 2);
+        Ok(())
+    }
+}
