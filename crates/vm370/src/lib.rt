@@ -1,10 +1,14 @@
-//! The outer layer of the programs: the script that is read, and the transcript that is written.
+//! The outer layer of the programs: from a script's bytes to exactly its transcript's bytes.
+//!
+//! What a session writes is what the control program answered to the events that the script names,
+//! and each reply is what a bare machine tells ([`session::session`]). After any failure it is a
+//! beginning of that.
 //!
 //! A script's bytes name events exactly where they are a text of the grammar of docs/FORMATS.md, and
 //! any other text is refused at its first line that the grammar does not have
 //! ([`script::reads_grammar`] carries that law, [`script::read_script`] keeps it). The lines that the
 //! transcript has for an event are those of that document, in its order
-//! ([`transcript::print_reply`]).
+//! ([`replies::print_event`]).
 #![tactic(auto)]
 
 pub mod arguments;

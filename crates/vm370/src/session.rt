@@ -124,3 +124,6 @@ fn act<W: HostWriter>(
     write_all(writer, &lines)?;
     Ok(())
 }
+
+#[cfg(test)]
+mod tests;
