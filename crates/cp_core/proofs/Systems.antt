@@ -76,3 +76,21 @@ told_line typed answer owners user e f h = rw (e, f) h
 pub told_lines : {E : Type 0} (typed : List ℕ) (owners : List (Option UserPage)) (user : ℕ) {old old' new new' : Machine} → old' ≡ old → new' ≡ new → (r : Result Answer E) → IfOk r (λ answer. TellsLine typed old answer new owners user) → IfOk r (λ answer. TellsLine typed old' answer new' owners user)
 told_lines typed owners user e f (Ok answer) h = told_line typed answer owners user e f h
 told_lines typed owners user e f (Err error) h = tt
+
+-- a user's machine, by his seat
+pub seat_is : (seats : List Seated) (storages : List (List ℕ)) (users : List DirectoryUser) (ms : List Machine) (user : ℕ) (seat : Seated) → IsWhole seats storages users → machines_of seats storages ≡ ms → user < length ms → seat ≡ get_or seats user seat → get_or ms user nobody ≡ machine_of seat (get_or ms user nobody).processor.bytes
+seat_is seats storages users ms user seat whole e h same =
+    let same_length : length seats ≡ length storages = omega (arith, whole.seated, whole.stored) in
+    let inside : user < length seats = omega (arith, length-machines seats storages same_length, ap length e) in
+    let s : seat ≡ get_or seats user no_seat = same ∙ get_or_default seats user seat no_seat inside in
+    let m : get_or ms user nobody ≡ machine_of seat (get_or storages user []) =
+      ap (λ (xs : List Machine). get_or xs user nobody) (sym e) ∙ get-machines seats storages user no_seat [] nobody inside same_length
+      ∙ ap (λ (x : Seated). machine_of x (get_or storages user [])) (sym s) in
+    m ∙ ap (machine_of seat) (sym (ap (λ (x : Machine). x.processor.bytes) m))
+
+-- the bytes of a user's machine are his storage
+pub bytes_are : (seats : List Seated) (storages : List (List ℕ)) (users : List DirectoryUser) (ms : List Machine) (user : ℕ) → IsWhole seats storages users → machines_of seats storages ≡ ms → user < length ms → get_or storages user [] ≡ (get_or ms user nobody).processor.bytes
+bytes_are seats storages users ms user whole e h =
+    let same_length : length seats ≡ length storages = omega (arith, whole.seated, whole.stored) in
+    let inside : user < length seats = omega (arith, length-machines seats storages same_length, ap length e) in
+    sym (ap (λ (xs : List Machine). (get_or xs user nobody).processor.bytes) (sym e) ∙ ap (λ (x : Machine). x.processor.bytes) (get-machines seats storages user no_seat [] nobody inside same_length))

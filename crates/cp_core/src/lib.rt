@@ -8,6 +8,7 @@ mod places;
 mod run;
 mod seat;
 mod system;
+mod views;
 
 pub use boot::Sizes;
 pub use events::{Answer, BootError, CpError, End, Event, Ran, Reply};

@@ -35,6 +35,7 @@ impl System {
     /// How many users the directory has.
     pub fn users(&self) -> usize
         ensures value { result ≡ length self.now.machines }
+        ensures directory { result ≡ length self.now.users }
         ensures few { result ≤ 64 }
     {
         self.seats.len()
@@ -98,6 +99,7 @@ impl System {
         ensures spent { (result ≡ Err CpError.Spent) ↔ (self.old.is_spent ≡ true) }
         ensures unchanged_if_spent { result ≡ Err CpError.Spent → self.new ≡ self.old }
         ensures no_such_user { (result ≡ Err CpError.NoSuchUser) ↔ ((self.old.is_spent ≡ false) × (length self.old.machines ≤ user_of event.entry)) }
+        ensures not_stated { result ≡ Err CpError.NoSuchUser → length self.old.users ≤ user_of event.entry }
         ensures unchanged_for_nobody { result ≡ Err CpError.NoSuchUser → self.new ≡ self.old }
         ensures memory { result ≡ Err CpError.Memory → (self.new.is_spent ≡ true) × IsLine event.entry }
     {

@@ -6,6 +6,7 @@ ghost use Rattle.cp_directory.specs.Statements.{has_name};
 
 use crate::name::UserName;
 use crate::storage::StorageSize;
+use cp_text::users::Named;
 use std::alloc::{AllocError, Global};
 use std::marker::Model;
 
@@ -51,6 +52,14 @@ impl User {
         ensures { result ≡ has_name name.now self.now }
     {
         self.name() == name
+    }
+}
+
+impl Named for User {
+    ghost name = { λ user. user.name };
+
+    fn name(&self) -> &[u8] {
+        self.name.as_bytes()
     }
 }
 

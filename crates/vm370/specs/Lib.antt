@@ -3,3 +3,5 @@ pub mod Grammar
 pub mod Transcript
 pub mod Options
 pub mod Faults
+pub mod Replies
+pub mod Session

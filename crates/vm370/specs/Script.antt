@@ -6,8 +6,8 @@ use Rattle.cp_text.specs.Lines.{lines_of, read_lines}
 use Rattle.cp_text.specs.Words.{word_of, after_word}
 use Rattle.cp_text.specs.Numbers.{decimal_of}
 use Rattle.cp_text.specs.Users.{user_of}
-use Rattle.vm370.specs.declared.script.Event.{Event}
-use Rattle.vm370.specs.declared.script.Event.TheVariants as events
+use Rattle.cp_core.specs.declared.events.Event.{Event}
+use Rattle.cp_core.specs.declared.events.Event.TheVariants as events
 use Rattle.vm370.specs.declared.script.ScriptError.{ScriptError}
 use Rattle.vm370.specs.declared.script.ScriptError.TheVariants as errors
 
@@ -22,11 +22,6 @@ pub data Said : Type 0 where
 abbrev pub said : Event → Said
 said (events.Run user units) = Run user.0 units
 said (events.Line user text) = Line user.0 text.now
-
--- whose event it is
-abbrev pub user_in : Said → ℕ
-user_in (Run user units) = user
-user_in (Line user text) = user
 
 -- an event of one of so many users
 abbrev pub IsOfUser : ℕ → Event → Type 0

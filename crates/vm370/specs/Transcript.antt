@@ -3,11 +3,12 @@ use Rattle.std.specs.Prelude.{ℕ, List, [], ◌∷◌, ◌++◌, ◌≡◌, ◌
 use Rattle.std.specs.Fmt.{decimal}
 use Rattle.cp_text.specs.Lines.{lines_of}
 use Rattle.cp_text.specs.Users.{name_of}
+use Rattle.bare_machine.specs.declared.state.Reason.TheVariants as reasons
+use Rattle.cp_core.specs.declared.events.End.{End}
+use Rattle.cp_core.specs.declared.events.End.TheVariants as ends
 use Rattle.vm370.specs.declared.transcript.Ending.{Ending}
 use Rattle.vm370.specs.declared.transcript.Ending.TheVariants as endings
 use Rattle.vm370.specs.declared.transcript.Printed.{Printed}
-use Rattle.vm370.specs.declared.transcript.Reason.{Reason}
-use Rattle.vm370.specs.declared.transcript.Reason.TheVariants as reasons
 use Rattle.vm370.specs.declared.transcript.Told.{Told}
 
 -- a line that was printed at a user's terminal
@@ -29,13 +30,13 @@ abbrev pub telling : Told → Telling
 telling told = record { lines = map printed told.lines.items; ending = told.ending }
 
 -- why a run ended, in one word
-abbrev pub reason_word : Reason → List ℕ
-reason_word reasons.Count = codes "COUNT"
-reason_word reasons.Wait = codes "WAIT"
-reason_word reasons.DisabledWait = codes "DISABLEDWAIT"
-reason_word reasons.EcMode = codes "ECMODE"
-reason_word reasons.Stopped = codes "STOPPED"
-reason_word reasons.Frames = codes "FRAMES"
+abbrev pub reason_word : End → List ℕ
+reason_word (ends.Ended reasons.Count) = codes "COUNT"
+reason_word (ends.Ended reasons.Wait) = codes "WAIT"
+reason_word (ends.Ended reasons.DisabledWait) = codes "DISABLEDWAIT"
+reason_word (ends.Ended reasons.EcMode) = codes "ECMODE"
+reason_word (ends.Ended reasons.Stopped) = codes "STOPPED"
+reason_word ends.OutOfFrames = codes "FRAMES"
 
 -- `u: text`
 abbrev pub told_line : List ℕ → List ℕ → List ℕ

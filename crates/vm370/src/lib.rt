@@ -9,5 +9,7 @@
 
 pub mod arguments;
 pub mod faults;
+pub mod replies;
 pub mod script;
+pub mod session;
 pub mod transcript;

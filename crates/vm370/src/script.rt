@@ -3,8 +3,9 @@ ghost use Rattle.std.specs.Prelude.{◌≡◌, ℕ, ◌<◌, ◌≤◌, ◌+◌,
 ghost use Rattle.std.specs.Option.{option_map};
 ghost use Rattle.cp_text.specs.Lines.{lines_of};
 ghost use Rattle.vm370.specs.Grammar.{ReadsGrammar};
-ghost use Rattle.vm370.specs.Script.{IsOfUser, IsRefusal, is_ignored, operands_of, run_of, said, said_of, script_of, typed_of, user_in};
+ghost use Rattle.vm370.specs.Script.{IsOfUser, IsRefusal, is_ignored, operands_of, run_of, said, said_of, script_of, typed_of};
 
+use cp_core::Event;
 use cp_text::lines::cut_line;
 use cp_text::numbers::decimal_of;
 use cp_text::users::{Named, UserNo, user_of};
@@ -17,27 +18,6 @@ const DIGITS: usize = 7;
 
 /// The most units of one `RUN`.
 const MOST_UNITS: u32 = 1_000_000;
-
-/// An event that a script names.
-#[derive(Clone, Copy, Debug, PartialEq, Eq, Drop)]
-pub enum Event<'a> {
-    /// `RUN u n`: so many units of this user, 1 to 1,000,000.
-    Run(UserNo, u32),
-    /// `LINE u text`: this line is typed at the user's terminal. Each byte is a character.
-    Line(UserNo, &'a [u8]),
-}
-
-impl Event<'_> {
-    /// Whose event it is.
-    pub fn user(self) -> UserNo
-        ensures { result.0 ≡ user_in (said self.entry) }
-    {
-        match self {
-            Event::Run(user, _) => user,
-            Event::Line(user, _) => user,
-        }
-    }
-}
 
 /// Why a script is refused.
 #[derive(Clone, Copy, Debug, PartialEq, Eq, Drop, Error)]
@@ -181,7 +161,6 @@ mod tests {
             Event::Line(B, b"".as_slice()),
         ];
         assert_eq!(rt; events.as_slice(), wanted.as_slice());
-        assert_eq!(rt; (wanted[1].user(), wanted[2].user()), (A, B));
         Ok(())
     }
 

@@ -3,31 +3,16 @@ ghost use Rattle.std.specs.Prelude.{◌≡◌, ℕ, ◌++◌, ◌∷◌, [], IfO
 ghost use Rattle.cp_text.specs.Users.{name_of};
 ghost use Rattle.vm370.specs.Transcript.{CutsBack, ended, ending_lines, line_of, printed, reason_word, reply_lines, telling, told_line};
 
+use bare_machine::Reason;
+use cp_core::End;
 use cp_text::users::{Named, UserNo, name_of};
 use std::alloc::{AllocError, Global};
-
-/// Why a run of units ended.
-#[derive(Clone, Copy, Debug, PartialEq, Eq, Drop)]
-pub enum Reason {
-    /// All units that were asked for were done.
-    Count,
-    /// The machine waits for an interruption.
-    Wait,
-    /// The machine loaded a wait state that no interruption can end, and stopped.
-    DisabledWait,
-    /// The machine loaded an extended-control PSW, and stopped.
-    EcMode,
-    /// The machine is stopped.
-    Stopped,
-    /// The next unit needs more frames than there are.
-    Frames,
-}
 
 /// How an event ended, where the transcript has a line of its own for that.
 #[derive(Clone, Copy, Debug, PartialEq, Eq, Drop)]
 pub enum Ending {
     /// After a run: so many units were done, and why no more.
-    Ran(u32, Reason),
+    Ran(u32, End),
     /// Any other event needed more frames than there are, and did nothing.
     OutOfFrames,
 }
@@ -50,19 +35,17 @@ pub struct Told {
     pub ending: Option<Ending>,
 }
 
-impl Reason {
-    /// The reason as the transcript names it.
-    pub fn word(self) -> &'static [u8]
-        ensures { result.now ≡ reason_word self }
-    {
-        match self {
-            Reason::Count => b"COUNT",
-            Reason::Wait => b"WAIT",
-            Reason::DisabledWait => b"DISABLEDWAIT",
-            Reason::EcMode => b"ECMODE",
-            Reason::Stopped => b"STOPPED",
-            Reason::Frames => b"FRAMES",
-        }
+/// Why a run did no further unit, as the transcript names it.
+fn reason_word(end: End) -> &'static [u8]
+    ensures { result.now ≡ reason_word end }
+{
+    match end {
+        End::Ended(Reason::Count) => b"COUNT",
+        End::Ended(Reason::Wait) => b"WAIT",
+        End::Ended(Reason::DisabledWait) => b"DISABLEDWAIT",
+        End::Ended(Reason::EcMode) => b"ECMODE",
+        End::Ended(Reason::Stopped) => b"STOPPED",
+        End::OutOfFrames => b"FRAMES",
     }
 }
 
@@ -123,12 +106,12 @@ fn print_ending(
     out.extend_from_slice(b"= ")?;
     out.extend_from_slice(name)?;
     match ending {
-        Ending::Ran(units, reason) => {
+        Ending::Ran(units, end) => {
             let units = units.to_string(alloc)?;
             out.push(b' ')?;
             out.extend_from_slice(units.as_bytes())?;
             out.push(b' ')?;
-            out.extend_from_slice(reason.word())?;
+            out.extend_from_slice(reason_word(end))?;
         }
         Ending::OutOfFrames => out.extend_from_slice(b" FRAMES")?,
     }
@@ -167,22 +150,34 @@ mod tests {
     #[test]
     fn prints_each_ending(rt: HostRuntime) -> Result<(), Fail> {
         for (ending, wanted) in [
-            (Ending::Ran(1, Reason::Count), b"= B 1 COUNT\n".as_slice()),
             (
-                Ending::Ran(1_000_000, Reason::Count),
+                Ending::Ran(1, End::Ended(Reason::Count)),
+                b"= B 1 COUNT\n".as_slice(),
+            ),
+            (
+                Ending::Ran(1_000_000, End::Ended(Reason::Count)),
                 b"= B 1000000 COUNT\n".as_slice(),
             ),
-            (Ending::Ran(20, Reason::Wait), b"= B 20 WAIT\n".as_slice()),
             (
-                Ending::Ran(0, Reason::DisabledWait),
+                Ending::Ran(20, End::Ended(Reason::Wait)),
+                b"= B 20 WAIT\n".as_slice(),
+            ),
+            (
+                Ending::Ran(0, End::Ended(Reason::DisabledWait)),
                 b"= B 0 DISABLEDWAIT\n".as_slice(),
             ),
-            (Ending::Ran(7, Reason::EcMode), b"= B 7 ECMODE\n".as_slice()),
             (
-                Ending::Ran(0, Reason::Stopped),
+                Ending::Ran(7, End::Ended(Reason::EcMode)),
+                b"= B 7 ECMODE\n".as_slice(),
+            ),
+            (
+                Ending::Ran(0, End::Ended(Reason::Stopped)),
                 b"= B 0 STOPPED\n".as_slice(),
             ),
-            (Ending::Ran(3, Reason::Frames), b"= B 3 FRAMES\n".as_slice()),
+            (
+                Ending::Ran(3, End::OutOfFrames),
+                b"= B 3 FRAMES\n".as_slice(),
+            ),
             (Ending::OutOfFrames, b"= B FRAMES\n".as_slice()),
         ] {
             let text = printed(rt.alloc(), &[], Some(ending))?;
@@ -194,7 +189,7 @@ mod tests {
     #[test]
     fn prints_the_lines_before_the_ending(rt: HostRuntime) -> Result<(), Fail> {
         let stopped = [(UserNo(1), b"STOPPED DISABLED WAIT".as_slice())];
-        let ending = Ending::Ran(0, Reason::DisabledWait);
+        let ending = Ending::Ran(0, End::Ended(Reason::DisabledWait));
         let text = printed(rt.alloc(), &stopped, Some(ending))?;
         assert_eq!(rt;
             text.as_slice(),

@@ -1,0 +1,24 @@
+use Rattle.std.proofs.Common.{◌≡◌, ℕ, Err, Ok, Result, List, ap, ◌∙◌}
+use Rattle.std.specs.Prelude.{IsErrAnd}
+use Rattle.vm370.specs.Script.{IsRefusal, Said}
+use Rattle.vm370.specs.Session.{refusal_error}
+use Rattle.vm370.specs.declared.script.ScriptError.{ScriptError}
+use Rattle.vm370.specs.declared.script.ScriptError.TheVariants as refusals
+use Rattle.vm370.specs.declared.session.SessionError.{SessionError}
+use Rattle.vm370.specs.declared.session.SessionError.TheVariants as errors
+use Rattle.vm370.proofs.session.session.Goals as goal
+
+-- the line that is told is the script's
+line_told : {A : Type 0} (script : Result (List Said) ℕ) (why : ScriptError) (r : Result A SessionError) (n : ℕ) → IsRefusal script why → IsErrAnd r (λ e. e ≡ refusal_error why) → r ≡ Err (errors.Line n) → script ≡ Err n
+line_told script why (Ok a) n f h e = cc
+line_told script refusals.Memory (Err x) n f h e = cc
+line_told script (refusals.Line k) (Err x) n f h e = let same : k ≡ n = cc in f ∙ ap Err same
+
+pub returns-in_err-events-clause-line : goal.returns-in_err-events-clause-line
+returns-in_err-events-clause-line g c = λ n e.
+    let fault = rw (c.deref.ensures.value, c.users.ensures, c.directory.ensures) at c.in_err-events.ensures.err in
+    record {
+      text = c.in_ok-text.text.items;
+      read = record { given = c.in_ok-text.ensures.ok; end = c.in_ok-text.ensures.end };
+      refused = line_told _ c.in_err-events.field-0.0 c.from_residual-in_err-events.result n fault c.from_residual-in_err-events.ensures.1 e;
+    }
