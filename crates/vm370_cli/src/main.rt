@@ -53,9 +53,11 @@ fn run<R: AllocGlobal + Files + Env + Print + Eprint>(rt: &R) -> Result<(), Fail
     };
     let mut system = boot(rt, options.directory)?;
     let mut script = open(rt, options.script)?;
-    let mut transcript = Counted::new(io::BufWriter::new(alloc, io::writer(rt))?);
-    session(alloc, &mut system, &mut script, &mut transcript)?;
-    Ok(())
+    let Ok(output) = io::BufWriter::new(alloc, io::writer(rt)) else {
+        return Err(Failure::Memory);
+    };
+    let mut transcript = Counted::new(output);
+    Ok(session(alloc, &mut system, &mut script, &mut transcript)?)
 }
 
 /// The words that the program was started with.
