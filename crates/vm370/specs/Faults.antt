@@ -5,8 +5,24 @@ use Rattle.cp_core.specs.declared.events.BootError.{BootError}
 use Rattle.cp_core.specs.declared.events.BootError.TheVariants as boots
 use Rattle.cp_directory.specs.declared.faults.DirError.{DirError}
 use Rattle.cp_directory.specs.declared.faults.DirError.TheVariants as directories
+use Rattle.s370_num.specs.declared.host.HostFault.{HostFault}
+use Rattle.s370_num.specs.declared.host.HostFault.TheVariants as hosts
+use Rattle.vm370.specs.declared.session.SessionError.{SessionError}
+use Rattle.vm370.specs.declared.session.SessionError.TheVariants as sessions
 use Rattle.vm370.specs.declared.faults.Failure.{Failure}
 use Rattle.vm370.specs.declared.faults.Failure.TheVariants as failures
+
+-- the program fails as its session fails
+abbrev pub session_failure : SessionError → Failure
+session_failure sessions.Memory = failures.Memory
+session_failure (sessions.Line line) = failures.Script line
+session_failure (sessions.Device count) = failures.File count
+session_failure sessions.Spent = failures.Spent
+
+-- and as a file of the host fails
+abbrev pub file_failure : HostFault → Failure
+file_failure hosts.Memory = failures.Memory
+file_failure (hosts.Device count) = failures.File count
 
 -- a directory that was not read: the name of its fault, and the numbers of its lines
 abbrev pub directory_text : DirError → List ℕ

@@ -1,7 +1,7 @@
 pub mod Script
 pub mod Grammar
 pub mod Transcript
-pub mod Replies
-pub mod Session
 pub mod Options
 pub mod Faults
+pub mod Replies
+pub mod Session

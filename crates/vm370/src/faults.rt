@@ -1,9 +1,12 @@
 //! What the program says of its failure, and its exit status.
 ghost use Rattle.std.specs.Prelude.{◌≡◌, IfOk, string_bytes};
-ghost use Rattle.vm370.specs.Faults.{boot_text, directory_text, fault_text, status_of};
+ghost use Rattle.vm370.specs.declared.faults.Failure.TheVariants.{Boot, Directory, Memory};
+ghost use Rattle.vm370.specs.Faults.{boot_text, directory_text, fault_text, file_failure, session_failure, status_of};
 
+use crate::session::SessionError;
 use cp_core::BootError;
 use cp_directory::DirError;
+use s370_num::host::HostFault;
 use std::alloc::{AllocError, Global};
 
 /// Why the program ends before its end.
@@ -23,6 +26,54 @@ pub enum Failure {
     Spent,
     /// The words are not those of the program.
     Usage,
+}
+
+impl From<DirError> for Failure {
+    ghost from_gives = { λ error failure. failure ≡ Directory error };
+
+    fn from(error: DirError) -> Failure {
+        Failure::Directory(error)
+    }
+}
+
+impl From<BootError> for Failure {
+    ghost from_gives = { λ error failure. failure ≡ Boot error };
+
+    fn from(error: BootError) -> Failure {
+        Failure::Boot(error)
+    }
+}
+
+impl From<SessionError> for Failure {
+    ghost from_gives = { λ error failure. failure ≡ session_failure error };
+
+    fn from(error: SessionError) -> Failure {
+        match error {
+            SessionError::Memory => Failure::Memory,
+            SessionError::Line(line) => Failure::Script(line),
+            SessionError::Device(count) => Failure::File(count),
+            SessionError::Spent => Failure::Spent,
+        }
+    }
+}
+
+impl From<HostFault> for Failure {
+    ghost from_gives = { λ fault failure. failure ≡ file_failure fault };
+
+    fn from(fault: HostFault) -> Failure {
+        match fault {
+            HostFault::Memory => Failure::Memory,
+            HostFault::Device(count) => Failure::File(count),
+        }
+    }
+}
+
+impl From<AllocError> for Failure {
+    ghost from_gives = { λ _ failure. failure ≡ Memory };
+
+    fn from(_error: AllocError) -> Failure {
+        Failure::Memory
+    }
 }
 
 /// The line that is printed for a failure, without its end: `fault:`, what failed, the name of the

@@ -12,6 +12,8 @@
 #![tactic(auto)]
 
 pub mod arguments;
+#[cfg(test)]
+mod examples;
 pub mod faults;
 pub mod replies;
 pub mod script;
