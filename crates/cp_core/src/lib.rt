@@ -16,3 +16,6 @@ pub use places::{change_over, display_over};
 pub use run::spell_over;
 pub use seat::Seat;
 pub use system::{System, each_is_bare};
+
+#[cfg(test)]
+mod tests;

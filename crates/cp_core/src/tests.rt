@@ -1,0 +1,298 @@
+//! Systems as their users meet them: two users beside each other, few frames, and refused memory.
+use super::*;
+use bare_machine::{Mode, Pending, Reason};
+use cp_console::printing;
+use cp_console::replies::Reply as Said;
+use cp_directory::read_directory;
+use cp_text::users::UserNo;
+use s370_psw::Psw;
+use std::alloc::{AllocError, Global};
+use std::process::Abort;
+use std::test::Fail;
+
+const A: UserNo = UserNo(0);
+
+const B: UserNo = UserNo(1);
+
+/// What a user sees of a machine of 8 KiB, or of the first 8 KiB of one.
+#[derive(Debug, Drop, PartialEq, Eq)]
+struct Seen {
+    general: Option<[u32; 16]>,
+    control: Option<[u32; 16]>,
+    psw: Option<Psw>,
+    mode: Option<Mode>,
+    pending: Option<Pending>,
+    printed: Option<usize>,
+    bytes: Vec<u8>,
+}
+
+fn views(alloc: Global, system: &System, user: UserNo) -> Result<Seen, AllocError> {
+    let mut bytes = Vec::new(alloc);
+    for address in 0..8192 {
+        bytes.push(system.storage(user, address).unwrap_or(0xEE))?;
+    }
+    for block in 0..4 {
+        bytes.push(system.key(user, block).unwrap_or(0xEE))?;
+    }
+    Ok(Seen {
+        general: system.registers(user),
+        control: system.control(user),
+        psw: system.psw(user),
+        mode: system.mode(user),
+        pending: system.pending(user),
+        printed: system.printed(user),
+        bytes,
+    })
+}
+
+/// The system of these users on so many frames, or why it was not booted; want of memory stands apart.
+fn booted(
+    rt: &(impl Abort + AllocGlobal),
+    users: &str,
+    frames: u32,
+) -> Result<Result<System, BootError>, AllocError> {
+    let Ok(directory) = read_directory(rt.alloc(), users.as_bytes()) else {
+        return Err(AllocError);
+    };
+    assert!(rt; directory.len() <= 64);
+    let Some(sizes) = Sizes::new(frames, 0) else {
+        return Ok(Err(BootError::TooFewFrames));
+    };
+    match System::boot(rt.alloc(), directory, sizes) {
+        Err(BootError::Memory) => Err(AllocError),
+        answer => Ok(answer),
+    }
+}
+
+/// What an event is answered. A system for which memory was refused answers nothing else from then on.
+fn apply(rt: &impl Abort, system: &mut System, event: Event<'_>) -> Result<Reply, Fail> {
+    match system.apply(event) {
+        Err(CpError::Memory) => {
+            assert!(rt; system.is_spent());
+            assert_eq!(rt; system.apply(Event::Run(A, 1)), Err(CpError::Spent));
+            assert_eq!(rt; system.apply(Event::Line(B, b"LOGON")), Err(CpError::Spent));
+            Err(AllocError)?
+        }
+        answer => Ok(answer?),
+    }
+}
+
+/// The text of an answer, and none where nothing is replied.
+fn text_of(alloc: Global, reply: Reply) -> Result<Vec<u8>, AllocError> {
+    match reply {
+        Reply::Answered(Answer::Said(Some(said))) => printing::reply(alloc, &said),
+        Reply::Answered(Answer::Said(None)) => Ok(Vec::new(alloc)),
+        Reply::Answered(Answer::OutOfFrames) => b"OUT OF FRAMES".to_vec(alloc),
+        Reply::Ran(_) => b"RAN".to_vec(alloc),
+    }
+}
+
+/// Types lines of a user, each with the reply that is wanted.
+fn session(
+    rt: &(impl Abort + AllocGlobal),
+    system: &mut System,
+    user: UserNo,
+    lines: &[(&str, &str)],
+) -> Result<(), Fail> {
+    for (line, wanted) in lines {
+        let reply = apply(rt, system, Event::Line(user, line.as_bytes()))?;
+        let said = text_of(rt.alloc(), reply)?;
+        assert_eq!(rt; said.as_slice(), wanted.as_bytes(), "to {line}");
+    }
+    Ok(())
+}
+
+/// A run that is to tell this.
+fn run(
+    rt: &impl Abort,
+    system: &mut System,
+    user: UserNo,
+    count: u32,
+    wanted: (u32, End),
+) -> Result<(), Fail> {
+    let reply = apply(rt, system, Event::Run(user, count))?;
+    let (units, end) = wanted;
+    assert_eq!(rt; reply, Reply::Ran(Ran { units, end }));
+    Ok(())
+}
+
+/// Types `STORE` lines that are each answered `STORED`.
+fn stores(
+    rt: &(impl Abort + AllocGlobal),
+    system: &mut System,
+    user: UserNo,
+    places: &[&str],
+) -> Result<(), Fail> {
+    for place in places {
+        let line = format!(in rt.alloc(); "STORE {place}")?;
+        session(rt, system, user, &[(line.as_str(), "STORED")])?;
+    }
+    Ok(())
+}
+
+/// Two users of 8 KiB on 16 frames, both logged on.
+fn two_users(rt: &(impl Abort + AllocGlobal)) -> Result<System, Fail> {
+    let mut system = booted(rt, "USER A PW 8K\nUSER B PW 8K\n", 16)??;
+    session(rt, &mut system, A, &[("LOGON", "LOGON OK")])?;
+    session(rt, &mut system, B, &[("LOGON", "LOGON OK")])?;
+    Ok(system)
+}
+
+/// A guest of A, which runs for so many units and then shows this; B, beside it, sees nothing of it.
+fn guest(
+    rt: &(impl Abort + AllocGlobal),
+    places: &[&str],
+    units: u32,
+    shown: &[(&str, &str)],
+) -> Result<(), Fail> {
+    let mut system = two_users(rt)?;
+    stores(rt, &mut system, B, &["60 0A07", "1FFC C8C5D3D3", "G1 000000FF"])?;
+    let before = views(rt.alloc(), &system, B)?;
+    stores(rt, &mut system, A, places)?;
+    session(rt, &mut system, A, &[("BEGIN", "")])?;
+    run(rt, &mut system, A, units, (units, End::Ended(Reason::Count)))?;
+    session(rt, &mut system, A, shown)?;
+    assert_eq!(rt; views(rt.alloc(), &system, B)?, before);
+    Ok(())
+}
+
+#[test]
+fn guests_beside_a_neighbour(rt: HostRuntime) -> Result<(), Fail> {
+    let old = "000020 00000007 40001002 00000000 00000000";
+    let psw = ("#CP DISPLAY PSW", "PSW 00000000 00000200");
+    let places = ["1000 0A07", "60 0000000000000200", "PSW 00000000 00001000"];
+    guest(&rt, &places, 1, &[("#CP DISPLAY 20", old), psw])?;
+
+    let old = "000020 00000000 00000000 00010002 80000304";
+    let psw = ("#CP DISPLAY PSW", "PSW 00000000 00000500");
+    let places = [
+        "100 82000200",
+        "200 0001000000000300",
+        "300 80000400",
+        "68 0000000000000500",
+        "PSW 00000000 00000100",
+    ];
+    guest(&rt, &places, 2, &[("#CP DISPLAY 20", old), psw])?;
+
+    let places = ["100 58100FFE", "FFE ABCD", "PSW 00000000 00000100"];
+    let loaded = ("#CP DISPLAY G1", "GPR 1 = ABCD0000");
+    guest(&rt, &places, 1, &[loaded])?;
+
+    let places = [
+        "G1 FFFFFFFF",
+        "G2 00001FFF",
+        "100 50102000",
+        "68 0000000000000500",
+        "PSW 00000000 00000100",
+    ];
+    let old = "000020 00000000 00000000 00000005 80000104";
+    let last = "001FF0 00000000 00000000 00000000 00000000";
+    let shown = [("#CP DISPLAY 20", old), ("#CP DISPLAY 1FF0", last)];
+    guest(&rt, &places, 1, &shown)
+}
+
+#[test]
+fn stops_and_refused_commands(rt: HostRuntime) -> Result<(), Fail> {
+    let mut system = two_users(&rt)?;
+    let refused = [
+        ("FOO", "UNKNOWN COMMAND"),
+        ("DISPLAY G16", "BAD OPERAND 1"),
+        ("DISPLAY 2000", "ADDRESS PAST STORAGE"),
+    ];
+    session(&rt, &mut system, A, &refused)?;
+    stores(&rt, &mut system, A, &["PSW 00020000 00000000"])?;
+    session(&rt, &mut system, A, &[("BEGIN", "")])?;
+    run(&rt, &mut system, A, 5, (0, End::Ended(Reason::DisabledWait)))?;
+    run(&rt, &mut system, A, 5, (0, End::Ended(Reason::Stopped)))?;
+    assert_eq!(rt; system.printed(A), Some(3));
+    assert_eq!(rt; system.console_output(A, 2), Some(Said::StoppedDisabledWait));
+    assert_eq!(rt; system.console_output(A, 3), None);
+    assert_eq!(rt; system.printed(B), Some(0));
+    Ok(())
+}
+
+#[test]
+fn pages_of_two_users_in_turn(rt: HostRuntime) -> Result<(), Fail> {
+    let mut system = two_users(&rt)?;
+    // a guest whose code is in its first page and whose words are in its second: `L 1,0(2)`, `ST 1,4(2)`
+    for (user, word) in [(A, "1000 AAAA0001"), (B, "1000 BBBB0002")] {
+        stores(&rt, &mut system, user, &["G2 00001000", "100 5810200050102004"])?;
+        stores(&rt, &mut system, user, &[word])?;
+        session(&rt, &mut system, user, &[("BEGIN 100", "")])?;
+    }
+    for (user, neighbour) in [(A, B), (B, A), (A, B), (B, A)] {
+        let before = views(rt.alloc(), &system, neighbour)?;
+        run(&rt, &mut system, user, 1, (1, End::Ended(Reason::Count)))?;
+        assert_eq!(rt; views(rt.alloc(), &system, neighbour)?, before);
+    }
+    let (ours, theirs) = (
+        "001000 AAAA0001 AAAA0001 00000000 00000000",
+        "001000 BBBB0002 BBBB0002 00000000 00000000",
+    );
+    session(&rt, &mut system, A, &[("#CP DISPLAY 1000", ours)])?;
+    session(&rt, &mut system, B, &[("#CP DISPLAY 1000", theirs)])
+}
+
+#[test]
+fn a_seventeenth_page(rt: HostRuntime) -> Result<(), Fail> {
+    // page 0 has the code: 15 of `ST 1,0(n)`, each to a page of its own, and `ST 1,0(1,15)` to the page past them
+    for (neighbours, units, address) in [(false, 15, "0000013C"), (true, 14, "00000138")] {
+        let mut system = booted(&rt, "USER A PW 128K\nUSER B PW 8K\n", 16)??;
+        session(&rt, &mut system, A, &[("LOGON", "LOGON OK")])?;
+        session(&rt, &mut system, B, &[("LOGON", "LOGON OK")])?;
+        if neighbours {
+            stores(&rt, &mut system, B, &["FFF 99"])?;
+        }
+        for base in 1..16u32 {
+            let register = format!(in rt.alloc(); "G{base} 0000{base:X}000")?;
+            let code = format!(in rt.alloc(); "{:X} 5010{base:X}000", 252 + base * 4)?;
+            stores(&rt, &mut system, A, &[register.as_str(), code.as_str()])?;
+        }
+        stores(&rt, &mut system, A, &["13C 5011F000"])?;
+        session(&rt, &mut system, A, &[("BEGIN 100", "")])?;
+        run(&rt, &mut system, A, 100, (units, End::OutOfFrames))?;
+
+        let (before, beside) = (
+            views(rt.alloc(), &system, A)?,
+            views(rt.alloc(), &system, B)?,
+        );
+        run(&rt, &mut system, A, 100, (0, End::OutOfFrames))?;
+        let lacking = [
+            ("#CP STORE 10000 01", "OUT OF FRAMES"),
+            ("#CP STORE FFFF 0102", "OUT OF FRAMES"),
+            ("#CP DISPLAY 10000", "OUT OF FRAMES"),
+        ];
+        session(&rt, &mut system, A, &lacking)?;
+        session(&rt, &mut system, B, &[("DISPLAY 1000", "OUT OF FRAMES")])?;
+        assert_eq!(rt; views(rt.alloc(), &system, A)?, before);
+        assert_eq!(rt; views(rt.alloc(), &system, B)?, beside);
+        let psw = format!(in rt.alloc(); "PSW 00000000 {address}")?;
+        let first = "001000 00001000 00000000 00000000 00000000";
+        let shown = [("#CP DISPLAY PSW", psw.as_str()), ("#CP DISPLAY 1000", first)];
+        session(&rt, &mut system, A, &shown)?;
+        assert_eq!(rt; system.storage(A, 0xFFFF), Some(0));
+        assert_eq!(rt; system.storage(A, 0x20000), None);
+    }
+    Ok(())
+}
+
+#[test]
+fn who_and_how_many(rt: HostRuntime) -> Result<(), Fail> {
+    for frames in [0, 15] {
+        let refused = match booted(&rt, "USER A PW 8K\n", frames)? {
+            Ok(_) => None,
+            Err(error) => Some(error),
+        };
+        assert_eq!(rt; refused, Some(BootError::TooFewFrames));
+    }
+    let mut system = two_users(&rt)?;
+    let nobody = UserNo(2);
+    assert_eq!(rt; system.apply(Event::Run(nobody, 1)), Err(CpError::NoSuchUser));
+    assert_eq!(rt; system.apply(Event::Line(nobody, b"LOGON")), Err(CpError::NoSuchUser));
+    assert!(rt; !system.is_spent());
+    assert_eq!(rt; system.registers(nobody), None);
+    assert_eq!(rt; system.psw(nobody), None);
+    assert_eq!(rt; system.storage(nobody, 0), None);
+    assert_eq!(rt; system.console_output(nobody, 0), None);
+    run(&rt, &mut system, A, 1, (0, End::Ended(Reason::Stopped)))
+}
