@@ -89,8 +89,8 @@ seat_is seats storages users ms user seat whole e h same =
     let inside : user < length seats = omega (arith, length-machines seats storages same_length, ap length e) in
     let s : seat ≡ get_or seats user no_seat = same ∙ get_or_default seats user seat no_seat inside in
     let m : get_or ms user nobody ≡ machine_of seat (get_or storages user []) =
-      ap (λ (xs : List Machine). get_or xs user nobody) (sym e) ∙ get-machines seats storages user no_seat [] nobody inside same_length
-      ∙ ap (λ (x : Seated). machine_of x (get_or storages user [])) (sym s) in
+    ap (λ (xs : List Machine). get_or xs user nobody) (sym e) ∙ get-machines seats storages user no_seat [] nobody inside same_length
+    ∙ ap (λ (x : Seated). machine_of x (get_or storages user [])) (sym s) in
     m ∙ ap (machine_of seat) (sym (ap (λ (x : Machine). x.processor.bytes) m))
 
 -- the bytes of a user's machine are his storage

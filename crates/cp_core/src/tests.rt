@@ -146,11 +146,22 @@ fn guest(
     shown: &[(&str, &str)],
 ) -> Result<(), Fail> {
     let mut system = two_users(rt)?;
-    stores(rt, &mut system, B, &["60 0A07", "1FFC C8C5D3D3", "G1 000000FF"])?;
+    stores(
+        rt,
+        &mut system,
+        B,
+        &["60 0A07", "1FFC C8C5D3D3", "G1 000000FF"],
+    )?;
     let before = views(rt.alloc(), &system, B)?;
     stores(rt, &mut system, A, places)?;
     session(rt, &mut system, A, &[("BEGIN", "")])?;
-    run(rt, &mut system, A, units, (units, End::Ended(Reason::Count)))?;
+    run(
+        rt,
+        &mut system,
+        A,
+        units,
+        (units, End::Ended(Reason::Count)),
+    )?;
     session(rt, &mut system, A, shown)?;
     assert_eq!(rt; views(rt.alloc(), &system, B)?, before);
     Ok(())
@@ -202,10 +213,19 @@ fn stops_and_refused_commands(rt: HostRuntime) -> Result<(), Fail> {
     session(&rt, &mut system, A, &refused)?;
     stores(&rt, &mut system, A, &["PSW 00020000 00000000"])?;
     session(&rt, &mut system, A, &[("BEGIN", "")])?;
-    run(&rt, &mut system, A, 5, (0, End::Ended(Reason::DisabledWait)))?;
+    run(
+        &rt,
+        &mut system,
+        A,
+        5,
+        (0, End::Ended(Reason::DisabledWait)),
+    )?;
     run(&rt, &mut system, A, 5, (0, End::Ended(Reason::Stopped)))?;
     assert_eq!(rt; system.printed(A), Some(3));
-    assert_eq!(rt; system.console_output(A, 2), Some(Said::StoppedDisabledWait));
+    assert_eq!(rt;
+        system.console_output(A, 2),
+        Some(Said::StoppedDisabledWait)
+    );
     assert_eq!(rt; system.console_output(A, 3), None);
     assert_eq!(rt; system.printed(B), Some(0));
     Ok(())
@@ -216,7 +236,12 @@ fn pages_of_two_users_in_turn(rt: HostRuntime) -> Result<(), Fail> {
     let mut system = two_users(&rt)?;
     // a guest whose code is in its first page and whose words are in its second: `L 1,0(2)`, `ST 1,4(2)`
     for (user, word) in [(A, "1000 AAAA0001"), (B, "1000 BBBB0002")] {
-        stores(&rt, &mut system, user, &["G2 00001000", "100 5810200050102004"])?;
+        stores(
+            &rt,
+            &mut system,
+            user,
+            &["G2 00001000", "100 5810200050102004"],
+        )?;
         stores(&rt, &mut system, user, &[word])?;
         session(&rt, &mut system, user, &[("BEGIN 100", "")])?;
     }
@@ -268,7 +293,10 @@ fn a_seventeenth_page(rt: HostRuntime) -> Result<(), Fail> {
         assert_eq!(rt; views(rt.alloc(), &system, B)?, beside);
         let psw = format!(in rt.alloc(); "PSW 00000000 {address}")?;
         let first = "001000 00001000 00000000 00000000 00000000";
-        let shown = [("#CP DISPLAY PSW", psw.as_str()), ("#CP DISPLAY 1000", first)];
+        let shown = [
+            ("#CP DISPLAY PSW", psw.as_str()),
+            ("#CP DISPLAY 1000", first),
+        ];
         session(&rt, &mut system, A, &shown)?;
         assert_eq!(rt; system.storage(A, 0xFFFF), Some(0));
         assert_eq!(rt; system.storage(A, 0x20000), None);
@@ -287,8 +315,14 @@ fn who_and_how_many(rt: HostRuntime) -> Result<(), Fail> {
     }
     let mut system = two_users(&rt)?;
     let nobody = UserNo(2);
-    assert_eq!(rt; system.apply(Event::Run(nobody, 1)), Err(CpError::NoSuchUser));
-    assert_eq!(rt; system.apply(Event::Line(nobody, b"LOGON")), Err(CpError::NoSuchUser));
+    assert_eq!(rt;
+        system.apply(Event::Run(nobody, 1)),
+        Err(CpError::NoSuchUser)
+    );
+    assert_eq!(rt;
+        system.apply(Event::Line(nobody, b"LOGON")),
+        Err(CpError::NoSuchUser)
+    );
     assert!(rt; !system.is_spent());
     assert_eq!(rt; system.registers(nobody), None);
     assert_eq!(rt; system.psw(nobody), None);
