@@ -1,18 +1,23 @@
-//! Measures how many units a second a bare machine does, and claims nothing.
+//! Measures how many units a second a bare machine does, or a user of the control program, and claims nothing.
 //!
 //! `bench 100` lets a machine of 8 KiB run for 100 million units: five times a load and a store of one word, and then a
-//! load of the PSW that begins anew. What it did goes to standard output, and the rate to standard error.
+//! load of the PSW that begins anew. `bench 100 frames` does the same by a user of a system of 16 frames. What it did
+//! goes to standard output, and the rate to standard error.
 #![tactic(auto)]
 
-use anyhow::Result;
+use anyhow::{Result, bail};
 use bare_machine::Bare;
+use cp_console::replies::Reply as Said;
+use cp_core::{Answer, Event, Reply, Sizes, System};
+use cp_directory::read_directory;
 use cp_text::numbers::decimal_of;
+use cp_text::users::UserNo;
 use s370_num::Word;
 use s370_store::PlainStorage;
 use std::alloc::Global;
 use std::env;
 use std::process::ExitCode;
-use std::rt::Env;
+use std::rt::{Clock, Env};
 use std::time::{Duration, Instant};
 
 /// What is typed: a loop at 200 of `L 1,300` and `ST 1,304`, which `LPSW 310` closes.
@@ -35,16 +40,92 @@ fn guest(alloc: Global) -> Result<Bare> {
     Ok(machine)
 }
 
-/// How many million units the command line asks for, by one number of at most six digits; one million where it is empty.
-fn asked(rt: &(impl Env + AllocGlobal)) -> Result<Option<u32>> {
+/// The user of the control program.
+const USER: UserNo = UserNo(0);
+
+/// Applies an event to the system: how many units it did, and what was replied.
+fn applied(system: &mut System, event: Event<'_>) -> Result<(u32, Option<Said>)> {
+    match system.apply(event)? {
+        Reply::Ran(ran) => Ok((ran.units, None)),
+        Reply::Answered(Answer::Said(said)) => Ok((0, said)),
+        Reply::Answered(Answer::OutOfFrames) => Ok((0, None)),
+    }
+}
+
+/// The system of one user, whose machine is running at the loop.
+fn system(alloc: Global, sizes: Sizes) -> Result<System> {
+    let directory = read_directory(alloc, b"USER A PW 8K")?;
+    let mut system = System::boot(alloc, directory, sizes)?;
+    for line in TYPED {
+        let _said = applied(&mut system, Event::Line(USER, line.as_bytes()))?;
+    }
+    Ok(system)
+}
+
+/// Which machine does the units.
+enum Machine {
+    Bare,
+    Frames,
+}
+
+/// What the command line asks for: how many million units, by one number of at most six digits, and on which machine. One
+/// million of a bare machine where it is empty.
+fn asked(rt: &(impl Env + AllocGlobal)) -> Result<Option<(u32, Machine)>> {
     let mut words = env::args(rt)?.skip(1);
     let Some(word) = words.next() else {
-        return Ok(Some(1));
+        return Ok(Some((1, Machine::Bare)));
     };
-    if words.next().is_some() {
+    let Some(millions) = decimal_of(6, word.as_bytes()) else {
+        return Ok(None);
+    };
+    let Some(word) = words.next() else {
+        return Ok(Some((millions, Machine::Bare)));
+    };
+    if words.next().is_some() || word.as_str() != "frames" {
         return Ok(None);
     }
-    Ok(decimal_of(6, word.as_bytes()))
+    Ok(Some((millions, Machine::Frames)))
+}
+
+/// Units that were done, the register that they loaded, and how long they took.
+#[derive(Drop)]
+struct Done {
+    units: u64,
+    register: u32,
+    time: Duration,
+}
+
+/// So many million units of a bare machine.
+fn on_bare(rt: &(impl AllocGlobal + Clock), millions: u32) -> Result<Done> {
+    let mut machine = guest(rt.alloc())?;
+    let start = Instant::now(rt)?;
+    let ran = machine.units(u64::from(millions) * 1_000_000);
+    Ok(Done {
+        units: ran.units,
+        register: machine.general()[1],
+        time: start.elapsed(rt)?,
+    })
+}
+
+/// So many million units of a user on 16 frames.
+fn on_frames(rt: &(impl AllocGlobal + Clock), millions: u32) -> Result<Done> {
+    let Some(sizes) = Sizes::new(16, 0) else {
+        bail!("sizes");
+    };
+    let mut system = system(rt.alloc(), sizes)?;
+    let mut units = 0u64;
+    let start = Instant::now(rt)?;
+    for _ in 0..millions {
+        let (done, _) = applied(&mut system, Event::Run(USER, 1_000_000))?;
+        units = units.wrapping_add(u64::from(done));
+    }
+    let time = start.elapsed(rt)?;
+    let general = system.registers(USER).unwrap_or([0; 16]);
+    Ok(Done {
+        units,
+        register: general[1],
+        time,
+    })
 }
 
 /// Millions of units a second.
@@ -53,16 +134,19 @@ fn rate(units: u64, time: Duration) -> u128 {
 }
 
 fn main(rt: HostRuntime) -> Result<ExitCode> {
-    let Some(millions) = asked(&rt)? else {
-        eprintln!(rt; "usage: bench [MILLIONS]: how many million units, at most six digits")?;
+    let Some((millions, machine)) = asked(&rt)? else {
+        eprintln!(rt;
+            "usage: bench [MILLIONS [frames]]: how many million units, at most six digits"
+        )?;
         return Ok(ExitCode::from(2));
     };
-    let mut machine = guest(rt.alloc())?;
-    let start = Instant::now(&rt)?;
-    let ran = machine.units(u64::from(millions) * 1_000_000);
-    let rate = rate(ran.units, start.elapsed(&rt)?);
-    let units = ran.units;
-    let register = Word::from_unsigned(machine.general()[1]);
+    let done = match machine {
+        Machine::Bare => on_bare(&rt, millions)?,
+        Machine::Frames => on_frames(&rt, millions)?,
+    };
+    let units = done.units;
+    let rate = rate(units, done.time);
+    let register = Word::from_unsigned(done.register);
     println!(rt; "{units} units, GPR 1 = {register}")?;
     eprintln!(rt; "{rate} million units a second")?;
     Ok(ExitCode::SUCCESS)

@@ -2,7 +2,7 @@
 use Rattle.std.proofs.Common.{◌≡◌, ◌≢◌, Option, Result, Ok, Err, ℕ, ◌+◌, ◌<◌, List, [], ◌∷◌, length, get_or, set, zero, suc, refl, sym, ◌∙◌, ap, arith, inl, inr, get_or-set_other, get_or-set_same, length-set}
 use Rattle.std.proofs.lemmas.Bool.{cases_eq}
 use Rattle.std.proofs.lemmas.List.{get_or_default}
-use Rattle.std.specs.Prelude.{IfOk}
+use Rattle.std.specs.Prelude.{IfOk, OnErr}
 use Rattle.cp_directory.specs.Users.{DirectoryUser}
 use Rattle.bare_machine.specs.Machine.{Machine}
 use Rattle.cp_core.specs.Seats.{Seated, machine_of, Fits}
@@ -76,6 +76,11 @@ told_line typed answer owners user e f h = rw (e, f) h
 pub told_lines : {E : Type 0} (typed : List ℕ) (owners : List (Option UserPage)) (user : ℕ) {old old' new new' : Machine} → old' ≡ old → new' ≡ new → (r : Result Answer E) → IfOk r (λ answer. TellsLine typed old answer new owners user) → IfOk r (λ answer. TellsLine typed old' answer new' owners user)
 told_lines typed owners user e f (Ok answer) h = told_line typed answer owners user e f h
 told_lines typed owners user e f (Err error) h = tt
+
+-- where nothing happened to a seat, nothing happened to the user's machine
+pub same_if_refused : {A E : Type 0} {old old' new new' : Machine} → old' ≡ old → new' ≡ new → (r : Result A E) → OnErr r (new ≡ old) → OnErr r (new' ≡ old')
+same_if_refused e f (Ok answer) h = tt
+same_if_refused e f (Err error) h = f ∙ h ∙ sym e
 
 -- a user's machine, by his seat
 pub seat_is : (seats : List Seated) (storages : List (List ℕ)) (users : List DirectoryUser) (ms : List Machine) (user : ℕ) (seat : Seated) → IsWhole seats storages users → machines_of seats storages ≡ ms → user < length ms → seat ≡ get_or seats user seat → get_or ms user nobody ≡ machine_of seat (get_or ms user nobody).processor.bytes

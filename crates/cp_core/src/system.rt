@@ -1,5 +1,5 @@
 //! The system: its users, their machines and the frames that they share.
-ghost use Rattle.std.specs.Prelude.{◌≡◌, ◌<◌, ◌≤◌, ◌↔◌, ℕ, List, true, false, IsOk, IfOk, length, slice_set};
+ghost use Rattle.std.specs.Prelude.{◌≡◌, ◌<◌, ◌≤◌, ◌↔◌, ℕ, List, true, false, IsOk, IfOk, OnErr, length, slice_set};
 ghost use Rattle.cp_core.specs.Runs.{TellsRun};
 ghost use Rattle.cp_core.specs.Lines.{TellsLine};
 ghost use Rattle.cp_core.specs.System.{EachIsBare, IsApplied, IsLine, IsTold, Shown, machine_at, user_of};
@@ -78,6 +78,7 @@ impl System {
     fn line(&mut self, user: usize, typed: &[u8]) -> Result<Answer, AllocError>
         requires { user < length self.old.machines }
         ensures ok { IfOk result (λ answer. TellsLine typed.now (machine_at self.old user) answer (machine_at self.new user) self.new.owners user) }
+        ensures err { OnErr result (machine_at self.new user ≡ machine_at self.old user) }
         ensures machines { self.new.machines ≡ slice_set self.old.machines user (machine_at self.new user) }
         ensures users { self.new.users ≡ self.old.users }
         ensures spent { self.new.is_spent ≡ self.old.is_spent }
@@ -102,6 +103,7 @@ impl System {
         ensures not_stated { result ≡ Err CpError.NoSuchUser → length self.old.users ≤ user_of event.entry }
         ensures unchanged_for_nobody { result ≡ Err CpError.NoSuchUser → self.new ≡ self.old }
         ensures memory { result ≡ Err CpError.Memory → (self.new.is_spent ≡ true) × IsLine event.entry }
+        ensures unchanged_without_memory { result ≡ Err CpError.Memory → (user : ℕ) → machine_at self.new user ≡ machine_at self.old user }
     {
         if self.is_spent() {
             return Err(CpError::Spent);
