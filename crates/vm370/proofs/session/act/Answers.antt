@@ -1,4 +1,4 @@
-use Rattle.std.proofs.Common.{◌≡◌, ◌∙◌, List, ℕ, ap, sym, subst}
+use Rattle.std.proofs.Common.{◌≡◌, ◌∙◌, subst}
 use Rattle.std.specs.Io.KnownBytes.{Appends}
 use Rattle.s370_num.specs.Host.{AppendsFront}
 use Rattle.vm370.specs.Replies.{event_lines}
