@@ -39,6 +39,11 @@ fn writes_the_transcript(rt: HostRuntime) -> Result<(), Fail> {
             b"LINE A LOGON\nLINE A STORE 100 58100FFE\nLINE A STORE FFE ABCD\nLINE A STORE PSW 00000000 00000100\nLINE A BEGIN\nRUN A 1\nLINE A #CP DISPLAY G1\n",
             b"A: LOGON OK\nA: STORED\nA: STORED\nA: STORED\n= A 1 COUNT\nA: GPR 1 = ABCD0000\n",
         ),
+        // a store past the end of storage, of which nothing is done
+        (
+            b"LINE A LOGON\nLINE A STORE G2 00001FFF\nLINE A STORE 100 50102000\nLINE A STORE 68 0000000000000500\nLINE A STORE PSW 00000000 00000100\nLINE A BEGIN\nRUN A 1\nLINE A #CP DISPLAY 20\nLINE A #CP DISPLAY 1FFF\n",
+            b"A: LOGON OK\nA: STORED\nA: STORED\nA: STORED\nA: STORED\n= A 1 COUNT\nA: 000020 00000000 00000000 00000005 80000104\nA: 001FF0 00000000 00000000 00000000 00000000\n",
+        ),
         // a wait that nothing ends, and two users side by side
         (
             b"* A stops by itself.\nLINE A LOGON\nLINE B LOGON\nLINE A STORE PSW 00020000 00000000\nLINE A BEGIN\nRUN A 5\nRUN A 5\nRUN B 5",
