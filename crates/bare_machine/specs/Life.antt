@@ -1,8 +1,8 @@
 -- The life of a bare machine: one event after another.
 use Rattle.std.specs.Prelude.{ℕ, List, [], ◌∷◌}
-use Rattle.bare_machine.specs.Machine.{Machine}
-use Rattle.bare_machine.specs.Run.{run}
-use Rattle.bare_machine.specs.Panel.{line}
+use Rattle.cp_panel.specs.Machine.{Machine}
+use Rattle.cp_panel.specs.Run.{run}
+use Rattle.cp_panel.specs.Panel.{line}
 
 -- what can happen to a machine: it is let run for at most so many units, or a line is typed
 pub data Event : Type 0 where

@@ -1,180 +1,139 @@
 //! A machine of its own.
-ghost use Rattle.std.specs.Prelude.{◌≡◌, ℕ, ◌≤◌, ◌==◌, length, slice_get, Option};
+ghost use Rattle.std.specs.Prelude.{◌≡◌, ◌<◌, ◌≤◌, IfOk, OnErr, Option, length, slice_get};
 ghost use Rattle.std.specs.Option.{option_map};
 ghost use Rattle.s370_store.specs.Plain.{plain_bytes, plain_keys};
-ghost use Rattle.cp_console.specs.Replies.{text_of};
-ghost use Rattle.bare_machine.specs.Machine.{cleared, reset_cpu, unused};
-ghost use Rattle.bare_machine.specs.Run.{run};
+ghost use Rattle.cp_console.specs.Responses.{text_of};
+ghost use Rattle.cp_panel.specs.Machine.{unused};
+ghost use Rattle.cp_panel.specs.Panel.{line, line_room};
+ghost use Rattle.cp_panel.specs.Run.{run};
 
-use crate::run::spell;
-use crate::state::{Mode, Pending, Ran, Reason};
-use cp_console::output::ConsoleOutput;
-use cp_console::replies::Reply;
+use cp_console::responses::Response;
+use cp_panel::{LineError, Machine, MachineRan, Mode};
+use s370_intr::{Pending, RealCpu};
+use s370_num::StorageKey;
 use s370_psw::Psw;
-use s370_rows::Cpu;
-use s370_store::PlainStorage;
-use std::alloc::Global;
+use s370_store::{PlainStorage, Supply};
+use std::alloc::{AllocError, Global};
 use std::marker::Model;
 
-/// One System/370 with its panel.
+/// One System/370 with its panel and its own storage.
 ///
 /// `let mut machine = Bare::new(alloc, PlainStorage::new(alloc, 4)?);` is a machine of 8 KiB that is off;
 /// `machine.line(b"LOGON")?` switches it on.
 #[derive(Drop)]
 pub struct Bare {
-    pub(crate) cpu: Cpu,
-    pub(crate) storage: PlainStorage,
-    pub(crate) pending: Pending,
-    pub(crate) mode: Mode,
-    pub(crate) output: ConsoleOutput,
+    machine: Machine,
+    storage: PlainStorage,
 }
 
 impl Model for Bare {
-    ghost use Rattle.std.specs.Prelude.{◌≡◌, ◌≤◌, length};
-    ghost use Rattle.s370_store.specs.Plain.{plain_bytes};
-    ghost use Rattle.bare_machine.specs.declared.state.Mode.TheVariants.{Running};
-    ghost use Rattle.bare_machine.specs.Machine.{Machine};
-    ghost use Rattle.bare_machine.specs.Plain.{state_at};
+    ghost use Rattle.std.specs.Prelude.{◌≤◌, length};
+    ghost use Rattle.s370_store.specs.Plain.{plain_bytes, plain_keys};
+    ghost use Rattle.cp_panel.specs.Machine.{machine_of, Machine as WholeMachine};
 
-    ghost Value = { Machine };
+    ghost Value = { WholeMachine };
 
-    ghost view = { λ b. record { processor = state_at b.cpu b.storage; pending = b.pending; mode = b.mode; output = b.output.lines } };
+    ghost view = { λ b. machine_of b.machine (plain_bytes b.storage) (plain_keys b.storage) };
 
-    ghost invariant = { λ b. (8192 ≤ length (plain_bytes b.storage)) × (b.mode ≡ Running → 1 ≤ b.output.room) };
+    ghost invariant = { λ b. 8192 ≤ length (plain_bytes b.storage) };
 }
-
-/// The registers and the PSW after a reset, which leaves the general registers.
-fn reset_cpu(general: [u32; 16]) -> Cpu
-    ensures { result ≡ reset_cpu general }
-{
-    let mut control = [0; 16];
-    control[0] = 0xE0;
-    Cpu {
-        general,
-        control,
-        psw: Psw::from_word(0),
-    }
-}
-
-/// No external condition is pending.
-const NOTHING: Pending = Pending {
-    timer: false,
-    key: false,
-};
 
 impl Bare {
-    /// A machine that is off, with this storage of at least 8 KiB.
-    pub fn new(alloc: Global, storage: PlainStorage) -> Bare
+    /// A machine that is off, with this storage of at least 8 KiB, which is cleared.
+    pub fn new(alloc: Global, mut storage: PlainStorage) -> Bare
         requires { 8192 ≤ length (plain_bytes storage) }
         ensures { result ≡ unused (plain_bytes storage) (plain_keys storage) }
     {
+        Supply::clear(&mut storage);
         Bare {
-            cpu: reset_cpu([0; 16]),
+            machine: Machine::new(alloc),
             storage,
-            pending: NOTHING,
-            mode: Mode::Off,
-            output: ConsoleOutput::new(alloc),
         }
     }
 
     /// Lets the machine run for at most so many units. This takes no memory.
-    pub fn units(&mut self, count: u64) -> Ran
-        ensures { run count self.old ≡ record { machine = self.new; units = result.units; reason = result.reason } }
+    pub fn units(&mut self, count: u32) -> MachineRan
+        ensures { run count self.old ≡ record { machine = self.new; units = result.ran.units; reason = result.ran.reason; notice = result.notice } }
     {
-        match self.mode {
-            Mode::Running => {}
-            Mode::Off | Mode::Stopped => {
-                return Ran {
-                    units: 0,
-                    reason: Reason::Stopped,
-                };
-            }
+        self.machine
+            .run::<RealCpu, PlainStorage>(&mut self.storage, count)
+    }
+
+    /// A line that the operator types, and the response, if there is one. Where memory is refused nothing has happened,
+    /// and the line was one that has the console make room.
+    pub fn line(&mut self, typed: &[u8]) -> Result<Option<Response>, AllocError>
+        ensures ok { IfOk result (λ reply. line typed.now self.old ≡ record { machine = self.new; reply = reply }) }
+        ensures err { OnErr result (self.new ≡ self.old) }
+        ensures memory { OnErr result (0 < line_room typed.now self.old) }
+    {
+        match self.machine.line(&mut self.storage, typed) {
+            Ok(response) => Ok(response),
+            Err(LineError::Memory) => Err(AllocError),
+            // Every page of its storage is present.
+            Err(LineError::FramesOut) => unreachable!(),
         }
-        let ran = spell(&mut self.cpu, &mut self.storage, count);
-        match ran.reason {
-            Reason::EcMode => {
-                self.mode = Mode::Stopped;
-                self.output.print(&Reply::StoppedEcMode);
-            }
-            Reason::DisabledWait => {
-                self.mode = Mode::Stopped;
-                self.output.print(&Reply::StoppedDisabledWait);
-            }
-            Reason::Stopped | Reason::Count | Reason::Wait => {}
-        }
-        ran
     }
 
     /// The general registers.
     pub fn general(&self) -> &[u32; 16]
-        ensures { result.now ≡ self.now.processor.cpu.general }
+        ensures { result.now ≡ self.now.core.processor.cpu.general }
     {
-        &self.cpu.general
+        &self.machine.cpu().general
     }
 
     /// The control registers.
     pub fn control(&self) -> &[u32; 16]
-        ensures { result.now ≡ self.now.processor.cpu.control }
+        ensures { result.now ≡ self.now.core.processor.cpu.control }
     {
-        &self.cpu.control
+        &self.machine.cpu().control
     }
 
     /// The PSW.
     pub fn psw(&self) -> Psw
-        ensures { result ≡ self.now.processor.cpu.psw }
+        ensures { result ≡ self.now.core.processor.cpu.psw }
     {
-        self.cpu.psw
+        self.machine.cpu().psw
     }
 
     /// The bytes of storage.
     pub fn storage(&self) -> &[u8]
-        ensures { result.now ≡ self.now.processor.bytes }
+        ensures { result.now ≡ self.now.core.processor.bytes }
     {
         self.storage.bytes()
     }
 
-    /// The key of a block of 2048 bytes, `None` past storage.
-    pub fn key(&self, block: u32) -> Option<u8>
-        ensures { result ≡ slice_get self.now.processor.keys block }
+    /// The key in storage of a block of 2048 bytes, `None` past storage.
+    pub fn key(&self, block: u32) -> Option<StorageKey>
+        ensures { result ≡ slice_get self.now.core.processor.keys block }
     {
         self.storage.keys().get(block as usize).copied()
     }
 
     /// The external conditions that are pending.
     pub fn pending(&self) -> Pending
-        ensures { result ≡ self.now.pending }
+        ensures { result ≡ self.now.core.pending }
     {
-        self.pending
+        self.machine.pending()
     }
 
     /// Whether the machine is on, and whether it runs.
     pub fn mode(&self) -> Mode
         ensures { result ≡ self.now.mode }
     {
-        self.mode
+        self.machine.mode()
     }
 
     /// How many lines the console has printed.
     pub fn printed(&self) -> usize
         ensures { result ≡ length self.now.output }
     {
-        self.output.len()
+        self.machine.printed()
     }
 
-    /// A line that the console has printed, as the reply that it says.
-    pub fn output(&self, line: usize) -> Option<Reply>
+    /// A line that the console has printed, as the response that it says.
+    pub fn console_output(&self, line: usize) -> Option<Response>
         ensures { option_map text_of result ≡ slice_get self.now.output line }
     {
-        self.output.get(line)
-    }
-
-    /// LOGON: a reset machine with zeros everywhere; what was printed stays.
-    pub(crate) fn clear(&mut self)
-        ensures { self.new ≡ cleared self.old }
-    {
-        self.cpu = reset_cpu([0; 16]);
-        self.storage.clear();
-        self.pending = NOTHING;
-        self.mode = Mode::Stopped;
+        self.machine.console_output(line)
     }
 }

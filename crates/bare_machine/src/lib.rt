@@ -2,17 +2,24 @@
 //!
 //! Its one theorem: what [`Bare`] does when it is let run ([`Bare::units`]) and when a line is typed ([`Bare::line`]) is
 //! what `specs/` defines (IBM System/370 Principles of Operation, GA22-7000, and docs/COMMANDS.md). The same definitions
-//! say what each user of the control program sees.
+//! say what each user of the control program sees. All its storage is there, so a run always does the units that it is
+//! asked for, up to where the machine stops by itself.
 //!
-//! It is given a storage, and leaves nothing behind but its own state.
+//! It is given a storage, which it clears, and leaves nothing behind but its own state.
+//!
+//! ```
+//! let mut machine = Bare::new(alloc, PlainStorage::new(alloc, 4)?);
+//! machine.line(b"LOGON")?;
+//! machine.line(b"STORE 200 0A07")?;
+//! machine.line(b"BEGIN 200")?;
+//! let told = machine.units(1);
+//! ```
 #![tactic(auto)]
 
 mod bare;
-mod panel;
-mod run;
-mod state;
 #[cfg(test)]
 mod tests;
 
 pub use bare::Bare;
-pub use state::{Mode, Pending, Ran, Reason};
+pub use cp_panel::{MachineRan, Mode};
+pub use s370_intr::{Pending, Ran, Reason};

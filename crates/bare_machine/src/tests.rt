@@ -1,7 +1,8 @@
-//! Machines as their operators meet them: what is typed and replied, what a run tells, and what it leaves.
-use super::{Bare, Mode, Pending, Ran, Reason};
+//! Machines as their operators meet them: what is typed and answered, what a run tells, and what it leaves.
+use super::{Bare, MachineRan, Mode, Pending, Ran, Reason};
 use cp_console::printing;
-use cp_console::replies::Reply;
+use cp_console::responses::Response;
+use s370_num::{AccessKey, StorageKey};
 use s370_store::{Access, Keyed, PlainStorage, Range, Storage};
 use std::alloc::Global;
 use std::process::Abort;
@@ -14,23 +15,23 @@ fn machine(alloc: Global) -> Result<Bare, Fail> {
     Ok(machine)
 }
 
-/// The text of a reply, and none where nothing is replied.
-fn text_of(alloc: Global, reply: Option<Reply>) -> Result<Vec<u8>, Fail> {
-    match reply {
-        Some(reply) => Ok(printing::reply(alloc, &reply)?),
+/// The text of a response, and none where there is none.
+fn text_of(alloc: Global, response: Option<Response>) -> Result<Vec<u8>, Fail> {
+    match response {
+        Some(response) => Ok(printing::reply(alloc, &response)?),
         None => Ok(Vec::new(alloc)),
     }
 }
 
-/// Types lines, each with the reply that is wanted.
+/// Types lines, each with the response that is wanted.
 fn session(
     rt: &(impl Abort + AllocGlobal),
     machine: &mut Bare,
     lines: &[(&str, &str)],
 ) -> Result<(), Fail> {
     for (line, wanted) in lines {
-        let reply = machine.line(line.as_bytes())?;
-        let said = text_of(rt.alloc(), reply)?;
+        let response = machine.line(line.as_bytes())?;
+        let said = text_of(rt.alloc(), response)?;
         assert_eq!(rt; said.as_slice(), wanted.as_bytes(), "to {line}");
     }
     Ok(())
@@ -40,8 +41,8 @@ fn session(
 fn begin(rt: &(impl Abort + AllocGlobal), stores: &[&str]) -> Result<Bare, Fail> {
     let mut machine = machine(rt.alloc())?;
     for line in stores {
-        let reply = machine.line(line.as_bytes())?;
-        assert_eq!(rt; reply, Some(Reply::Stored), "to {line}");
+        let response = machine.line(line.as_bytes())?;
+        assert_eq!(rt; response, Some(Response::Stored), "to {line}");
     }
     session(rt, &mut machine, &[("BEGIN", "")])?;
     Ok(machine)
@@ -51,14 +52,16 @@ fn begin(rt: &(impl Abort + AllocGlobal), stores: &[&str]) -> Result<Bare, Fail>
 fn console(rt: &(impl Abort + AllocGlobal), machine: &Bare, wanted: &[&str]) -> Result<(), Fail> {
     assert_eq!(rt; machine.printed(), wanted.len());
     for (line, text) in wanted.iter().enumerate() {
-        let said = text_of(rt.alloc(), machine.output(line))?;
+        let said = text_of(rt.alloc(), machine.console_output(line))?;
         assert_eq!(rt; said.as_slice(), text.as_bytes(), "at {line}");
     }
     Ok(())
 }
 
-fn ran(units: u64, reason: Reason) -> Ran {
-    Ran { units, reason }
+/// What a run tells that is ended without a notice.
+fn ran(units: u32, reason: Reason) -> MachineRan {
+    let ran = Ran { units, reason };
+    MachineRan { ran, notice: None }
 }
 
 /// Runs a program that `begin` sets up for so many units, which are all done. It leaves these old PSWs of supervisor call
@@ -66,7 +69,7 @@ fn ran(units: u64, reason: Reason) -> Ran {
 fn program(
     rt: &(impl Abort + AllocGlobal),
     stores: &[&str],
-    units: u64,
+    units: u32,
     old: &str,
     psw: &str,
 ) -> Result<Bare, Fail> {
@@ -188,24 +191,37 @@ fn program_interruptions(rt: HostRuntime) -> Result<(), Fail> {
     Ok(())
 }
 
+/// A machine with this PSW stops at its first unit for this reason and prints this notice, once.
+fn stops_by_itself(
+    rt: &(impl Abort + AllocGlobal),
+    psw: &str,
+    reason: Reason,
+    notice: &str,
+) -> Result<(), Fail> {
+    let store = format!(in rt.alloc(); "STORE PSW {psw}")?;
+    let mut machine = begin(rt, &[store.as_str()])?;
+    assert_eq!(rt; machine.units(0), ran(0, Reason::Count));
+    assert_eq!(rt; machine.units(5).ran, Ran { units: 0, reason });
+    console(rt, &machine, &["STORED", notice])?;
+    assert_eq!(rt; machine.mode(), Mode::Stopped);
+    assert_eq!(rt; machine.units(5), ran(0, Reason::Stopped));
+    assert_eq!(rt; machine.units(0), ran(0, Reason::Stopped));
+    console(rt, &machine, &["STORED", notice])?;
+    Ok(())
+}
+
 #[test]
 fn machines_stop_by_themselves(rt: HostRuntime) -> Result<(), Fail> {
-    let (disabled_wait, ec_mode) = ("STOPPED DISABLED WAIT", "STOPPED EC MODE");
-    let cases = [
-        ("00020000 00000000", Reason::DisabledWait, disabled_wait),
-        ("00080000 00000100", Reason::EcMode, ec_mode),
-        ("FF0A0000 00000100", Reason::EcMode, ec_mode),
-    ];
-    for (psw, reason, notice) in cases {
-        let store = format!(in rt.alloc(); "STORE PSW {psw}")?;
-        let mut machine = begin(&rt, &[store.as_str()])?;
-        assert_eq!(rt; machine.units(0), ran(0, Reason::Count));
-        assert_eq!(rt; machine.units(5), ran(0, reason));
-        console(&rt, &machine, &["STORED", notice])?;
-        assert_eq!(rt; machine.mode(), Mode::Stopped);
-        assert_eq!(rt; machine.units(5), ran(0, Reason::Stopped));
-        assert_eq!(rt; machine.units(0), ran(0, Reason::Stopped));
-        console(&rt, &machine, &["STORED", notice])?;
+    for (psw, reason, notice) in [
+        (
+            "00020000 00000000",
+            Reason::DisabledWait,
+            "STOPPED DISABLED WAIT",
+        ),
+        ("00080000 00000100", Reason::EcMode, "STOPPED EC MODE"),
+        ("FF0A0000 00000100", Reason::EcMode, "STOPPED EC MODE"),
+    ] {
+        stops_by_itself(&rt, psw, reason, notice)?;
     }
     Ok(())
 }
@@ -218,19 +234,23 @@ fn a_wait_with_a_mask_goes_on(rt: HostRuntime) -> Result<(), Fail> {
         "STORE PSW 00000000 00000100",
     ];
     let (waits, stopped) = (Reason::Wait, Reason::Stopped);
+    let disabled_wait = Reason::DisabledWait;
     for (mask, first, then, mode) in [
         ("#CP STORE 200 80", waits, waits, Mode::Running),
         ("#CP STORE 200 01", waits, waits, Mode::Running),
-        (
-            "#CP STORE 200 00",
-            Reason::DisabledWait,
-            stopped,
-            Mode::Stopped,
-        ),
+        ("#CP STORE 200 00", disabled_wait, stopped, Mode::Stopped),
     ] {
         let mut machine = begin(&rt, &stores)?;
         session(&rt, &mut machine, &[(mask, "STORED")])?;
-        assert_eq!(rt; machine.units(5), ran(1, first), "after {mask}");
+        let told = machine.units(5).ran;
+        assert_eq!(rt;
+            told,
+            Ran {
+                units: 1,
+                reason: first
+            },
+            "after {mask}"
+        );
         assert_eq!(rt; machine.units(5), ran(0, then), "after {mask}");
         assert_eq!(rt; machine.mode(), mode);
         assert_eq!(rt; machine.psw().address().get(), 0x300);
@@ -316,30 +336,31 @@ fn lines_to_a_machine_that_runs(rt: HostRuntime) -> Result<(), Fail> {
 }
 
 #[test]
-fn logon_clears_what_was_there(rt: HostRuntime) -> Result<(), Fail> {
+fn a_machine_begins_with_nothing_in_it(rt: HostRuntime) -> Result<(), Fail> {
     let mut storage = PlainStorage::new(rt.alloc(), 4)?;
-    storage.check(Range { start: 9, count: 1 }, Access::Store, 0)?;
+    storage.check(Range { start: 9, count: 1 }, Access::Store, AccessKey::ZERO)?;
     storage.store(9, &[7]);
     assert_eq!(rt; storage.keys().len(), 4);
-    storage.set_key(3, 0x1F);
+    storage.set_key(3, StorageKey::new(0x1F));
     let mut machine = Bare::new(rt.alloc(), storage);
-    assert_eq!(rt; machine.storage().get(9), Some(&7));
-    assert_eq!(rt; machine.key(3), Some(0x1F));
-    assert_eq!(rt; machine.key(4), None);
+    assert_eq!(rt; machine.mode(), Mode::Off);
+    nothing_is_in(&rt, &machine)?;
     session(&rt, &mut machine, &[("LOGON", "LOGON OK")])?;
+    nothing_is_in(&rt, &machine)
+}
+
+/// A machine of 8 KiB as it is after LOGON.
+fn nothing_is_in(rt: &impl Abort, machine: &Bare) -> Result<(), Fail> {
     assert_eq!(rt; machine.storage().len(), 8192);
     assert_eq!(rt; machine.storage().get(9), Some(&0));
-    assert_eq!(rt; machine.key(3), Some(0));
+    assert_eq!(rt; machine.key(3), Some(StorageKey::ZERO));
+    assert_eq!(rt; machine.key(4), None);
     assert_eq!(rt; machine.general(), &[0; 16]);
     let mut control = [0; 16];
     control[0] = 0xE0;
     assert_eq!(rt; machine.control(), &control);
-    let nothing = Pending {
-        timer: false,
-        key: false,
-    };
-    assert_eq!(rt; machine.pending(), nothing);
+    assert_eq!(rt; machine.pending(), Pending::NOTHING);
     assert_eq!(rt; machine.psw().address().get(), 0);
-    assert_eq!(rt; machine.output(0), None);
+    assert_eq!(rt; machine.console_output(0), None);
     Ok(())
 }

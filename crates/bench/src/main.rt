@@ -7,11 +7,11 @@
 
 use anyhow::{Result, bail};
 use bare_machine::Bare;
-use cp_console::replies::Reply as Said;
-use cp_core::{Answer, Event, Reply, Sizes, System};
+use cp_console::responses::Response;
+use cp_core::{Ended, Event, Sizes, System};
 use cp_directory::read_directory;
 use cp_text::numbers::decimal_of;
-use cp_text::users::UserNo;
+use cp_users::UserNo;
 use s370_num::Word;
 use s370_store::PlainStorage;
 use std::alloc::Global;
@@ -41,14 +41,22 @@ fn guest(alloc: Global) -> Result<Bare> {
 }
 
 /// The user of the control program.
-const USER: UserNo = UserNo(0);
+fn user() -> UserNo {
+    UserNo::new(0)
+}
 
-/// Applies an event to the system: how many units it did, and what was replied.
-fn applied(system: &mut System, event: Event<'_>) -> Result<(u32, Option<Said>)> {
-    match system.apply(event)? {
-        Reply::Ran(ran) => Ok((ran.units, None)),
-        Reply::Answered(Answer::Said(said)) => Ok((0, said)),
-        Reply::Answered(Answer::OutOfFrames) => Ok((0, None)),
+/// The user types a line, and this is said.
+fn said(system: &mut System, typed: &[u8]) -> Result<Option<Response>> {
+    let reply = system.apply(Event::Line(user(), typed))?;
+    Ok(reply.said)
+}
+
+/// Lets the user run: how many units were done, and what was said.
+fn ran(system: &mut System, units: u32) -> Result<(u32, Option<Response>)> {
+    let reply = system.apply(Event::Run(user(), units))?;
+    match reply.ended {
+        Ended::Ran(told) => Ok((told.units, reply.said)),
+        Ended::Done | Ended::FramesOut => Ok((0, reply.said)),
     }
 }
 
@@ -57,7 +65,7 @@ fn system(alloc: Global, sizes: Sizes) -> Result<System> {
     let directory = read_directory(alloc, b"USER A PW 8K")?;
     let mut system = System::boot(alloc, directory, sizes)?;
     for line in TYPED {
-        let _said = applied(&mut system, Event::Line(USER, line.as_bytes()))?;
+        let _said = said(&mut system, line.as_bytes())?;
     }
     Ok(system)
 }
@@ -95,13 +103,20 @@ struct Done {
     time: Duration,
 }
 
+/// How many units are asked for at a time.
+const MILLION: u32 = 1_000_000;
+
 /// So many million units of a bare machine.
 fn on_bare(rt: &(impl AllocGlobal + Clock), millions: u32) -> Result<Done> {
     let mut machine = guest(rt.alloc())?;
+    let mut units = 0u64;
     let start = Instant::now(rt)?;
-    let ran = machine.units(u64::from(millions) * 1_000_000);
+    for _ in 0..millions {
+        let told = machine.units(MILLION);
+        units = units.wrapping_add(u64::from(told.ran.units));
+    }
     Ok(Done {
-        units: ran.units,
+        units,
         register: machine.general()[1],
         time: start.elapsed(rt)?,
     })
@@ -116,11 +131,11 @@ fn on_frames(rt: &(impl AllocGlobal + Clock), millions: u32) -> Result<Done> {
     let mut units = 0u64;
     let start = Instant::now(rt)?;
     for _ in 0..millions {
-        let (done, _) = applied(&mut system, Event::Run(USER, 1_000_000))?;
+        let (done, _) = ran(&mut system, MILLION)?;
         units = units.wrapping_add(u64::from(done));
     }
     let time = start.elapsed(rt)?;
-    let general = system.registers(USER).unwrap_or([0; 16]);
+    let general = system.registers(user()).unwrap_or([0; 16]);
     Ok(Done {
         units,
         register: general[1],

@@ -2,12 +2,13 @@
 use Rattle.std.proofs.Common.{◌≡◌, ℕ, ◌+◌, ◌*◌, ◌^◌, Bool, true, false, cond, List, [], ◌∷◌, ◌++◌, codes, Option, Some, None, Ok, Err, refl}
 use Rattle.std.specs.Str.{bytes_eq}
 use Rattle.std.proofs.lemmas.Slice.Eq.{bytes_eq-Decides}
-use Rattle.cp_console.specs.Words.{words_of}
+use Rattle.cp_text.specs.Words.{words_of}
 use Rattle.cp_console.specs.Operands.{address_of, contents_of, bytes_of}
 use Rattle.cp_console.specs.Commands.{operand_read, operand, ended, place_of, logon_of, begin_of, display_of, change_of, store_of, command_by}
-use Rattle.cp_console.specs.Grammar.{Begins, ReadsGrammar, Spells, Tells}
+use Rattle.cp_console.specs.Grammar.{Begins, ReadsGrammar, Spells, SpellsStore, Tells}
 use Rattle.cp_console.specs.declared.commands.Place.{Place}
 use Rattle.cp_console.specs.declared.commands.Place.TheVariants as places
+use Rattle.cp_console.specs.declared.commands.Change.{Change}
 use Rattle.cp_console.specs.declared.commands.Change.TheVariants as changes
 use Rattle.cp_console.specs.declared.commands.Command.{Command}
 use Rattle.cp_console.specs.declared.commands.Command.TheVariants.{Nothing, Logon, Begin, Display, Store}
@@ -141,46 +142,44 @@ left_on word left [] (Some high) p h =
     record { front = codes "STORE" ∷ word ∷ left ∷ []; after = []; split = refl; counted = refl; begins = half_begins word left high p h; stops = missing (codes "STORE" ∷ word ∷ left ∷ []) (Operand 3) (rw (p, h) refl) }
 left_on word left (right ∷ words) (Some high) p h = right_on word left right words high (contents_of right) p h refl
 
-general_on : (word digits : List ℕ) (words : List (List ℕ)) (register : ℕ) (o : Option ℕ) → place_of word ≡ Some (places.General register) → contents_of digits ≡ o
-    → Tells (codes "STORE" ∷ word ∷ digits ∷ words) (operand_read 2 o (λ contents. ended 3 (Store (changes.General register contents)) words))
-general_on word digits words register None p h =
-    record { front = codes "STORE" ∷ word ∷ []; after = digits ∷ words; split = refl; counted = refl; begins = general_begins word register p; stops = never (codes "STORE" ∷ word ∷ digits ∷ []) (Operand 2) (λ rest. rw (p, h) refl) }
-general_on word digits [] register (Some contents) p h = record { word = word; digits = digits; spelled = refl; read = p; digits_read = h }
-general_on word digits (more ∷ words) register (Some contents) p h =
+-- the word after a place's, which this rule reads as what the place is given
+given_on : {A : Type 0} (rule : List ℕ → Option A) (place : Place) (change : A → Change)
+    → ((words : List (List ℕ)) → change_of place words ≡ operand 2 rule words (λ a. ended 3 (Store (change a))))
+    → ((words : List (List ℕ)) (a : A) → SpellsStore rule words place a → Spells words (Store (change a)))
+    → (word digits : List ℕ) (words : List (List ℕ)) (o : Option A) → Begins (codes "STORE" ∷ word ∷ []) → place_of word ≡ Some place → rule digits ≡ o
+    → Tells (codes "STORE" ∷ word ∷ digits ∷ words) (operand_read 2 o (λ a. ended 3 (Store (change a)) words))
+given_on rule place change reads spells word digits words None begins p h =
+    record { front = codes "STORE" ∷ word ∷ []; after = digits ∷ words; split = refl; counted = refl; begins = begins; stops = never (codes "STORE" ∷ word ∷ digits ∷ []) (Operand 2) (λ rest. rw (p, reads (digits ∷ rest), h) refl) }
+given_on rule place change reads spells word digits [] (Some a) begins p h =
+    spells (codes "STORE" ∷ word ∷ digits ∷ []) a (record { word = word; digits = digits; spelled = refl; read = p; digits_read = h })
+given_on rule place change reads spells word digits (more ∷ words) (Some a) begins p h =
     record {
       front = codes "STORE" ∷ word ∷ digits ∷ [];
       after = more ∷ words;
       split = refl;
       counted = refl;
-      begins = whole_begins (codes "STORE" ∷ word ∷ digits ∷ []) (Store (changes.General register contents)) (record { word = word; digits = digits; spelled = refl; read = p; digits_read = h });
-      stops = never (codes "STORE" ∷ word ∷ digits ∷ more ∷ []) (Operand 3) (λ rest. rw (p, h) refl);
+      begins = whole_begins (codes "STORE" ∷ word ∷ digits ∷ []) (Store (change a))
+          (spells (codes "STORE" ∷ word ∷ digits ∷ []) a (record { word = word; digits = digits; spelled = refl; read = p; digits_read = h }));
+      stops = never (codes "STORE" ∷ word ∷ digits ∷ more ∷ []) (Operand 3) (λ rest. rw (p, reads (digits ∷ more ∷ rest), h) refl);
     }
 
-storage_on : (word digits : List ℕ) (words : List (List ℕ)) (address : ℕ) (o : Option (List ℕ)) → place_of word ≡ Some (places.Storage address) → bytes_of digits ≡ o
-    → Tells (codes "STORE" ∷ word ∷ digits ∷ words) (operand_read 2 o (λ bytes. ended 3 (Store (changes.Storage address bytes)) words))
-storage_on word digits words address None p h =
-    record { front = codes "STORE" ∷ word ∷ []; after = digits ∷ words; split = refl; counted = refl; begins = storage_begins word address p; stops = never (codes "STORE" ∷ word ∷ digits ∷ []) (Operand 2) (λ rest. rw (p, h) refl) }
-storage_on word digits [] address (Some bytes) p h = record { word = word; digits = digits; spelled = refl; read = p; digits_read = h }
-storage_on word digits (more ∷ words) address (Some bytes) p h =
-    record {
-      front = codes "STORE" ∷ word ∷ digits ∷ [];
-      after = more ∷ words;
-      split = refl;
-      counted = refl;
-      begins = whole_begins (codes "STORE" ∷ word ∷ digits ∷ []) (Store (changes.Storage address bytes)) (record { word = word; digits = digits; spelled = refl; read = p; digits_read = h });
-      stops = never (codes "STORE" ∷ word ∷ digits ∷ more ∷ []) (Operand 3) (λ rest. rw (p, h) refl);
-    }
+given : {A : Type 0} (rule : List ℕ → Option A) (place : Place) (change : A → Change)
+    → ((words : List (List ℕ)) → change_of place words ≡ operand 2 rule words (λ a. ended 3 (Store (change a))))
+    → ((words : List (List ℕ)) (a : A) → SpellsStore rule words place a → Spells words (Store (change a)))
+    → (word : List ℕ) (words : List (List ℕ)) → Begins (codes "STORE" ∷ word ∷ []) → place_of word ≡ Some place
+    → Tells (codes "STORE" ∷ word ∷ words) (operand 2 rule words (λ a. ended 3 (Store (change a))))
+given rule place change reads spells word [] begins p =
+    record { front = codes "STORE" ∷ word ∷ []; after = []; split = refl; counted = refl; begins = begins; stops = missing (codes "STORE" ∷ word ∷ []) (Operand 2) (rw (p, reads []) refl) }
+given rule place change reads spells word (digits ∷ words) begins p = given_on rule place change reads spells word digits words (rule digits) begins p refl
 
 change_on : (word : List ℕ) (words : List (List ℕ)) (place : Place) → place_of word ≡ Some place → Tells (codes "STORE" ∷ word ∷ words) (change_of place words)
 change_on word [] places.Psw p =
     record { front = codes "STORE" ∷ word ∷ []; after = []; split = refl; counted = refl; begins = psw_begins word p; stops = missing (codes "STORE" ∷ word ∷ []) (Operand 2) (rw p refl) }
 change_on word (left ∷ words) places.Psw p = left_on word left words (contents_of left) p refl
-change_on word [] (places.General register) p =
-    record { front = codes "STORE" ∷ word ∷ []; after = []; split = refl; counted = refl; begins = general_begins word register p; stops = missing (codes "STORE" ∷ word ∷ []) (Operand 2) (rw p refl) }
-change_on word (digits ∷ words) (places.General register) p = general_on word digits words register (contents_of digits) p refl
-change_on word [] (places.Storage address) p =
-    record { front = codes "STORE" ∷ word ∷ []; after = []; split = refl; counted = refl; begins = storage_begins word address p; stops = missing (codes "STORE" ∷ word ∷ []) (Operand 2) (rw p refl) }
-change_on word (digits ∷ words) (places.Storage address) p = storage_on word digits words address (bytes_of digits) p refl
+change_on word words (places.General register) p =
+    given contents_of (places.General register) (λ contents. changes.General register contents) (λ ws. refl) (λ ws a h. h) word words (general_begins word register p) p
+change_on word words (places.Storage address) p =
+    given bytes_of (places.Storage address) (λ bytes. changes.Storage address bytes) (λ ws. refl) (λ ws a h. h) word words (storage_begins word address p) p
 
 store_on : (word : List ℕ) (words : List (List ℕ)) (o : Option Place) → place_of word ≡ o → Tells (codes "STORE" ∷ word ∷ words) (operand_read 1 o (λ place. change_of place words))
 store_on word words None h =

@@ -1,6 +1,6 @@
 -- What it is for words to spell a command, and to be no command.
-use Rattle.std.specs.Prelude.{◌≡◌, ℕ, ◌+◌, ◌*◌, ◌^◌, List, [], ◌∷◌, ◌++◌, length, codes, Some, None, Result, Ok, Err}
-use Rattle.cp_console.specs.Words.{words_of}
+use Rattle.std.specs.Prelude.{◌≡◌, ℕ, ◌+◌, ◌*◌, ◌^◌, List, [], ◌∷◌, ◌++◌, length, codes, Option, Some, None, Result, Ok, Err}
+use Rattle.cp_text.specs.Words.{words_of}
 use Rattle.cp_console.specs.Operands.{address_of, contents_of, bytes_of}
 use Rattle.cp_console.specs.Commands.{command_of, place_of}
 use Rattle.cp_console.specs.declared.commands.Place.{Place}
@@ -36,21 +36,13 @@ pub record SpellsPsw (words : List (List ℕ)) (psw : ℕ) : Type 0 where
   pub right_read : contents_of right ≡ Some low
   pub joined : psw ≡ high * 2 ^ 32 + low
 
--- `STORE`, the word of a register and its contents
-pub record SpellsGeneral (words : List (List ℕ)) (register contents : ℕ) : Type 0 where
+-- `STORE`, the word of a place and what the place is given, a word read by this rule
+pub record SpellsStore {A : Type 0} (rule : List ℕ → Option A) (words : List (List ℕ)) (place : Place) (given : A) : Type 0 where
   pub word : List ℕ
   pub digits : List ℕ
   pub spelled : words ≡ codes "STORE" ∷ word ∷ digits ∷ []
-  pub read : place_of word ≡ Some (places.General register)
-  pub digits_read : contents_of digits ≡ Some contents
-
--- `STORE`, the word of an address and the bytes
-pub record SpellsStorage (words : List (List ℕ)) (address : ℕ) (bytes : List ℕ) : Type 0 where
-  pub word : List ℕ
-  pub digits : List ℕ
-  pub spelled : words ≡ codes "STORE" ∷ word ∷ digits ∷ []
-  pub read : place_of word ≡ Some (places.Storage address)
-  pub digits_read : bytes_of digits ≡ Some bytes
+  pub read : place_of word ≡ Some place
+  pub digits_read : rule digits ≡ Some given
 
 -- the words spell a command
 abbrev pub Spells : List (List ℕ) → Command → Type 0
@@ -60,8 +52,8 @@ Spells words (Begin None) = words ≡ codes "BEGIN" ∷ []
 Spells words (Begin (Some address)) = SpellsBegin words address
 Spells words (Display place) = SpellsDisplay words place
 Spells words (Store (changes.Psw psw)) = SpellsPsw words psw
-Spells words (Store (changes.General register contents)) = SpellsGeneral words register contents
-Spells words (Store (changes.Storage address bytes)) = SpellsStorage words address bytes
+Spells words (Store (changes.General register contents)) = SpellsStore contents_of words (places.General register) contents
+Spells words (Store (changes.Storage address bytes)) = SpellsStore bytes_of words (places.Storage address) bytes
 
 -- the words begin a command: with some words after them they spell one
 pub record Begins (words : List (List ℕ)) : Type 0 where

@@ -1,9 +1,8 @@
 pub mod Lines
-pub mod Words
 pub mod Asked
 pub mod StoredBytes
 pub mod Operands
 pub mod Output
 pub mod Commands
-pub mod Replies
+pub mod Responses
 pub mod Grammar

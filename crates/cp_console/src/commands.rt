@@ -1,12 +1,12 @@
 //! The commands, and how their texts are read.
-ghost use Rattle.std.specs.Prelude.{◌≡◌, ◌++◌, Option, Result};
+ghost use Rattle.std.specs.Prelude.{◌≡◌, [], ◌∷◌, MatchResult};
 ghost use Rattle.cp_console.specs.Commands.{begin_of, change_of, command_named, command_of, display_of, ended, logon_of, numbered_place, place_of, store_of};
 ghost use Rattle.cp_console.specs.Grammar.{ReadsGrammar};
-ghost use Rattle.cp_console.specs.Words.{words_of};
+ghost use Rattle.cp_text.specs.Words.{words_of};
 
-use crate::operands::{Register, StoredBytes, address_of, bytes_of, contents_of, register_of};
-use crate::words::cut_word;
-use s370_num::{Addr24, Word};
+use crate::operands::{StoredBytes, address_of, bytes_of, contents_of, register_of};
+use cp_text::words::next_word;
+use s370_num::{Addr24, Register, Word};
 use thiserror::Error;
 
 /// What of a machine is displayed or changed.
@@ -64,7 +64,7 @@ pub enum CommandError {
 pub fn read_command(text: &[u8]) -> Result<Command, CommandError>
     ensures { result ≡ command_of text.now }
 {
-    let Some((name, operands)) = cut_word(text) else {
+    let Some((name, operands)) = next_word(text) else {
         return Ok(Command::Nothing);
     };
     read_named(name, operands)
@@ -97,22 +97,27 @@ fn read_named(name: &[u8], operands: &[u8]) -> Result<Command, CommandError>
 fn ended(place: u64, command: Command, operands: &[u8]) -> Result<Command, CommandError>
     ensures { result ≡ ended place command (words_of operands.now) }
 {
-    match cut_word(operands) {
+    match next_word(operands) {
         None => Ok(command),
         Some(_) => Err(CommandError::Operand(place)),
     }
+}
+
+/// The operand at this place, and what follows it; a missing one is told by its place.
+fn operand(place: u64, operands: &[u8]) -> Result<(&[u8], &[u8]), CommandError>
+    ensures { MatchResult result (λ cut. words_of operands.now ≡ cut.0.now ∷ words_of cut.1.now) (λ error. (words_of operands.now ≡ []) × (error ≡ CommandError.Operand place)) }
+{
+    next_word(operands).ok_or(CommandError::Operand(place))
 }
 
 /// `BEGIN`, which may name an address.
 fn read_begin(operands: &[u8]) -> Result<Command, CommandError>
     ensures { result ≡ begin_of (words_of operands.now) }
 {
-    let Some((word, rest)) = cut_word(operands) else {
+    let Some((word, rest)) = next_word(operands) else {
         return Ok(Command::Begin(None));
     };
-    let Some(address) = address_of(word) else {
-        return Err(CommandError::Operand(1));
-    };
+    let address = address_of(word).ok_or(CommandError::Operand(1))?;
     ended(2, Command::Begin(Some(address)), rest)
 }
 
@@ -120,12 +125,8 @@ fn read_begin(operands: &[u8]) -> Result<Command, CommandError>
 fn read_display(operands: &[u8]) -> Result<Command, CommandError>
     ensures { result ≡ display_of (words_of operands.now) }
 {
-    let Some((word, rest)) = cut_word(operands) else {
-        return Err(CommandError::Operand(1));
-    };
-    let Some(place) = place_of(word) else {
-        return Err(CommandError::Operand(1));
-    };
+    let (word, rest) = operand(1, operands)?;
+    let place = place_of(word).ok_or(CommandError::Operand(1))?;
     ended(2, Command::Display(place), rest)
 }
 
@@ -133,12 +134,8 @@ fn read_display(operands: &[u8]) -> Result<Command, CommandError>
 fn read_store(operands: &[u8]) -> Result<Command, CommandError>
     ensures { result ≡ store_of (words_of operands.now) }
 {
-    let Some((word, rest)) = cut_word(operands) else {
-        return Err(CommandError::Operand(1));
-    };
-    let Some(place) = place_of(word) else {
-        return Err(CommandError::Operand(1));
-    };
+    let (word, rest) = operand(1, operands)?;
+    let place = place_of(word).ok_or(CommandError::Operand(1))?;
     match place {
         Place::Psw => read_psw(rest),
         Place::General(register) => read_general(register, rest),
@@ -150,18 +147,10 @@ fn read_store(operands: &[u8]) -> Result<Command, CommandError>
 fn read_psw(operands: &[u8]) -> Result<Command, CommandError>
     ensures { result ≡ change_of Place.Psw (words_of operands.now) }
 {
-    let Some((word, rest)) = cut_word(operands) else {
-        return Err(CommandError::Operand(2));
-    };
-    let Some(left) = contents_of(word) else {
-        return Err(CommandError::Operand(2));
-    };
-    let Some((word, rest)) = cut_word(rest) else {
-        return Err(CommandError::Operand(3));
-    };
-    let Some(right) = contents_of(word) else {
-        return Err(CommandError::Operand(3));
-    };
+    let (word, rest) = operand(2, operands)?;
+    let left = contents_of(word).ok_or(CommandError::Operand(2))?;
+    let (word, rest) = operand(3, rest)?;
+    let right = contents_of(word).ok_or(CommandError::Operand(3))?;
     let psw = u64::from(left.unsigned()) * 0x1_0000_0000 + u64::from(right.unsigned());
     ended(4, Command::Store(Change::Psw(psw)), rest)
 }
@@ -170,12 +159,8 @@ fn read_psw(operands: &[u8]) -> Result<Command, CommandError>
 fn read_general(register: Register, operands: &[u8]) -> Result<Command, CommandError>
     ensures { result ≡ change_of (Place.General register) (words_of operands.now) }
 {
-    let Some((word, rest)) = cut_word(operands) else {
-        return Err(CommandError::Operand(2));
-    };
-    let Some(contents) = contents_of(word) else {
-        return Err(CommandError::Operand(2));
-    };
+    let (word, rest) = operand(2, operands)?;
+    let contents = contents_of(word).ok_or(CommandError::Operand(2))?;
     ended(3, Command::Store(Change::General(register, contents)), rest)
 }
 
@@ -183,12 +168,8 @@ fn read_general(register: Register, operands: &[u8]) -> Result<Command, CommandE
 fn read_storage(address: Addr24, operands: &[u8]) -> Result<Command, CommandError>
     ensures { result ≡ change_of (Place.Storage address) (words_of operands.now) }
 {
-    let Some((word, rest)) = cut_word(operands) else {
-        return Err(CommandError::Operand(2));
-    };
-    let Some(bytes) = bytes_of(word) else {
-        return Err(CommandError::Operand(2));
-    };
+    let (word, rest) = operand(2, operands)?;
+    let bytes = bytes_of(word).ok_or(CommandError::Operand(2))?;
     ended(3, Command::Store(Change::Storage(address, bytes)), rest)
 }
 

@@ -1,12 +1,20 @@
-//! The console of a user: the lines typed at it, the commands that they give, and the replies.
+//! The console of a user: the lines typed at it, the commands that they give, and the responses.
 //!
 //! One theorem: a text is read as exactly the command that the grammar of `docs/COMMANDS.md` gives it,
 //! and a text that the grammar refuses is told by its first wrong, missing or surplus word
 //! ([`commands::read_command`], [`commands::reads_grammar`]).
 //!
 //! Before that a line is cut and cleaned ([`lines::ConsoleText`]), and its first word says whether it
-//! speaks to the control program ([`lines::asked_of`]). What a reply says is one text
+//! speaks to the control program ([`lines::asked_of`]). What a response says is one text
 //! ([`printing::reply`]).
+//!
+//! ```text
+//! let line = ConsoleText::new(b"#CP DISPLAY 20");
+//! let asked = asked_of(line.as_slice()); // Asked::Command(b"DISPLAY 20")
+//! let command = read_command(b"DISPLAY 20"); // Ok(Command::Display(Place::Storage(..)))
+//! let fault = read_command(b"DISPLAY X1"); // Err(CommandError::Operand(1))
+//! let text = reply(alloc, &Response::BadOperand(1))?; // b"BAD OPERAND 1"
+//! ```
 #![tactic(auto)]
 
 pub mod commands;
@@ -14,10 +22,9 @@ pub mod lines;
 mod operands;
 pub mod output;
 pub mod printing;
-pub mod replies;
-mod words;
+pub mod responses;
 
-pub use operands::{Register, StoredBytes};
+pub use operands::StoredBytes;
 
 #[cfg(test)]
 mod tests;

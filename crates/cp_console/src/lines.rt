@@ -3,7 +3,7 @@ ghost use Rattle.std.specs.Prelude.{◌≡◌, ◌≤◌, length, take};
 ghost use Rattle.cp_console.specs.Lines.{character_of, cleaned};
 ghost use Rattle.cp_console.specs.Asked.{asked, asked_of};
 
-use crate::words::cut_word;
+use cp_text::words::next_word;
 use s370_num::ebcdic::is_printable;
 use std::marker::Model;
 
@@ -84,13 +84,13 @@ pub enum Asked<'a> {
 pub fn asked_of(line: &[u8]) -> Asked<'_>
     ensures { asked result ≡ asked_of line.now }
 {
-    let Some((first, rest)) = cut_word(line) else {
+    let Some((first, rest)) = next_word(line) else {
         return Asked::Plain(line);
     };
     if first != b"#CP".as_slice() {
         return Asked::Plain(line);
     }
-    if cut_word(rest).is_none() {
+    if next_word(rest).is_none() {
         Asked::Stop
     } else {
         Asked::Command(rest)

@@ -1,45 +1,10 @@
 //! The operands of commands: addresses, registers and the bytes that are stored.
-ghost use Rattle.std.specs.Prelude.{◌≡◌, ◌+◌, ◌*◌, ◌^◌, ◌<◌, ◌≤◌, ◌++◌, ◌∷◌, [], length, IfSome, IfNone, Option, Some, None};
-ghost use Rattle.cp_console.specs.Operands.{address_of, byte_of, bytes_of, bytes_spelled, contents_of, digit_value, hexadecimal, register_of};
+ghost use Rattle.std.specs.Prelude.{◌≡◌, ◌<◌, ◌≤◌, ◌++◌, ◌∷◌, [], length, IfSome, IfNone, Option, Some, None};
+ghost use Rattle.cp_console.specs.Operands.{address_of, byte_of, bytes_of, bytes_spelled, contents_of, register_of};
 
-use s370_num::{Addr24, Word};
+use cp_text::numbers::{digit_value, hexadecimal_of};
+use s370_num::{Addr24, Register, Word};
 use std::marker::Model;
-
-/// The number of a general register, 0 to 15.
-#[derive(Clone, Copy, Debug, PartialEq, Eq)]
-pub struct Register {
-    number: u8,
-}
-
-impl Model for Register {
-    ghost use Rattle.std.specs.Prelude.{ℕ, ◌<◌};
-
-    ghost Value = { ℕ };
-
-    ghost view = { λ r. r.number };
-
-    ghost invariant = { λ r. r.number < 16 };
-
-    ghost inverse = { λ n. record { number = n } };
-}
-
-impl Register {
-    /// The register of this number.
-    pub fn new(number: u8) -> Register
-        requires { number < 16 }
-        ensures { result ≡ number }
-    {
-        Register { number }
-    }
-
-    /// The register's number.
-    pub fn number(self) -> u8
-        ensures value { result ≡ self }
-        ensures below { result < 16 }
-    {
-        self.number
-    }
-}
 
 /// The bytes that a command stores: at most sixteen.
 #[derive(Clone, Copy, Debug, PartialEq, Eq)]
@@ -94,46 +59,18 @@ impl StoredBytes {
     }
 }
 
-/// The value of a hexadecimal digit, 0 to 9 or A to F.
-fn digit_value(c: u8) -> Option<u8>
-    ensures value { result ≡ digit_value c }
-    ensures below { IfSome result (λ digit. digit < 16) }
-{
-    match c {
-        b'0'..=b'9' => Some(c - b'0'),
-        b'A'..=b'F' => Some(c - b'A' + 10),
-        _ => None,
-    }
-}
-
-/// The number that at least and at most so many hexadecimal digits spell.
-fn hexadecimal(least: usize, most: usize, digits: &[u8]) -> Option<u32>
-    requires { most ≤ 8 }
-    ensures value { result ≡ hexadecimal least most digits.now }
-    ensures below { IfSome result (λ number. number < 16 ^ most) }
-{
-    if digits.len() < least || digits.len() > most {
-        return None;
-    }
-    let mut number = 0;
-    for c in digits {
-        number = number * 16 + u32::from(digit_value(*c)?);
-    }
-    Some(number)
-}
-
 /// An address of storage, 1 to 6 hexadecimal digits.
 pub fn address_of(word: &[u8]) -> Option<Addr24>
     ensures { result ≡ address_of word.now }
 {
-    Addr24::new(hexadecimal(1, 6, word)?)
+    Addr24::new(hexadecimal_of(1, 6, word)?)
 }
 
 /// The contents of a register, 8 hexadecimal digits.
 pub fn contents_of(word: &[u8]) -> Option<Word>
     ensures { result ≡ contents_of word.now }
 {
-    Some(Word::from_unsigned(hexadecimal(8, 8, word)?))
+    Some(Word::from_unsigned(hexadecimal_of(8, 8, word)?))
 }
 
 /// The number of a register, decimal without a leading zero.

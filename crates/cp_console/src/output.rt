@@ -1,9 +1,9 @@
 //! What a console has printed.
-ghost use Rattle.std.specs.Prelude.{◌≡◌, ◌+◌, ◌<◌, ◌≤◌, ◌==◌, ◌++◌, [], ◌∷◌, length, OnOk, slice_get};
+ghost use Rattle.std.specs.Prelude.{◌≡◌, ◌+◌, ◌<◌, ◌≤◌, ◌==◌, ◌++◌, [], ◌∷◌, length, OnOk, OnErr, slice_get};
 ghost use Rattle.std.specs.Option.{option_map};
-ghost use Rattle.cp_console.specs.Replies.{text_of};
+ghost use Rattle.cp_console.specs.Responses.{text_of};
 
-use crate::replies::Reply;
+use crate::responses::Response;
 use std::alloc::{AllocError, Global};
 use std::marker::Model;
 
@@ -12,12 +12,12 @@ use std::marker::Model;
 /// A machine that stops says so and may take no memory for it: the room for that line is made before the machine runs.
 #[derive(Drop)]
 pub struct ConsoleOutput {
-    lines: Vec<Reply>,
+    lines: Vec<Response>,
 }
 
 impl Model for ConsoleOutput {
     ghost use Rattle.std.specs.Prelude.{◌-◌, map, vec_len, vec_capacity};
-    ghost use Rattle.cp_console.specs.Replies.{text_of};
+    ghost use Rattle.cp_console.specs.Responses.{text_of};
     ghost use Rattle.cp_console.specs.Output.{Printed};
 
     ghost Value = { Printed };
@@ -40,17 +40,21 @@ impl ConsoleOutput {
         ensures lines { self.new.lines ≡ self.old.lines }
         ensures ok { OnOk result (lines ≤ self.new.room) }
         ensures room { self.old.room ≤ self.new.room }
+        ensures err { OnErr result (self.old.room < lines) }
     {
+        if self.lines.capacity() - self.lines.len() >= lines {
+            return Ok(());
+        }
         self.lines.reserve(lines)
     }
 
     /// Prints a line where there is room. This takes no memory.
-    pub fn print(&mut self, reply: &Reply)
+    pub fn print(&mut self, response: &Response)
         requires { 0 < self.old.room }
-        ensures lines { self.new.lines ≡ self.old.lines ++ text_of reply.now ∷ [] }
+        ensures lines { self.new.lines ≡ self.old.lines ++ text_of response.now ∷ [] }
         ensures room { self.new.room + 1 ≡ self.old.room }
     {
-        self.lines.push_reserved(*reply);
+        self.lines.push_reserved(*response);
     }
 
     /// How many lines were printed.
@@ -67,8 +71,8 @@ impl ConsoleOutput {
         self.lines.is_empty()
     }
 
-    /// A line that was printed, as the reply that it says.
-    pub fn get(&self, line: usize) -> Option<Reply>
+    /// A line that was printed, as the response that it says.
+    pub fn get(&self, line: usize) -> Option<Response>
         ensures { option_map text_of result ≡ slice_get self.now.lines line }
     {
         self.lines.get(line).copied()

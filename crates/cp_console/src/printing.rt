@@ -1,38 +1,37 @@
-//! The texts of replies.
+//! The texts of responses.
 ghost use Rattle.std.specs.Prelude.{◌≡◌, ◌+◌, ◌*◌, ◌/◌, ◌≤◌, IfOk, length, string_bytes};
-ghost use Rattle.cp_console.specs.Replies.{general_text, psw_text, storage_text, text_of, word_at};
+ghost use Rattle.cp_console.specs.Responses.{general_text, psw_text, storage_text, text_of, word_at};
 
-use crate::operands::Register;
-use crate::replies::Reply;
+use crate::responses::Response;
 use byteorder::{BigEndian, ByteOrder};
-use s370_num::{Addr24, Word};
+use s370_num::{Addr24, Register, Word};
 use std::alloc::{AllocError, Global};
 
-/// The text of a reply, without the end of a line. Only want of memory is an error.
-pub fn reply(alloc: Global, answer: &Reply) -> Result<Vec<u8>, AllocError>
-    ensures { IfOk result (λ text. text.items ≡ text_of answer.now) }
+/// The text of a response, without the end of a line. Only want of memory is an error.
+pub fn reply(alloc: Global, response: &Response) -> Result<Vec<u8>, AllocError>
+    ensures { IfOk result (λ text. text.items ≡ text_of response.now) }
 {
-    let text = reply_text(alloc, answer)?;
+    let text = response_text(alloc, response)?;
     Ok(text.into_bytes())
 }
 
-fn reply_text(alloc: Global, answer: &Reply) -> Result<String, AllocError>
-    ensures { IfOk result (λ text. string_bytes text ≡ text_of answer.now) }
+fn response_text(alloc: Global, response: &Response) -> Result<String, AllocError>
+    ensures { IfOk result (λ text. string_bytes text ≡ text_of response.now) }
 {
-    match answer {
-        Reply::LogonOk => "LOGON OK".to_string(alloc),
-        Reply::AlreadyLoggedOn => "ALREADY LOGGED ON".to_string(alloc),
-        Reply::NotLoggedOn => "NOT LOGGED ON".to_string(alloc),
-        Reply::Psw(psw) => psw_text(alloc, *psw),
-        Reply::General(register, contents) => general_text(alloc, *register, *contents),
-        Reply::Storage(address, bytes) => storage_text(alloc, *address, bytes),
-        Reply::Stored => "STORED".to_string(alloc),
-        Reply::AddressPastStorage => "ADDRESS PAST STORAGE".to_string(alloc),
-        Reply::UnknownCommand => "UNKNOWN COMMAND".to_string(alloc),
-        Reply::BadOperand(place) => format!(in alloc; "BAD OPERAND {place}"),
-        Reply::NoConsole => "NO CONSOLE".to_string(alloc),
-        Reply::StoppedDisabledWait => "STOPPED DISABLED WAIT".to_string(alloc),
-        Reply::StoppedEcMode => "STOPPED EC MODE".to_string(alloc),
+    match response {
+        Response::LogonOk => "LOGON OK".to_string(alloc),
+        Response::AlreadyLoggedOn => "ALREADY LOGGED ON".to_string(alloc),
+        Response::NotLoggedOn => "NOT LOGGED ON".to_string(alloc),
+        Response::Psw(psw) => psw_text(alloc, *psw),
+        Response::General(register, contents) => general_text(alloc, *register, *contents),
+        Response::Storage(address, bytes) => storage_text(alloc, *address, bytes),
+        Response::Stored => "STORED".to_string(alloc),
+        Response::AddressPastStorage => "ADDRESS PAST STORAGE".to_string(alloc),
+        Response::UnknownCommand => "UNKNOWN COMMAND".to_string(alloc),
+        Response::BadOperand(place) => format!(in alloc; "BAD OPERAND {place}"),
+        Response::NoConsole => "NO CONSOLE".to_string(alloc),
+        Response::StoppedDisabledWait => "STOPPED DISABLED WAIT".to_string(alloc),
+        Response::StoppedEcMode => "STOPPED EC MODE".to_string(alloc),
     }
 }
 

@@ -1,10 +1,9 @@
-//! Lines, commands and replies as an operator meets them.
+//! Lines, commands and responses as an operator meets them.
 use crate::commands::{Change, Command, CommandError, Place, read_command};
 use crate::lines::{Asked, ConsoleText, asked_of};
-use crate::operands::Register;
 use crate::printing::reply;
-use crate::replies::Reply;
-use s370_num::{Addr24, Word};
+use crate::responses::Response;
+use s370_num::{Addr24, Register, Word};
 use std::test::Fail;
 
 // A tab and a character outside the alphabet become blanks, and the 131st character is cut.
@@ -132,34 +131,34 @@ fn refuses_what_is_no_command(rt: HostRuntime) {
 }
 
 #[test]
-fn prints_replies(rt: HostRuntime) -> Result<(), Fail> {
+fn prints_responses(rt: HostRuntime) -> Result<(), Fail> {
     let bytes = [0, 0, 0, 7, 0x40, 0, 0x10, 2, 0, 0, 0, 0, 0, 0, 0, 0];
-    let replies = [
-        (Reply::LogonOk, "LOGON OK", false),
-        (Reply::AlreadyLoggedOn, "ALREADY LOGGED ON", false),
-        (Reply::NotLoggedOn, "NOT LOGGED ON", false),
-        (Reply::Psw(0x200), "PSW 00000000 00000200", true),
+    let responses = [
+        (Response::LogonOk, "LOGON OK", false),
+        (Response::AlreadyLoggedOn, "ALREADY LOGGED ON", false),
+        (Response::NotLoggedOn, "NOT LOGGED ON", false),
+        (Response::Psw(0x200), "PSW 00000000 00000200", true),
         (
-            Reply::General(Register::new(1), Word::from_unsigned(0xABCD_0000)),
+            Response::General(Register::new(1), Word::from_unsigned(0xABCD_0000)),
             "GPR 1 = ABCD0000",
             true,
         ),
         (
-            Reply::Storage(Addr24::wrapping(0x2C), bytes),
+            Response::Storage(Addr24::wrapping(0x2C), bytes),
             "000020 00000007 40001002 00000000 00000000",
             true,
         ),
-        (Reply::Stored, "STORED", true),
-        (Reply::AddressPastStorage, "ADDRESS PAST STORAGE", true),
-        (Reply::UnknownCommand, "UNKNOWN COMMAND", false),
-        (Reply::BadOperand(1), "BAD OPERAND 1", false),
-        (Reply::NoConsole, "NO CONSOLE", false),
-        (Reply::StoppedDisabledWait, "STOPPED DISABLED WAIT", true),
-        (Reply::StoppedEcMode, "STOPPED EC MODE", true),
+        (Response::Stored, "STORED", true),
+        (Response::AddressPastStorage, "ADDRESS PAST STORAGE", true),
+        (Response::UnknownCommand, "UNKNOWN COMMAND", false),
+        (Response::BadOperand(1), "BAD OPERAND 1", false),
+        (Response::NoConsole, "NO CONSOLE", false),
+        (Response::StoppedDisabledWait, "STOPPED DISABLED WAIT", true),
+        (Response::StoppedEcMode, "STOPPED EC MODE", true),
     ];
-    for (answer, text, is_panel) in replies {
-        assert_eq!(rt; reply(rt.alloc(), &answer)?.as_slice(), text.as_bytes());
-        assert_eq!(rt; answer.is_panel(), is_panel, "at {text}");
+    for (response, text, is_panel) in responses {
+        assert_eq!(rt; reply(rt.alloc(), &response)?.as_slice(), text.as_bytes());
+        assert_eq!(rt; response.is_panel(), is_panel, "at {text}");
     }
     Ok(())
 }

@@ -1,4 +1,4 @@
-pub mod Spells
 pub mod Systems
 pub mod Histories
 pub mod Boots
+pub mod Kept

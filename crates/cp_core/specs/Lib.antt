@@ -1,6 +1,5 @@
-pub mod Seats
-pub mod Runs
-pub mod Lines
+pub mod Events
+pub mod UserMachines
+pub mod System
 pub mod Whole
 pub mod Sizes
-pub mod System

@@ -1,40 +1,47 @@
 -- The whole system as it is seen, and what its events do: to each user what a bare machine does.
-use Rattle.std.specs.Prelude.{◌≡◌, ℕ, ◌==◌, ◌*◌, ◌<◌, ◌≤◌, if◌then◌else◌, Bool, false, List, [], ◌∷◌, ◌++◌, length, map, replicate, slice_index_or, Option, None}
+use Rattle.std.specs.Prelude.{◌≡◌, ℕ, ◌==◌, ◌*◌, ◌<◌, ◌≤◌, if◌then◌else◌, Bool, true, false, List, [], ◌∷◌, ◌++◌, length, map, replicate, slice_index_or, Option, None}
+use Rattle.s370_store.specs.Access.{Touches}
+use Rattle.s370_intr.specs.declared.next.Reason.{Reason}
+use Rattle.s370_intr.specs.declared.next.Reason.TheVariants.{FramesOut as RunFramesOut}
+use Rattle.s370_intr.specs.declared.run.Ran.{Ran as RanUnits}
+use Rattle.s370_intr.specs.Run.{AllNeeded, IsLacking, RunNeeds}
 use Rattle.cp_directory.specs.Users.{DirectoryUser}
 use Rattle.cp_frames.specs.declared.numbers.UserPage.{UserPage}
-use Rattle.bare_machine.specs.Machine.{Machine, unused}
+use Rattle.cp_frames.specs.Layout.{cleared_of, is_there}
+use Rattle.cp_frames.specs.Supplied.{IsFilled}
+use Rattle.cp_panel.specs.Machine.{Machine, unused}
+use Rattle.cp_panel.specs.Run.{MachineRun, TellsRun}
+use Rattle.cp_panel.specs.Panel.{Answer, line, line_needs, switches_on}
 use Rattle.bare_machine.specs.Life.{Event as Local, Units, Line as Typed, life}
-use Rattle.cp_core.specs.Seats.{Seated, machine_of, Fits}
-use Rattle.cp_core.specs.Runs.{TellsRun}
-use Rattle.cp_core.specs.Lines.{TellsLine}
-use Rattle.cp_core.specs.declared.events.End.{End}
-use Rattle.cp_core.specs.declared.events.End.TheVariants.{Ended, OutOfFrames as RunOutOfFrames}
-use Rattle.cp_core.specs.declared.events.Answer.{Answer}
-use Rattle.cp_core.specs.declared.events.Answer.TheVariants.{Said, OutOfFrames}
+use Rattle.cp_core.specs.UserMachines.{UserParts, machine_of, IsShort}
+use Rattle.cp_core.specs.Events.{user_of}
+use Rattle.cp_core.specs.declared.events.Ended.{Ended}
+use Rattle.cp_core.specs.declared.events.Ended.TheVariants.{Ran, Done, FramesOut}
 use Rattle.cp_core.specs.declared.events.Event.{Event}
 use Rattle.cp_core.specs.declared.events.Event.TheVariants.{Run, Line}
 use Rattle.cp_core.specs.declared.events.Reply.{Reply}
-use Rattle.cp_core.specs.declared.events.Reply.TheVariants.{Ran, Answered}
 
--- each user's machine, the users of the directory, the page in each frame, and whether want of memory has ended the system
-pub record Shown : Type 0 where
+-- each user's machine, the users of the directory, the page in each frame, which frames are pinned, and whether want of
+-- memory has ended the system
+pub record SystemView : Type 0 where
   pub machines : List Machine
   pub users : List DirectoryUser
   pub owners : List (Option UserPage)
+  pub pins : List Bool
   pub is_spent : Bool
 
--- the machines that these seats are with these storages
-abbrev pub machines_of : List Seated → List (List ℕ) → List Machine
+-- the machines that these are with these storages
+abbrev pub machines_of : List UserParts → List (List ℕ) → List Machine
 machines_of [] storages = []
-machines_of (seat ∷ seats) [] = []
-machines_of (seat ∷ seats) (bytes ∷ storages) = machine_of seat bytes ∷ machines_of seats storages
+machines_of (u ∷ us) [] = []
+machines_of (u ∷ us) (bytes ∷ storages) = machine_of u bytes ∷ machines_of us storages
 
 -- the machine of nobody
 abbrev pub nobody : Machine
 nobody = unused [] []
 
 -- a user's machine
-abbrev pub machine_at : Shown → ℕ → Machine
+abbrev pub machine_at : SystemView → ℕ → Machine
 machine_at s user = slice_index_or s.machines user nobody
 
 -- ---- boot
@@ -43,55 +50,101 @@ machine_at s user = slice_index_or s.machines user nobody
 abbrev pub new_machine : DirectoryUser → Machine
 new_machine user = unused (replicate (user.pages * 4096) 0) (replicate (user.pages * 2) 0)
 
--- the system at boot
-abbrev pub booted : List DirectoryUser → ℕ → Shown
-booted users frames = record { machines = map new_machine users; users = users; owners = replicate frames None; is_spent = false }
+-- the system at boot: no page stands in a frame, and no frame is pinned
+abbrev pub booted : List DirectoryUser → ℕ → SystemView
+booted users frames = record {
+  machines = map new_machine users;
+  users = users;
+  owners = replicate frames None;
+  pins = replicate frames false;
+  is_spent = false;
+}
 
--- ---- events
-
--- the user whom an event names
-abbrev pub user_of : Event → ℕ
-user_of (Run user units) = user.0
-user_of (Line user typed) = user.0
-
--- the events that may take memory
-abbrev pub IsLine : Event → Type 0
-IsLine (Run user units) = ⊥
-IsLine (Line user typed) = Unit {0}
+-- ---- what an event is to a machine
 
 -- of the units that were asked for, those that were done where frames were lacking
-abbrev pub units_of : ℕ → ℕ → End → ℕ
-units_of asked done (Ended reason) = asked
-units_of asked done RunOutOfFrames = done
+abbrev pub units_of : ℕ → RanUnits → ℕ
+units_of asked ran = elim ran.reason [ RunFramesOut ↦ ran.units | _ ↦ asked ]
+
+abbrev pub run_of : ℕ → Ended → List Local
+run_of asked (Ran ran) = Units (units_of asked ran) ∷ []
+run_of asked Done = []
+run_of asked FramesOut = []
 
 -- a line that nothing came of is no event of the machine
-abbrev pub line_of : List ℕ → Answer → List Local
-line_of typed (Said reply) = Typed typed ∷ []
-line_of typed OutOfFrames = []
+abbrev pub line_of : List ℕ → Ended → List Local
+line_of typed Done = Typed typed ∷ []
+line_of typed (Ran ran) = []
+line_of typed FramesOut = []
 
 -- what an event is to the machine of the user whom it names, by the reply
 abbrev pub local_event : Event → Reply → List Local
-local_event (Run user asked) (Ran ran) = Units (units_of asked ran.units ran.end) ∷ []
-local_event (Run user asked) (Answered answer) = []
-local_event (Line user typed) (Answered answer) = line_of typed.now answer
-local_event (Line user typed) (Ran ran) = []
+local_event (Run user asked) reply = run_of asked reply.ended
+local_event (Line user typed) reply = line_of typed.now reply.ended
 
 -- what an event is to a user's machine
 abbrev pub local : ℕ → Event → Reply → List Local
 local user event reply = if user_of event == user then local_event event reply else []
 
 -- to each user the event is what a bare machine does at that user's own part of it
-abbrev pub IsApplied : Shown → Event → Reply → Shown → Type 0
+abbrev pub IsApplied : SystemView → Event → Reply → SystemView → Type 0
 IsApplied old event reply new = (user : ℕ) → machine_at new user ≡ life (local user event reply) (machine_at old user)
 
+-- ---- what is told
+
+abbrev pub TellsOfRun : ℕ → Machine → Reply → Ended → Machine → (ℕ → Type 0) → Type 0
+TellsOfRun asked old reply (Ran ran) new is_short =
+    TellsRun asked old (record { machine = new; units = ran.units; reason = ran.reason; notice = reply.said }) is_short
+TellsOfRun asked old reply Done new is_short = ⊥
+TellsOfRun asked old reply FramesOut new is_short = ⊥
+
+abbrev pub TellsOfLine : List ℕ → Machine → Reply → Ended → Machine → (ℕ → Type 0) → Type 0
+TellsOfLine typed old reply Done new is_short = line typed old ≡ record { machine = new; reply = reply.said }
+TellsOfLine typed old reply FramesOut new is_short =
+    (reply.said ≡ None) × (new ≡ old) × IsLacking (Touches (line_needs typed old)) (length old.core.processor.bytes) is_short
+TellsOfLine typed old reply (Ran ran) new is_short = ⊥
+
 -- the reply tells what a bare machine tells, or that frames are lacking
-abbrev pub IsTold : Shown → Event → Reply → Shown → Type 0
-IsTold old (Run user asked) (Ran ran) new =
-    TellsRun asked (machine_at old user.0) ran.units ran.end (machine_at new user.0) new.owners user.0
-IsTold old (Run user asked) (Answered answer) new = ⊥
-IsTold old (Line user typed) (Answered answer) new =
-    TellsLine typed.now (machine_at old user.0) answer (machine_at new user.0) new.owners user.0
-IsTold old (Line user typed) (Ran ran) new = ⊥
+abbrev pub IsTold : SystemView → Event → Reply → SystemView → Type 0
+IsTold old (Run user asked) reply new =
+    TellsOfRun asked (machine_at old user) reply reply.ended (machine_at new user) (IsShort new.owners user)
+IsTold old (Line user typed) reply new =
+    TellsOfLine typed.now (machine_at old user) reply reply.ended (machine_at new user) (IsShort new.owners user)
+
+-- ---- the supply of frames
+
+abbrev pub RunAsks : Machine → Ended → ℕ → Type 0
+RunAsks m (Ran ran) page = RunNeeds m.core ran.units ran.reason page
+RunAsks m Done page = ⊥
+RunAsks m FramesOut page = ⊥
+
+-- a page that an event needs: of a unit that was done, or of the one that lacked a page; of the bytes that a line shows or
+-- changes
+abbrev pub EventNeeds : SystemView → Event → Reply → ℕ → Type 0
+EventNeeds old (Run user asked) reply page = RunAsks (machine_at old user) reply.ended page
+EventNeeds old (Line user typed) reply page = Touches (line_needs typed.now (machine_at old user)) page
+
+-- whether an event switches a machine on, which gives back all the user's pages
+abbrev pub gives_back : SystemView → Event → Bool
+gives_back old (Run user asked) = false
+gives_back old (Line user typed) = switches_on typed.now (machine_at old user)
+
+-- pages that an event needs were put into frames that were free, and no page has left its frame
+abbrev pub IsFilledFor : SystemView → Event → Reply → SystemView → Type 0
+IsFilledFor old event reply new =
+    (pages : List ℕ) × IsFilled (user_of event) old.owners pages new.owners × AllNeeded (EventNeeds old event reply) pages
+
+-- the user's pages have left their frames, and no other page has
+pub record IsGivenBack (old : SystemView) (user : ℕ) (new : SystemView) : Type 0 where
+  pub owners : new.owners ≡ cleared_of user old.owners
+  pub gone : (page : ℕ) → is_there new.owners user page ≡ false
+
+-- what an event does to the frames: none is pinned or let go; where the user's machine is switched on, all his pages are
+-- given back, and else only pages that the event needs are brought
+pub record IsSupplied (old : SystemView) (event : Event) (reply : Reply) (new : SystemView) : Type 0 where
+  pub pins : new.pins ≡ old.pins
+  pub given_back : gives_back old event ≡ true → IsGivenBack old (user_of event) new
+  pub filled : gives_back old event ≡ false → IsFilledFor old event reply new
 
 -- ---- whole histories
 
@@ -99,12 +152,18 @@ IsTold old (Line user typed) (Ran ran) new = ⊥
 pub record Step : Type 0 where
   pub event : Event
   pub reply : Reply
-  pub seen : Shown
+  pub seen : SystemView
+
+-- an event that was applied to a system, to each user and to the frames, as its reply tells
+pub record IsStep (old : SystemView) (step : Step) : Type 0 where
+  pub applied : IsApplied old step.event step.reply step.seen
+  pub told : IsTold old step.event step.reply step.seen
+  pub supplied : IsSupplied old step.event step.reply step.seen
 
 -- events that were applied one after another
-abbrev pub IsHistory : Shown → List Step → Shown → Type 0
+abbrev pub IsHistory : SystemView → List Step → SystemView → Type 0
 IsHistory first [] last = last ≡ first
-IsHistory first (step ∷ steps) last = IsApplied first step.event step.reply step.seen × IsHistory step.seen steps last
+IsHistory first (step ∷ steps) last = IsStep first step × IsHistory step.seen steps last
 
 -- a user's own part of a history
 abbrev pub own : ℕ → List Step → List Local
@@ -113,4 +172,4 @@ own user (step ∷ steps) = local user step.event step.reply ++ own user steps
 
 -- whatever the history, each user's machine is the bare machine that was given that user's own events
 abbrev pub EachIsBare : Type 0
-EachIsBare = (first last : Shown) (steps : List Step) → IsHistory first steps last → (user : ℕ) → machine_at last user ≡ life (own user steps) (machine_at first user)
+EachIsBare = (first last : SystemView) (steps : List Step) → IsHistory first steps last → (user : ℕ) → machine_at last user ≡ life (own user steps) (machine_at first user)

@@ -4,8 +4,8 @@ ghost use Rattle.cp_core.specs.System.{booted};
 ghost use Rattle.cp_core.specs.Whole.{AreNew};
 
 use crate::events::BootError;
-use crate::seat::Seat;
 use crate::system::System;
+use crate::user_machine::UserMachine;
 use cp_directory::{Directory, User};
 use cp_frames::Frames;
 use std::alloc::{AllocError, Global};
@@ -70,8 +70,8 @@ impl System {
         if sizes.frames() < 16 {
             return Err(BootError::TooFewFrames);
         }
-        let seats = match seats_of(alloc, directory.users()) {
-            Ok(seats) => seats,
+        let machines = match machines_of(alloc, directory.users()) {
+            Ok(machines) => machines,
             Err(_) => return Err(BootError::Memory),
         };
         let pages = match pages_of(alloc, directory.users()) {
@@ -81,7 +81,7 @@ impl System {
         match Frames::new(alloc, sizes.frames(), pages) {
             Ok(frames) => Ok(System {
                 directory,
-                seats,
+                machines,
                 frames,
                 is_spent: false,
             }),
@@ -90,16 +90,16 @@ impl System {
     }
 }
 
-/// A seat for each user.
-fn seats_of(alloc: Global, users: &[User]) -> Result<Vec<Seat>, AllocError>
-    ensures { IfOk result (λ seats. AreNew seats.items users.now) }
+/// A machine for each user.
+fn machines_of(alloc: Global, users: &[User]) -> Result<Vec<UserMachine>, AllocError>
+    ensures { IfOk result (λ machines. AreNew machines.items users.now) }
 {
-    let mut seats = Vec::new(alloc);
+    let mut machines = Vec::new(alloc);
     for user in users {
-        let seat = Seat::new(alloc, user.storage().pages())?;
-        seats.push(seat)?;
+        let machine = UserMachine::new(alloc, user.storage().pages())?;
+        machines.push(machine)?;
     }
-    Ok(seats)
+    Ok(machines)
 }
 
 /// How many pages of storage each user has.

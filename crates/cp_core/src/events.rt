@@ -1,33 +1,10 @@
 //! What happens to the system, and what it answers.
-use bare_machine::Reason;
-use cp_console::replies::Reply as Said;
-use cp_text::users::UserNo;
+ghost use Rattle.std.specs.Prelude.{◌≡◌};
+
+use cp_console::responses::Response;
+use cp_users::UserNo;
+use s370_intr::Ran;
 use thiserror::Error;
-
-/// Why a run did no further unit.
-#[derive(Clone, Copy, Debug, PartialEq, Eq)]
-pub enum End {
-    /// As a bare machine would end it.
-    Ended(Reason),
-    /// The next unit needs a page that stands in no frame, and no frame is free.
-    OutOfFrames,
-}
-
-/// How many units a run did, and why it did no more.
-#[derive(Clone, Copy, Debug, PartialEq, Eq)]
-pub struct Ran {
-    pub units: u32,
-    pub end: End,
-}
-
-/// What a line was answered.
-#[derive(Clone, Copy, Debug, PartialEq, Eq)]
-pub enum Answer {
-    /// The reply, if there is one.
-    Said(Option<Said>),
-    /// The line has to access a page that stands in no frame, and no frame is free. Nothing has happened.
-    OutOfFrames,
-}
 
 /// What happens to the system.
 #[derive(Clone, Copy, Debug, PartialEq, Eq)]
@@ -38,11 +15,39 @@ pub enum Event<'a> {
     Line(UserNo, &'a [u8]),
 }
 
+impl<'a> Event<'a> {
+    ghost use Rattle.cp_core.specs.Events.{user_of};
+
+    /// The user whom the event names.
+    pub fn user(&self) -> UserNo
+        ensures { result ≡ user_of self.now }
+    {
+        match self {
+            Event::Run(user, _) => *user,
+            Event::Line(user, _) => *user,
+        }
+    }
+}
+
+/// How an event ended.
+#[derive(Clone, Copy, Debug, PartialEq, Eq)]
+pub enum Ended {
+    /// A run: so many units were done, and why no more.
+    Ran(Ran),
+    /// Any other event is done.
+    Done,
+    /// Any other event needs a page that is not present, and no frame is free. Nothing has happened.
+    FramesOut,
+}
+
 /// What the system answers to an event.
 #[derive(Clone, Copy, Debug, PartialEq, Eq)]
-pub enum Reply {
-    Ran(Ran),
-    Answered(Answer),
+pub struct Reply {
+    /// How the event ended.
+    pub ended: Ended,
+    /// The line that is printed at the terminal of the user whom the event names, if there is one: the response to a
+    /// line, or the notice of a machine that stopped.
+    pub said: Option<Response>,
 }
 
 /// Why an event was refused.

@@ -1,20 +1,27 @@
 //! The control program: many users on one System/370.
+//!
+//! Its one theorem: whatever the events, each user has the machine that a bare System/370 is after that user's own events
+//! ([`System::apply`], clause `views`, and [`each_is_bare`] for whole histories); each reply tells what a bare machine
+//! tells, or that frames are lacking (`told`); and only pages that the event needs are brought into frames, which are
+//! given back where the machine is switched on (`supplied`).
+//!
+//! It is given a directory and the number of frames ([`System::boot`]), and then one event after another.
+//!
+//! ```
+//! let mut system = System::boot(alloc, directory, sizes)?;
+//! let reply = system.apply(Event::Line(user, b"LOGON"))?;
+//! let general = system.registers(user);
+//! ```
 #![tactic(auto)]
 
 mod boot;
 mod events;
-mod panel;
-mod places;
-mod run;
-mod seat;
 mod system;
+mod user_machine;
 mod views;
 
 pub use boot::Sizes;
-pub use events::{Answer, BootError, CpError, End, Event, Ran, Reply};
-pub use places::{change_over, display_over};
-pub use run::spell_over;
-pub use seat::Seat;
+pub use events::{BootError, CpError, Ended, Event, Reply};
 pub use system::{System, each_is_bare};
 
 #[cfg(test)]

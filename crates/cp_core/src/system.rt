@@ -1,34 +1,41 @@
 //! The system: its users, their machines and the frames that they share.
-ghost use Rattle.std.specs.Prelude.{◌≡◌, ◌<◌, ◌≤◌, ◌↔◌, ℕ, List, true, false, IsOk, IfOk, OnErr, length, slice_set};
-ghost use Rattle.cp_core.specs.Runs.{TellsRun};
-ghost use Rattle.cp_core.specs.Lines.{TellsLine};
-ghost use Rattle.cp_core.specs.System.{EachIsBare, IsApplied, IsLine, IsTold, Shown, machine_at, user_of};
+ghost use Rattle.std.specs.Prelude.{◌≡◌, ◌<◌, ◌≤◌, ◌↔◌, ℕ, List, Err, true, false, IsOk, IfOk, OnErr, length, slice_set};
+ghost use Rattle.s370_store.specs.Access.{Touches};
+ghost use Rattle.s370_intr.specs.Run.{AllNeeded, IsLacking, RunNeeds};
+ghost use Rattle.cp_frames.specs.Supplied.{IsFilled};
+ghost use Rattle.cp_panel.specs.declared.line.LineError.TheVariants as errors;
+ghost use Rattle.cp_panel.specs.Run.{TellsRun};
+ghost use Rattle.cp_panel.specs.Panel.{line, line_needs, line_room, switches_on};
+ghost use Rattle.cp_core.specs.Events.{MayTakeMemory, user_of};
+ghost use Rattle.cp_core.specs.UserMachines.{IsShort};
+ghost use Rattle.cp_core.specs.System.{EachIsBare, IsApplied, IsGivenBack, IsSupplied, IsTold, SystemView, machine_at};
 
-use crate::events::{Answer, CpError, Event, Ran, Reply};
-use crate::seat::Seat;
+use crate::events::{CpError, Ended, Event, Reply};
+use crate::user_machine::UserMachine;
+use cp_console::responses::Response;
 use cp_directory::Directory;
 use cp_frames::{Frames, UserNo as Owner};
-use std::alloc::AllocError;
+use cp_panel::{LineError, MachineRan};
 use std::marker::Model;
 
 /// Many users' machines on shared frames.
 #[derive(Drop)]
 pub struct System {
     pub(crate) directory: Directory,
-    pub(crate) seats: Vec<Seat>,
+    pub(crate) machines: Vec<UserMachine>,
     pub(crate) frames: Frames,
     pub(crate) is_spent: bool,
 }
 
 impl Model for System {
-    ghost use Rattle.cp_core.specs.System.{Shown, machines_of};
+    ghost use Rattle.cp_core.specs.System.{SystemView, machines_of};
     ghost use Rattle.cp_core.specs.Whole.{IsWhole};
 
-    ghost Value = { Shown };
+    ghost Value = { SystemView };
 
-    ghost view = { λ s. record { machines = machines_of s.seats.items s.frames.storages; users = s.directory; owners = s.frames.owners; is_spent = s.is_spent } };
+    ghost view = { λ s. record { machines = machines_of s.machines.items s.frames.storages; users = s.directory; owners = s.frames.owners; pins = s.frames.pins; is_spent = s.is_spent } };
 
-    ghost invariant = { λ s. IsWhole s.seats.items s.frames.storages s.directory };
+    ghost invariant = { λ s. IsWhole s.machines.items s.frames.storages s.directory };
 }
 
 impl System {
@@ -38,7 +45,7 @@ impl System {
         ensures directory { result ≡ length self.now.users }
         ensures few { result ≤ 64 }
     {
-        self.seats.len()
+        self.machines.len()
     }
 
     /// The directory.
@@ -62,29 +69,35 @@ impl System {
         self.is_spent = true;
     }
 
-    /// Lets a user's machine run.
-    fn run(&mut self, user: usize, units: u32) -> Ran
+    /// Lets a user's machine run. This takes no memory.
+    fn run(&mut self, user: usize, units: u32) -> MachineRan
         requires { user < length self.old.machines }
-        ensures told { TellsRun units (machine_at self.old user) result.units result.end (machine_at self.new user) self.new.owners user }
+        ensures told { TellsRun units (machine_at self.old user) (record { machine = machine_at self.new user; units = result.ran.units; reason = result.ran.reason; notice = result.notice }) (IsShort self.new.owners user) }
+        ensures supply { (pages : List ℕ) × IsFilled user self.old.owners pages self.new.owners × AllNeeded (RunNeeds (machine_at self.old user).core result.ran.units result.ran.reason) pages }
         ensures machines { self.new.machines ≡ slice_set self.old.machines user (machine_at self.new user) }
+        ensures pins { self.new.pins ≡ self.old.pins }
         ensures users { self.new.users ≡ self.old.users }
         ensures spent { self.new.is_spent ≡ self.old.is_spent }
     {
-        let seat = &mut self.seats[user];
-        seat.run(&mut self.frames, Owner(user as u8), units)
+        let machine = &mut self.machines[user];
+        machine.run(&mut self.frames, Owner(user as u8), units)
     }
 
     /// A line that a user types.
-    fn line(&mut self, user: usize, typed: &[u8]) -> Result<Answer, AllocError>
+    fn line(&mut self, user: usize, typed: &[u8]) -> Result<Option<Response>, LineError>
         requires { user < length self.old.machines }
-        ensures ok { IfOk result (λ answer. TellsLine typed.now (machine_at self.old user) answer (machine_at self.new user) self.new.owners user) }
+        ensures ok { IfOk result (λ reply. line typed.now (machine_at self.old user) ≡ record { machine = machine_at self.new user; reply = reply }) }
         ensures err { OnErr result (machine_at self.new user ≡ machine_at self.old user) }
+        ensures frames { result ≡ Err errors.FramesOut → IsLacking (Touches (line_needs typed.now (machine_at self.old user))) (length (machine_at self.old user).core.processor.bytes) (IsShort self.new.owners user) }
+        ensures cleared { switches_on typed.now (machine_at self.old user) ≡ true → IsGivenBack self.old user self.new }
+        ensures supply { switches_on typed.now (machine_at self.old user) ≡ false → ((pages : List ℕ) × IsFilled user self.old.owners pages self.new.owners × AllNeeded (Touches (line_needs typed.now (machine_at self.old user))) pages) }
         ensures machines { self.new.machines ≡ slice_set self.old.machines user (machine_at self.new user) }
+        ensures pins { self.new.pins ≡ self.old.pins }
         ensures users { self.new.users ≡ self.old.users }
         ensures spent { self.new.is_spent ≡ self.old.is_spent }
     {
-        let seat = &mut self.seats[user];
-        seat.line(&mut self.frames, Owner(user as u8), typed)
+        let machine = &mut self.machines[user];
+        machine.line(&mut self.frames, Owner(user as u8), typed)
     }
 
     /// Applies an event. To the user whom it names it is what a bare machine does; every other user's machine stays.
@@ -93,6 +106,7 @@ impl System {
     pub fn apply(&mut self, event: Event<'_>) -> Result<Reply, CpError>
         ensures views { IfOk result (λ reply. IsApplied self.old event.entry reply self.new) }
         ensures told { IfOk result (λ reply. IsTold self.old event.entry reply self.new) }
+        ensures supplied { IfOk result (λ reply. IsSupplied self.old event.entry reply self.new) }
         ensures user { IsOk result → user_of event.entry < length self.old.machines }
         ensures users { self.new.users ≡ self.old.users }
         ensures alive { IsOk result → self.new.is_spent ≡ false }
@@ -102,7 +116,7 @@ impl System {
         ensures no_such_user { (result ≡ Err CpError.NoSuchUser) ↔ ((self.old.is_spent ≡ false) × (length self.old.machines ≤ user_of event.entry)) }
         ensures not_stated { result ≡ Err CpError.NoSuchUser → length self.old.users ≤ user_of event.entry }
         ensures unchanged_for_nobody { result ≡ Err CpError.NoSuchUser → self.new ≡ self.old }
-        ensures memory { result ≡ Err CpError.Memory → (self.new.is_spent ≡ true) × IsLine event.entry }
+        ensures memory { result ≡ Err CpError.Memory → (self.new.is_spent ≡ true) × MayTakeMemory event.entry }
         ensures unchanged_without_memory { result ≡ Err CpError.Memory → (user : ℕ) → machine_at self.new user ≡ machine_at self.old user }
     {
         if self.is_spent() {
@@ -110,19 +124,31 @@ impl System {
         }
         match event {
             Event::Run(user, units) => {
-                if user.0 >= self.users() {
+                let place = user.index();
+                if place >= self.users() {
                     return Err(CpError::NoSuchUser);
                 }
-                let ran = self.run(user.0, units);
-                Ok(Reply::Ran(ran))
+                let MachineRan { ran, notice } = self.run(place, units);
+                Ok(Reply {
+                    ended: Ended::Ran(ran),
+                    said: notice,
+                })
             }
             Event::Line(user, typed) => {
-                if user.0 >= self.users() {
+                let place = user.index();
+                if place >= self.users() {
                     return Err(CpError::NoSuchUser);
                 }
-                match self.line(user.0, typed) {
-                    Ok(answer) => Ok(Reply::Answered(answer)),
-                    Err(_) => {
+                match self.line(place, typed) {
+                    Ok(said) => Ok(Reply {
+                        ended: Ended::Done,
+                        said,
+                    }),
+                    Err(LineError::FramesOut) => Ok(Reply {
+                        ended: Ended::FramesOut,
+                        said: None,
+                    }),
+                    Err(LineError::Memory) => {
                         self.spend();
                         Err(CpError::Memory)
                     }

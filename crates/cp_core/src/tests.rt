@@ -1,18 +1,31 @@
 //! Systems as their users meet them: two users beside each other, few frames, and refused memory.
+ghost use Rattle.std.specs.Prelude.{◌≡◌};
+
 use super::*;
-use bare_machine::{Mode, Pending, Reason};
 use cp_console::printing;
-use cp_console::replies::Reply as Said;
+use cp_console::responses::Response;
 use cp_directory::read_directory;
-use cp_text::users::UserNo;
+use cp_panel::Mode;
+use cp_users::UserNo;
+use s370_intr::{Pending, Ran, Reason};
 use s370_psw::Psw;
 use std::alloc::{AllocError, Global};
 use std::process::Abort;
 use std::test::Fail;
 
-const A: UserNo = UserNo(0);
+/// User A.
+fn a() -> UserNo
+    ensures { result ≡ 0 }
+{
+    UserNo::new(0)
+}
 
-const B: UserNo = UserNo(1);
+/// User B.
+fn b() -> UserNo
+    ensures { result ≡ 1 }
+{
+    UserNo::new(1)
+}
 
 /// What a user sees of a machine of 8 KiB, or of the first 8 KiB of one.
 #[derive(Debug, Drop, PartialEq, Eq)]
@@ -32,7 +45,7 @@ fn views(alloc: Global, system: &System, user: UserNo) -> Result<Seen, AllocErro
         bytes.push(system.storage(user, address).unwrap_or(0xEE))?;
     }
     for block in 0..4 {
-        bytes.push(system.key(user, block).unwrap_or(0xEE))?;
+        bytes.push(system.key(user, block).map_or(0xEE, |key| key.get()))?;
     }
     Ok(Seen {
         general: system.registers(user),
@@ -65,25 +78,35 @@ fn booted(
 }
 
 /// What an event is answered. A system for which memory was refused answers nothing else from then on.
-fn apply(rt: &impl Abort, system: &mut System, event: Event<'_>) -> Result<Reply, Fail> {
-    match system.apply(event) {
+fn apply(rt: &impl Abort, system: &mut System, event: &Event<'_>) -> Result<Reply, Fail> {
+    let answer = match *event {
+        Event::Run(user, units) => system.apply(Event::Run(user, units)),
+        Event::Line(user, typed) => system.apply(Event::Line(user, typed)),
+    };
+    match answer {
         Err(CpError::Memory) => {
             assert!(rt; system.is_spent());
-            assert_eq!(rt; system.apply(Event::Run(A, 1)), Err(CpError::Spent));
-            assert_eq!(rt; system.apply(Event::Line(B, b"LOGON")), Err(CpError::Spent));
+            assert_eq!(rt; system.apply(Event::Run(a(), 1)), Err(CpError::Spent));
+            assert_eq!(rt;
+                system.apply(Event::Line(b(), b"LOGON")),
+                Err(CpError::Spent)
+            );
             Err(AllocError)?
         }
         answer => Ok(answer?),
     }
 }
 
-/// The text of an answer, and none where nothing is replied.
+/// The text of an answer, and none where nothing is said.
 fn text_of(alloc: Global, reply: Reply) -> Result<Vec<u8>, AllocError> {
-    match reply {
-        Reply::Answered(Answer::Said(Some(said))) => printing::reply(alloc, &said),
-        Reply::Answered(Answer::Said(None)) => Ok(Vec::new(alloc)),
-        Reply::Answered(Answer::OutOfFrames) => b"OUT OF FRAMES".to_vec(alloc),
-        Reply::Ran(_) => b"RAN".to_vec(alloc),
+    match reply.ended {
+        Ended::FramesOut => return b"OUT OF FRAMES".to_vec(alloc),
+        Ended::Ran(_) => return b"RAN".to_vec(alloc),
+        Ended::Done => {}
+    }
+    match reply.said {
+        Some(said) => printing::reply(alloc, &said),
+        None => Ok(Vec::new(alloc)),
     }
 }
 
@@ -95,7 +118,7 @@ fn session(
     lines: &[(&str, &str)],
 ) -> Result<(), Fail> {
     for (line, wanted) in lines {
-        let reply = apply(rt, system, Event::Line(user, line.as_bytes()))?;
+        let reply = apply(rt, system, &Event::Line(user, line.as_bytes()))?;
         let said = text_of(rt.alloc(), reply)?;
         assert_eq!(rt; said.as_slice(), wanted.as_bytes(), "to {line}");
     }
@@ -108,11 +131,11 @@ fn run(
     system: &mut System,
     user: UserNo,
     count: u32,
-    wanted: (u32, End),
+    wanted: (u32, Reason),
 ) -> Result<(), Fail> {
-    let reply = apply(rt, system, Event::Run(user, count))?;
-    let (units, end) = wanted;
-    assert_eq!(rt; reply, Reply::Ran(Ran { units, end }));
+    let reply = apply(rt, system, &Event::Run(user, count))?;
+    let (units, reason) = wanted;
+    assert_eq!(rt; reply.ended, Ended::Ran(Ran { units, reason }));
     Ok(())
 }
 
@@ -133,12 +156,12 @@ fn stores(
 /// Two users of 8 KiB on 16 frames, both logged on.
 fn two_users(rt: &(impl Abort + AllocGlobal)) -> Result<System, Fail> {
     let mut system = booted(rt, "USER A PW 8K\nUSER B PW 8K\n", 16)??;
-    session(rt, &mut system, A, &[("LOGON", "LOGON OK")])?;
-    session(rt, &mut system, B, &[("LOGON", "LOGON OK")])?;
+    session(rt, &mut system, a(), &[("LOGON", "LOGON OK")])?;
+    session(rt, &mut system, b(), &[("LOGON", "LOGON OK")])?;
     Ok(system)
 }
 
-/// A guest of A, which runs for so many units and then shows this; B, beside it, sees nothing of it.
+/// A guest of a(), which runs for so many units and then shows this; b(), beside it, sees nothing of it.
 fn guest(
     rt: &(impl Abort + AllocGlobal),
     places: &[&str],
@@ -149,21 +172,15 @@ fn guest(
     stores(
         rt,
         &mut system,
-        B,
+        b(),
         &["60 0A07", "1FFC C8C5D3D3", "G1 000000FF"],
     )?;
-    let before = views(rt.alloc(), &system, B)?;
-    stores(rt, &mut system, A, places)?;
-    session(rt, &mut system, A, &[("BEGIN", "")])?;
-    run(
-        rt,
-        &mut system,
-        A,
-        units,
-        (units, End::Ended(Reason::Count)),
-    )?;
-    session(rt, &mut system, A, shown)?;
-    assert_eq!(rt; views(rt.alloc(), &system, B)?, before);
+    let before = views(rt.alloc(), &system, b())?;
+    stores(rt, &mut system, a(), places)?;
+    session(rt, &mut system, a(), &[("BEGIN", "")])?;
+    run(rt, &mut system, a(), units, (units, Reason::Count))?;
+    session(rt, &mut system, a(), shown)?;
+    assert_eq!(rt; views(rt.alloc(), &system, b())?, before);
     Ok(())
 }
 
@@ -210,24 +227,18 @@ fn stops_and_refused_commands(rt: HostRuntime) -> Result<(), Fail> {
         ("DISPLAY G16", "BAD OPERAND 1"),
         ("DISPLAY 2000", "ADDRESS PAST STORAGE"),
     ];
-    session(&rt, &mut system, A, &refused)?;
-    stores(&rt, &mut system, A, &["PSW 00020000 00000000"])?;
-    session(&rt, &mut system, A, &[("BEGIN", "")])?;
-    run(
-        &rt,
-        &mut system,
-        A,
-        5,
-        (0, End::Ended(Reason::DisabledWait)),
-    )?;
-    run(&rt, &mut system, A, 5, (0, End::Ended(Reason::Stopped)))?;
-    assert_eq!(rt; system.printed(A), Some(3));
+    session(&rt, &mut system, a(), &refused)?;
+    stores(&rt, &mut system, a(), &["PSW 00020000 00000000"])?;
+    session(&rt, &mut system, a(), &[("BEGIN", "")])?;
+    run(&rt, &mut system, a(), 5, (0, Reason::DisabledWait))?;
+    run(&rt, &mut system, a(), 5, (0, Reason::Stopped))?;
+    assert_eq!(rt; system.printed(a()), Some(3));
     assert_eq!(rt;
-        system.console_output(A, 2),
-        Some(Said::StoppedDisabledWait)
+        system.console_output(a(), 2),
+        Some(Response::StoppedDisabledWait)
     );
-    assert_eq!(rt; system.console_output(A, 3), None);
-    assert_eq!(rt; system.printed(B), Some(0));
+    assert_eq!(rt; system.console_output(a(), 3), None);
+    assert_eq!(rt; system.printed(b()), Some(0));
     Ok(())
 }
 
@@ -235,7 +246,7 @@ fn stops_and_refused_commands(rt: HostRuntime) -> Result<(), Fail> {
 fn pages_of_two_users_in_turn(rt: HostRuntime) -> Result<(), Fail> {
     let mut system = two_users(&rt)?;
     // a guest whose code is in its first page and whose words are in its second: `L 1,0(2)`, `ST 1,4(2)`
-    for (user, word) in [(A, "1000 AAAA0001"), (B, "1000 BBBB0002")] {
+    for (user, word) in [(a(), "1000 AAAA0001"), (b(), "1000 BBBB0002")] {
         stores(
             &rt,
             &mut system,
@@ -245,17 +256,17 @@ fn pages_of_two_users_in_turn(rt: HostRuntime) -> Result<(), Fail> {
         stores(&rt, &mut system, user, &[word])?;
         session(&rt, &mut system, user, &[("BEGIN 100", "")])?;
     }
-    for (user, neighbour) in [(A, B), (B, A), (A, B), (B, A)] {
+    for (user, neighbour) in [(a(), b()), (b(), a()), (a(), b()), (b(), a())] {
         let before = views(rt.alloc(), &system, neighbour)?;
-        run(&rt, &mut system, user, 1, (1, End::Ended(Reason::Count)))?;
+        run(&rt, &mut system, user, 1, (1, Reason::Count))?;
         assert_eq!(rt; views(rt.alloc(), &system, neighbour)?, before);
     }
     let (ours, theirs) = (
         "001000 AAAA0001 AAAA0001 00000000 00000000",
         "001000 BBBB0002 BBBB0002 00000000 00000000",
     );
-    session(&rt, &mut system, A, &[("#CP DISPLAY 1000", ours)])?;
-    session(&rt, &mut system, B, &[("#CP DISPLAY 1000", theirs)])
+    session(&rt, &mut system, a(), &[("#CP DISPLAY 1000", ours)])?;
+    session(&rt, &mut system, b(), &[("#CP DISPLAY 1000", theirs)])
 }
 
 #[test]
@@ -263,43 +274,43 @@ fn a_seventeenth_page(rt: HostRuntime) -> Result<(), Fail> {
     // page 0 has the code: 15 of `ST 1,0(n)`, each to a page of its own, and `ST 1,0(1,15)` to the page past them
     for (neighbours, units, address) in [(false, 15, "0000013C"), (true, 14, "00000138")] {
         let mut system = booted(&rt, "USER A PW 128K\nUSER B PW 8K\n", 16)??;
-        session(&rt, &mut system, A, &[("LOGON", "LOGON OK")])?;
-        session(&rt, &mut system, B, &[("LOGON", "LOGON OK")])?;
+        session(&rt, &mut system, a(), &[("LOGON", "LOGON OK")])?;
+        session(&rt, &mut system, b(), &[("LOGON", "LOGON OK")])?;
         if neighbours {
-            stores(&rt, &mut system, B, &["FFF 99"])?;
+            stores(&rt, &mut system, b(), &["FFF 99"])?;
         }
         for base in 1..16u32 {
             let register = format!(in rt.alloc(); "G{base} 0000{base:X}000")?;
             let code = format!(in rt.alloc(); "{:X} 5010{base:X}000", 252 + base * 4)?;
-            stores(&rt, &mut system, A, &[register.as_str(), code.as_str()])?;
+            stores(&rt, &mut system, a(), &[register.as_str(), code.as_str()])?;
         }
-        stores(&rt, &mut system, A, &["13C 5011F000"])?;
-        session(&rt, &mut system, A, &[("BEGIN 100", "")])?;
-        run(&rt, &mut system, A, 100, (units, End::OutOfFrames))?;
+        stores(&rt, &mut system, a(), &["13C 5011F000"])?;
+        session(&rt, &mut system, a(), &[("BEGIN 100", "")])?;
+        run(&rt, &mut system, a(), 100, (units, Reason::FramesOut))?;
 
         let (before, beside) = (
-            views(rt.alloc(), &system, A)?,
-            views(rt.alloc(), &system, B)?,
+            views(rt.alloc(), &system, a())?,
+            views(rt.alloc(), &system, b())?,
         );
-        run(&rt, &mut system, A, 100, (0, End::OutOfFrames))?;
+        run(&rt, &mut system, a(), 100, (0, Reason::FramesOut))?;
         let lacking = [
             ("#CP STORE 10000 01", "OUT OF FRAMES"),
             ("#CP STORE FFFF 0102", "OUT OF FRAMES"),
             ("#CP DISPLAY 10000", "OUT OF FRAMES"),
         ];
-        session(&rt, &mut system, A, &lacking)?;
-        session(&rt, &mut system, B, &[("DISPLAY 1000", "OUT OF FRAMES")])?;
-        assert_eq!(rt; views(rt.alloc(), &system, A)?, before);
-        assert_eq!(rt; views(rt.alloc(), &system, B)?, beside);
+        session(&rt, &mut system, a(), &lacking)?;
+        session(&rt, &mut system, b(), &[("DISPLAY 1000", "OUT OF FRAMES")])?;
+        assert_eq!(rt; views(rt.alloc(), &system, a())?, before);
+        assert_eq!(rt; views(rt.alloc(), &system, b())?, beside);
         let psw = format!(in rt.alloc(); "PSW 00000000 {address}")?;
         let first = "001000 00001000 00000000 00000000 00000000";
         let shown = [
             ("#CP DISPLAY PSW", psw.as_str()),
             ("#CP DISPLAY 1000", first),
         ];
-        session(&rt, &mut system, A, &shown)?;
-        assert_eq!(rt; system.storage(A, 0xFFFF), Some(0));
-        assert_eq!(rt; system.storage(A, 0x20000), None);
+        session(&rt, &mut system, a(), &shown)?;
+        assert_eq!(rt; system.storage(a(), 0xFFFF), Some(0));
+        assert_eq!(rt; system.storage(a(), 0x20000), None);
     }
     Ok(())
 }
@@ -314,7 +325,7 @@ fn who_and_how_many(rt: HostRuntime) -> Result<(), Fail> {
         assert_eq!(rt; refused, Some(BootError::TooFewFrames));
     }
     let mut system = two_users(&rt)?;
-    let nobody = UserNo(2);
+    let nobody = UserNo::new(2);
     assert_eq!(rt;
         system.apply(Event::Run(nobody, 1)),
         Err(CpError::NoSuchUser)
@@ -328,5 +339,5 @@ fn who_and_how_many(rt: HostRuntime) -> Result<(), Fail> {
     assert_eq!(rt; system.psw(nobody), None);
     assert_eq!(rt; system.storage(nobody, 0), None);
     assert_eq!(rt; system.console_output(nobody, 0), None);
-    run(&rt, &mut system, A, 1, (0, End::Ended(Reason::Stopped)))
+    run(&rt, &mut system, a(), 1, (0, Reason::Stopped))
 }

@@ -1,167 +1,176 @@
 //! What is seen of a user's machine. No view takes memory; where there is no such user the answer is `None`.
 ghost use Rattle.std.specs.Prelude.{◌≡◌, ◌<◌, ◌↔◌, IfSome, IsSome, length, slice_get};
 ghost use Rattle.std.specs.Option.{option_map};
-ghost use Rattle.cp_console.specs.Replies.{text_of};
-ghost use Rattle.cp_core.specs.Seats.{machine_of};
+ghost use Rattle.cp_console.specs.Responses.{text_of};
+ghost use Rattle.cp_core.specs.UserMachines.{machine_of};
 ghost use Rattle.cp_core.specs.System.{machine_at};
 
-use crate::seat::Seat;
 use crate::system::System;
-use bare_machine::{Mode, Pending};
-use cp_console::replies::Reply;
+use crate::user_machine::UserMachine;
+use cp_console::responses::Response;
 use cp_frames::UserNo as Owner;
-use cp_text::users::UserNo;
+use cp_panel::Mode;
+use cp_users::UserNo;
+use s370_intr::Pending;
+use s370_num::StorageKey;
 use s370_psw::Psw;
 
 impl System {
-    /// A user's machine but for its storage.
-    fn seat(&self, user: UserNo) -> Option<&Seat>
-        ensures some { IsSome result ↔ (user.0 < length self.now.machines) }
-        ensures machine { IfSome result (λ seat. machine_at self.now user.0 ≡ machine_of seat.now (machine_at self.now user.0).processor.bytes) }
+    /// A user's machine but for the bytes of its storage.
+    fn machine(&self, user: UserNo) -> Option<&UserMachine>
+        ensures some { IsSome result ↔ (user < length self.now.machines) }
+        ensures machine { IfSome result (λ machine. machine_at self.now user ≡ machine_of machine.now (machine_at self.now user).core.processor.bytes) }
     {
-        if user.0 >= self.users() {
+        let place = user.index();
+        if place >= self.users() {
             return None;
         }
-        Some(&self.seats[user.0])
+        Some(&self.machines[place])
     }
 
     /// The general registers.
     pub fn registers(&self, user: UserNo) -> Option<[u32; 16]>
-        ensures some { IsSome result ↔ (user.0 < length self.now.machines) }
-        ensures value { IfSome result (λ general. general ≡ (machine_at self.now user.0).processor.cpu.general) }
+        ensures some { IsSome result ↔ (user < length self.now.machines) }
+        ensures value { IfSome result (λ general. general ≡ (machine_at self.now user).core.processor.cpu.general) }
     {
-        match self.seat(user) {
-            Some(seat) => Some(seat.general()),
+        match self.machine(user) {
+            Some(machine) => Some(machine.general()),
             None => None,
         }
     }
 
     /// The control registers.
     pub fn control(&self, user: UserNo) -> Option<[u32; 16]>
-        ensures some { IsSome result ↔ (user.0 < length self.now.machines) }
-        ensures value { IfSome result (λ control. control ≡ (machine_at self.now user.0).processor.cpu.control) }
+        ensures some { IsSome result ↔ (user < length self.now.machines) }
+        ensures value { IfSome result (λ control. control ≡ (machine_at self.now user).core.processor.cpu.control) }
     {
-        match self.seat(user) {
-            Some(seat) => Some(seat.control()),
+        match self.machine(user) {
+            Some(machine) => Some(machine.control()),
             None => None,
         }
     }
 
     /// The PSW.
     pub fn psw(&self, user: UserNo) -> Option<Psw>
-        ensures some { IsSome result ↔ (user.0 < length self.now.machines) }
-        ensures value { IfSome result (λ psw. psw ≡ (machine_at self.now user.0).processor.cpu.psw) }
+        ensures some { IsSome result ↔ (user < length self.now.machines) }
+        ensures value { IfSome result (λ psw. psw ≡ (machine_at self.now user).core.processor.cpu.psw) }
     {
-        match self.seat(user) {
-            Some(seat) => Some(seat.psw()),
+        match self.machine(user) {
+            Some(machine) => Some(machine.psw()),
             None => None,
         }
     }
 
     /// Whether the machine is on, and whether it runs.
     pub fn mode(&self, user: UserNo) -> Option<Mode>
-        ensures some { IsSome result ↔ (user.0 < length self.now.machines) }
-        ensures value { IfSome result (λ mode. mode ≡ (machine_at self.now user.0).mode) }
+        ensures some { IsSome result ↔ (user < length self.now.machines) }
+        ensures value { IfSome result (λ mode. mode ≡ (machine_at self.now user).mode) }
     {
-        match self.seat(user) {
-            Some(seat) => Some(seat.mode()),
+        match self.machine(user) {
+            Some(machine) => Some(machine.mode()),
             None => None,
         }
     }
 
     /// The external conditions that are pending.
     pub fn pending(&self, user: UserNo) -> Option<Pending>
-        ensures some { IsSome result ↔ (user.0 < length self.now.machines) }
-        ensures value { IfSome result (λ pending. pending ≡ (machine_at self.now user.0).pending) }
+        ensures some { IsSome result ↔ (user < length self.now.machines) }
+        ensures value { IfSome result (λ pending. pending ≡ (machine_at self.now user).core.pending) }
     {
-        match self.seat(user) {
-            Some(seat) => Some(seat.pending()),
+        match self.machine(user) {
+            Some(machine) => Some(machine.pending()),
             None => None,
         }
     }
 
     /// The key of a block of 2048 bytes, `None` past storage too.
-    pub fn key(&self, user: UserNo, block: usize) -> Option<u8>
-        ensures { result ≡ slice_get (machine_at self.now user.0).processor.keys block }
+    pub fn key(&self, user: UserNo, block: u32) -> Option<StorageKey>
+        ensures { result ≡ slice_get (machine_at self.now user).core.processor.keys block }
     {
-        match self.seat(user) {
-            Some(seat) => seat.key(block),
+        match self.machine(user) {
+            Some(machine) => machine.key(block),
             None => None,
         }
     }
 
     /// How many lines the console has printed.
     pub fn printed(&self, user: UserNo) -> Option<usize>
-        ensures some { IsSome result ↔ (user.0 < length self.now.machines) }
-        ensures value { IfSome result (λ lines. lines ≡ length (machine_at self.now user.0).output) }
+        ensures some { IsSome result ↔ (user < length self.now.machines) }
+        ensures value { IfSome result (λ lines. lines ≡ length (machine_at self.now user).output) }
     {
-        match self.seat(user) {
-            Some(seat) => Some(seat.printed()),
+        match self.machine(user) {
+            Some(machine) => Some(machine.printed()),
             None => None,
         }
     }
 
-    /// A line that the console has printed, as the reply that it says; `None` past the last line too.
-    pub fn console_output(&self, user: UserNo, line: usize) -> Option<Reply>
-        ensures { option_map text_of result ≡ slice_get (machine_at self.now user.0).output line }
+    /// A line that the console has printed, as the response that it says; `None` past the last line too.
+    pub fn console_output(&self, user: UserNo, line: usize) -> Option<Response>
+        ensures { option_map text_of result ≡ slice_get (machine_at self.now user).output line }
     {
-        match self.seat(user) {
-            Some(seat) => seat.output(line),
+        match self.machine(user) {
+            Some(machine) => machine.console_output(line),
             None => None,
         }
     }
 
     /// A byte of storage, `None` past storage too.
     pub fn storage(&self, user: UserNo, address: u32) -> Option<u8>
-        ensures { result ≡ slice_get (machine_at self.now user.0).processor.bytes address }
+        ensures { result ≡ slice_get (machine_at self.now user).core.processor.bytes address }
     {
-        if user.0 >= self.users() {
+        if user.index() >= self.users() {
             return None;
         }
-        self.frames.byte(Owner(user.0 as u8), address)
+        self.frames.byte(Owner(user.number()), address)
     }
 }
 
-impl Seat {
+impl UserMachine {
     fn general(&self) -> [u32; 16]
-        ensures { result ≡ self.now.cpu.general }
+        ensures { result ≡ self.now.parts.cpu.general }
     {
-        self.cpu.seen.general
+        self.machine.cpu().general
     }
 
     fn control(&self) -> [u32; 16]
-        ensures { result ≡ self.now.cpu.control }
+        ensures { result ≡ self.now.parts.cpu.control }
     {
-        self.cpu.seen.control
+        self.machine.cpu().control
     }
 
     fn psw(&self) -> Psw
-        ensures { result ≡ self.now.cpu.psw }
+        ensures { result ≡ self.now.parts.cpu.psw }
     {
-        self.cpu.seen.psw
+        self.machine.cpu().psw
+    }
+
+    fn mode(&self) -> Mode
+        ensures { result ≡ self.now.parts.mode }
+    {
+        self.machine.mode()
     }
 
     fn pending(&self) -> Pending
-        ensures { result ≡ self.now.pending }
+        ensures { result ≡ self.now.parts.pending }
     {
-        self.pending
+        self.machine.pending()
     }
 
-    fn key(&self, block: usize) -> Option<u8>
+    fn key(&self, block: u32) -> Option<StorageKey>
         ensures { result ≡ slice_get self.now.keys block }
     {
-        self.keys.get(block).copied()
+        self.keys.get(block as usize).copied()
     }
 
     fn printed(&self) -> usize
-        ensures { result ≡ length self.now.output }
+        ensures { result ≡ length self.now.parts.output }
     {
-        self.output.len()
+        self.machine.printed()
     }
 
-    fn output(&self, line: usize) -> Option<Reply>
-        ensures { option_map text_of result ≡ slice_get self.now.output line }
+    fn console_output(&self, line: usize) -> Option<Response>
+        ensures { option_map text_of result ≡ slice_get self.now.parts.output line }
     {
-        self.output.get(line)
+        self.machine.console_output(line)
     }
 }

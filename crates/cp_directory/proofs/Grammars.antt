@@ -9,8 +9,8 @@ use Rattle.cp_directory.specs.Users.{DirectoryUser}
 use Rattle.cp_directory.specs.Statements.{Stated, added, line_placed, placed, stated_by, user_stated, well_formed, words_placed}
 use Rattle.cp_directory.specs.Directories.{at_line, directory_step}
 use Rattle.cp_directory.specs.Grammar.{Continues, HasFault, IsFirstFault, IsIgnored, ReadsGrammar, Says, States, order}
-use Rattle.cp_directory.specs.declared.faults.Fault.{Fault}
-use Rattle.cp_directory.specs.declared.faults.Fault.TheVariants.{UnknownStatement, Syntax, DuplicateUser, DuplicateDevice, BadStorage, BadExtent, Overlap, TooMany}
+use Rattle.cp_directory.specs.declared.faults.LineFault.{LineFault}
+use Rattle.cp_directory.specs.declared.faults.LineFault.TheVariants.{UnknownStatement, Syntax, DuplicateUser, DuplicateDevice, BadStorage, BadExtent, Overlap, TooMany}
 use Rattle.cp_directory.proofs.Spellings.{again, found, is_word}
 use Rattle.cp_directory.proofs.Places.{Judged, right_again, right_found, wrong_found}
 
@@ -18,7 +18,7 @@ use Rattle.cp_directory.proofs.Places.{Judged, right_again, right_found, wrong_f
 abbrev Adds : List DirectoryUser → List ℕ → List DirectoryUser → Type 0
 Adds before line next = (IsIgnored line × (next ≡ before)) ⊎ ((s : Stated) × States before line s × (next ≡ added before s))
 
-stated_on : (before : List DirectoryUser) (line verb : List ℕ) (operands : List (List ℕ)) (next : List DirectoryUser) (r : Result Stated Fault) → is_comment line ≡ false → words_of line ≡ verb ∷ operands → stated_by verb operands ≡ r
+stated_on : (before : List DirectoryUser) (line verb : List ℕ) (operands : List (List ℕ)) (next : List DirectoryUser) (r : Result Stated LineFault) → is_comment line ≡ false → words_of line ≡ verb ∷ operands → stated_by verb operands ≡ r
     → and_then r (placed before) ≡ Ok next → Adds before line next
 stated_on before line verb operands next (Err fault) counted e q h = cc
 stated_on before line verb operands next (Ok s) counted e q h =
@@ -35,7 +35,7 @@ line_found before line next h = elim (chosen (is_comment line) (Ok before) (word
   | inr p ↦ words_on before line (words_of line) next p.0 refl p.1
 ]
 
-continue_on : (n : ℕ) (before : List DirectoryUser) (line : List ℕ) (lines : List (List ℕ)) (users : List DirectoryUser) (r : Result (List DirectoryUser) Fault) → line_placed before line ≡ r
+continue_on : (n : ℕ) (before : List DirectoryUser) (line : List ℕ) (lines : List (List ℕ)) (users : List DirectoryUser) (r : Result (List DirectoryUser) LineFault) → line_placed before line ≡ r
     → ((next : List DirectoryUser) → read_lines directory_step (n + 1) next lines ≡ Ok users → Continues next lines users)
     → and_then (at_line n r) (λ next. read_lines directory_step (n + 1) next lines) ≡ Ok users → Continues before (line ∷ lines) users
 continue_on n before line lines users (Err fault) e hyp h = cc
@@ -72,7 +72,7 @@ stated_again before line s h =
     let a = again (words_of line) s h.says in
     words_again before (added before s) s (is_comment line) (words_of line) a.operands h.counted a.begins a.stated (right_again before s h.right)
 
-step_again : (n : ℕ) (lines : List (List ℕ)) (users next : List DirectoryUser) (r : Result (List DirectoryUser) Fault) → r ≡ Ok next → read_lines directory_step (n + 1) next lines ≡ Ok users
+step_again : (n : ℕ) (lines : List (List ℕ)) (users next : List DirectoryUser) (r : Result (List DirectoryUser) LineFault) → r ≡ Ok next → read_lines directory_step (n + 1) next lines ≡ Ok users
     → and_then (at_line n r) (λ next. read_lines directory_step (n + 1) next lines) ≡ Ok users
 step_again n lines users next r e h = rw e h
 
@@ -84,7 +84,7 @@ continue_again n before (line ∷ lines) users h = elim h [
 ]
 
 -- a first word that names a statement is not unknown
-after_unknown : (users : List DirectoryUser) (verb : List ℕ) (operands : List (List ℕ)) → bytes_eq verb (codes "USER") ≡ true → (other : Fault) → HasFault users (verb ∷ operands) other → 1 ≤ order other
+after_unknown : (users : List DirectoryUser) (verb : List ℕ) (operands : List (List ℕ)) → bytes_eq verb (codes "USER") ≡ true → (other : LineFault) → HasFault users (verb ∷ operands) other → 1 ≤ order other
 after_unknown users verb operands e UnknownStatement h =
     let same : verb ≡ h.verb = cc in
     let wrong : bytes_eq verb (codes "USER") ≡ false = subst (λ (v : List ℕ). bytes_eq v (codes "USER") ≡ false) (sym same) h.other in
@@ -104,7 +104,7 @@ silent verb operands none s says =
     let twice : None ≡ Some s = sym none ∙ ap user_stated same ∙ a.stated in
     cc
 
-bad_on : (users : List DirectoryUser) (verb : List ℕ) (operands : List (List ℕ)) (fault : Fault) (b : Bool) (o : Option Stated) → bytes_eq verb (codes "USER") ≡ b → user_stated operands ≡ o
+bad_on : (users : List DirectoryUser) (verb : List ℕ) (operands : List (List ℕ)) (fault : LineFault) (b : Bool) (o : Option Stated) → bytes_eq verb (codes "USER") ≡ b → user_stated operands ≡ o
     → ((s : Stated) → b ≡ true → o ≡ Some s → Says (verb ∷ operands) s)
     → and_then (cond b (well_formed o) (Err UnknownStatement)) (placed users) ≡ Err fault → Judged users (verb ∷ operands) fault
 bad_on users verb operands fault false o e q said h =
@@ -127,35 +127,31 @@ said_by verb operands s b o e q t k =
     let some : user_stated operands ≡ Some s = q ∙ k in
     found verb operands s (rw (yes, some) refl)
 
-bad_words : (users : List DirectoryUser) (words : List (List ℕ)) (fault : Fault) → words_placed users words ≡ Err fault → Judged users words fault
+bad_words : (users : List DirectoryUser) (words : List (List ℕ)) (fault : LineFault) → words_placed users words ≡ Err fault → Judged users words fault
 bad_words users [] fault h = cc
 bad_words users (verb ∷ operands) fault h =
     bad_on users verb operands fault (bytes_eq verb (codes "USER")) (user_stated operands) refl refl
     (λ s t k. said_by verb operands s (bytes_eq verb (codes "USER")) (user_stated operands) refl refl t k) h
 
-bad_found : (users : List DirectoryUser) (line : List ℕ) (fault : Fault) → line_placed users line ≡ Err fault → (is_comment line ≡ false) × Judged users (words_of line) fault
+bad_found : (users : List DirectoryUser) (line : List ℕ) (fault : LineFault) → line_placed users line ≡ Err fault → (is_comment line ≡ false) × Judged users (words_of line) fault
 bad_found users line fault h = elim (chosen (is_comment line) (Ok users) (words_placed users (words_of line)) (Err fault) h) [
   | inl p ↦ let k = p.1 in cc
   | inr p ↦ (p.0, bad_words users (words_of line) fault p.1)
 ]
 
-at_own : {A : Type 0} (r : Result A Fault) (n number : ℕ) (fault : Fault) → at_line n r ≡ Err (number, fault) → (r ≡ Err fault) × (number ≡ n)
+at_own : {A : Type 0} (r : Result A LineFault) (n number : ℕ) (fault : LineFault) → at_line n r ≡ Err (number, fault) → (r ≡ Err fault) × (number ≡ n)
 at_own (Ok a) n number fault h = cc
 at_own (Err other) n number fault h =
-    let pair : ◌≡◌ {A = ℕ × Fault} (n, other) (number, fault) = cc in
-    (ap (λ (p : ℕ × Fault). Err p.1) pair, sym (ap (λ (p : ℕ × Fault). p.0) pair))
+    let pair : ◌≡◌ {A = ℕ × LineFault} (n, other) (number, fault) = cc in
+    (ap (λ (p : ℕ × LineFault). Err p.1) pair, sym (ap (λ (p : ℕ × LineFault). p.0) pair))
 
-first_bad : (lines : List (List ℕ)) (number : ℕ) (fault : Fault) → read_lines directory_step 1 [] lines ≡ Err (number, fault) → IsFirstFault lines number fault
+first_bad : (lines : List (List ℕ)) (number : ℕ) (fault : LineFault) → read_lines directory_step 1 [] lines ≡ Err (number, fault) → IsFirstFault lines number fault
 first_bad lines number fault h =
     let r = first_fault_of directory_step 1 [] lines (number, fault) h in
     let own = at_own (line_placed r.so_far r.bad) (1 + length r.before) number fault r.refused in
     let judged = bad_found r.so_far r.bad fault own.0 in
     record {
-      before = r.before;
-      bad = r.bad;
-      after = r.after;
-      split = r.split;
-      numbered = omega (arith, own.1);
+      at = record { before = r.before; line = r.bad; after = r.after; split = r.split; numbered = omega (arith, own.1) };
       users = r.so_far;
       accepted = continue_found 1 [] r.before r.so_far r.read;
       counted = judged.0;

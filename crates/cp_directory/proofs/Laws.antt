@@ -12,7 +12,7 @@ use Rattle.cp_directory.specs.Users.{DirectoryUser}
 use Rattle.cp_directory.specs.Statements.{Stated, User, added, has_name}
 use Rattle.cp_directory.specs.Directories.{directory_of}
 use Rattle.cp_directory.specs.Grammar.{Continues, IsLawful, States}
-use Rattle.cp_directory.specs.declared.faults.Fault.TheVariants.{DuplicateUser, BadStorage, TooMany}
+use Rattle.cp_directory.specs.declared.faults.LineFault.TheVariants.{DuplicateUser, BadStorage, TooMany}
 use Rattle.cp_directory.proofs.Grammars.{reads}
 use Rattle.cp_directory.proofs.Places.{always, never}
 

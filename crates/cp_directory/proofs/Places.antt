@@ -7,8 +7,8 @@ use Rattle.cp_directory.specs.Sizes.{is_size}
 use Rattle.cp_directory.specs.Users.{DirectoryUser}
 use Rattle.cp_directory.specs.Statements.{Stated, User, added, fault_if, first_fault, has_name, placed, unless_fault}
 use Rattle.cp_directory.specs.Grammar.{Breaks, HasFault, IsUnknown, Says, SaysWrong, order}
-use Rattle.cp_directory.specs.declared.faults.Fault.{Fault}
-use Rattle.cp_directory.specs.declared.faults.Fault.TheVariants.{UnknownStatement, Syntax, DuplicateUser, DuplicateDevice, BadStorage, BadExtent, Overlap, TooMany}
+use Rattle.cp_directory.specs.declared.faults.LineFault.{LineFault}
+use Rattle.cp_directory.specs.declared.faults.LineFault.TheVariants.{UnknownStatement, Syntax, DuplicateUser, DuplicateDevice, BadStorage, BadExtent, Overlap, TooMany}
 use Rattle.cp_directory.proofs.Spellings.{alike, again}
 
 -- a test that cannot pass fails
@@ -52,7 +52,7 @@ clear false true c x y h = cc
 clear false false true x y h = cc
 clear false false false x y h = record { new = refl; fits = refl; room = refl; same = cc }
 
-unbroken : (users : List DirectoryUser) (name : List ℕ) (k : ℕ) → list_any (has_name name) users ≡ false → is_size k ≡ true → leb 64 (length users) ≡ false → (fault : Fault) → Breaks users (User name k) fault → ⊥
+unbroken : (users : List DirectoryUser) (name : List ℕ) (k : ℕ) → list_any (has_name name) users ≡ false → is_size k ≡ true → leb 64 (length users) ≡ false → (fault : LineFault) → Breaks users (User name k) fault → ⊥
 unbroken users name k new fits room UnknownStatement h = h
 unbroken users name k new fits room Syntax h = h
 unbroken users name k new fits room DuplicateUser h = cc
@@ -63,7 +63,7 @@ unbroken users name k new fits room (Overlap first) h = h
 unbroken users name k new fits room TooMany h = few (length users) room h
 
 -- with what was placed nothing is wrong
-pub right_found : (users : List DirectoryUser) (s : Stated) (next : List DirectoryUser) → placed users s ≡ Ok next → ((fault : Fault) → Breaks users s fault → ⊥) × (next ≡ added users s)
+pub right_found : (users : List DirectoryUser) (s : Stated) (next : List DirectoryUser) → placed users s ≡ Ok next → ((fault : LineFault) → Breaks users s fault → ⊥) × (next ≡ added users s)
 right_found users (User name k) next h =
     let c = clear (list_any (has_name name) users) (not (is_size k)) (leb 64 (length users)) (added users (User name k)) next h in
     (unbroken users name k c.new (sure (is_size k) c.fits) c.room, c.same)
@@ -72,18 +72,18 @@ cleared : (a b c : Bool) (x : List DirectoryUser) → a ≡ false → b ≡ fals
 cleared a b c x p q r = rw (p, q, r) refl
 
 -- what nothing is wrong with is placed
-pub right_again : (users : List DirectoryUser) (s : Stated) → ((fault : Fault) → Breaks users s fault → ⊥) → placed users s ≡ Ok (added users s)
+pub right_again : (users : List DirectoryUser) (s : Stated) → ((fault : LineFault) → Breaks users s fault → ⊥) → placed users s ≡ Ok (added users s)
 right_again users (User name k) right =
     cleared (list_any (has_name name) users) (not (is_size k)) (leb 64 (length users)) (added users (User name k))
     (never _ (right DuplicateUser)) (kept _ (right BadStorage)) (never _ (λ e. right TooMany (many (length users) e)))
 
 -- a fault of words, and no fault of theirs is told before it
-pub record Judged (users : List DirectoryUser) (words : List (List ℕ)) (fault : Fault) : Type 0 where
+pub record Judged (users : List DirectoryUser) (words : List (List ℕ)) (fault : LineFault) : Type 0 where
   pub has : HasFault users words fault
-  pub first : (other : Fault) → HasFault users words other → order fault ≤ order other
+  pub first : (other : LineFault) → HasFault users words other → order fault ≤ order other
 
 -- what is wrong with what the words say
-only : (users : List DirectoryUser) (words : List (List ℕ)) (s : Stated) (fault : Fault) → Says words s → SaysWrong users words fault → Breaks users s fault
+only : (users : List DirectoryUser) (words : List (List ℕ)) (s : Stated) (fault : LineFault) → Says words s → SaysWrong users words fault → Breaks users s fault
 only users words s fault says w = subst (λ (t : Stated). Breaks users t fault) (alike words w.statement s w.says says) w.breaks
 
 known : (words : List (List ℕ)) (s : Stated) → Says words s → IsUnknown words → ⊥
@@ -97,7 +97,7 @@ known words s says h =
 -- the faults of a user that come before this place in the order are not there
 none_before : (users : List DirectoryUser) (words : List (List ℕ)) (name : List ℕ) (k place : ℕ) → Says words (User name k)
     → (place ≤ 2) ⊎ (list_any (has_name name) users ≡ false) → (place ≤ 4) ⊎ (is_size k ≡ true) → place ≤ 7
-    → (other : Fault) → HasFault users words other → place ≤ order other
+    → (other : LineFault) → HasFault users words other → place ≤ order other
 none_before users words name k place says new fits last UnknownStatement h = absurd (known words (User name k) says h)
 none_before users words name k place says new fits last Syntax h = absurd (h.silent (User name k) says)
 none_before users words name k place says new fits last DuplicateUser h =
@@ -111,7 +111,7 @@ none_before users words name k place says new fits last BadExtent h = absurd (on
 none_before users words name k place says new fits last (Overlap first) h = absurd (only users words (User name k) (Overlap first) says h)
 none_before users words name k place says new fits last TooMany h = last
 
-wrong_user : (users : List DirectoryUser) (words : List (List ℕ)) (name : List ℕ) (k : ℕ) (fault : Fault) (a b c : Bool) (x : List DirectoryUser) → Says words (User name k)
+wrong_user : (users : List DirectoryUser) (words : List (List ℕ)) (name : List ℕ) (k : ℕ) (fault : LineFault) (a b c : Bool) (x : List DirectoryUser) → Says words (User name k)
     → list_any (has_name name) users ≡ a → not (is_size k) ≡ b → leb 64 (length users) ≡ c
     → unless_fault (first_fault (fault_if a DuplicateUser ∷ fault_if b BadStorage ∷ fault_if c TooMany ∷ [])) x ≡ Err fault → Judged users words fault
 wrong_user users words name k fault true b c x says new fits room h =
@@ -135,6 +135,6 @@ wrong_user users words name k fault false false true x says new fits room h =
 wrong_user users words name k fault false false false x says new fits room h = cc
 
 -- the fault for which a statement is not placed is its first
-pub wrong_found : (users : List DirectoryUser) (words : List (List ℕ)) (s : Stated) (fault : Fault) → Says words s → placed users s ≡ Err fault → Judged users words fault
+pub wrong_found : (users : List DirectoryUser) (words : List (List ℕ)) (s : Stated) (fault : LineFault) → Says words s → placed users s ≡ Err fault → Judged users words fault
 wrong_found users words (User name k) fault says h =
     wrong_user users words name k fault (list_any (has_name name) users) (not (is_size k)) (leb 64 (length users)) (added users (User name k)) says refl refl refl h

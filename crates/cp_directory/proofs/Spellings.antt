@@ -10,7 +10,7 @@ use Rattle.cp_directory.specs.Names.{is_name, is_short_word}
 use Rattle.cp_directory.specs.Sizes.{is_number, kilobytes_by, kilobytes_of, number, unit_of}
 use Rattle.cp_directory.specs.Statements.{Stated, User, stated_by, user_of, user_stated, well_formed}
 use Rattle.cp_directory.specs.Grammar.{Says}
-use Rattle.cp_directory.specs.declared.faults.Fault.TheVariants.{UnknownStatement}
+use Rattle.cp_directory.specs.declared.faults.LineFault.TheVariants.{UnknownStatement}
 
 both : (a b : Bool) → (a && b) ≡ true → (a ≡ true) × (b ≡ true)
 both true true h = (refl, refl)

@@ -3,28 +3,28 @@ use Rattle.std.specs.Prelude.{◌≡◌, ℕ, List, [], Result, Ok, Err}
 use Rattle.cp_text.specs.Lines.{lines_of, read_lines}
 use Rattle.cp_directory.specs.Users.{DirectoryUser}
 use Rattle.cp_directory.specs.Statements.{line_placed}
-use Rattle.cp_directory.specs.declared.faults.Fault.{Fault}
-use Rattle.cp_directory.specs.declared.faults.Fault.TheVariants as faults
+use Rattle.cp_directory.specs.declared.faults.LineFault.{LineFault}
+use Rattle.cp_directory.specs.declared.faults.LineFault.TheVariants as faults
 use Rattle.cp_directory.specs.declared.faults.DirError.{DirError}
 use Rattle.cp_directory.specs.declared.faults.DirError.TheVariants as errors
 use Rattle.cp_directory.specs.declared.faults.LineError.{LineError}
 use Rattle.cp_directory.specs.declared.faults.LineError.TheVariants as lines
 
 -- a fault with the number of its line
-abbrev pub at_line : {A : Type 0} → ℕ → Result A Fault → Result A (ℕ × Fault)
+abbrev pub at_line : {A : Type 0} → ℕ → Result A LineFault → Result A (ℕ × LineFault)
 at_line number (Ok a) = Ok a
 at_line number (Err fault) = Err (number, fault)
 
 -- the users after one more line, or that line and its first fault
-abbrev pub directory_step : ℕ → List DirectoryUser → List ℕ → Result (List DirectoryUser) (ℕ × Fault)
+abbrev pub directory_step : ℕ → List DirectoryUser → List ℕ → Result (List DirectoryUser) (ℕ × LineFault)
 directory_step number users line = at_line number (line_placed users line)
 
 -- the users that a text states, or its first faulty line and the first fault of that line
-abbrev pub directory_of : List ℕ → Result (List DirectoryUser) (ℕ × Fault)
+abbrev pub directory_of : List ℕ → Result (List DirectoryUser) (ℕ × LineFault)
 directory_of text = read_lines directory_step 1 [] (lines_of text)
 
 -- a fault is told with the number of its line
-abbrev pub told : ℕ → Fault → DirError
+abbrev pub told : ℕ → LineFault → DirError
 told number faults.UnknownStatement = errors.UnknownStatement number
 told number faults.Syntax = errors.Syntax number
 told number faults.DuplicateUser = errors.DuplicateUser number
@@ -35,7 +35,7 @@ told number (faults.Overlap first) = errors.Overlap first number
 told number faults.TooMany = errors.TooMany number
 
 -- why a directory is not read: a growth was refused, or its first faulty line has this fault first
-abbrev pub IsRefusal : Result (List DirectoryUser) (ℕ × Fault) → DirError → Type 0
+abbrev pub IsRefusal : Result (List DirectoryUser) (ℕ × LineFault) → DirError → Type 0
 IsRefusal directory errors.Memory = Unit {0}
 IsRefusal directory (errors.UnknownStatement number) = directory ≡ Err (number, faults.UnknownStatement)
 IsRefusal directory (errors.Syntax number) = directory ≡ Err (number, faults.Syntax)
@@ -47,7 +47,7 @@ IsRefusal directory (errors.Overlap first number) = directory ≡ Err (number, f
 IsRefusal directory (errors.TooMany number) = directory ≡ Err (number, faults.TooMany)
 
 -- a line that was read left these users, or was refused for this fault
-abbrev pub Places : Result (List DirectoryUser) Fault → List DirectoryUser → Result (Unit {0}) LineError → Type 0
+abbrev pub Places : Result (List DirectoryUser) LineFault → List DirectoryUser → Result (Unit {0}) LineError → Type 0
 Places placed new (Ok done) = placed ≡ Ok new
 Places placed new (Err lines.Memory) = Unit {0}
 Places placed new (Err (lines.Fault fault)) = placed ≡ Err fault

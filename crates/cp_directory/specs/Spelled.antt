@@ -3,15 +3,15 @@ use Rattle.std.specs.Prelude.{ℕ, ◌*◌, Result, Ok, Err}
 use Rattle.cp_directory.specs.Sizes.{number}
 use Rattle.cp_directory.specs.Statements as said
 use Rattle.cp_directory.specs.Statements.{Stated}
-use Rattle.cp_directory.specs.declared.faults.Fault.{Fault}
-use Rattle.cp_directory.specs.declared.spelling.Unit.{Unit}
-use Rattle.cp_directory.specs.declared.spelling.Unit.TheVariants.{Kilobyte, Megabyte}
+use Rattle.cp_directory.specs.declared.faults.LineFault.{LineFault}
+use Rattle.cp_directory.specs.declared.spelling.SizeUnit.{SizeUnit}
+use Rattle.cp_directory.specs.declared.spelling.SizeUnit.TheVariants.{Kilobyte, Megabyte}
 use Rattle.cp_directory.specs.declared.spelling.SpelledSize.{SpelledSize}
 use Rattle.cp_directory.specs.declared.spelling.Statement.{Statement}
 use Rattle.cp_directory.specs.declared.spelling.Statement.TheVariants.{User}
 
 -- the kilobytes of a unit
-abbrev pub kilobytes_in : Unit → ℕ
+abbrev pub kilobytes_in : SizeUnit → ℕ
 kilobytes_in Kilobyte = 1
 kilobytes_in Megabyte = 1024
 
@@ -24,6 +24,6 @@ abbrev pub stated : Statement → Stated
 stated (User name size) = said.User name (kilobytes size)
 
 -- what is stated, or the fault
-abbrev pub stated_result : Result Statement Fault → Result Stated Fault
+abbrev pub stated_result : Result Statement LineFault → Result Stated LineFault
 stated_result (Ok statement) = Ok (stated statement)
 stated_result (Err fault) = Err fault

@@ -1,11 +1,7 @@
 -- The users of a directory.
-use Rattle.std.specs.Prelude.{ℕ, List, []}
+use Rattle.std.specs.Prelude.{ℕ, List}
 
 -- a user: the name, and the pages of 4096 bytes that its storage has
 pub record DirectoryUser : Type 0 where
   pub name : List ℕ
   pub pages : ℕ
-
--- what stands past the last user
-abbrev pub nobody : DirectoryUser
-nobody = record { name = []; pages = 0 }

@@ -1,12 +1,11 @@
 //! A directory that was read, and its users.
-ghost use Rattle.std.specs.Prelude.{◌≡◌, ◌==◌, ◌<◌, ◌++◌, ◌∷◌, [], length, slice_index_or, Option, IfOk, OnErr, IfSome};
-ghost use Rattle.std.specs.List.{list_any, position};
-ghost use Rattle.cp_directory.specs.Users.{nobody};
+ghost use Rattle.std.specs.Prelude.{◌≡◌, ◌==◌, ◌<◌, ◌≤◌, ◌++◌, ◌∷◌, [], length, IfOk, OnErr};
+ghost use Rattle.std.specs.List.{list_any};
 ghost use Rattle.cp_directory.specs.Statements.{has_name};
 
 use crate::name::UserName;
 use crate::storage::StorageSize;
-use cp_text::users::Named;
+use cp_users::{MOST_USERS, Named};
 use std::alloc::{AllocError, Global};
 use std::marker::Model;
 
@@ -63,19 +62,21 @@ impl Named for User {
     }
 }
 
-/// The users of a directory, in the order of their lines.
+/// The users of a directory, in the order of their lines: at most [`MOST_USERS`].
 #[derive(Debug, Drop)]
 pub struct Directory {
     users: Vec<User>,
 }
 
 impl Model for Directory {
-    ghost use Rattle.std.specs.Prelude.{List};
+    ghost use Rattle.std.specs.Prelude.{◌≤◌, List, length};
     ghost use Rattle.cp_directory.specs.Users.{DirectoryUser};
 
     ghost Value = { List DirectoryUser };
 
     ghost view = { λ directory. directory.users.items };
+
+    ghost invariant = { λ directory. length directory.users.items ≤ 64 };
 }
 
 impl Directory {
@@ -90,6 +91,7 @@ impl Directory {
 
     /// Adds a user after the others. Where the growth is refused, nothing is added.
     pub fn push(&mut self, user: User) -> Result<(), AllocError>
+        requires { length self.old < MOST_USERS }
         ensures ok { IfOk result (λ _. self.new ≡ self.old ++ user ∷ []) }
         ensures err { OnErr result (self.new ≡ self.old) }
     {
@@ -99,14 +101,16 @@ impl Directory {
 
     /// The users, in order.
     pub fn users(&self) -> &[User]
-        ensures { result.now ≡ self.now }
+        ensures users { result.now ≡ self.now }
+        ensures few { length result.now ≤ MOST_USERS }
     {
         self.users.as_slice()
     }
 
     /// How many users there are.
     pub fn len(&self) -> usize
-        ensures { result ≡ length self.now }
+        ensures value { result ≡ length self.now }
+        ensures few { result ≤ MOST_USERS }
     {
         self.users.len()
     }
@@ -116,32 +120,6 @@ impl Directory {
         ensures { result ≡ (length self.now == 0) }
     {
         self.users.is_empty()
-    }
-
-    /// The name of the user of this number, from 0.
-    pub fn name(&self, user: usize) -> &[u8]
-        requires { user < length self.now }
-        ensures { result.now ≡ (slice_index_or self.now user nobody).name }
-    {
-        let user = &self.users[user];
-        user.name()
-    }
-
-    /// The size of the storage of the user of this number, from 0.
-    pub fn storage(&self, user: usize) -> StorageSize
-        requires { user < length self.now }
-        ensures { result ≡ (slice_index_or self.now user nobody).pages }
-    {
-        let user = &self.users[user];
-        user.storage()
-    }
-
-    /// The number of the user of this name.
-    pub fn position(&self, name: &[u8]) -> Option<usize>
-        ensures value { result ≡ position (has_name name.now) self.now }
-        ensures within { IfSome result (λ user. user < length self.now) }
-    {
-        self.users.iter().position(|user| user.has_name(name))
     }
 
     /// Whether a user has this name.

@@ -38,7 +38,7 @@ pub enum DirError {
 
 /// A fault of one line.
 #[derive(Clone, Copy, Debug, PartialEq, Eq, Drop)]
-pub enum Fault {
+pub enum LineFault {
     UnknownStatement,
     Syntax,
     DuplicateUser,
@@ -56,10 +56,10 @@ pub enum LineError {
     /// The allocator refused a growth.
     Memory,
     /// The line's first fault.
-    Fault(Fault),
+    Fault(LineFault),
 }
 
-impl Fault {
+impl LineFault {
     ghost use Rattle.cp_directory.specs.Directories.{told};
 
     /// The refusal of a directory for this fault of the line of this number.
@@ -67,14 +67,14 @@ impl Fault {
         ensures { result ≡ told line self }
     {
         match self {
-            Fault::UnknownStatement => DirError::UnknownStatement(line),
-            Fault::Syntax => DirError::Syntax(line),
-            Fault::DuplicateUser => DirError::DuplicateUser(line),
-            Fault::DuplicateDevice => DirError::DuplicateDevice(line),
-            Fault::BadStorage => DirError::BadStorage(line),
-            Fault::BadExtent => DirError::BadExtent(line),
-            Fault::Overlap(first) => DirError::Overlap(first, line),
-            Fault::TooMany => DirError::TooMany(line),
+            LineFault::UnknownStatement => DirError::UnknownStatement(line),
+            LineFault::Syntax => DirError::Syntax(line),
+            LineFault::DuplicateUser => DirError::DuplicateUser(line),
+            LineFault::DuplicateDevice => DirError::DuplicateDevice(line),
+            LineFault::BadStorage => DirError::BadStorage(line),
+            LineFault::BadExtent => DirError::BadExtent(line),
+            LineFault::Overlap(first) => DirError::Overlap(first, line),
+            LineFault::TooMany => DirError::TooMany(line),
         }
     }
 }

@@ -2,7 +2,15 @@
 //!
 //! A text of the grammar of docs/FORMATS.md is read as exactly the users that it states, and every
 //! other text is refused by its first faulty line and that line's first fault ([`read_directory`]).
-//! What the grammar says is proved of the reader by [`reads_grammar`].
+//! What the grammar says is proved of the reader by [`reads_grammar`]. The users that are read are at
+//! most 64, their names differ, and each has a storage that a user may have.
+//!
+//! ```text
+//! let directory = read_directory(alloc, b"USER ALPHA SECRET 4M\nUSER B2 X 12K\n")?;
+//! let b2 = user_of(directory.users(), b"B2"); // Some(UserNo::new(1))
+//! let pages = directory.users()[1].storage().pages(); // 3
+//! let fault = read_directory(alloc, b"USER ALPHA SECRET 5M\n"); // Err(DirError::BadStorage(1))
+//! ```
 //!
 //! A line is judged in two steps. [`spelling`] reads what its words state, whatever stands before
 //! it. [`reader`] then finds the statement's place among the lines before it, by a list of faults

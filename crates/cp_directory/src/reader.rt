@@ -7,15 +7,13 @@ ghost use Rattle.cp_directory.specs.Statements as said;
 ghost use Rattle.cp_directory.specs.Statements.{line_placed, placed};
 
 use crate::directory::{Directory, User};
-use crate::faults::{DirError, Fault, LineError};
+use crate::faults::{DirError, LineError, LineFault};
 use crate::name::UserName;
 use crate::spelling::{SpelledSize, Statement, read_statement, size_of};
-use cp_text::lines::{cut_line, is_comment};
+use cp_text::lines::{is_comment, numbered_lines};
 use cp_text::words::words_of;
+use cp_users::MOST_USERS;
 use std::alloc::Global;
-
-/// The most users that a directory has.
-const USERS: usize = 64;
 
 /// The directory that a text states.
 ///
@@ -25,8 +23,8 @@ const USERS: usize = 64;
 ///
 /// ```text
 /// let directory = read_directory(alloc, b"USER ALPHA SECRET 4M\n")?;
-/// let alpha = directory.position(b"ALPHA"); // Some(0)
-/// let pages = directory.storage(0).pages(); // 1024
+/// let alpha = user_of(directory.users(), b"ALPHA"); // Some(UserNo::new(0))
+/// let pages = directory.users()[0].storage().pages(); // 1024
 /// ```
 pub fn read_directory(alloc: Global, text: &[u8]) -> Result<Directory, DirError>
     ensures ok { IfOk result (λ users. directory_of text.now ≡ Ok users) }
@@ -34,17 +32,12 @@ pub fn read_directory(alloc: Global, text: &[u8]) -> Result<Directory, DirError>
     ensures err { IfErr result (IsRefusal (directory_of text.now)) }
 {
     let mut directory = Directory::new(alloc);
-    let mut rest = text;
-    let mut number = 1;
-    while !rest.is_empty() {
-        let (line, after) = cut_line(rest);
-        match read_line(alloc, &mut directory, line) {
+    for line in numbered_lines(text) {
+        match read_line(alloc, &mut directory, line.text) {
             Ok(()) => {}
             Err(LineError::Memory) => return Err(DirError::Memory),
-            Err(LineError::Fault(fault)) => return Err(fault.at(number)),
+            Err(LineError::Fault(fault)) => return Err(fault.at(line.number)),
         }
-        rest = after;
-        number += 1;
     }
     Ok(directory)
 }
@@ -86,14 +79,14 @@ fn place_user(
     ensures { Places (placed directory.old (said.User name (kilobytes spelled.entry))) directory.new result }
 {
     if directory.contains(name.as_bytes()) {
-        return Err(LineError::Fault(Fault::DuplicateUser));
+        return Err(LineError::Fault(LineFault::DuplicateUser));
     }
     let size = match size_of(spelled) {
         Some(size) => size,
-        None => return Err(LineError::Fault(Fault::BadStorage)),
+        None => return Err(LineError::Fault(LineFault::BadStorage)),
     };
-    if directory.len() >= USERS {
-        return Err(LineError::Fault(Fault::TooMany));
+    if directory.len() >= MOST_USERS {
+        return Err(LineError::Fault(LineFault::TooMany));
     }
     match directory.push(User::new(name, size)) {
         Ok(()) => Ok(()),

@@ -7,14 +7,14 @@ ghost use Rattle.cp_directory.specs.Sizes.{is_number, kilobytes_of, kilobytes_by
 ghost use Rattle.cp_directory.specs.Statements.{stated_by, user_of, user_stated, well_formed};
 ghost use Rattle.cp_directory.specs.Spelled.{kilobytes, kilobytes_in, stated, stated_result};
 
-use crate::faults::Fault;
+use crate::faults::LineFault;
 use crate::name::{UserName, is_short_word};
 use crate::storage::StorageSize;
 use cp_text::numbers::is_digit;
 
 /// The letter of a size.
 #[derive(Clone, Copy, Debug)]
-pub enum Unit {
+pub enum SizeUnit {
     Kilobyte,
     Megabyte,
 }
@@ -23,7 +23,7 @@ pub enum Unit {
 #[derive(Clone, Copy, Debug)]
 pub struct SpelledSize<'a> {
     pub digits: &'a [u8],
-    pub unit: Unit,
+    pub unit: SizeUnit,
 }
 
 /// What a line states.
@@ -34,23 +34,23 @@ pub enum Statement<'a> {
 }
 
 /// The statement that begins with this word and has these operands.
-pub fn read_statement<'a>(verb: &[u8], operands: &[&'a [u8]]) -> Result<Statement<'a>, Fault>
+pub fn read_statement<'a>(verb: &[u8], operands: &[&'a [u8]]) -> Result<Statement<'a>, LineFault>
     ensures { stated_result result ≡ stated_by verb.now (map (λ w. w.now) operands.now) }
 {
     if verb == b"USER".as_slice() {
         well_formed(read_user(operands))
     } else {
-        Err(Fault::UnknownStatement)
+        Err(LineFault::UnknownStatement)
     }
 }
 
 /// Operands that do not have the form of their statement are a fault of syntax.
-fn well_formed(statement: Option<Statement<'_>>) -> Result<Statement<'_>, Fault>
+fn well_formed(statement: Option<Statement<'_>>) -> Result<Statement<'_>, LineFault>
     ensures { stated_result result ≡ well_formed (option_map stated statement.entry) }
 {
     match statement {
         Some(statement) => Ok(statement),
-        None => Err(Fault::Syntax),
+        None => Err(LineFault::Syntax),
     }
 }
 
@@ -95,12 +95,12 @@ fn size_by(digits: &[u8], letter: u8) -> Option<SpelledSize<'_>>
     Some(SpelledSize { digits, unit })
 }
 
-fn unit_of(letter: u8) -> Option<Unit>
+fn unit_of(letter: u8) -> Option<SizeUnit>
     ensures { option_map kilobytes_in result ≡ unit_of letter }
 {
     match letter {
-        b'K' => Some(Unit::Kilobyte),
-        b'M' => Some(Unit::Megabyte),
+        b'K' => Some(SizeUnit::Kilobyte),
+        b'M' => Some(SizeUnit::Megabyte),
         _ => None,
     }
 }
@@ -127,8 +127,8 @@ pub fn size_of(spelled: SpelledSize<'_>) -> Option<StorageSize>
 {
     let number = capped_number(spelled.digits);
     match spelled.unit {
-        Unit::Kilobyte => StorageSize::from_kilobytes(number),
-        Unit::Megabyte => StorageSize::from_kilobytes(number * 1024),
+        SizeUnit::Kilobyte => StorageSize::from_kilobytes(number),
+        SizeUnit::Megabyte => StorageSize::from_kilobytes(number * 1024),
     }
 }
 

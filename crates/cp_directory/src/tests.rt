@@ -1,4 +1,5 @@
 use super::*;
+use cp_users::{UserNo, name_of, user_of};
 use std::alloc::{AllocError, Global};
 use std::test::Fail;
 
@@ -93,7 +94,7 @@ fn reads_sizes(rt: HostRuntime) -> Result<(), Fail> {
         let got = match read(rt.alloc(), text.as_slice())? {
             Ok(directory) => {
                 assert_eq!(rt; directory.len(), 1);
-                Ok(directory.storage(0).pages())
+                Ok(directory.users()[0].storage().pages())
             }
             Err(error) => Err(error),
         };
@@ -131,14 +132,14 @@ fn reads_the_example_and_each_beginning(rt: HostRuntime) -> Result<(), Fail> {
     let directory = read_directory(rt.alloc(), EXAMPLE)?;
     assert_eq!(rt; directory.len(), 2);
     assert!(rt; !directory.is_empty());
-    assert_eq!(rt; directory.name(0), b"ALPHA".as_slice());
-    assert_eq!(rt; directory.name(1), b"B2".as_slice());
-    assert_eq!(rt; directory.storage(0).bytes(), 4_194_304);
-    assert_eq!(rt; directory.storage(1).blocks(), 6);
-    assert_eq!(rt; directory.position(b"B2"), Some(1));
-    assert_eq!(rt; directory.position(b"B"), None);
+    let users = directory.users();
+    assert_eq!(rt; users[0].storage().bytes(), 4_194_304);
+    assert_eq!(rt; users[1].storage().blocks(), 6);
+    assert_eq!(rt; name_of(users, UserNo::new(0)), b"ALPHA".as_slice());
+    assert_eq!(rt; user_of(users, b"B2"), Some(UserNo::new(1)));
+    assert_eq!(rt; user_of(users, b"B"), None);
     assert!(rt; directory.contains(b"ALPHA"));
-    for user in directory.users() {
+    for user in users {
         assert!(rt; user.has_name(user.name()));
     }
     Ok(())

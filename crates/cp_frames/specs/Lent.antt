@@ -44,12 +44,12 @@ pub record KeepsFrames (old new : Dat) : Type 0 where
   pub same_user : new.user.0 ≡ old.user.0
   pub others : new.frames.now.storages ≡ slice_set old.frames.now.storages old.user.0 (bytes_of new.frames.now old.user.0)
 
-set_own : {X : Type 0} (xs : List X) (i : ℕ) (d : X) → xs ≡ slice_set xs i (slice_index_or xs i d)
+pub set_own : {X : Type 0} (xs : List X) (i : ℕ) (d : X) → xs ≡ slice_set xs i (slice_index_or xs i d)
 set_own [] i d = refl
 set_own (x ∷ xs) zero d = refl
 set_own (x ∷ xs) (suc i) d = ap (λ ys. x ∷ ys) (set_own xs i d)
 
-set_again : {X : Type 0} (xs : List X) (i : ℕ) (y z : X) → slice_set (slice_set xs i y) i z ≡ slice_set xs i z
+pub set_again : {X : Type 0} (xs : List X) (i : ℕ) (y z : X) → slice_set (slice_set xs i y) i z ≡ slice_set xs i z
 set_again [] i y z = refl
 set_again (x ∷ xs) zero y z = refl
 set_again (x ∷ xs) (suc i) y z = ap (λ ys. x ∷ ys) (set_again xs i y z)

@@ -1,15 +1,22 @@
 //! One user's storage, lent from the frames.
-ghost use Rattle.std.specs.Prelude.{◌≡◌, ◌*◌, ◌<◌, ◌≤◌, ◌↔◌, length, IfOk, IfSome, IfNone, OnOk, OnErr, All, IsSome, Some, None, false};
+ghost use Rattle.std.specs.Prelude.{◌≡◌, ◌*◌, ◌/◌, ◌<◌, ◌≤◌, ◌↔◌, length, IfOk, IfSome, IfNone, OnOk, OnErr, All, IsSome, Some, None, false};
 ghost use Rattle.cp_frames.specs.Layout.{bytes_of, number_of, free_count, IsBrought, IsZeroPage};
 
-use crate::{FrameNo, Frames, FramesOut, UserNo};
-use s370_store::{Access, Fault, Keyed, Listed, Page, Range, Storage, test_range};
+use crate::{FrameNo, Frames, UserNo};
+use s370_num::{AccessKey, StorageKey};
+use s370_store::{
+    Access, BLOCK_SIZE, Fault, FramesOut, Keyed, Listed, PAGE_SIZE, Page, Range, Storage, Supply,
+    test_range,
+};
 
 /// One user's pages, of which those that stand in frames are present, and his storage keys.
+///
+/// As a `Supply` it brings a page that is absent into a free frame. It takes no page of anyone out of a frame: where each
+/// frame is taken it answers `FramesOut`, and whoever lent the frames has to free one.
 #[derive(Drop)]
 pub struct Dat<'a> {
     frames: &'a mut Frames,
-    keys: &'a mut [u8],
+    keys: &'a mut [StorageKey],
     user: UserNo,
     size: u32,
     ghost sized: { size ≡ length (bytes_of frames.now user.0) },
@@ -20,7 +27,7 @@ impl<'a> Dat<'a> {
     ghost use Rattle.cp_frames.specs.Lent.{lent_bytes, lent_keys, lent_pool, lent_frame, is_lent_page, user_of, KeepsFrames};
 
     /// Lends a user's pages, with a key for each 2048 bytes of his storage. A user who is not there has no bytes.
-    pub fn new(frames: &'a mut Frames, keys: &'a mut [u8], user: UserNo) -> Dat<'a>
+    pub fn new(frames: &'a mut Frames, keys: &'a mut [StorageKey], user: UserNo) -> Dat<'a>
         requires { length (bytes_of frames.old user.0) ≤ 2048 * length keys.old }
         ensures same_frames { result.frames.ghost_name ≡ frames.entry.ghost_name }
         ensures same_keys { result.keys.ghost_name ≡ keys.entry.ghost_name }
@@ -75,12 +82,19 @@ impl<'a> Dat<'a> {
         ensures absent { OnErr result (is_lent_page self.old page.0 ≡ false) }
         ensures err { OnErr result ((lent_pool self.new).owners ≡ (lent_pool self.old).owners) }
     {
-        match self.frames.bring(self.user, page) {
-            Ok(frame) => return Ok(frame),
-            Err(_) => {}
-        }
-        Err(FramesOut)
+        self.frames.bring(self.user, page)
     }
+}
+
+/// The page of an address, for a page that is absent.
+///
+/// It is out of line so that the page's number is needed for nothing but the slot's place where the page is present: then
+/// the place has one form in the test and in the access that follows it, and the slot is looked at once.
+#[inline(never)]
+fn page_of(address: u32) -> Page
+    ensures { result.0 ≡ address / 4096 }
+{
+    Page(address / PAGE_SIZE)
 }
 
 impl<'a> Storage for Dat<'a> {
@@ -100,24 +114,23 @@ impl<'a> Storage for Dat<'a> {
     }
 
     #[inline(always)]
-    fn check(&self, range: Range, access: Access, key: u8) -> Result<(), Fault> {
+    fn check(&self, range: Range, access: Access, key: AccessKey) -> Result<(), Fault> {
         test_range(self.size, &Listed { keys: self.keys }, range, access, key)?;
         let Range { start, count } = range;
         if count == 0 {
             return Ok(());
         }
-        let first = Page(start / 4096);
-        match self.frames.frame_of(self.user, first) {
+        match self.frames.frame_at(self.user, start) {
             Some(_) => {}
-            None => return Err(Fault::Absent(first)),
+            None => return Err(Fault::Absent(page_of(start))),
         }
-        let last = Page((start + (count - 1)) / 4096);
-        if last.0 == first.0 {
+        if start % BLOCK_SIZE + count <= BLOCK_SIZE {
             return Ok(());
         }
-        match self.frames.frame_of(self.user, last) {
+        let last = start + (count - 1);
+        match self.frames.frame_apart(self.user, last) {
             Some(_) => {}
-            None => return Err(Fault::Absent(last)),
+            None => return Err(Fault::Absent(page_of(last))),
         }
         Ok(())
     }
@@ -139,12 +152,45 @@ impl<'a> Storage for Dat<'a> {
 
 impl<'a> Keyed for Dat<'a> {
     #[inline]
-    fn key_of(&self, block: u32) -> u8 {
+    fn key_of(&self, block: u32) -> StorageKey {
         self.keys[block as usize]
     }
 
     #[inline]
-    fn set_key(&mut self, block: u32, key: u8) {
+    fn set_key(&mut self, block: u32, key: StorageKey) {
         self.keys[block as usize] = key;
     }
+}
+
+impl<'a> Supply for Dat<'a> {
+    ghost use Rattle.std.proofs.Common.{ap};
+    ghost use Rattle.cp_frames.specs.Lent.{lent_pool, is_lent_page};
+    ghost use Rattle.cp_frames.specs.Supplied.{GivesBack, Supplied};
+    ghost use Rattle.cp_frames.specs.Bringing.{supplied_none, supplied_on};
+
+    ghost spare = { λ d. free_count (lent_pool d).owners };
+
+    ghost IsShort = { λ d page. All IsSome (lent_pool d).owners × (is_lent_page d page ≡ false) };
+
+    ghost Brought = { Supplied };
+
+    ghost Cleared = { GivesBack };
+
+    fn clear(&mut self) {
+        self.frames.release(self.user);
+        self.keys.fill(StorageKey::ZERO);
+    }
+
+    fn bring(&mut self, page: Page) -> Result<(), FramesOut> {
+        match Dat::bring(self, page) {
+            Ok(_) => Ok(()),
+            Err(FramesOut) => Err(FramesOut),
+        }
+    }
+
+    ghost brought_none = { supplied_none };
+
+    ghost brought_on = { supplied_on };
+
+    ghost spare_kept = { λ s t k. ap free_count k.same_owners };
 }

@@ -6,7 +6,8 @@
 //!
 //! [`Frames`] is all of real storage, allotted once by [`Frames::new`]: no call after it takes memory. A contract sees it
 //! as the storage of each user, a list of bytes, and as the page in each frame. [`Dat`] lends one user's pages, with his
-//! keys, as a `Storage` over which a processor runs.
+//! keys, as a `Storage` over which a processor runs, and as a `Supply`, which brings his absent pages into free frames: a
+//! page once brought stays where it stands, and no other user's page comes or goes.
 //!
 //! ```
 //! let mut frames = Frames::new(alloc, 64, sizes)?;
@@ -26,5 +27,5 @@ mod table;
 mod tests;
 
 pub use dat::Dat;
-pub use numbers::{FRAME_SIZE, FrameNo, FramesOut, UserNo, UserPage};
+pub use numbers::{FRAME_SIZE, FrameNo, UserNo, UserPage};
 pub use pool::Frames;

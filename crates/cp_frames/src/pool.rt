@@ -6,10 +6,13 @@ ghost use Rattle.cp_frames.specs.Layout.{frame_of, number_of, is_there, IsBrough
 use crate::frame::{blank_frames, clear, copy_in, copy_out};
 use crate::owners::{first_free, free_frames, give_back, no_pins};
 use crate::table::{NOWHERE, SLOTS, empty_table, forget};
-use crate::{FRAME_SIZE, FrameNo, FramesOut, UserNo, UserPage};
-use s370_store::Page;
+use crate::{FRAME_SIZE, FrameNo, UserNo, UserPage};
+use s370_store::{BLOCK_SIZE, FramesOut, PAGE_SIZE, Page};
 use std::alloc::{AllocError, Global};
 use std::marker::Model;
+
+/// The most bytes that are loaded or stored at once.
+const LONGEST: usize = 256;
 
 /// All frames of real storage, and which page of which user stands in each.
 ///
@@ -69,7 +72,7 @@ impl Frames {
     {
         let user = user.0 as usize;
         if user < self.sizes.len() {
-            self.sizes[user] * 4096
+            self.sizes[user] * PAGE_SIZE
         } else {
             0
         }
@@ -89,6 +92,29 @@ impl Frames {
         } else {
             Some(FrameNo(slot))
         }
+    }
+
+    /// The frame in which the page of an address of a user stands: the one look at the table that each access makes.
+    #[inline(always)]
+    pub(crate) fn frame_at(&self, user: UserNo, start: u32) -> Option<FrameNo>
+        requires { start < length (bytes_of self.now user.0) }
+        ensures { number_of result ≡ frame_of self.now.owners user.0 (start / 4096) }
+    {
+        let slot = self.table[user.0 as usize * SLOTS + start as usize / FRAME_SIZE];
+        if slot == NOWHERE {
+            None
+        } else {
+            Some(FrameNo(slot))
+        }
+    }
+
+    /// As `frame_at`, out of line.
+    #[inline(never)]
+    pub(crate) fn frame_apart(&self, user: UserNo, start: u32) -> Option<FrameNo>
+        requires { start < length (bytes_of self.now user.0) }
+        ensures { number_of result ≡ frame_of self.now.owners user.0 (start / 4096) }
+    {
+        self.frame_at(user, start)
     }
 
     /// The page that stands in a frame.
@@ -194,8 +220,8 @@ impl Frames {
         if address >= self.size(user) {
             return None;
         }
-        match self.frame_of(user, Page(address / 4096)) {
-            Some(frame) => Some(self.frames[frame.0 as usize][(address % 4096) as usize]),
+        match self.frame_of(user, Page(address / PAGE_SIZE)) {
+            Some(frame) => Some(self.frames[frame.0 as usize][(address % PAGE_SIZE) as usize]),
             None => Some(0),
         }
     }
@@ -210,10 +236,14 @@ impl Frames {
         if into.is_empty() {
             return;
         }
-        if into.len() <= 4096 - start as usize % 4096 {
+        if start % BLOCK_SIZE + into.len() as u32 <= BLOCK_SIZE {
             self.load_part(user, start, into);
         } else {
-            self.load_across(user, start, into);
+            // By a buffer of its own, so that the caller's bytes can stay in registers.
+            let mut buffer = [0u8; LONGEST];
+            let part = &mut buffer[..into.len()];
+            self.load_apart(user, start, part);
+            into.copy_from_slice(part);
         }
     }
 
@@ -227,19 +257,33 @@ impl Frames {
         ensures read { into.new ≡ slice_range (bytes_of self.now user.0) start (start + length into.old) }
         ensures fits { length (bytes_of self.now user.0) ≤ 4194304 }
     {
-        let frame = self.table[user.0 as usize * SLOTS + (start / 4096) as usize] as usize;
-        copy_out(&self.frames[frame], (start % 4096) as usize, into);
+        let frame = self.table[user.0 as usize * SLOTS + start as usize / FRAME_SIZE] as usize;
+        copy_out(&self.frames[frame], (start % PAGE_SIZE) as usize, into);
+    }
+
+    /// Copies bytes out that may lie in two pages.
+    #[inline(never)]
+    fn load_apart(&self, user: UserNo, start: u32, into: &mut [u8])
+        requires granted { IsGranted (length (bytes_of self.now user.0)) (is_there self.now.owners user.0) start (length into.old) }
+        requires short { length into.old ≤ 256 }
+        requires some { 0 < length into.old }
+        ensures { into.new ≡ slice_range (bytes_of self.now user.0) start (start + length into.old) }
+    {
+        if start % PAGE_SIZE + into.len() as u32 <= PAGE_SIZE {
+            self.load_part(user, start, into);
+        } else {
+            self.load_across(user, start, into);
+        }
     }
 
     /// Copies bytes of two pages out.
-    #[inline(never)]
     fn load_across(&self, user: UserNo, start: u32, into: &mut [u8])
         requires granted { IsGranted (length (bytes_of self.now user.0)) (is_there self.now.owners user.0) start (length into.old) }
         requires short { length into.old ≤ 256 }
         requires across { 4096 - start % 4096 < length into.old }
         ensures { into.new ≡ slice_range (bytes_of self.now user.0) start (start + length into.old) }
     {
-        let left = 4096 - start as usize % 4096;
+        let left = FRAME_SIZE - start as usize % FRAME_SIZE;
         let (first, second) = into.split_at_mut(left);
         self.load_part(user, start, first);
         self.load_part(user, start + left as u32, second);
@@ -259,10 +303,13 @@ impl Frames {
         if from.is_empty() {
             return;
         }
-        if from.len() <= 4096 - start as usize % 4096 {
+        if start % BLOCK_SIZE + from.len() as u32 <= BLOCK_SIZE {
             self.store_part(user, start, from);
         } else {
-            self.store_across(user, start, from);
+            let mut buffer = [0u8; LONGEST];
+            let part = &mut buffer[..from.len()];
+            part.copy_from_slice(from);
+            self.store_apart(user, start, part);
         }
     }
 
@@ -280,12 +327,30 @@ impl Frames {
         ensures pins { self.new.pins ≡ self.old.pins }
         ensures fits { length (bytes_of self.old user.0) ≤ 4194304 }
     {
-        let frame = self.table[user.0 as usize * SLOTS + (start / 4096) as usize] as usize;
-        copy_in(&mut self.frames[frame], (start % 4096) as usize, from);
+        let frame = self.table[user.0 as usize * SLOTS + start as usize / FRAME_SIZE] as usize;
+        copy_in(&mut self.frames[frame], (start % PAGE_SIZE) as usize, from);
+    }
+
+    /// Copies bytes in that may lie in two pages.
+    #[inline(never)]
+    fn store_apart(&mut self, user: UserNo, start: u32, from: &[u8])
+        requires granted { IsGranted (length (bytes_of self.old user.0)) (is_there self.old.owners user.0) start (length from.now) }
+        requires short { length from.now ≤ 256 }
+        requires some { 0 < length from.now }
+        ensures bytes { bytes_of self.new user.0 ≡ put (bytes_of self.old user.0) start from.now }
+        ensures size { length (bytes_of self.new user.0) ≡ length (bytes_of self.old user.0) }
+        ensures others { self.new.storages ≡ slice_set self.old.storages user.0 (bytes_of self.new user.0) }
+        ensures owners { self.new.owners ≡ self.old.owners }
+        ensures pins { self.new.pins ≡ self.old.pins }
+    {
+        if start % PAGE_SIZE + from.len() as u32 <= PAGE_SIZE {
+            self.store_part(user, start, from);
+        } else {
+            self.store_across(user, start, from);
+        }
     }
 
     /// Copies bytes into two pages.
-    #[inline(never)]
     fn store_across(&mut self, user: UserNo, start: u32, from: &[u8])
         requires granted { IsGranted (length (bytes_of self.old user.0)) (is_there self.old.owners user.0) start (length from.now) }
         requires short { length from.now ≤ 256 }
@@ -296,7 +361,7 @@ impl Frames {
         ensures owners { self.new.owners ≡ self.old.owners }
         ensures pins { self.new.pins ≡ self.old.pins }
     {
-        let left = 4096 - start as usize % 4096;
+        let left = FRAME_SIZE - start as usize % FRAME_SIZE;
         let (first, second) = from.split_at(left);
         self.store_part(user, start, first);
         self.store_part(user, start + left as u32, second);

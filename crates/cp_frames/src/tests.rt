@@ -1,7 +1,10 @@
 //! Two users' pages in few frames.
 
 use super::*;
-use s370_store::{Access, Fault, Keyed, Page, Range, Storage, store_byte};
+use s370_num::{AccessKey, StorageKey};
+use s370_store::{
+    Access, Fault, FramesOut, Keyed, PAGE_SIZE, Page, Range, Storage, Supply, store_byte,
+};
 use std::alloc::{AllocError, Global};
 use std::process::Abort;
 use std::test::Fail;
@@ -23,13 +26,13 @@ fn bring(
     user: UserNo,
     page: u32,
 ) -> Result<FrameNo, FramesOut> {
-    assert!(rt; page < 1024 && page * 4096 < frames.size(user));
+    assert!(rt; page < 1024 && page * PAGE_SIZE < frames.size(user));
     frames.bring(user, Page(page))
 }
 
 /// The frame of a page that is known to be one of the user's.
 fn frame_of(rt: &impl Abort, frames: &Frames, user: UserNo, page: u32) -> Option<FrameNo> {
-    assert!(rt; page < 1024 && page * 4096 < frames.size(user));
+    assert!(rt; page < 1024 && page * PAGE_SIZE < frames.size(user));
     frames.frame_of(user, Page(page))
 }
 
@@ -39,7 +42,7 @@ fn set<S: Storage>(storage: &mut S, address: u32, byte: u8) -> Result<(), Fault>
         start: address,
         count: 1,
     };
-    storage.check(range, Access::Store, 0)?;
+    storage.check(range, Access::Store, AccessKey::ZERO)?;
     store_byte(storage, address, byte);
     Ok(())
 }
@@ -53,7 +56,7 @@ fn write(
     byte: u8,
 ) -> Result<(), Fault> {
     assert!(rt; frames.size(user) <= 12288);
-    let mut keys = [0; 6];
+    let mut keys = [StorageKey::ZERO; 6];
     let mut dat = Dat::new(frames, &mut keys, user);
     set(&mut dat, address, byte)
 }
@@ -105,21 +108,24 @@ fn a_range_over_two_frames(rt: HostRuntime) -> Result<(), Fail> {
         bring(&rt, &mut frames, user, page)?;
     }
     assert!(rt; frames.size(B) <= 12288);
-    let mut keys = [0; 6];
+    let mut keys = [StorageKey::ZERO; 6];
     let mut dat = Dat::new(&mut frames, &mut keys, B);
     assert_eq!(rt; dat.size(), 12288);
     let frame = dat.bring(Page(2))?;
     assert_eq!(rt; dat.page_in(frame), Some(Page(2)));
     assert_eq!(rt; dat.size(), 12288);
     assert_eq!(rt; dat.frame_of(Page(2)), Some(frame));
-    assert_eq!(rt; dat.key_of(1), 0);
-    dat.set_key(1, 0x18);
+    assert_eq!(rt; dat.key_of(1), StorageKey::ZERO);
+    dat.set_key(1, StorageKey::new(0x18));
     let range = Range {
         start: 4094,
         count: 4,
     };
-    assert_eq!(rt; dat.check(range, Access::Store, 3), Err(Fault::Protection));
-    dat.check(range, Access::Store, 0)?;
+    assert_eq!(rt;
+        dat.check(range, Access::Store, AccessKey::new(3)),
+        Err(Fault::Protection)
+    );
+    dat.check(range, Access::Store, AccessKey::ZERO)?;
     dat.store(4094, &[1, 2, 3, 4]);
     let mut into = [0; 4];
     dat.load(4094, &mut into);
@@ -148,5 +154,41 @@ fn a_full_pool_and_a_user_who_leaves(rt: HostRuntime) -> Result<(), Fail> {
     assert_eq!(rt; frames.is_pinned(second), false);
     assert_eq!(rt; bring(&rt, &mut frames, B, 2), Ok(first));
     assert_eq!(rt; frames.byte(B, 8192), Some(0));
+    Ok(())
+}
+
+/// Brings the page of an address, if it is absent; and says whether it was.
+fn supplied<S: Supply>(storage: &mut S, address: u32) -> Result<bool, FramesOut> {
+    let range = Range {
+        start: address,
+        count: 1,
+    };
+    match storage.check(range, Access::Fetch, AccessKey::ZERO) {
+        Err(Fault::Absent(page)) => storage.bring(page)?,
+        _ => return Ok(false),
+    }
+    Ok(true)
+}
+
+#[test]
+fn a_storage_that_brings_its_pages(rt: HostRuntime) -> Result<(), Fail> {
+    let mut frames = two_users(rt.alloc(), 2)?;
+    bring(&rt, &mut frames, A, 1)?;
+    assert!(rt; frames.size(B) <= 12288);
+    let mut keys = [StorageKey::ZERO; 6];
+    let mut dat = Dat::new(&mut frames, &mut keys, B);
+    let cases = [
+        // (address, answer)
+        (8191, Ok(true)),
+        (4096, Ok(false)),
+        (0, Err(FramesOut)),
+        (12288, Ok(false)),
+        (8191, Ok(false)),
+    ];
+    for (address, want) in cases {
+        assert_eq!(rt; supplied(&mut dat, address), want, "at {address}");
+    }
+    assert_eq!(rt; frame_of(&rt, &frames, A, 1), Some(FrameNo(0)));
+    assert_eq!(rt; frame_of(&rt, &frames, B, 1), Some(FrameNo(1)));
     Ok(())
 }

@@ -5,8 +5,8 @@ use Rattle.std.proofs.lemmas.List.{take-append-drop}
 use Rattle.s370_store.specs.Access.{put}
 use Rattle.s370_rows.specs.State.{State}
 use Rattle.cp_console.specs.declared.commands.Change.TheVariants.{Storage}
-use Rattle.cp_console.specs.declared.replies.Reply.TheVariants.{Stored}
-use Rattle.cp_panel.specs.Places.{stored, changed}
+use Rattle.cp_console.specs.declared.responses.Response.TheVariants.{Stored}
+use Rattle.cp_panel.specs.DisplayStore.{stored, changed}
 
 put_nothing : (bytes : List ℕ) (a : ℕ) → put bytes a [] ≡ bytes
 unfolding put

@@ -1,9 +1,26 @@
-//! What the operator's panel shows of a machine and changes in it, over any storage.
+//! The machine with its operator's panel, but for its storage: what both a bare machine and a user of the control program
+//! have, written once.
 //!
-//! Its one theorem: [`display`] and [`change`] answer and change what DISPLAY and STORE name (docs/COMMANDS.md), with no
-//! test of keys; or they answer a page that is not present, and have changed nothing.
+//! Its one theorem: what a [`Machine`] does when it is let run ([`Machine::run`]) and when a line is typed
+//! ([`Machine::line`]) is what `specs/` defines (docs/MACHINE.md, docs/COMMANDS.md), over any storage that can bring its
+//! absent pages; and it brings only pages that the run or the line needs. Where there is no room for one, a run stands
+//! after the units that it tells, and a line has done nothing.
+//!
+//! ```
+//! let mut machine = Machine::new(alloc);
+//! machine.line(&mut storage, b"LOGON")?;
+//! machine.line(&mut storage, b"BEGIN 100")?;
+//! let told = machine.run::<RealCpu, _>(&mut storage, 100);
+//! ```
 #![tactic(auto)]
 
-mod places;
+mod commands;
+mod display_store;
+mod line;
+mod machine;
+mod run;
 
-pub use places::{change, display};
+pub use display_store::{change, display};
+pub use line::LineError;
+pub use machine::{Machine, Mode};
+pub use run::MachineRan;

@@ -1,4 +1,4 @@
 pub mod Cuts
 pub mod Firsts
-pub mod Maps
+pub mod FirstWords
 pub mod Spellings

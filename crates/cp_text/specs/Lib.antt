@@ -1,4 +1,3 @@
 pub mod Lines
 pub mod Words
 pub mod Numbers
-pub mod Users

@@ -1,12 +1,22 @@
-//! Texts that people write for the program: their lines, the words of a line, and decimal numbers.
+//! Texts that people write for the program: their lines, the words of a line, and numbers.
 //!
-//! Every text is judged line by line, from its first line on, and the first faulty line is told. A
-//! reader cuts off one line after another with [`lines::cut_line`], and its contract is
-//! `read_lines` over `lines_of` of the text. A line's words are separated by one blank
-//! ([`words::cut_word`]) or by any number of blanks ([`words::words_of`]).
+//! Every text is judged line by line, from its first line on, and the first faulty line is told. One
+//! theorem serves every such reader: [`lines::numbered_lines`] gives exactly the lines that a text
+//! has, in order and each with its number, so what a reader makes of them one after another is
+//! `read_lines` over `lines_of` of the text.
+//!
+//! A line's words are what stands between its blanks: one blank ([`words::cut_word`]), or any number
+//! of blanks ([`words::next_word`], [`words::words_of`]). A number is what all the digits of a word
+//! spell, or the word is none ([`numbers`]).
+//!
+//! ```text
+//! for line in numbered_lines(b"RUN ALPHA 12\n") {
+//!     let (verb, operands) = cut_word(line.text); // line 1: b"RUN", Some(b"ALPHA 12")
+//! }
+//! let units = decimal_of(7, b"12"); // Some(12)
+//! ```
 #![tactic(auto)]
 
 pub mod lines;
 pub mod numbers;
-pub mod users;
 pub mod words;

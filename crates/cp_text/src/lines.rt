@@ -1,7 +1,9 @@
 //! The lines of a text.
-ghost use Rattle.std.specs.Prelude.{◌≡◌, ℕ, ◌<◌, ◌≤◌, ◌+◌, ◌∷◌, Option, Some, None, length, ◌==◌};
+ghost use Rattle.std.specs.Prelude.{◌≡◌, ◌<◌, ◌∷◌, length, ◌==◌};
 ghost use Rattle.std.specs.List.{position};
 ghost use Rattle.cp_text.specs.Lines.{lines_of, is_comment};
+
+use std::marker::Model;
 
 /// Where a byte stands first.
 pub fn place_of(byte: u8, bytes: &[u8]) -> Option<usize>
@@ -20,6 +22,72 @@ pub fn cut_line(text: &[u8]) -> (&[u8], &[u8])
     match place_of(b'\n', text) {
         Some(at) => (&text[..at], &text[at + 1..]),
         None => (text, &[]),
+    }
+}
+
+/// A line of a text, without its LF.
+#[derive(Clone, Copy, Debug)]
+pub struct NumberedLine<'a> {
+    /// The line's number, from 1.
+    pub number: usize,
+    /// The line's characters.
+    pub text: &'a [u8],
+}
+
+/// The lines of a text that are left to be read, in order.
+#[derive(Debug, Drop)]
+pub struct NumberedLines<'a> {
+    number: usize,
+    rest: &'a [u8],
+}
+
+impl<'a> Model for NumberedLines<'a> {
+    ghost use Rattle.std.specs.Prelude.{◌+◌, ◌^◌, ◌<◌, length};
+    ghost use Rattle.cp_text.specs.Lines.{LinesLeft, lines_of};
+
+    ghost Value = { LinesLeft };
+
+    ghost view = { λ l. record { number = l.number; lines = lines_of l.rest.now } };
+
+    ghost invariant = { λ l. l.number + length l.rest.now < 2 ^ 64 };
+}
+
+/// The lines of a text, numbered from 1.
+///
+/// ```text
+/// for line in numbered_lines(b"USER A PW 8K\n*\n") {
+///     read(line.text).map_err(|fault| fault.at(line.number))?;
+/// }
+/// ```
+pub fn numbered_lines(text: &[u8]) -> NumberedLines<'_>
+    ensures { result ≡ record { number = 1; lines = lines_of text.now } }
+{
+    NumberedLines {
+        number: 1,
+        rest: text,
+    }
+}
+
+impl<'a> Iterator for NumberedLines<'a> {
+    type Item = NumberedLine<'a>;
+
+    ghost use Rattle.std.specs.Prelude.{length};
+    ghost use Rattle.std.specs.Iterator.{at_most};
+    ghost use Rattle.cp_text.specs.Lines.{YieldsLine};
+
+    ghost next_gives = { YieldsLine };
+
+    ghost remaining = { λ l. at_most (length l.lines) };
+
+    fn next(&mut self) -> Option<NumberedLine<'a>> {
+        if self.rest.is_empty() {
+            return None;
+        }
+        let number = self.number;
+        let (text, rest) = cut_line(self.rest);
+        self.number += 1;
+        self.rest = rest;
+        Some(NumberedLine { number, text })
     }
 }
 
@@ -44,6 +112,22 @@ mod tests {
         assert_eq!(rt; rest, b"\nb".as_slice());
         assert_eq!(rt; cut_line(b"\nb"), (b"".as_slice(), b"b".as_slice()));
         assert_eq!(rt; cut_line(b"b"), (b"b".as_slice(), b"".as_slice()));
+    }
+
+    #[test]
+    fn numbers_lines(rt: HostRuntime) {
+        let text = b"USER\n\n*";
+        let mut lines = numbered_lines(text);
+        for (number, want) in [
+            (1, b"USER".as_slice()),
+            (2, b"".as_slice()),
+            (3, b"*".as_slice()),
+        ] {
+            let line = lines.next();
+            assert!(rt; line.is_some_and(|line| line.number == number && line.text == want));
+        }
+        assert!(rt; lines.next().is_none());
+        assert_eq!(rt; numbered_lines(b"").count(), 0);
     }
 
     #[test]

@@ -1,6 +1,6 @@
-//! Decimal numbers.
-ghost use Rattle.std.specs.Prelude.{◌≡◌, ℕ, ◌≤◌, Option, Some, None};
-ghost use Rattle.cp_text.specs.Numbers.{decimal_of, is_digit};
+//! Decimal and hexadecimal numbers.
+ghost use Rattle.std.specs.Prelude.{◌≡◌, ◌^◌, ◌<◌, ◌≤◌, Option, Some, None, IfSome};
+ghost use Rattle.cp_text.specs.Numbers.{decimal_of, digit_value, hexadecimal_of, is_digit};
 
 /// Whether a byte is a decimal digit.
 pub fn is_digit(c: u8) -> bool
@@ -27,6 +27,34 @@ pub fn decimal_of(most: usize, digits: &[u8]) -> Option<u32>
     Some(number)
 }
 
+/// The value of a hexadecimal digit, `0` to `9` or `A` to `F`.
+pub fn digit_value(c: u8) -> Option<u8>
+    ensures value { result ≡ digit_value c }
+    ensures below { IfSome result (λ digit. digit < 16) }
+{
+    match c {
+        b'0'..=b'9' => Some(c - b'0'),
+        b'A'..=b'F' => Some(c - b'A' + 10),
+        _ => None,
+    }
+}
+
+/// The number that `least` to `most` hexadecimal digits spell, leading zeros allowed.
+pub fn hexadecimal_of(least: usize, most: usize, digits: &[u8]) -> Option<u32>
+    requires { most ≤ 8 }
+    ensures value { result ≡ hexadecimal_of least most digits.now }
+    ensures below { IfSome result (λ number. number < 16 ^ most) }
+{
+    if digits.len() < least || digits.len() > most {
+        return None;
+    }
+    let mut number = 0;
+    for digit in digits {
+        number = number * 16 + u32::from(digit_value(*digit)?);
+    }
+    Some(number)
+}
+
 #[cfg(test)]
 mod tests {
     use super::*;
@@ -44,6 +72,22 @@ mod tests {
             (0, b"4".as_slice(), None),
         ] {
             assert_eq!(rt; decimal_of(most, digits), number);
+        }
+    }
+
+    #[test]
+    fn reads_hexadecimals(rt: HostRuntime) {
+        for (least, most, digits, number) in [
+            (8, 8, b"FFFFFFFF".as_slice(), Some(0xFFFF_FFFF)),
+            (1, 6, b"00C".as_slice(), Some(12)),
+            (1, 6, b"0000C00".as_slice(), None),
+            (1, 6, b"".as_slice(), None),
+            (0, 6, b"".as_slice(), Some(0)),
+            (8, 8, b"1FFF".as_slice(), None),
+            (1, 6, b"00c".as_slice(), None),
+            (1, 6, b"0G".as_slice(), None),
+        ] {
+            assert_eq!(rt; hexadecimal_of(least, most, digits), number);
         }
     }
 }

@@ -1,7 +1,7 @@
 //! The words of a line.
-ghost use Rattle.std.specs.Prelude.{◌≡◌, ℕ, Option, Some, None, length, map, IfOk};
+ghost use Rattle.std.specs.Prelude.{◌≡◌, ◌∷◌, [], map, IfOk, IfSome, MatchOption};
 ghost use Rattle.std.specs.Option.{option_map};
-ghost use Rattle.cp_text.specs.Words.{after_word, word_of, words_of};
+ghost use Rattle.cp_text.specs.Words.{after_first_word, after_word, unindented, word_of, words_of};
 
 use crate::lines::place_of;
 use std::alloc::{AllocError, Global};
@@ -16,6 +16,34 @@ pub fn cut_word(line: &[u8]) -> (&[u8], Option<&[u8]>)
         Some(at) => (&line[..at], Some(&line[at + 1..])),
         None => (line, None),
     }
+}
+
+/// The first word of a line whose words are separated by any number of blanks, and what stands
+/// after the blank that ends it; none where the line has only blanks.
+pub fn next_word(line: &[u8]) -> Option<(&[u8], &[u8])>
+    ensures words { MatchOption result (words_of line.now ≡ []) (λ cut. words_of line.now ≡ cut.0.now ∷ words_of cut.1.now) }
+    ensures rest { IfSome result (λ cut. cut.1.now ≡ after_first_word line.now) }
+{
+    let line = unindented(line);
+    if line.is_empty() {
+        return None;
+    }
+    let (word, rest) = cut_word(line);
+    match rest {
+        Some(rest) => Some((word, rest)),
+        None => Some((word, &[])),
+    }
+}
+
+/// The line from its first character on that is no blank.
+fn unindented(line: &[u8]) -> &[u8]
+    ensures { result.now ≡ unindented line.now }
+{
+    let mut rest = line;
+    while let [b' ', after @ ..] = rest {
+        rest = after;
+    }
+    rest
 }
 
 /// The words of a line, separated by any number of blanks; no word is empty.
@@ -49,5 +77,18 @@ mod tests {
         assert_eq!(rt; word, b"LINE".as_slice());
         assert_eq!(rt; rest, Some(b" A".as_slice()));
         assert_eq!(rt; cut_word(b"LINE").1, None);
+    }
+
+    #[test]
+    fn gives_the_next_word(rt: HostRuntime) {
+        assert_eq!(rt;
+            next_word(b"  STORE  1000 "),
+            Some((b"STORE".as_slice(), b" 1000 ".as_slice()))
+        );
+        assert_eq!(rt;
+            next_word(b"BEGIN"),
+            Some((b"BEGIN".as_slice(), b"".as_slice()))
+        );
+        assert_eq!(rt; next_word(b"   "), None);
     }
 }

@@ -1,2 +1,1 @@
-mod Missed
-mod Supplied
+mod LengthCodes

@@ -1,2 +1,1 @@
 pub mod Trap
-pub mod Supply

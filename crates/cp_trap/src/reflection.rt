@@ -3,9 +3,9 @@ ghost use Rattle.std.specs.Prelude.{◌≡◌, ℕ, ◌≤◌, length};
 ghost use Rattle.s370_rows.specs.State.{state_of};
 ghost use Rattle.s370_intr.specs.Swap.{MeetsSwap, swapped};
 
-use crate::registers::VirtualCpu;
 use s370_intr::{Class, swap};
 use s370_psw::Ilc;
+use s370_rows::Cpu;
 use s370_store::{Page, Storage};
 
 /// Interrupts a guest: its virtual program status word is stored in its own storage, with this code and instruction
@@ -13,19 +13,19 @@ use s370_store::{Page, Storage};
 /// changed.
 #[inline]
 pub fn reflect<S: Storage>(
-    cpu: &mut VirtualCpu,
+    cpu: &mut Cpu,
     storage: &mut S,
     class: Class,
     code: u16,
     ilc: Ilc,
 ) -> Result<(), Page>
     requires { 8192 ≤ length (S.bytes storage.old) }
-    ensures reflected { let before = state_of cpu.old.seen (S.bytes storage.old) (S.keys storage.old) in
-        let after = state_of cpu.new.seen (S.bytes storage.new) (S.keys storage.new) in
+    ensures reflected { let before = state_of cpu.old (S.bytes storage.old) (S.keys storage.old) in
+        let after = state_of cpu.new (S.bytes storage.new) (S.keys storage.new) in
         MeetsSwap (swapped before class code ilc) (S.present storage.old) before result after }
     ensures size { length (S.bytes storage.new) ≡ length (S.bytes storage.old) }
     ensures present { S.present storage.new ≡ S.present storage.old }
     ensures rest { S.Keeps storage.old storage.new }
 {
-    swap(&mut cpu.seen, storage, class, code, ilc)
+    swap(cpu, storage, class, code, ilc)
 }

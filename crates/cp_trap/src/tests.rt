@@ -1,11 +1,11 @@
 //! Guests of two pages: the first has the program status words, the second the program.
-use super::{VirtualCpu, reflect, unit, unit_of};
-use cp_frames::{Dat, Frames, FramesOut, UserNo};
-use s370_intr::Class;
+use super::VirtualCpu;
+use s370_intr::{Pending, Ran, Reason, instruct, run_units};
+use s370_num::AccessKey;
 use s370_psw::{Ilc, Psw};
 use s370_rows::Cpu;
 use s370_store::{
-    Access, Fault, Page, PagedStorage, Range, Storage, load_doubleword, store_byte,
+    Access, Fault, Page, PagedStorage, PlainStorage, Range, Storage, load_doubleword,
     store_doubleword,
 };
 use std::process::Abort;
@@ -15,39 +15,52 @@ use std::test::Fail;
 const CALL: u64 = 0x0A070000_00000000;
 /// SSM 512, where a byte of ones is
 const MASK: u64 = 0x80000200_00000000;
+/// LPSW 520, where the program status word of 1024 in the problem state is
+const LOAD: u64 = 0x82000208_00000000;
+/// AR 1,2
+const ADD: u64 = 0x1A120000_00000000;
 
 /// Registers of zeros, with this program status word.
-fn guest(psw: u64) -> VirtualCpu {
-    VirtualCpu {
-        seen: Cpu {
-            general: [0; 16],
-            control: [0; 16],
-            psw: Psw::from_word(psw),
-        },
+fn guest(psw: u64) -> Cpu {
+    Cpu {
+        general: [0; 16],
+        control: [0; 16],
+        psw: Psw::from_word(psw),
     }
 }
 
-fn psw_of(cpu: &VirtualCpu) -> u64 {
-    cpu.seen.psw.to_word(0, Ilc::ZERO)
+fn psw_of(cpu: &Cpu) -> u64 {
+    cpu.psw.to_word(0, Ilc::ZERO)
 }
 
 fn place<S: Storage>(storage: &mut S, start: u32, doubleword: u64) -> Result<(), Fault> {
-    storage.check(Range { start, count: 8 }, Access::Store, 0)?;
+    storage.check(Range { start, count: 8 }, Access::Store, AccessKey::ZERO)?;
     store_doubleword(storage, start, doubleword);
     Ok(())
 }
 
 fn doubleword_at<S: Storage>(storage: &S, start: u32) -> Result<u64, Fault> {
-    storage.check(Range { start, count: 8 }, Access::Fetch, 0)?;
+    storage.check(Range { start, count: 8 }, Access::Fetch, AccessKey::ZERO)?;
     Ok(load_doubleword(storage, start))
 }
 
-/// An instruction, and the new program status words of program interruptions and supervisor calls.
+/// An instruction, its operands, and the new program status words of supervisor calls and program interruptions.
 fn load_program<S: Storage>(storage: &mut S, instruction: u64) -> Result<(), Fault> {
     place(storage, 4096, instruction)?;
     place(storage, 96, 0x200)?;
     place(storage, 104, 0x300)?;
-    place(storage, 512, u64::MAX)
+    place(storage, 512, u64::MAX)?;
+    place(storage, 520, 0x00010000_00000400)
+}
+
+/// A storage of two pages with this instruction, of which page 0 was then taken away.
+fn without_page_0(rt: &(impl Abort + AllocGlobal), instruction: u64) -> Result<PagedStorage, Fail> {
+    let mut storage = PagedStorage::new(rt.alloc(), 2)?;
+    set_present(rt, &mut storage, 0, true);
+    set_present(rt, &mut storage, 1, true);
+    load_program(&mut storage, instruction)?;
+    set_present(rt, &mut storage, 0, false);
+    Ok(storage)
 }
 
 fn set_present(rt: &impl Abort, storage: &mut PagedStorage, page: u32, present: bool) {
@@ -55,9 +68,9 @@ fn set_present(rt: &impl Abort, storage: &mut PagedStorage, page: u32, present: 
     storage.set_present(Page(page), present);
 }
 
-fn unit_at(rt: &impl Abort, cpu: &mut VirtualCpu, storage: &mut PagedStorage) -> Result<(), Page> {
+fn unit(rt: &impl Abort, cpu: &mut Cpu, storage: &mut PagedStorage) -> Result<(), Page> {
     assert!(rt; storage.size() >= 8192);
-    unit(cpu, storage)
+    instruct::<VirtualCpu, PagedStorage>(cpu, storage)
 }
 
 #[test]
@@ -66,21 +79,20 @@ fn nothing_changes_before_page_0_is_there(rt: HostRuntime) -> Result<(), Fail> {
         // (instruction, PSW, the one after it, where an old one is stored, and it)
         (CALL, 0x1000u64, 0x200u64, 32u32, 0x00000007_40001002u64),
         (CALL, 0x00010000_00001000, 0x200, 32, 0x00010007_40001002),
-        (MASK, 0x00010000_00001000, 0x300, 40, 0x00010002_80001004),
+        // simulated in the virtual supervisor state, and reflected in the virtual problem state
         (MASK, 0x1000, 0xFF000000_00001004, 40, 0),
+        (MASK, 0x00010000_00001000, 0x300, 40, 0x00010002_80001004),
+        (LOAD, 0x1000, 0x00010000_00000400, 40, 0),
+        (LOAD, 0x00010000_00001000, 0x300, 40, 0x00010002_80001004),
     ];
     for (instruction, psw, after, place, old) in cases {
-        let mut storage = PagedStorage::new(rt.alloc(), 2)?;
-        set_present(&rt, &mut storage, 0, true);
-        set_present(&rt, &mut storage, 1, true);
-        load_program(&mut storage, instruction)?;
+        let mut storage = without_page_0(&rt, instruction)?;
         let mut cpu = guest(psw);
-        set_present(&rt, &mut storage, 0, false);
-        assert_eq!(rt; unit_at(&rt, &mut cpu, &mut storage), Err(Page(0)));
+        assert_eq!(rt; unit(&rt, &mut cpu, &mut storage), Err(Page(0)));
         assert_eq!(rt; psw_of(&cpu), psw);
         set_present(&rt, &mut storage, 0, true);
         assert_eq!(rt; doubleword_at(&storage, place), Ok(0));
-        assert_eq!(rt; unit_at(&rt, &mut cpu, &mut storage), Ok(()));
+        assert_eq!(rt; unit(&rt, &mut cpu, &mut storage), Ok(()));
         assert_eq!(rt; psw_of(&cpu), after);
         assert_eq!(rt; doubleword_at(&storage, place), Ok(old));
     }
@@ -88,34 +100,38 @@ fn nothing_changes_before_page_0_is_there(rt: HostRuntime) -> Result<(), Fail> {
 }
 
 #[test]
-fn a_timer_interrupts_a_guest(rt: HostRuntime) -> Result<(), Fail> {
-    let mut storage = PagedStorage::new(rt.alloc(), 2)?;
+fn an_overflow_is_undone_before_page_0_is_there(rt: HostRuntime) -> Result<(), Fail> {
+    let mut storage = without_page_0(&rt, ADD)?;
+    let mut cpu = guest(0x00000000_08001000);
+    cpu.general[1] = 0x7FFF_FFFF;
+    cpu.general[2] = 1;
+    let before = cpu.general;
+    assert_eq!(rt; unit(&rt, &mut cpu, &mut storage), Err(Page(0)));
+    assert_eq!(rt; cpu.general, before);
+    assert_eq!(rt; psw_of(&cpu), 0x00000000_08001000);
     set_present(&rt, &mut storage, 0, true);
-    place(&mut storage, 88, 0x300)?;
-    let mut cpu = guest(0x01000000_00000104);
-    assert!(rt; storage.size() >= 8192);
-    let reflected = reflect(&mut cpu, &mut storage, Class::External, 0x80, Ilc::ZERO);
-    assert_eq!(rt; reflected, Ok(()));
+    assert_eq!(rt; unit(&rt, &mut cpu, &mut storage), Ok(()));
+    assert_eq!(rt; cpu.general[1], 0x8000_0000);
     assert_eq!(rt; psw_of(&cpu), 0x300);
-    assert_eq!(rt; doubleword_at(&storage, 24), Ok(0x01000080_00000104));
+    assert_eq!(rt; doubleword_at(&storage, 40), Ok(0x00000008_78001002));
     Ok(())
 }
 
 #[test]
-fn a_call_needs_both_pages(rt: HostRuntime) -> Result<(), Fail> {
-    let cases = [(1u8, Err(FramesOut), 0x1000u64), (2, Ok(()), 0)];
-    for (count, want, after) in cases {
-        let sizes = vec![in rt.alloc(); 2u32]?;
-        let mut frames = Frames::new(rt.alloc(), u16::from(count), sizes)?;
-        assert!(rt; frames.size(UserNo(0)) == 8192);
-        let mut keys = [0; 4];
-        let mut dat = Dat::new(&mut frames, &mut keys, UserNo(0));
-        dat.bring(Page(1))?;
-        place(&mut dat, 4096, CALL)?;
-        let mut cpu = guest(0x1000);
-        assert!(rt; dat.size() >= 8192);
-        assert_eq!(rt; unit_of(&mut cpu, &mut dat), want);
-        assert_eq!(rt; psw_of(&cpu), after);
-    }
+fn a_guest_runs(rt: HostRuntime) -> Result<(), Fail> {
+    let mut storage = PlainStorage::new(rt.alloc(), 4)?;
+    load_program(&mut storage, LOAD)?;
+    place(&mut storage, 1024, MASK)?;
+    let mut cpu = guest(0x1000);
+    let mut pending = Pending::NOTHING;
+    assert!(rt; storage.size() >= 8192);
+    let ran = run_units::<VirtualCpu, PlainStorage>(&mut cpu, &mut pending, &mut storage, 2);
+    let two = Ran {
+        units: 2,
+        reason: Reason::Count,
+    };
+    assert_eq!(rt; ran, two);
+    assert_eq!(rt; psw_of(&cpu), 0x300);
+    assert_eq!(rt; doubleword_at(&storage, 40), Ok(0x00010002_80000404));
     Ok(())
 }

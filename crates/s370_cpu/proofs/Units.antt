@@ -1,59 +1,125 @@
 -- From what a fetch and a row answer to what the unit answers, whatever the table has.
-use Rattle.std.proofs.Common.{◌≡◌, ℕ, ◌+◌, ◌*◌, ◌%◌, ◌^◌, Bool, length, List, [], ◌∷◌, ◌++◌, Result, Ok, Err, refl, subst, inl, inr}
+use Rattle.std.proofs.Common.{◌≡◌, ℕ, Bool, length, List, [], ◌∷◌, ◌++◌, Result, Ok, Err, refl, sym, subst, inl, inr}
 use Rattle.s370_psw.specs.declared.ProgramCode.{ProgramCode}
-use Rattle.s370_store.specs.Access.{Test, Touches, IsAway}
+use Rattle.s370_store.specs.Access.{Test, IsAway}
 use Rattle.s370_store.specs.declared.Page.{Page}
 use Rattle.s370_rows.specs.declared.cpu.Cpu.{Cpu}
 use Rattle.s370_rows.specs.declared.instruction.Instruction.{Instruction}
+use Rattle.s370_rows.specs.declared.place.Place.{Place}
 use Rattle.s370_rows.specs.declared.ending.Ending.{Ending}
-use Rattle.s370_rows.specs.declared.ending.Ending.TheVariants.{Done, Branch, SupervisorCall, Privileged as HandedBack}
+use Rattle.s370_rows.specs.declared.ending.Ending.TheVariants.{Done, Branch, Again, Interrupted, SupervisorCall}
 use Rattle.s370_rows.specs.declared.ending.Refusal.{Refusal}
 use Rattle.s370_rows.specs.declared.ending.Refusal.TheVariants.{Program as Suppressed, Absent as Missing}
 use Rattle.s370_rows.specs.State.{State}
 use Rattle.s370_rows.specs.Rows.{Row, MeetsRow}
 use Rattle.s370_cpu.specs.declared.conclude.Stop.{Stop}
-use Rattle.s370_cpu.specs.declared.conclude.Stop.TheVariants.{Program, Absent}
-use Rattle.s370_cpu.specs.Fetch.{fetched, halfwords_of}
-use Rattle.s370_cpu.specs.Unit.{MeetsUnit, Stopped, stopped, concluded, unit_after, unit_over}
+use Rattle.s370_cpu.specs.declared.conclude.Stop.TheVariants.{Done as DoneStop, Program, Svc, Privileged, Absent}
+use Rattle.s370_cpu.specs.Fetch.{Asks, fetched, halfwords_of, MeetsFetch}
+use Rattle.s370_cpu.specs.Execute.{executed}
+use Rattle.s370_cpu.specs.Unit.{Unit as WholeUnit, Carries, MeetsUnit, Stopped, stopped, carried, place_at, unit_executed, unit_fetched, unit_over}
+use Rattle.s370_cpu.specs.Table.{MeetsStep, row_of, unit}
 
-pub touches_left : (ts us : List Test) (page : ℕ) → Touches ts page → Touches (ts ++ us) page
-touches_left [] us page h = absurd h
-touches_left (t ∷ ts) us page (inl x) = inl x
-touches_left (t ∷ ts) us page (inr x) = inr (touches_left ts us page x)
+pub asks_left : (m : State) (ss ts : List (List Test)) (page : ℕ) → Asks m ss page → Asks m (ss ++ ts) page
+asks_left m [] ts page h = absurd h
+asks_left m (s ∷ ss) ts page (inl x) = inl x
+asks_left m (s ∷ ss) ts page (inr x) = inr (asks_left m ss ts page x)
 
-pub touches_right : (ts us : List Test) (page : ℕ) → Touches us page → Touches (ts ++ us) page
-touches_right [] us page h = h
-touches_right (t ∷ ts) us page h = inr (touches_right ts us page h)
+pub asks_right : (m : State) (ss ts : List (List Test)) (page : ℕ) → Asks m ts page → Asks m (ss ++ ts) page
+asks_right m [] ts page h = h
+asks_right m (s ∷ ss) ts page h = inr (asks_right m ss ts page h)
 
--- the tests of a unit have those of its fetch
-touches_unit : (rows : State → Instruction → Row) (m : State) (ts : List Test) (r : Result Instruction ProgramCode) (page : ℕ) → Touches ts page → Touches (unit_after rows m ts r).tests page
-touches_unit rows m ts (Err code) page h = h
-touches_unit rows m ts (Ok i) page h = touches_left ts (rows m i).tests page h
+-- the stages of a unit have those of its fetches
+asks_executed : (rows : State → Place → Instruction → Row) (m : State) (ss : List (List Test)) (place : Place) (r : Result Instruction ProgramCode) (page : ℕ) → Asks m ss page → Asks m (unit_executed rows m ss place r).stages page
+asks_executed rows m ss place (Err code) page h = h
+asks_executed rows m ss place (Ok i) page h = asks_left m ss (carried rows m place i).stages page h
+
+asks_fetched : (rows : State → Place → Instruction → Row) (m : State) (ss : List (List Test)) (r : Result Instruction ProgramCode) (page : ℕ) → Asks m ss page → Asks m (unit_fetched rows m ss r).stages page
+asks_fetched rows m ss (Err code) page h = h
+asks_fetched rows m ss (Ok i) page h =
+    let x = executed m i in asks_executed rows m (ss ++ x.stages) (place_at m (halfwords_of i.opcode)) x.result page (asks_left m ss x.stages page h)
 
 -- a unit whose fetch fails
-pub fetch_fails : (rows : State → Instruction → Row) (m : State) (code : ProgramCode) (present : ℕ → Bool) → (fetched m m.cpu.psw.address).result ≡ Err code → MeetsUnit (unit_over rows m) present m (Program code 0) m
+pub fetch_fails : (rows : State → Place → Instruction → Row) (m : State) (code : ProgramCode) (present : ℕ → Bool) → (fetched m m.cpu.psw.address).result ≡ Err code → MeetsUnit (unit_over rows m) present m (Program code 0) m
 fetch_fails rows m code present e = rw e
 
 -- a unit whose fetch misses a page
-pub fetch_misses : (rows : State → Instruction → Row) (m : State) (page : Page) (present : ℕ → Bool) → IsAway (length m.bytes) present page.0 × Touches (fetched m m.cpu.psw.address).tests page.0 → MeetsUnit (unit_over rows m) present m (Absent page) m
+pub fetch_misses : (rows : State → Place → Instruction → Row) (m : State) (page : Page) (present : ℕ → Bool) → IsAway (length m.bytes) present page.0 × Asks m (fetched m m.cpu.psw.address).stages page.0 → MeetsUnit (unit_over rows m) present m (Absent page) m
 fetch_misses rows m page present h =
+    let f = fetched m m.cpu.psw.address in (refl, h.0, asks_fetched rows m f.stages f.result page.0 h.1)
+
+-- a row that meets its definition, and is concluded, makes the rest of a unit
+pub carried_meets : (rows : State → Place → Instruction → Row) (present : ℕ → Bool) (m : State) (place : Place) (i : Instruction) (outcome : Result Ending Refusal) (m' : State) → MeetsRow (rows m place i) present m outcome m' → (let s = stopped outcome place m'.cpu in MeetsUnit (carried rows m place i) present m s.stop (record m' { cpu = s.cpu }))
+carried_meets rows present m place i (Ok Done) m' h = rw h
+carried_meets rows present m place i (Ok (Branch a)) m' h = rw h
+carried_meets rows present m place i (Ok Again) m' h = rw h
+carried_meets rows present m place i (Ok (Interrupted code)) m' h = rw h
+carried_meets rows present m place i (Ok (SupervisorCall n)) m' h = rw h
+carried_meets rows present m place i (Err (Suppressed code)) m' h = rw (h.0, h.1)
+carried_meets rows present m place i (Err (Missing page)) m' h = (h.0, h.1, inl h.3)
+
+-- stages that passed before do no harm
+more_stages : (ss : List (List Test)) (u : WholeUnit) (present : ℕ → Bool) (m : State) (stop : Stop) (m' : State) → MeetsUnit u present m stop m' → MeetsUnit (record { stages = ss ++ u.stages; ran = u.ran }) present m stop m'
+more_stages ss u present m DoneStop m' h = h
+more_stages ss u present m (Program code ilc) m' h = h
+more_stages ss u present m (Svc n ilc) m' h = h
+more_stages ss u present m (Privileged i ilc) m' h = h
+more_stages ss u present m (Absent page) m' h = (h.0, h.1, asks_right m ss u.stages page.0 h.2)
+
+-- from the rest of a unit to the whole
+pub whole_meets : (rows : State → Place → Instruction → Row) (m : State) (ilc : ℕ) (i : Instruction) (stop : Stop) (m' : State) (present : ℕ → Bool) → Carries m ilc i → MeetsUnit (carried rows m (place_at m ilc) i) present m stop m' → MeetsUnit (unit_over rows m) present m stop m'
+whole_meets rows m ilc i stop m' present c u =
     let f = fetched m m.cpu.psw.address in
-    (refl, h.0, touches_unit rows m f.tests f.result page.0 h.1)
+    let x = executed m c.first in
+    let ss = f.stages ++ x.stages in
+    let u1 : MeetsUnit (unit_executed rows m ss (place_at m ilc) (Ok i)) present m stop m' = more_stages ss (carried rows m (place_at m ilc) i) present m stop m' u in
+    let u2 : MeetsUnit (unit_executed rows m ss (place_at m ilc) x.result) present m stop m' = subst (λ (r : Result Instruction ProgramCode). MeetsUnit (unit_executed rows m ss (place_at m ilc) r) present m stop m') (sym c.execute) u1 in
+    let u3 : MeetsUnit (unit_fetched rows m f.stages (Ok c.first)) present m stop m' = subst (λ (n : ℕ). MeetsUnit (unit_executed rows m ss (place_at m n) x.result) present m stop m') c.length_code u2 in
+    subst (λ (r : Result Instruction ProgramCode). MeetsUnit (unit_fetched rows m f.stages r) present m stop m') (sym c.fetch) u3
 
--- a row that meets its definition, and is concluded, makes a unit that does
-pub concluded_meets : (ts : List Test) (r : Row) (present : ℕ → Bool) (m : State) (i : Instruction) (outcome : Result Ending Refusal) (m' : State) (next ilc : ℕ) → MeetsRow r present m outcome m' → (let s = stopped outcome i next ilc m'.cpu in MeetsUnit (record { tests = ts ++ r.tests; ran = concluded m i next ilc r.result }) present m s.stop (record m' { cpu = s.cpu }))
-concluded_meets ts r present m i (Ok Done) m' next ilc h = rw h
-concluded_meets ts r present m i (Ok (Branch a)) m' next ilc h = rw h
-concluded_meets ts r present m i (Ok (SupervisorCall n)) m' next ilc h = rw h
-concluded_meets ts r present m i (Ok HandedBack) m' next ilc h = rw h
-concluded_meets ts r present m i (Err (Suppressed code)) m' next ilc h = rw (h.0, h.1)
-concluded_meets ts r present m i (Err (Missing page)) m' next ilc h = (h.0, h.1, touches_right ts r.tests page.0 h.2)
+-- the target of EX can't be fetched
+refused : (rows : State → Place → Instruction → Row) (m : State) (ss : List (List Test)) (first : Instruction) (present : ℕ → Bool) (refusal : Refusal) (place : Place) → MeetsFetch (executed m first) m present (Err refusal) → (let s = stopped (Err refusal) place m.cpu in MeetsUnit (unit_executed rows m (ss ++ (executed m first).stages) place (executed m first).result) present m s.stop (record m { cpu = s.cpu }))
+refused rows m ss first present (Suppressed code) place h =
+    subst (λ (r : Result Instruction ProgramCode). let s = stopped (Err (Suppressed code)) place m.cpu in MeetsUnit (unit_executed rows m (ss ++ (executed m first).stages) place r) present m s.stop (record m { cpu = s.cpu })) (sym h) refl
+refused rows m ss first present (Missing page) place h =
+    let x = executed m first in
+    (refl, h.0, asks_executed rows m (ss ++ x.stages) place x.result page.0 (asks_right m ss x.stages page.0 h.1))
 
--- a unit whose instruction was fetched
-pub row_meets : (rows : State → Instruction → Row) (m : State) (i : Instruction) (n : ℕ) (stop : Stop) (cpu' : Cpu) (present : ℕ → Bool) (outcome : Result Ending Refusal) (m' : State) → (fetched m m.cpu.psw.address).result ≡ Ok i → n ≡ halfwords_of i.opcode → MeetsRow (rows m i) present m outcome m' → stopped outcome i ((m.cpu.psw.address + 2 * n) % 2 ^ 24) n m'.cpu ≡ record { stop = stop; cpu = cpu' } → MeetsUnit (unit_over rows m) present m stop (record m' { cpu = cpu' })
-row_meets rows m i n stop cpu' present outcome m' e1 e2 h e3 =
-    let ts = (fetched m m.cpu.psw.address).tests in
-    let u = concluded_meets ts (rows m i) present m i outcome m' ((m.cpu.psw.address + 2 * n) % 2 ^ 24) n h in
-    let u1 = subst (λ (s : Stopped). MeetsUnit (record { tests = ts ++ (rows m i).tests; ran = concluded m i ((m.cpu.psw.address + 2 * n) % 2 ^ 24) n (rows m i).result }) present m s.stop (record m' { cpu = s.cpu })) e3 u in
-    let u2 = subst (λ (k : ℕ). MeetsUnit (record { tests = ts ++ (rows m i).tests; ran = concluded m i ((m.cpu.psw.address + 2 * k) % 2 ^ 24) k (rows m i).result }) present m stop (record m' { cpu = cpu' })) e2 u1 in
-    rw e1 u2
+-- a unit that can't fetch the target of EX
+pub target_refused : (rows : State → Place → Instruction → Row) (m : State) (first : Instruction) (ilc : ℕ) (present : ℕ → Bool) (refusal : Refusal) → (fetched m m.cpu.psw.address).result ≡ Ok first → ilc ≡ halfwords_of first.opcode → MeetsFetch (executed m first) m present (Err refusal) → (let s = stopped (Err refusal) (place_at m ilc) m.cpu in MeetsUnit (unit_over rows m) present m s.stop (record m { cpu = s.cpu }))
+target_refused rows m first ilc present refusal e1 e2 h =
+    let f = fetched m m.cpu.psw.address in
+    let x = executed m first in
+    let s = stopped (Err refusal) (place_at m ilc) m.cpu in
+    let u1 : MeetsUnit (unit_executed rows m (f.stages ++ x.stages) (place_at m ilc) x.result) present m s.stop (record m { cpu = s.cpu }) = refused rows m f.stages first present refusal (place_at m ilc) h in
+    let u2 : MeetsUnit (unit_fetched rows m f.stages (Ok first)) present m s.stop (record m { cpu = s.cpu }) = subst (λ (n : ℕ). MeetsUnit (unit_executed rows m (f.stages ++ x.stages) (place_at m n) x.result) present m s.stop (record m { cpu = s.cpu })) e2 u1 in
+    subst (λ (r : Result Instruction ProgramCode). MeetsUnit (unit_fetched rows m f.stages r) present m s.stop (record m { cpu = s.cpu })) (sym e1) u2
+
+-- ---- what `step` answers
+
+-- what is concluded is never handed back
+concluded_step : (outcome : Result Ending Refusal) (place : Place) (cpu : Cpu) (present : ℕ → Bool) (m m' : State) → (let s = stopped outcome place cpu in MeetsUnit (unit m) present m s.stop m' → MeetsStep present m s.stop m')
+concluded_step (Ok Done) place cpu present m m' h = h
+concluded_step (Ok (Branch a)) place cpu present m m' h = h
+concluded_step (Ok Again) place cpu present m m' h = h
+concluded_step (Ok (Interrupted code)) place cpu present m m' h = h
+concluded_step (Ok (SupervisorCall n)) place cpu present m m' h = h
+concluded_step (Err (Suppressed code)) place cpu present m m' h = h
+concluded_step (Err (Missing page)) place cpu present m m' h = h
+
+-- a unit whose row was carried out
+pub row_steps : (m : State) (ilc : ℕ) (i : Instruction) (stop : Stop) (cpu' : Cpu) (present : ℕ → Bool) (outcome : Result Ending Refusal) (m' : State) → Carries m ilc i → MeetsRow (row_of m (place_at m ilc) i) present m outcome m' → stopped outcome (place_at m ilc) m'.cpu ≡ record { stop = stop; cpu = cpu' } → MeetsStep present m stop (record m' { cpu = cpu' })
+row_steps m ilc i stop cpu' present outcome m' c h e =
+    let s = stopped outcome (place_at m ilc) m'.cpu in
+    let u : MeetsUnit (unit m) present m s.stop (record m' { cpu = s.cpu }) = whole_meets row_of m ilc i s.stop (record m' { cpu = s.cpu }) present c (carried_meets row_of present m (place_at m ilc) i outcome m' h) in
+    subst (λ (t : Stopped). MeetsStep present m t.stop (record m' { cpu = t.cpu })) e (concluded_step outcome (place_at m ilc) m'.cpu present m (record m' { cpu = s.cpu }) u)
+
+-- a unit that can't fetch the target of EX
+pub target_steps : (m : State) (first : Instruction) (ilc : ℕ) (stop : Stop) (cpu' : Cpu) (present : ℕ → Bool) (refusal : Refusal) → (fetched m m.cpu.psw.address).result ≡ Ok first → ilc ≡ halfwords_of first.opcode → MeetsFetch (executed m first) m present (Err refusal) → stopped (Err refusal) (place_at m ilc) m.cpu ≡ record { stop = stop; cpu = cpu' } → MeetsStep present m stop (record m { cpu = cpu' })
+target_steps m first ilc stop cpu' present refusal e1 e2 h e =
+    let s = stopped (Err refusal) (place_at m ilc) m.cpu in
+    subst (λ (t : Stopped). MeetsStep present m t.stop (record m { cpu = t.cpu })) e (concluded_step (Err refusal) (place_at m ilc) m.cpu present m (record m { cpu = s.cpu }) (target_refused row_of m first ilc present refusal e1 e2 h))
+
+-- an instruction that was handed back, and carried out by `supervise`, makes the unit
+pub handed_back : (m m1 m' : State) (i : Instruction) (ilc : ℕ) (stop : Stop) (present : ℕ → Bool) → MeetsStep present m (Privileged i ilc) m1 → MeetsUnit (carried row_of m1 (place_at m1 ilc) i) present m1 stop m' → MeetsUnit (unit m) present m stop m'
+handed_back m m1 m' i ilc stop present h u =
+    whole_meets row_of m ilc i stop m' present h.2 (subst (λ (s : State). MeetsUnit (carried row_of s (place_at s ilc) i) present s stop m') h.0 u)

@@ -1,6 +1,10 @@
 pub mod Fetch
+pub mod Execute
 pub mod Unit
 pub mod Opcodes
-pub mod Operands
-pub mod Table
+pub mod RegisterRows
+pub mod FetchRows
+pub mod StoreRows
 pub mod Control
+pub mod Table
+pub mod Laws

@@ -1,18 +1,20 @@
 -- A unit that is one instruction, whatever the table has: GA22-7000, "Program Interruption" and "Instruction Fetching".
-use Rattle.std.specs.Prelude.{◌≡◌, ℕ, ◌+◌, ◌*◌, ◌%◌, ◌^◌, Bool, List, ◌++◌, length, Result, Ok, Err}
+use Rattle.std.specs.Prelude.{◌≡◌, ℕ, ◌+◌, ◌*◌, ◌%◌, ◌^◌, Bool, List, [], ◌∷◌, ◌++◌, length, Result, Ok, Err}
 use Rattle.s370_psw.specs.declared.ProgramCode.{ProgramCode}
-use Rattle.s370_store.specs.Access.{Test, Touches, IsAway}
+use Rattle.s370_store.specs.Access.{Test, IsAway}
 use Rattle.s370_rows.specs.declared.cpu.Cpu.{Cpu}
 use Rattle.s370_rows.specs.declared.ending.Ending.{Ending}
-use Rattle.s370_rows.specs.declared.ending.Ending.TheVariants.{Done, Branch, SupervisorCall, Privileged as HandedBack}
+use Rattle.s370_rows.specs.declared.ending.Ending.TheVariants.{Done, Branch, Again, Interrupted, SupervisorCall}
 use Rattle.s370_rows.specs.declared.ending.Refusal.{Refusal}
 use Rattle.s370_rows.specs.declared.ending.Refusal.TheVariants.{Program as Suppressed, Absent as Missing}
 use Rattle.s370_rows.specs.declared.instruction.Instruction.{Instruction}
+use Rattle.s370_rows.specs.declared.place.Place.{Place}
 use Rattle.s370_rows.specs.State.{State}
-use Rattle.s370_rows.specs.Rows.{Row, Left}
+use Rattle.s370_rows.specs.Rows.{Row, Outcome, judged, outcome_of}
 use Rattle.s370_cpu.specs.declared.conclude.Stop.{Stop}
-use Rattle.s370_cpu.specs.declared.conclude.Stop.TheVariants.{Done as DoneStop, Program, Svc, Privileged, Absent}
-use Rattle.s370_cpu.specs.Fetch.{fetched, halfwords_of}
+use Rattle.s370_cpu.specs.declared.conclude.Stop.TheVariants.{Done as DoneStop, Program, Svc, Absent}
+use Rattle.s370_cpu.specs.Fetch.{Asks, fetched, halfwords_of}
+use Rattle.s370_cpu.specs.Execute.{executed}
 
 -- how an instruction stops, and the registers that it leaves
 pub record Stopped : Type 0 where
@@ -24,9 +26,10 @@ pub record Ran : Type 0 where
   pub stop : Stop
   pub state : State
 
--- a unit at a state: the ranges that it tests, and what it does
+-- a unit at a state: the ranges that it tests, in stages of which each is tested only where those before it pass, and what
+-- it does
 pub record Unit : Type 0 where
-  pub tests : List Test
+  pub stages : List (List Test)
   pub ran : Ran
 
 -- the instruction address is this one, and nothing else changes
@@ -34,48 +37,68 @@ abbrev pub at_address : Cpu → ℕ → Cpu
 at_address cpu a = record cpu { psw = record cpu.psw { address = a } }
 
 -- the program is interrupted; the next address is the one that is stored
-abbrev pub interrupted : ProgramCode → ℕ → ℕ → Cpu → Stopped
-interrupted code next ilc cpu = record { stop = Program code ilc; cpu = at_address cpu next }
+abbrev pub interrupted : ProgramCode → Place → Cpu → Stopped
+interrupted code place cpu = record { stop = Program code place.ilc; cpu = at_address cpu place.next }
 
--- an instruction that ends goes on to the next address, or to the one that it branches to; one that is handed back leaves
+-- an instruction that ends goes on to the next address, or to the one that it branches to; one that is done in part leaves
 -- the address
-abbrev pub ended : Ending → Instruction → ℕ → ℕ → Cpu → Stopped
-ended Done i next ilc cpu = record { stop = DoneStop; cpu = at_address cpu next }
-ended (Branch a) i next ilc cpu = record { stop = DoneStop; cpu = at_address cpu (a % 2 ^ 24) }
-ended (SupervisorCall n) i next ilc cpu = record { stop = Svc n ilc; cpu = at_address cpu next }
-ended HandedBack i next ilc cpu = record { stop = Privileged i ilc; cpu = cpu }
+abbrev pub ended : Ending → Place → Cpu → Stopped
+ended Done place cpu = record { stop = DoneStop; cpu = at_address cpu place.next }
+ended (Branch a) place cpu = record { stop = DoneStop; cpu = at_address cpu (a % 2 ^ 24) }
+ended Again place cpu = record { stop = DoneStop; cpu = cpu }
+ended (Interrupted code) place cpu = interrupted code place cpu
+ended (SupervisorCall n) place cpu = record { stop = Svc n place.ilc; cpu = at_address cpu place.next }
 
 -- the registers are these, and nothing else changes
 abbrev pub ran : State → Stopped → Ran
 ran m s = record { stop = s.stop; state = record m { cpu = s.cpu } }
 
--- what a row leaves, or the code that suppresses it, with the next address and the length code
-abbrev pub concluded : State → Instruction → ℕ → ℕ → Result Left ProgramCode → Ran
-concluded m i next ilc (Err code) = ran m (interrupted code next ilc m.cpu)
-concluded m i next ilc (Ok l) = ran l.state (ended l.ending i next ilc l.state.cpu)
+-- the outcome of a row, or the code that suppresses it, at its place
+abbrev pub concluded : State → Place → Result Outcome ProgramCode → Ran
+concluded m place (Err code) = ran m (interrupted code place m.cpu)
+concluded m place (Ok o) = ran o.state (ended o.ending place o.state.cpu)
 
--- the unit over a table, of which the fetch is known: the next address is past the instruction's bytes, and the length
--- code counts its halfwords; a fetch that fails leaves the address, and its length code is 0
-abbrev pub unit_after : (State → Instruction → Row) → State → List Test → Result Instruction ProgramCode → Unit
-unit_after rows m ts (Err code) = record { tests = ts; ran = record { stop = Program code 0; state = m } }
-unit_after rows m ts (Ok i) =
-    let n = halfwords_of i.opcode in
-    let r = rows m i in
-    record { tests = ts ++ r.tests; ran = concluded m i ((m.cpu.psw.address + 2 * n) % 2 ^ 24) n r.result }
+-- where an instruction of so many halfwords stands to its end: the next address is past its bytes
+abbrev pub place_at : State → ℕ → Place
+place_at m n = record { next = (m.cpu.psw.address + 2 * n) % 2 ^ 24; ilc = n }
 
--- the unit over a table: the fetch at the instruction address, and the row of what was fetched
-abbrev pub unit_over : (State → Instruction → Row) → State → Unit
-unit_over rows m = let f = fetched m m.cpu.psw.address in unit_after rows m f.tests f.result
+-- the rest of a unit over a table, of which the instruction that is carried out is known
+abbrev pub carried : (State → Place → Instruction → Row) → State → Place → Instruction → Unit
+carried rows m place i =
+    let r = rows m place i in
+    record { stages = r.tests ∷ []; ran = concluded m place (outcome_of m (judged m r)) }
 
--- what the code may answer: with nothing changed, a page that one of the unit's tests needs and that is not present; or
+-- the same, after stages that passed; or the code for which no instruction can be carried out
+abbrev pub unit_executed : (State → Place → Instruction → Row) → State → List (List Test) → Place → Result Instruction ProgramCode → Unit
+unit_executed rows m ss place (Err code) = record { stages = ss; ran = ran m (interrupted code place m.cpu) }
+unit_executed rows m ss place (Ok i) = let u = carried rows m place i in record { stages = ss ++ u.stages; ran = u.ran }
+
+-- the unit over a table, of which the fetch is known; a fetch that fails leaves the address, and its length code is 0
+abbrev pub unit_fetched : (State → Place → Instruction → Row) → State → List (List Test) → Result Instruction ProgramCode → Unit
+unit_fetched rows m ss (Err code) = record { stages = ss; ran = record { stop = Program code 0; state = m } }
+unit_fetched rows m ss (Ok i) = let x = executed m i in unit_executed rows m (ss ++ x.stages) (place_at m (halfwords_of i.opcode)) x.result
+
+-- the unit over a table: the fetch at the instruction address, the fetch of the target of EX, and the row of what is
+-- carried out
+abbrev pub unit_over : (State → Place → Instruction → Row) → State → Unit
+unit_over rows m = let f = fetched m m.cpu.psw.address in unit_fetched rows m f.stages f.result
+
+-- the instruction that a unit carries out, with the length code of what was fetched first
+pub record Carries (m : State) (ilc : ℕ) (i : Instruction) : Type 0 where
+  pub first : Instruction
+  pub fetch : (fetched m m.cpu.psw.address).result ≡ Ok first
+  pub length_code : ilc ≡ halfwords_of first.opcode
+  pub execute : (executed m first).result ≡ Ok i
+
+-- what the code may answer: with nothing changed, a page that one of the unit's stages asks for and that is not present; or
 -- the stop and the state of the unit
 abbrev pub MeetsUnit : Unit → (ℕ → Bool) → State → Stop → State → Type 0
 MeetsUnit u present old (Absent page) new =
-    (new ≡ old) × IsAway (length old.bytes) present page.0 × Touches u.tests page.0
+    (new ≡ old) × IsAway (length old.bytes) present page.0 × Asks old u.stages page.0
 MeetsUnit u present old stop new = u.ran ≡ record { stop = stop; state = new }
 
 -- how an instruction stops that was fetched, by what its row answered
-abbrev pub stopped : Result Ending Refusal → Instruction → ℕ → ℕ → Cpu → Stopped
-stopped (Ok ending) i next ilc cpu = ended ending i next ilc cpu
-stopped (Err (Suppressed code)) i next ilc cpu = interrupted code next ilc cpu
-stopped (Err (Missing page)) i next ilc cpu = record { stop = Absent page; cpu = cpu }
+abbrev pub stopped : Result Ending Refusal → Place → Cpu → Stopped
+stopped (Ok ending) place cpu = ended ending place cpu
+stopped (Err (Suppressed code)) place cpu = interrupted code place cpu
+stopped (Err (Missing page)) place cpu = record { stop = Absent page; cpu = cpu }

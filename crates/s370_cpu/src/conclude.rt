@@ -4,20 +4,21 @@ ghost use Rattle.s370_cpu.specs.Unit.{stopped};
 
 use s370_num::Addr24;
 use s370_psw::{Ilc, ProgramCode};
-use s370_rows::{Cpu, Ending, Instruction, Refusal};
+use s370_rows::{Cpu, Ending, Instruction, Place, Refusal};
 use s370_store::Page;
 
 /// How a unit ends.
 #[derive(Clone, Copy, Debug, PartialEq, Eq)]
 pub enum Stop {
-    /// The instruction is done; the program status word has the address of the next one.
+    /// The instruction is done, or a part of it; the program status word has the address of the next one.
     Done,
     /// The program is interrupted with this code and instruction length. The program status word has the address that
     /// the interruption stores.
     Program(ProgramCode, Ilc),
     /// The program called the supervisor with this number. The program status word has the next address.
     Svc(u8, Ilc),
-    /// An instruction for the supervisor state only. It was fetched, and nothing is changed, the address neither.
+    /// An instruction for the supervisor state only: the one that is carried out, so under EX the target. It was
+    /// fetched, and nothing is changed, the address neither.
     Privileged(Instruction, Ilc),
     /// The unit has to access this page, which is not present. Nothing is changed.
     Absent(Page),
@@ -25,32 +26,30 @@ pub enum Stop {
 
 /// Sets the address that an instruction leaves, and tells how the unit ends.
 #[inline(always)]
-pub fn conclude(
-    cpu: &mut Cpu,
-    i: Instruction,
-    next: Addr24,
-    ilc: Ilc,
-    outcome: Result<Ending, Refusal>,
-) -> Stop
-    ensures { stopped outcome i next ilc cpu.old ≡ record { stop = result; cpu = cpu.new } }
+pub fn conclude(cpu: &mut Cpu, place: Place, outcome: Result<Ending, Refusal>) -> Stop
+    ensures { stopped outcome place cpu.old ≡ record { stop = result; cpu = cpu.new } }
 {
     match outcome {
         Ok(Ending::Done) => {
-            cpu.psw.set_address(next);
+            cpu.psw.set_address(place.next);
             Stop::Done
         }
         Ok(Ending::Branch(address)) => {
             cpu.psw.set_address(Addr24::wrapping(address));
             Stop::Done
         }
-        Ok(Ending::SupervisorCall(number)) => {
-            cpu.psw.set_address(next);
-            Stop::Svc(number, ilc)
+        Ok(Ending::Again) => Stop::Done,
+        Ok(Ending::Interrupted(code)) => {
+            cpu.psw.set_address(place.next);
+            Stop::Program(code, place.ilc)
         }
-        Ok(Ending::Privileged) => Stop::Privileged(i, ilc),
+        Ok(Ending::SupervisorCall(number)) => {
+            cpu.psw.set_address(place.next);
+            Stop::Svc(number, place.ilc)
+        }
         Err(Refusal::Program(code)) => {
-            cpu.psw.set_address(next);
-            Stop::Program(code, ilc)
+            cpu.psw.set_address(place.next);
+            Stop::Program(code, place.ilc)
         }
         Err(Refusal::Absent(page)) => Stop::Absent(page),
     }

@@ -5,17 +5,26 @@
 //! that a page is not present, which the instruction has to access, and has changed nothing. It is given the registers
 //! and a storage, and it takes no interruption: who calls it swaps the program status words, and goes on with an
 //! instruction for the supervisor state by [`supervise`], of which the same holds over the table of those.
+//!
+//! Of the table itself three laws hold, over all instructions: a byte that is changed was tested for storing
+//! ([`changed_bytes_were_tested`]), its block's key in storage matches the protection key ([`protection_holds`]), and
+//! the problem state gives itself no rights ([`problem_state_holds`]).
 #![tactic(auto)]
 
 mod conclude;
 mod control;
+mod execute;
 mod fetch;
+mod fetch_rows;
+mod laws;
 mod opcodes;
-mod operands;
+mod register_rows;
+mod store_rows;
 #[cfg(test)]
 mod tests;
 mod unit;
 
 pub use conclude::Stop;
 pub use control::supervise;
+pub use laws::{changed_bytes_were_tested, problem_state_holds, protection_holds};
 pub use unit::step;

@@ -1,60 +1,88 @@
-//! One unit of a processor: an instruction, or the program interruption of its fetch.
-ghost use Rattle.std.specs.Prelude.{◌≡◌, length};
+//! One unit of a processor: an instruction, or the program interruption that comes in its place.
+ghost use Rattle.std.specs.Prelude.{◌≡◌, ℕ, Bool, false, length};
 ghost use Rattle.s370_rows.specs.State.{state_of};
 ghost use Rattle.s370_rows.specs.Rows.{MeetsRow};
-ghost use Rattle.s370_cpu.specs.Table.{row_of, unit};
-ghost use Rattle.s370_cpu.specs.Unit.{MeetsUnit};
+ghost use Rattle.s370_cpu.specs.Opcodes.{opcode_at};
+ghost use Rattle.s370_cpu.specs.Table.{MeetsStep, is_supervised, row_of};
 
 use crate::conclude::{Stop, conclude};
+use crate::execute::execute;
 use crate::fetch::{fetch, length_of};
+use crate::fetch_rows::fetch_row;
 use crate::opcodes::{Opcode, opcode_of};
-use crate::operands::{store_row, word_row};
+use crate::register_rows::register_row;
+use crate::store_rows::store_row;
 use s370_psw::{Ilc, ProgramCode};
-use s370_rows::{Cpu, Ending, Instruction, Refusal, arithmetic_row};
+use s370_rows::{Cpu, Ending, Instruction, Place, Refusal};
 use s370_store::Storage;
 
-/// Carries out an instruction that was fetched, but for its address.
+/// Carries out an instruction of any state that was fetched, but for its address.
 #[inline(always)]
-fn perform<S: Storage>(cpu: &mut Cpu, storage: &mut S, i: Instruction) -> Result<Ending, Refusal>
+fn perform<S: Storage>(
+    cpu: &mut Cpu,
+    storage: &mut S,
+    place: Place,
+    i: Instruction,
+) -> Result<Ending, Refusal>
+    requires { is_supervised (opcode_at i.opcode) ≡ false }
     ensures row { let before = state_of cpu.old (S.bytes storage.old) (S.keys storage.old) in
         let after = state_of cpu.new (S.bytes storage.new) (S.keys storage.new) in
-        MeetsRow (row_of before i) (S.present storage.old) before result after }
+        MeetsRow (row_of before place i) (S.present storage.old) before result after }
     ensures size { length (S.bytes storage.new) ≡ length (S.bytes storage.old) }
     ensures present { S.present storage.new ≡ S.present storage.old }
     ensures rest { S.Keeps storage.old storage.new }
 {
     match opcode_of(i.opcode) {
         Opcode::Invalid => Err(Refusal::Program(ProgramCode::Operation)),
-        Opcode::Privileged => Ok(Ending::Privileged),
+        Opcode::Supervised(_) => unreachable!(),
         Opcode::SupervisorCall => Ok(Ending::SupervisorCall(i.second_byte)),
-        Opcode::Register(operation) => {
-            let b = cpu.general[i.r2() as usize];
-            Ok(arithmetic_row(operation, cpu, i.r1(), b))
-        }
-        Opcode::Word(operation) => word_row(operation, cpu, storage, i),
-        Opcode::StoreWord => store_row(cpu, storage, i),
+        Opcode::Execute => Err(Refusal::Program(ProgramCode::Execute)),
+        Opcode::Computes(row) => match register_row(row, cpu, place, i) {
+            Ok(ending) => Ok(ending),
+            Err(code) => Err(Refusal::Program(code)),
+        },
+        Opcode::Fetches(row) => fetch_row(row, cpu, storage, i),
+        Opcode::Stores(row) => store_row(row, cpu, storage, i),
     }
 }
 
 /// Does one instruction of a running processor, or the program interruption that comes in its place, up to the swap of
-/// program status words.
+/// program status words. An instruction for the supervisor state is handed back, after its fetch, with nothing done.
 #[inline]
 pub fn step<S: Storage>(cpu: &mut Cpu, storage: &mut S) -> Stop
     ensures unit { let before = state_of cpu.old (S.bytes storage.old) (S.keys storage.old) in
         let after = state_of cpu.new (S.bytes storage.new) (S.keys storage.new) in
-        MeetsUnit (unit before) (S.present storage.old) before result after }
+        MeetsStep (S.present storage.old) before result after }
     ensures size { length (S.bytes storage.new) ≡ length (S.bytes storage.old) }
     ensures present { S.present storage.new ≡ S.present storage.old }
     ensures rest { S.Keeps storage.old storage.new }
 {
     let at = cpu.psw.address();
-    let i = match fetch(cpu, storage, at) {
-        Ok(i) => i,
+    let first = match fetch(cpu, storage, at) {
+        Ok(first) => first,
         Err(Refusal::Program(code)) => return Stop::Program(code, Ilc::ZERO),
         Err(Refusal::Absent(page)) => return Stop::Absent(page),
     };
-    let ilc = length_of(i.opcode);
+    let ilc = length_of(first.opcode);
     let next = at.wrapping_add(2 * ilc.get() as u32);
-    let outcome = perform(cpu, storage, i);
-    conclude(cpu, i, next, ilc, outcome)
+    let i = match execute(cpu, storage, first) {
+        Ok(i) => i,
+        Err(refusal) => return conclude(cpu, Place { next, ilc }, Err(refusal)),
+    };
+    if is_supervised(i.opcode) {
+        return Stop::Privileged(i, ilc);
+    }
+    let outcome = perform(cpu, storage, Place { next, ilc }, i);
+    conclude(cpu, Place { next, ilc }, outcome)
+}
+
+/// Whether an operation code is for the supervisor state only.
+#[inline(always)]
+fn is_supervised(code: u8) -> bool
+    ensures { result ≡ is_supervised (opcode_at code) }
+{
+    match opcode_of(code) {
+        Opcode::Supervised(_) => true,
+        _ => false,
+    }
 }

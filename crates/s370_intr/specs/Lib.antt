@@ -1,2 +1,3 @@
 pub mod Swap
 pub mod Units
+pub mod Run

@@ -1,10 +1,11 @@
 -- Interruptions: GA22-7000, "Interruptions" and "Assigned Storage Locations".
-use Rattle.std.specs.Prelude.{◌≡◌, ℕ, ◌+◌, Bool, List, length, slice_range, Result, Ok, Err, ⊤}
-use Rattle.std.specs.Int.{w64, from_be_bytes, to_be_bytes}
+use Rattle.std.specs.Prelude.{◌≡◌, ℕ, Bool, List, length, Result, Ok, Err, ⊤}
+use Rattle.std.specs.Int.{w64, to_be_bytes}
 use Rattle.s370_psw.specs.Fields.{fields_of, word_of}
 use Rattle.s370_store.specs.Access.{IsAway, put}
 use Rattle.s370_store.specs.declared.Page.{Page}
 use Rattle.s370_rows.specs.State.{State}
+use Rattle.s370_rows.specs.Rows.{doubleword_at}
 use Rattle.s370_intr.specs.declared.class.Class.{Class}
 use Rattle.s370_intr.specs.declared.class.Class.TheVariants.{External, SupervisorCall, Program, MachineCheck, InputOutput}
 
@@ -23,9 +24,6 @@ new_psw_of SupervisorCall = 96
 new_psw_of Program = 104
 new_psw_of MachineCheck = 112
 new_psw_of InputOutput = 120
-
-abbrev pub doubleword_at : List ℕ → ℕ → ℕ
-doubleword_at bytes a = from_be_bytes w64 (slice_range bytes a (a + 8))
 
 -- the old program status word is stored with the interruption code and the instruction length code
 abbrev pub psw_stored : State → Class → ℕ → ℕ → List ℕ

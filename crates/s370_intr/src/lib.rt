@@ -1,18 +1,29 @@
-//! Interruptions: the swap of program status words.
+//! Interruptions and units of operation: what a running processor does next, and one unit after another.
 //!
-//! Its one theorem: [`swap`] stores the program status word of a processor, with an interruption code and an instruction
-//! length code, at the old location of its class, and loads the one at the new location; or it answers the page that is
-//! not present, and has changed nothing (IBM System/370 Principles of Operation, GA22-7000, "Interruptions").
-//! [`interrupt`] is the swap that a unit of the processor ends in, if it ends in one: what an instruction and its
-//! interruption together leave is `one_unit` in `specs/`.
+//! Its one theorem: [`run_units`] does what `run` in `specs/` defines: before each unit the processor looks, and then it
+//! stops, accepts external conditions, or does an instruction with the interruption that it ends in (IBM System/370
+//! Principles of Operation, GA22-7000, "Interruptions"). It is written once, over any storage that can bring its absent
+//! pages ([`s370_store::Supply`]) and for any [`Processor`]: a real one, and the virtual one of a guest. Where there is
+//! no room for a page, the run stands exactly after the units that it tells, and only pages that its units need were
+//! brought.
+//!
+//! ```
+//! let ran = run_units::<RealCpu, _>(&mut cpu, &mut pending, &mut storage, 100);
+//! ```
 #![tactic(auto)]
 
 mod class;
-mod stops;
-mod swap_words;
+mod next;
+mod pending;
+mod psw_swap;
+mod run;
 #[cfg(test)]
 mod tests;
+mod unit;
 
 pub use class::Class;
-pub use stops::interrupt;
-pub use swap_words::swap;
+pub use next::{Next, Reason, look};
+pub use pending::Pending;
+pub use psw_swap::swap;
+pub use run::{Ran, run_units};
+pub use unit::{Processor, RealCpu, instruct, unit_at};

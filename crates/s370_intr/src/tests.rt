@@ -1,79 +1,166 @@
-//! Swaps whose words are known.
-use super::{Class, swap};
+//! Interruptions whose words are known. The locations stand here as the manual's numbers (GA22-7000, "Assigned Storage
+//! Locations").
+use super::{Class, Pending, Ran, RealCpu, Reason, run_units, swap};
+use s370_num::AccessKey;
 use s370_psw::{Ilc, Psw};
 use s370_rows::Cpu;
 use s370_store::{
     Access, Page, PagedStorage, PlainStorage, Range, Storage, load_doubleword, store_doubleword,
 };
-use std::alloc::Global;
+use std::process::Abort;
 use std::test::Fail;
 
-/// The new program status word, and the doubleword at the old location, of a swap in 8 KiB. What is not named is zero.
-fn swapped(
-    alloc: Global,
-    class: Class,
-    code: u16,
-    ilc: Ilc,
-    psw: u64,
-    new: u64,
-) -> Result<(u64, u64), Fail> {
-    let mut storage = PlainStorage::new(alloc, 4)?;
+/// A processor of which all is zero but this program status word and control register 0.
+fn processor(psw: u64, control: u32) -> Cpu {
     let mut cpu = Cpu {
         general: [0; 16],
         control: [0; 16],
         psw: Psw::from_word(psw),
     };
-    place(&mut storage, class.new_psw(), new)?;
-    if storage.size() >= 8192 {
-        let swapped = swap(&mut cpu, &mut storage, class, code, ilc);
-        swapped.map_err(|_| "page 0 is absent")?;
-    }
-    let old = doubleword_at(&storage, class.old_psw())?;
-    Ok((cpu.psw.to_word(0, Ilc::ZERO), old))
+    cpu.control[0] = control;
+    cpu
+}
+
+fn psw_of(cpu: &Cpu) -> u64 {
+    cpu.psw.to_word(0, Ilc::ZERO)
 }
 
 fn place(storage: &mut PlainStorage, start: u32, word: u64) -> Result<(), Fail> {
-    storage.check(Range { start, count: 8 }, Access::Store, 0)?;
+    storage.check(Range { start, count: 8 }, Access::Store, AccessKey::ZERO)?;
     store_doubleword(storage, start, word);
     Ok(())
 }
 
 fn doubleword_at(storage: &PlainStorage, start: u32) -> Result<u64, Fail> {
-    storage.check(Range { start, count: 8 }, Access::Fetch, 0)?;
+    storage.check(Range { start, count: 8 }, Access::Fetch, AccessKey::ZERO)?;
     Ok(load_doubleword(storage, start))
 }
 
 #[test]
-fn swaps(rt: HostRuntime) -> Result<(), Fail> {
-    let alloc = rt.alloc();
-    let call = swapped(alloc, Class::SupervisorCall, 7, Ilc::ONE, 0x1002, 0x200)?;
-    assert_eq!(rt; call, (0x200, 0x00000007_40001002));
-    let program = swapped(alloc, Class::Program, 5, Ilc::TWO, 0x104, 0x500)?;
-    assert_eq!(rt; program, (0x500, 0x00000005_80000104));
-    let timer = swapped(
-        alloc,
-        Class::External,
-        0x80,
-        Ilc::ZERO,
-        0x01000000_00000104,
-        0x300,
-    )?;
-    assert_eq!(rt; timer, (0x300, 0x01000080_00000104));
+fn each_class_has_its_locations(rt: HostRuntime) -> Result<(), Fail> {
+    let cases = [
+        // (class, where the old word is stored, where the new one is)
+        (Class::External, 24u32, 88u32),
+        (Class::SupervisorCall, 32, 96),
+        (Class::Program, 40, 104),
+        (Class::MachineCheck, 48, 112),
+        (Class::InputOutput, 56, 120),
+    ];
+    for (class, old, new) in cases {
+        let mut storage = PlainStorage::new(rt.alloc(), 4)?;
+        place(&mut storage, new, 0x200)?;
+        let mut cpu = processor(0x1002, 0);
+        assert!(rt; storage.size() >= 8192);
+        let swapped = swap(&mut cpu, &mut storage, class, 7, Ilc::ONE);
+        assert_eq!(rt; swapped, Ok(()));
+        assert_eq!(rt; psw_of(&cpu), 0x200);
+        assert_eq!(rt;
+            doubleword_at(&storage, old)?,
+            0x00000007_40001002,
+            "at {old}"
+        );
+    }
     Ok(())
 }
 
 #[test]
 fn an_absent_page(rt: HostRuntime) -> Result<(), Fail> {
     let mut storage = PagedStorage::new(rt.alloc(), 2)?;
-    let mut cpu = Cpu {
-        general: [0; 16],
-        control: [0; 16],
-        psw: Psw::from_word(0x104),
-    };
-    let large = storage.size() >= 8192;
-    assert!(rt; large);
+    let mut cpu = processor(0x104, 0);
+    assert!(rt; storage.size() >= 8192);
     let swapped = swap(&mut cpu, &mut storage, Class::Program, 5, Ilc::TWO);
     assert_eq!(rt; swapped, Err(Page(0)));
-    assert_eq!(rt; cpu.psw.to_word(0, Ilc::ZERO), 0x104);
+    assert_eq!(rt; psw_of(&cpu), 0x104);
+    Ok(())
+}
+
+const TIMER: Pending = Pending {
+    timer: true,
+    key: false,
+};
+
+const KEY: Pending = Pending {
+    timer: false,
+    key: true,
+};
+
+const BOTH: Pending = Pending {
+    timer: true,
+    key: true,
+};
+
+/// Runs one unit of a processor with this program status word, control register 0 and pending conditions, which accepts
+/// some of them: those that are left, and the old program status word.
+fn accepted(
+    rt: &(impl Abort + AllocGlobal),
+    psw: u64,
+    control: u32,
+    pending: Pending,
+) -> Result<(Pending, u64), Fail> {
+    let mut storage = PlainStorage::new(rt.alloc(), 4)?;
+    place(&mut storage, 88, 0x300)?;
+    let mut cpu = processor(psw, control);
+    let mut left = pending;
+    assert!(rt; storage.size() >= 8192);
+    let ran = run_units::<RealCpu, PlainStorage>(&mut cpu, &mut left, &mut storage, 1);
+    let one = Ran {
+        units: 1,
+        reason: Reason::Count,
+    };
+    assert_eq!(rt; ran, one);
+    assert_eq!(rt; psw_of(&cpu), 0x300);
+    Ok((left, doubleword_at(&storage, 24)?))
+}
+
+#[test]
+fn external_conditions_are_accepted(rt: HostRuntime) -> Result<(), Fail> {
+    let nothing = Pending::NOTHING;
+    let cases = [
+        // (PSW, control register 0, pending, those left, old PSW)
+        (
+            0x01000000_00000104,
+            0xE0,
+            TIMER,
+            nothing,
+            0x01000080_00000104,
+        ),
+        (0x01000000_00000104, 0xE0, KEY, nothing, 0x01000040_00000104),
+        (
+            0x01000000_00000104,
+            0xE0,
+            BOTH,
+            nothing,
+            0x010000C0_00000104,
+        ),
+        // also by a processor that waits, and only those with a subclass mask of one
+        (0x01020000_00000104, 0x80, BOTH, KEY, 0x01020080_00000104),
+        (0x01020000_00000104, 0x40, BOTH, TIMER, 0x01020040_00000104),
+    ];
+    for (psw, control, pending, left, old) in cases {
+        let told = accepted(&rt, psw, control, pending)?;
+        assert_eq!(rt; told, (left, old), "of {psw:X}");
+    }
+    Ok(())
+}
+
+#[test]
+fn masked_conditions_stay_pending(rt: HostRuntime) -> Result<(), Fail> {
+    let cases = [
+        // (a PSW that waits, control register 0, why there is no unit)
+        (0x00020000_00000104, 0xE0, Reason::DisabledWait),
+        (0xFE020000_00000104, 0xE0, Reason::Wait),
+        (0x01020000_00000104, 0x20, Reason::Wait),
+    ];
+    for (psw, control, reason) in cases {
+        let mut storage = PlainStorage::new(rt.alloc(), 4)?;
+        let mut cpu = processor(psw, control);
+        let mut pending = BOTH;
+        assert!(rt; storage.size() >= 8192);
+        let ran = run_units::<RealCpu, PlainStorage>(&mut cpu, &mut pending, &mut storage, 5);
+        assert_eq!(rt; ran, Ran { units: 0, reason }, "of {psw:X}");
+        assert_eq!(rt; pending, BOTH);
+        assert_eq!(rt; psw_of(&cpu), psw);
+        assert_eq!(rt; doubleword_at(&storage, 24)?, 0);
+    }
     Ok(())
 }

@@ -3,7 +3,7 @@
 //! A reader or a writer counts its failures, and a failure tells its number. So who calls it knows
 //! from the error alone which failure it was, and from the count that there was none.
 
-ghost use Rattle.std.specs.Prelude.{◌≡◌, ℕ, ◌<◌, ◌≤◌, ◌-◌, ◌^◌, List, Option, IfOk, OnOk, OnErr, length};
+ghost use Rattle.std.specs.Prelude.{◌≡◌, ℕ, ◌<◌, ◌≤◌, ◌-◌, ◌^◌, List, [], Option, IfOk, OnOk, OnErr, length};
 ghost use Rattle.std.specs.Io.KnownBytes.{Appends, Consumes, IsAtEnd, Keeps, ReadConsumes, WriteAppends};
 ghost use Rattle.s370_num.specs.declared.host.HostFault.TheVariants.{Memory};
 ghost use Rattle.s370_num.specs.Host.{AppendsFront, Counts, ReadsFront};
@@ -62,8 +62,12 @@ pub trait HostReader: HostFile {
 
 /// A host file that is written.
 pub trait HostWriter: HostFile {
-    /// The bytes that were written, where they are known: of a file on a disk nothing is.
+    /// The bytes that were written, where they are known: of a file on a disk nothing is. Those that are
+    /// still held back are among them.
     ghost contents: { Self → Option (List ℕ) };
+
+    /// The bytes that were written and are still held back, so that the host does not have them.
+    ghost held: { Self → List ℕ };
 
     /// Writes a beginning of `bytes` and tells how many: at least one where there are any.
     fn write(&mut self, bytes: &[u8]) -> Result<usize, HostFault>
@@ -74,6 +78,7 @@ pub trait HostWriter: HostFile {
 
     /// Hands to the host what was written and is still held back.
     fn flush(&mut self) -> Result<(), HostFault>
+        ensures flushed { OnOk result (held self.new ≡ []) }
         ensures bytes { Keeps (contents self.old) (contents self.new) }
         ensures counts { Counts (Self.failures self.old) (Self.failures self.new) result };
 }

@@ -5,6 +5,8 @@
 mod length;
 mod program;
 mod psw;
+#[cfg(test)]
+mod tests;
 
 pub use length::Ilc;
 pub use program::ProgramCode;

@@ -5,7 +5,7 @@ ghost use Rattle.s370_psw.specs.Laws.{IsInRange, ReadsBack, LoadsBack, HoldsCode
 
 use crate::length::Ilc;
 use byteorder::{BigEndian, ByteOrder};
-use s370_num::Addr24;
+use s370_num::{AccessKey, Addr24, ConditionCode};
 use std::marker::Model;
 
 /// A program status word as the processor holds it: without interruption code and instruction length
@@ -13,12 +13,12 @@ use std::marker::Model;
 #[derive(Clone, Copy, PartialEq, Eq, Debug)]
 pub struct Psw {
     system_mask: u8,
-    key: u8,
+    key: AccessKey,
     extended: bool,
     machine_check: bool,
     wait: bool,
     problem: bool,
-    condition: u8,
+    condition: ConditionCode,
     program_mask: u8,
     address: Addr24,
 }
@@ -31,7 +31,7 @@ impl Model for Psw {
 
     ghost view = { λ p. record { system_mask = p.system_mask; key = p.key; extended = p.extended; machine_check = p.machine_check; wait = p.wait; problem = p.problem; condition = p.condition; program_mask = p.program_mask; address = p.address } };
 
-    ghost invariant = { λ p. (p.key < 16) × (p.condition < 4) × (p.program_mask < 16) };
+    ghost invariant = { λ p. p.program_mask < 16 };
 
     ghost inverse = { λ p. record { system_mask = p.system_mask; key = p.key; extended = p.extended; machine_check = p.machine_check; wait = p.wait; problem = p.problem; condition = p.condition; program_mask = p.program_mask; address = p.address } };
 }
@@ -65,12 +65,12 @@ impl Psw {
     {
         Psw {
             system_mask: (word >> 56) as u8,
-            key: (word >> 52 & 0xF) as u8,
+            key: AccessKey::new((word >> 52 & 0xF) as u8),
             extended: word >> 51 & 1 == 1,
             machine_check: word >> 50 & 1 == 1,
             wait: word >> 49 & 1 == 1,
             problem: word >> 48 & 1 == 1,
-            condition: (word >> 28 & 3) as u8,
+            condition: ConditionCode::new((word >> 28 & 3) as u8),
             program_mask: (word >> 24 & 0xF) as u8,
             address: Addr24::wrapping((word & 0xFF_FFFF) as u32),
         }
@@ -82,13 +82,14 @@ impl Psw {
         ensures { result ≡ word_of self code length_code }
     {
         let masks = self.system_mask as u64 * 0x100_0000_0000_0000
-            + self.key as u64 * 0x10_0000_0000_0000;
+            + self.key.get() as u64 * 0x10_0000_0000_0000;
         let flags = self.extended as u64 * 0x8_0000_0000_0000
             + self.machine_check as u64 * 0x4_0000_0000_0000
             + self.wait as u64 * 0x2_0000_0000_0000
             + self.problem as u64 * 0x1_0000_0000_0000;
         let codes = code as u64 * 0x1_0000_0000 + length_code.get() as u64 * 0x4000_0000;
-        let program = self.condition as u64 * 0x1000_0000 + self.program_mask as u64 * 0x100_0000;
+        let program = self.condition.get() as u64 * 0x1000_0000
+            + self.program_mask as u64 * 0x100_0000;
         masks + flags + codes + program + self.address.get() as u64
     }
 }
@@ -107,18 +108,16 @@ impl Psw {
 
     /// The key that storage accesses are tested with.
     #[inline(always)]
-    pub fn key(&self) -> u8
-        ensures value { result ≡ self.now.key }
-        ensures below { result < 16 }
+    pub fn key(&self) -> AccessKey
+        ensures { result ≡ self.now.key }
     {
         self.key
     }
 
     /// The condition code.
     #[inline(always)]
-    pub fn condition(&self) -> u8
-        ensures value { result ≡ self.now.condition }
-        ensures below { result < 4 }
+    pub fn condition(&self) -> ConditionCode
+        ensures { result ≡ self.now.condition }
     {
         self.condition
     }
@@ -215,14 +214,15 @@ impl Psw {
         self.address = address;
     }
 
+    /// Sets the condition code.
     #[inline(always)]
-    pub fn set_condition(&mut self, condition: u8)
-        requires { condition < 4 }
+    pub fn set_condition(&mut self, condition: ConditionCode)
         ensures { self.new ≡ record self.old { condition = condition } }
     {
         self.condition = condition;
     }
 
+    /// Sets the four masks of program exceptions.
     #[inline(always)]
     pub fn set_program_mask(&mut self, mask: u8)
         requires { mask < 16 }
@@ -252,6 +252,8 @@ pub fn fields_in_range(psw: &Psw)
     ensures { IsInRange psw.now }
 {
     let _ = psw.address.get();
+    let _ = psw.key.get();
+    let _ = psw.condition.get();
     let _mask = psw.system_mask;
 }
 

@@ -1,5 +1,15 @@
 pub mod State
 pub mod Formats
 pub mod Arithmetic
+pub mod Halfword
 pub mod Registers
+pub mod Branches
+pub mod Immediate
+pub mod Load
+pub mod Mask
+pub mod Pair
+pub mod Product
+pub mod Shift
+pub mod Swap
 pub mod Rows
+pub mod Results

@@ -1,13 +1,13 @@
 //! Leave to access storage.
-ghost use Rattle.std.specs.Prelude.{◌≡◌, ℕ, ◌≤◌, [], ◌∷◌};
-ghost use Rattle.s370_store.specs.Access.{tested};
-ghost use Rattle.s370_rows.specs.State.{state_of};
+ghost use Rattle.std.specs.Prelude.{◌≡◌, ℕ, ◌≤◌, Bool, List, [], ◌∷◌, length};
+ghost use Rattle.s370_store.specs.Access.{IsVerdict, Test, tested};
+ghost use Rattle.s370_rows.specs.State.{State, state_of};
 ghost use Rattle.s370_rows.specs.Rows.{Grants};
 
 use crate::cpu::Cpu;
 use crate::ending::Refusal;
 use s370_psw::ProgramCode;
-use s370_store::{Access, Fault, Range, Storage};
+use s370_store::{Access, Fault, Range, Storage, check_two};
 
 /// Leave to access a range of at most 256 bytes with the key of the PSW, or why the instruction can't.
 #[inline(always)]
@@ -20,7 +20,40 @@ pub fn grant<S: Storage>(
     requires { range.count ≤ 256 }
     ensures { Grants (state_of cpu.now (S.bytes storage.now) (S.keys storage.now)) (S.present storage.now) (tested access range ∷ []) result }
 {
-    match storage.check(range, access, cpu.psw.key()) {
+    leave_of(storage.check(range, access, cpu.psw.key()))
+}
+
+/// Leave to access two ranges of at most 256 bytes, tested together, or why the instruction can't.
+#[inline(always)]
+pub fn grant_two<S: Storage>(
+    cpu: &Cpu,
+    storage: &S,
+    first: Range,
+    first_access: Access,
+    second: Range,
+    second_access: Access,
+) -> Result<(), Refusal>
+    requires first { first.count ≤ 256 }
+    requires second { second.count ≤ 256 }
+    ensures { Grants (state_of cpu.now (S.bytes storage.now) (S.keys storage.now)) (S.present storage.now) (tested first_access first ∷ tested second_access second ∷ []) result }
+{
+    let answer = check_two(
+        storage,
+        first,
+        first_access,
+        second,
+        second_access,
+        cpu.psw.key(),
+    );
+    leave_of(answer)
+}
+
+/// What the answer of a check is to the instruction that asked.
+#[inline(always)]
+fn leave_of(answer: Result<(), Fault>) -> Result<(), Refusal>
+    ensures { (m : State) → (present : ℕ → Bool) → (ts : List Test) → IsVerdict (length m.bytes) m.keys present m.cpu.psw.key ts answer → Grants m present ts result }
+{
+    match answer {
         Ok(()) => Ok(()),
         Err(Fault::Addressing) => Err(Refusal::Program(ProgramCode::Addressing)),
         Err(Fault::Protection) => Err(Refusal::Program(ProgramCode::Protection)),

@@ -5,14 +5,16 @@ use s370_store::Page;
 /// How an instruction ended that was carried out.
 #[derive(Clone, Copy, Debug, PartialEq, Eq)]
 pub enum Ending {
-    /// The next instruction follows.
+    /// It is done, and the next instruction follows.
     Done,
-    /// The next instruction stands at this address, of which 24 bits count.
+    /// It is done, and the next instruction stands at this address, of which 24 bits count.
     Branch(u32),
+    /// A part of it is done, and it stands next again.
+    Again,
+    /// It is done, and then the program is interrupted with this code. Only registers have changed.
+    Interrupted(ProgramCode),
     /// A supervisor call with this number; nothing else is done.
     SupervisorCall(u8),
-    /// An instruction for the supervisor state, which is handed back with nothing done.
-    Privileged,
 }
 
 /// Why an instruction was not carried out. It changed nothing.

@@ -1,7 +1,8 @@
 -- What the tests of ranges answer, from what a check looks at.
-use Rattle.std.proofs.Common.{◌≡◌, ℕ, ◌+◌, ◌/◌, ◌<◌, ◌≤◌, ◌≢◌, Bool, true, false, List, [], ◌∷◌, get_or, Some, None, refl, arith, zero, suc, ◌⊎◌, Result, Ok, Err, inl, inr}
+use Rattle.std.proofs.Common.{◌≡◌, ℕ, ◌+◌, ◌/◌, ◌<◌, ◌≤◌, ◌≢◌, Bool, true, false, List, [], ◌∷◌, get_or, Some, None, refl, arith, zero, suc, ◌⊎◌, Result, Ok, Err, inl, inr, ◌-◌}
 use Rattle.std.proofs.lemmas.Grind.{common_steps}
-use Rattle.std.proofs.lemmas.Bool.{cases_eq}
+use Rattle.std.proofs.lemmas.Bool.{cases_eq, true_from_ne_false, both_ways}
+use Rattle.std.proofs.lemmas.Bool.Decides.{nat_tests}
 use Rattle.std.specs.Bool.{⊤}
 use Rattle.std.proofs.Math.Bool.{and-false}
 use Rattle.s370_store.specs.Access.{Test, is_passed, is_addressable, is_permitted_from, is_permitted, first_fault, IsVerdict, Touches, join_of}
@@ -101,3 +102,37 @@ joined size keys present key t u (Err (Absent page)) (Ok _) v w = (grind (arith,
 joined size keys present key t u (Err (Absent page)) (Err Addressing) v w = grind (arith, common_steps)
 joined size keys present key t u (Err (Absent page)) (Err Protection) v w = grind (arith, common_steps)
 joined size keys present key t u (Err (Absent page)) (Err (Absent other)) v w = (grind (arith, common_steps), v.1, more t u page.0 v.2)
+
+-- ---- each byte of ranges that pass
+
+-- a byte of a range that lies in the storage
+pub byte_inside : (size : ℕ) (t : Test) (a : ℕ) → is_addressable size t ≡ true → t.start ≤ a → a < t.start + t.count → a < size
+unfolding is_addressable
+byte_inside size t a e low high = grind (arith, common_steps)
+
+-- a byte of a range that may be accessed
+pub byte_passes : (keys : List ℕ) (key : ℕ) (t : Test) (a : ℕ) → is_permitted keys key t ≡ true → t.start ≤ a → a < t.start + t.count → is_passed t.access key (get_or keys (a / 2048) 0) ≡ true
+unfolding is_permitted
+byte_passes keys key t a e low high =
+    let at : t.start + (a - t.start) ≡ a = omega arith in
+    true_from_ne_false (is_passed t.access key (get_or keys (a / 2048) 0)) (λ f.
+    let g : is_passed t.access key (get_or keys ((t.start + (a - t.start)) / 2048) 0) ≡ false = rw at f in
+    both_ways _ (forbids keys key t.access t.start t.count (a - t.start) (omega arith) g) e)
+
+-- what a range is that passes: permitted
+pub permitted : (size : ℕ) (keys : List ℕ) (key : ℕ) (t : Test) → first_fault size keys key (t ∷ []) ≡ None → is_permitted keys key t ≡ true
+permitted size keys key t e = grind (arith, common_steps)
+
+-- a part of a range that passes
+pub part_fine : (size : ℕ) (keys : List ℕ) (key : ℕ) (access : Access) (start n from m : ℕ) → first_fault size keys key (record { access = access; start = start; count = n } ∷ []) ≡ None → 0 < n → start ≤ from → from + m ≤ start + n → first_fault size keys key (record { access = access; start = from; count = m } ∷ []) ≡ None
+part_fine size keys key access start n from m e some low high =
+    let whole : Test = record { access = access; start = start; count = n } in
+    let part : Test = record { access = access; start = from; count = m } in
+    let room = fits size keys key access start n e some in
+    let each : (k : ℕ) → k < m → is_passed access key (get_or keys ((from + k) / 2048) 0) ≡ true = λ k lt. byte_passes keys key whole (from + k) (permitted size keys key whole e) (omega arith) (omega arith) in
+    one_fine size keys key part (inside size access from m (omega arith)) (permitted_is keys key access from m true (permits keys key access from m each))
+
+-- a store with a key other than zero passes only a block that has this key
+pub store_matches : (key block : ℕ) → is_passed Store key block ≡ true → key ≢ 0 → block / 2 ≡ key
+unfolding is_passed
+store_matches key block e some = grind (arith, nat_tests, common_steps)

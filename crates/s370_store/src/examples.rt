@@ -6,12 +6,13 @@ ghost use Rattle.s370_store.specs.Access.{put};
 use crate::place::put_at;
 use crate::protection::{Listed, test_range};
 use crate::{Access, Fault, Keyed, Range, Storage, store_byte, store_doubleword};
+use s370_num::{AccessKey, StorageKey};
 
 /// Two users' storages side by side: a page and the keys of its two blocks each.
 #[derive(Drop)]
 pub struct Shared {
     pub bytes: [[u8; 4096]; 2],
-    pub keys: [[u8; 2]; 2],
+    pub keys: [[StorageKey; 2]; 2],
 }
 
 impl Shared {
@@ -21,16 +22,19 @@ impl Shared {
         ensures bytes { result.now ≡ slice_index_or self.now.bytes user [] }
         ensures size { length result.now ≡ 4096 }
     {
-        &self.bytes[user]
+        let own = &self.bytes[user];
+        own
     }
 
     /// One user's keys.
-    fn keys_of(&self, user: usize) -> &[u8]
+    fn keys_of(&self, user: usize) -> &[StorageKey]
         requires { user < 2 }
         ensures keys { result.now ≡ slice_index_or self.now.keys user [] }
         ensures size { length result.now ≡ 2 }
     {
-        &self.keys[user]
+        let all = &self.keys[..];
+        let own = &all[user];
+        own
     }
 
     /// Writes into one user's bytes.
@@ -46,7 +50,7 @@ impl Shared {
     }
 
     /// Sets one of one user's keys.
-    fn set_key(&mut self, user: usize, block: u32, key: u8)
+    fn set_key(&mut self, user: usize, block: u32, key: StorageKey)
         requires user { user < 2 }
         requires block { block < 2 }
         ensures own { slice_index_or self.new.keys user [] ≡ slice_set (slice_index_or self.old.keys user []) block key }
@@ -95,7 +99,7 @@ impl<'a> Storage for Lent<'a> {
         4096
     }
 
-    fn check(&self, range: Range, access: Access, key: u8) -> Result<(), Fault> {
+    fn check(&self, range: Range, access: Access, key: AccessKey) -> Result<(), Fault> {
         let keys = Listed {
             keys: self.shared.keys_of(self.user),
         };
@@ -118,11 +122,11 @@ impl<'a> Storage for Lent<'a> {
 }
 
 impl<'a> Keyed for Lent<'a> {
-    fn key_of(&self, block: u32) -> u8 {
+    fn key_of(&self, block: u32) -> StorageKey {
         self.shared.keys_of(self.user)[block as usize]
     }
 
-    fn set_key(&mut self, block: u32, key: u8) {
+    fn set_key(&mut self, block: u32, key: StorageKey) {
         self.shared.set_key(self.user, block, key);
     }
 }
@@ -133,7 +137,7 @@ pub fn stamp<S: Storage>(storage: &mut S, start: u32, mark: u8) -> Result<(), Fa
     ensures refused { OnErr result (S.bytes storage.new ≡ S.bytes storage.old) }
 {
     let range = Range { start, count: 8 };
-    storage.check(range, Access::Store, 0)?;
+    storage.check(range, Access::Store, AccessKey::ZERO)?;
     store_doubleword(storage, start, 0);
     store_byte(storage, start, mark);
     Ok(())

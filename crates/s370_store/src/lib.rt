@@ -6,7 +6,8 @@
 //! GA22-7000, "Protection" and "Addressing Exception").
 //!
 //! All code above is written over the trait [`Storage`]: [`PlainStorage`] is the whole storage of a bare machine, and a
-//! control program has bodies of its own, lent from the frames that its users share.
+//! control program has bodies of its own, lent from the frames that its users share. What has to go on where a page is
+//! absent is written over [`Supply`], a storage that brings its absent pages.
 #![tactic(auto)]
 
 #[cfg(test)]
@@ -15,6 +16,7 @@ mod paged;
 mod place;
 mod plain;
 mod protection;
+mod supply;
 #[cfg(test)]
 mod tests;
 mod words;
@@ -26,11 +28,22 @@ pub use paged::PagedStorage;
 pub use place::put_at;
 pub use plain::PlainStorage;
 pub use protection::{Keyring, Listed, Open, test_range};
+use s370_num::{AccessKey, StorageKey};
+pub use supply::{FramesOut, Supply};
 use thiserror::Error;
 pub use words::{
     check_two, load_byte, load_doubleword, load_halfword, load_word, store_byte, store_doubleword,
     store_halfword, store_word,
 };
+
+/// How many bytes a page has.
+pub const PAGE_SIZE: u32 = 4096;
+
+/// How many bytes a block has, which is what has a key in storage.
+pub const BLOCK_SIZE: u32 = 2048;
+
+/// How many bytes a machine has at least: the assigned locations lie below.
+pub const LEAST_STORAGE: u32 = 8192;
 
 /// What is done with a range of bytes.
 #[derive(Clone, Copy, Debug, PartialEq, Eq)]
@@ -101,7 +114,7 @@ pub trait Storage {
         ensures keyed { length (bytes self.now) ≤ 2048 * length (keys self.now) };
 
     /// Tests an access to at most 256 bytes, with this protection key.
-    fn check(&self, range: Range, access: Access, key: u8) -> Result<(), Fault>
+    fn check(&self, range: Range, access: Access, key: AccessKey) -> Result<(), Fault>
         requires { range.count ≤ 256 }
         ensures { IsVerdict (length (bytes self.now)) (keys self.now) (present self.now) key (tested access range ∷ []) result };
 
@@ -131,14 +144,13 @@ pub trait Storage {
 /// A storage whose keys can be read and set one by one, as a storage with fixed keys can't.
 pub trait Keyed: Storage {
     /// The key in storage of a block of 2048 bytes.
-    fn key_of(&self, block: u32) -> u8
+    fn key_of(&self, block: u32) -> StorageKey
         requires { block < length (Self.keys self.now) }
         ensures { result ≡ slice_index (Self.keys self.now) block };
 
-    /// Sets the key in storage of a block: four bits of access control and a last bit of fetch protection.
-    fn set_key(&mut self, block: u32, key: u8)
-        requires block { block < length (Self.keys self.old) }
-        requires five_bits { key < 32 }
+    /// Sets the key in storage of a block.
+    fn set_key(&mut self, block: u32, key: StorageKey)
+        requires { block < length (Self.keys self.old) }
         ensures bytes { Self.bytes self.new ≡ Self.bytes self.old }
         ensures keys { Self.keys self.new ≡ slice_set (Self.keys self.old) block key }
         ensures present { Self.present self.new ≡ Self.present self.old }

@@ -4,6 +4,7 @@ ghost use Rattle.std.specs.Prelude.{◌≡◌, ◌*◌, ◌<◌, ◌≤◌, fals
 use crate::place::put_at;
 use crate::protection::{Listed, test_range};
 use crate::{Access, Fault, Keyed, Page, Range, Storage};
+use s370_num::{AccessKey, StorageKey};
 use std::alloc::{AllocError, Global};
 
 /// A storage of up to 4 MiB of which pages may be absent: their bytes are kept, and can't be reached.
@@ -13,7 +14,7 @@ use std::alloc::{AllocError, Global};
 #[derive(Drop)]
 pub struct PagedStorage {
     bytes: Vec<u8>,
-    keys: Vec<u8>,
+    keys: Vec<StorageKey>,
     present: Vec<bool>,
     ghost at_most_4_mib: { length bytes.items ≤ 4194304 },
     ghost a_key_a_block: { length bytes.items ≡ 2048 * length keys.items },
@@ -31,7 +32,7 @@ impl PagedStorage {
         ensures absent { IfOk result (λ s. paged_flags s ≡ replicate pages false) }
     {
         let bytes = vec![in alloc; 0u8; 4096 * pages as usize]?;
-        let keys = vec![in alloc; 0u8; 2 * pages as usize]?;
+        let keys = vec![in alloc; StorageKey::ZERO; 2 * pages as usize]?;
         let present = vec![in alloc; false; pages as usize]?;
         Ok(PagedStorage {
             bytes,
@@ -66,7 +67,7 @@ impl Storage for PagedStorage {
         self.bytes.len() as u32
     }
 
-    fn check(&self, range: Range, access: Access, key: u8) -> Result<(), Fault> {
+    fn check(&self, range: Range, access: Access, key: AccessKey) -> Result<(), Fault> {
         let keys = Listed { keys: &self.keys };
         test_range(self.bytes.len() as u32, &keys, range, access, key)?;
         let Range { start, count } = range;
@@ -100,11 +101,11 @@ impl Storage for PagedStorage {
 }
 
 impl Keyed for PagedStorage {
-    fn key_of(&self, block: u32) -> u8 {
+    fn key_of(&self, block: u32) -> StorageKey {
         self.keys[block as usize]
     }
 
-    fn set_key(&mut self, block: u32, key: u8) {
+    fn set_key(&mut self, block: u32, key: StorageKey) {
         self.keys[block as usize] = key;
     }
 }

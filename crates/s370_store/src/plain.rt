@@ -4,6 +4,7 @@ ghost use Rattle.std.specs.Prelude.{◌≡◌, ◌*◌, ◌≤◌, true, length,
 use crate::place::put_at;
 use crate::protection::{Listed, test_range};
 use crate::{Access, Fault, Keyed, Range, Storage};
+use s370_num::{AccessKey, StorageKey};
 use std::alloc::{AllocError, Global};
 
 /// A storage whose pages are all present: up to 4 MiB of bytes, and a key for each 2048 of them.
@@ -12,7 +13,7 @@ use std::alloc::{AllocError, Global};
 #[derive(Drop)]
 pub struct PlainStorage {
     bytes: Vec<u8>,
-    keys: Vec<u8>,
+    keys: Vec<StorageKey>,
     ghost at_most_4_mib: { length bytes.items ≤ 4194304 },
     ghost a_key_a_block: { length bytes.items ≡ 2048 * length keys.items },
 }
@@ -27,7 +28,7 @@ impl PlainStorage {
         ensures keys { IfOk result (λ s. plain_keys s ≡ replicate blocks 0) }
     {
         let bytes = vec![in alloc; 0u8; 2048 * blocks as usize]?;
-        let keys = vec![in alloc; 0u8; blocks as usize]?;
+        let keys = vec![in alloc; StorageKey::ZERO; blocks as usize]?;
         Ok(PlainStorage { bytes, keys })
     }
 
@@ -39,19 +40,19 @@ impl PlainStorage {
     }
 
     /// The key of each of its blocks.
-    pub fn keys(&self) -> &[u8]
+    pub fn keys(&self) -> &[StorageKey]
         ensures { result.now ≡ plain_keys self.now }
     {
         &self.keys
     }
 
     /// Makes all its bytes and keys zero.
-    pub fn clear(&mut self)
+    pub(crate) fn zero(&mut self)
         ensures bytes { plain_bytes self.new ≡ replicate (length (plain_bytes self.old)) 0 }
         ensures keys { plain_keys self.new ≡ replicate (length (plain_keys self.old)) 0 }
     {
         self.bytes.fill(0);
-        self.keys.fill(0);
+        self.keys.fill(StorageKey::ZERO);
     }
 }
 
@@ -72,7 +73,7 @@ impl Storage for PlainStorage {
     }
 
     #[inline(always)]
-    fn check(&self, range: Range, access: Access, key: u8) -> Result<(), Fault> {
+    fn check(&self, range: Range, access: Access, key: AccessKey) -> Result<(), Fault> {
         let keys = Listed { keys: &self.keys };
         test_range(self.bytes.len() as u32, &keys, range, access, key)
     }
@@ -96,12 +97,12 @@ impl Storage for PlainStorage {
 
 impl Keyed for PlainStorage {
     #[inline]
-    fn key_of(&self, block: u32) -> u8 {
+    fn key_of(&self, block: u32) -> StorageKey {
         self.keys[block as usize]
     }
 
     #[inline]
-    fn set_key(&mut self, block: u32, key: u8) {
+    fn set_key(&mut self, block: u32, key: StorageKey) {
         self.keys[block as usize] = key;
     }
 }

@@ -3,13 +3,16 @@ ghost use Rattle.std.specs.Prelude.{◌≡◌, ◌*◌, ◌<◌, ◌≤◌, [], 
 ghost use Rattle.s370_store.specs.Access.{IsVerdict, tested, is_passed};
 
 use crate::{Access, Fault, Range};
+use s370_num::{AccessKey, StorageKey};
 
 /// Whether an access with this protection key passes a block with this key in storage.
 #[inline(always)]
 #[tactic(auto, unfolding(crate::specs::Access::is_passed))]
-fn passes(access: Access, key: u8, block: u8) -> bool
+fn passes(access: Access, key: AccessKey, block: StorageKey) -> bool
     ensures { result ≡ is_passed access key block }
 {
+    let key = key.get();
+    let block = block.get();
     match access {
         Access::Fetch => key == 0 || key == block / 2 || block % 2 == 0,
         Access::Store => key == 0 || key == block / 2,
@@ -22,7 +25,7 @@ pub trait Keyring {
     ghost of_blocks: { Self → List ℕ };
 
     /// The key of one block.
-    fn key_at(&self, block: u32) -> u8
+    fn key_at(&self, block: u32) -> StorageKey
         requires { block < length (of_blocks self.now) }
         ensures { result ≡ slice_index (of_blocks self.now) block };
 }
@@ -31,14 +34,14 @@ pub trait Keyring {
 #[derive(Clone, Copy)]
 pub struct Listed<'a> {
     /// A key for each block.
-    pub keys: &'a [u8],
+    pub keys: &'a [StorageKey],
 }
 
 impl<'a> Keyring for Listed<'a> {
     ghost of_blocks = { λ l. l.keys.now };
 
     #[inline(always)]
-    fn key_at(&self, block: u32) -> u8 {
+    fn key_at(&self, block: u32) -> StorageKey {
         self.keys[block as usize]
     }
 }
@@ -54,14 +57,14 @@ impl Keyring for Open {
     ghost of_blocks = { λ o. replicate o.blocks 0 };
 
     #[inline(always)]
-    fn key_at(&self, _block: u32) -> u8 {
-        0
+    fn key_at(&self, _block: u32) -> StorageKey {
+        StorageKey::ZERO
     }
 }
 
 /// Whether an access with this protection key passes this block.
 #[inline(always)]
-fn block_passes<K: Keyring>(keys: &K, block: u32, access: Access, key: u8) -> bool
+fn block_passes<K: Keyring>(keys: &K, block: u32, access: Access, key: AccessKey) -> bool
     requires { block < length (K.of_blocks keys.now) }
     ensures { result ≡ is_passed access key (slice_index (K.of_blocks keys.now) block) }
 {
@@ -78,7 +81,7 @@ pub fn test_range<K: Keyring>(
     keys: &K,
     range: Range,
     access: Access,
-    key: u8,
+    key: AccessKey,
 ) -> Result<(), Fault>
     requires keyed { size ≤ 2048 * length (K.of_blocks keys.now) }
     requires short { range.count ≤ 256 }
@@ -91,7 +94,7 @@ pub fn test_range<K: Keyring>(
     if start as u64 + count as u64 > size as u64 {
         return Err(Fault::Addressing);
     }
-    if key == 0 {
+    if key.get() == 0 {
         return Ok(());
     }
     if !block_passes(keys, start / 2048, access, key) {

@@ -7,6 +7,7 @@ ghost use Rattle.std.specs.Int.{w16, w32, w64, from_be_bytes, to_be_bytes};
 ghost use Rattle.s370_store.specs.Access.{tested, IsVerdict, join_of, IsGranted, put};
 
 use crate::{Access, Fault, Range, Storage};
+use s370_num::AccessKey;
 
 /// The byte at an address.
 #[inline(always)]
@@ -113,7 +114,7 @@ pub fn check_two<S: Storage>(
     first_access: Access,
     second: Range,
     second_access: Access,
-    key: u8,
+    key: AccessKey,
 ) -> Result<(), Fault>
     requires first { first.count ≤ 256 }
     requires second { second.count ≤ 256 }

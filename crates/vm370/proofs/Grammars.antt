@@ -8,7 +8,7 @@ use Rattle.std.proofs.lemmas.Bool.Decides.{nat_tests}
 use Rattle.cp_text.specs.Lines.{and_then, lines_of, read_lines}
 use Rattle.cp_text.specs.Words.{word_of, after_word}
 use Rattle.cp_text.specs.Numbers.{decimal_of}
-use Rattle.cp_text.specs.Users.{user_of}
+use Rattle.cp_users.specs.Users.{user_of}
 use Rattle.cp_text.proofs.Spellings.{chosen, parts, alone, word_whole, word_again, after_again, word_again_alone, after_again_alone}
 use Rattle.vm370.specs.Script.{Said, Run, Line, counted, is_ignored, joined, line_step, operands_of, run_of, said_of, text_of, typed_of}
 use Rattle.vm370.specs.Grammar.{IsName, SaysLine, Says, IsScript, ReadsGrammar}

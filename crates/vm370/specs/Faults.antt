@@ -1,5 +1,5 @@
 -- What the program says of its failure, and its exit status.
-use Rattle.std.specs.Prelude.{ℕ, List, ◌++◌, ◌∷◌, codes}
+use Rattle.std.specs.Prelude.{ℕ, List, ◌++◌, codes, Result, Ok, Err}
 use Rattle.std.specs.Fmt.{decimal}
 use Rattle.cp_core.specs.declared.events.BootError.{BootError}
 use Rattle.cp_core.specs.declared.events.BootError.TheVariants as boots
@@ -70,3 +70,8 @@ status_of (failures.File count) = 3
 status_of failures.Memory = 4
 status_of failures.Spent = 4
 status_of failures.Usage = 2
+
+-- a program that comes to its end has status 0
+abbrev pub outcome_of : Result (Unit {0}) Failure → ℕ
+outcome_of (Ok done) = 0
+outcome_of (Err failure) = status_of failure

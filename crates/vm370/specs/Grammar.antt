@@ -3,7 +3,7 @@ use Rattle.std.specs.Prelude.{◌≡◌, ℕ, ◌+◌, ◌≤◌, ◌⊎◌, tru
 use Rattle.cp_text.specs.Lines.{lines_of}
 use Rattle.cp_text.specs.Words.{NoBlank}
 use Rattle.cp_text.specs.Numbers.{decimal_of}
-use Rattle.cp_text.specs.Users.{user_of}
+use Rattle.cp_users.specs.Users.{user_of}
 use Rattle.vm370.specs.Script.{Said, Run, Line, is_ignored, script_of}
 
 -- a word that is the name of this user

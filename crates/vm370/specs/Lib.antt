@@ -3,5 +3,4 @@ pub mod Grammar
 pub mod Transcript
 pub mod Options
 pub mod Faults
-pub mod Replies
 pub mod Session

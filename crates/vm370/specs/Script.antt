@@ -5,7 +5,8 @@ use Rattle.std.specs.Str.{bytes_eq}
 use Rattle.cp_text.specs.Lines.{lines_of, read_lines}
 use Rattle.cp_text.specs.Words.{word_of, after_word}
 use Rattle.cp_text.specs.Numbers.{decimal_of}
-use Rattle.cp_text.specs.Users.{user_of}
+use Rattle.cp_users.specs.Users.{user_of}
+use Rattle.cp_core.specs.Events.{user_of as user_of_event}
 use Rattle.cp_core.specs.declared.events.Event.{Event}
 use Rattle.cp_core.specs.declared.events.Event.TheVariants as events
 use Rattle.vm370.specs.declared.script.ScriptError.{ScriptError}
@@ -20,13 +21,12 @@ pub data Said : Type 0 where
 
 -- the event that a value is
 abbrev pub said : Event → Said
-said (events.Run user units) = Run user.0 units
-said (events.Line user text) = Line user.0 text.now
+said (events.Run user units) = Run user units
+said (events.Line user text) = Line user text.now
 
 -- an event of one of so many users
 abbrev pub IsOfUser : ℕ → Event → Type 0
-IsOfUser users (events.Run user units) = user.0 < users
-IsOfUser users (events.Line user text) = user.0 < users
+IsOfUser users event = user_of_event event < users
 
 -- a number of units is 1 to 1,000,000
 abbrev pub counted : ℕ → ℕ → Option Said

@@ -1,30 +1,24 @@
 -- What a session reads, does and writes.
-use Rattle.std.specs.Prelude.{◌≡◌, ℕ, true, List, [], ◌∷◌, ◌++◌, ◌⊎◌, map, Option, Result, Ok, Err}
+use Rattle.std.specs.Prelude.{◌≡◌, ◌<◌, ℕ, true, List, [], ◌∷◌, ◌++◌, ◌⊎◌, length, map, Option, Result, Ok, Err}
 use Rattle.std.specs.Io.KnownBytes.{Appends, Consumes, IsAtEnd}
 use Rattle.s370_num.specs.Host.{AppendsFront, IsCounted}
 use Rattle.s370_num.specs.declared.host.HostFault.{HostFault}
 use Rattle.s370_num.specs.declared.host.HostFault.TheVariants as faults
-use Rattle.cp_core.specs.System.{Shown, Step, IsHistory, IsTold}
-use Rattle.vm370.specs.Replies.{event_lines}
+use Rattle.cp_core.specs.System.{SystemView, Step, IsHistory, machine_at}
 use Rattle.vm370.specs.Script.{Said, said, script_of}
-use Rattle.vm370.specs.Transcript.{ended}
+use Rattle.vm370.specs.Transcript.{ended, event_lines}
 use Rattle.vm370.specs.declared.script.ScriptError.{ScriptError}
 use Rattle.vm370.specs.declared.script.ScriptError.TheVariants as refusals
 use Rattle.vm370.specs.declared.session.SessionError.{SessionError}
 use Rattle.vm370.specs.declared.session.SessionError.TheVariants as errors
 
 -- the names of the users
-abbrev pub names_of : Shown → List (List ℕ)
+abbrev pub names_of : SystemView → List (List ℕ)
 names_of s = map (λ user. user.name) s.users
 
 -- the events of these steps, as a script names them
 abbrev pub events_of : List Step → List Said
 events_of steps = map (λ step. said step.event) steps
-
--- every reply tells what a bare machine tells, or that frames are lacking
-abbrev pub AreTold : Shown → List Step → Type 0
-AreTold first [] = Unit {0}
-AreTold first (step ∷ steps) = IsTold first step.event step.reply step.seen × AreTold step.seen steps
 
 -- the transcript of events and their replies
 abbrev pub transcript : List (List ℕ) → List Step → List ℕ
@@ -37,26 +31,31 @@ pub record IsRead (old new : Option (List ℕ)) (text : List ℕ) : Type 0 where
   pub end : IsAtEnd new
 
 -- the whole script was applied, and the whole transcript was written
-pub record IsSession (old new : Shown) (reader_old reader_new writer_old writer_new : Option (List ℕ)) : Type 0 where
+pub record IsSession (old new : SystemView) (reader_old reader_new writer_old writer_new : Option (List ℕ)) : Type 0 where
   pub text : List ℕ
   pub read : IsRead reader_old reader_new text
   pub steps : List Step
   pub named : script_of (names_of old) text ≡ Ok (events_of steps)
   pub history : IsHistory old steps new
-  pub told : AreTold old steps
   pub written : Appends writer_old writer_new (transcript (names_of old) steps)
 
+-- the event after those that were applied was refused memory: every machine is as it was, and the system is spent
+pub record IsSpentOn (last new : SystemView) (rest : List Said) : Type 0 where
+  pub spent : new.is_spent ≡ true
+  pub refused : 0 < length rest
+  pub users : new.users ≡ last.users
+  pub machines : (user : ℕ) → machine_at new user ≡ machine_at last user
+
 -- the script was accepted, a beginning of it was applied, and a beginning of that transcript was written
-pub record IsCut (old new : Shown) (reader_old reader_new writer_old writer_new : Option (List ℕ)) : Type 0 where
+pub record IsCut (old new : SystemView) (reader_old reader_new writer_old writer_new : Option (List ℕ)) : Type 0 where
   pub text : List ℕ
   pub read : IsRead reader_old reader_new text
   pub steps : List Step
   pub rest : List Said
   pub named : script_of (names_of old) text ≡ Ok (events_of steps ++ rest)
-  pub last : Shown
+  pub last : SystemView
   pub history : IsHistory old steps last
-  pub told : AreTold old steps
-  pub left : (new ≡ last) ⊎ (new.is_spent ≡ true)
+  pub left : (new ≡ last) ⊎ IsSpentOn last new rest
   pub written : AppendsFront writer_old writer_new (transcript (names_of old) steps)
 
 -- the script was refused, first at this line
@@ -66,22 +65,20 @@ pub record IsRefused (names : List (List ℕ)) (reader_old reader_new : Option (
   pub refused : script_of names text ≡ Err line
 
 -- these events were applied, and their transcript was written
-pub record IsPlayed (events : List Said) (old new : Shown) (before after : Option (List ℕ)) : Type 0 where
+pub record IsPlayed (events : List Said) (old new : SystemView) (before after : Option (List ℕ)) : Type 0 where
   pub steps : List Step
   pub named : events ≡ events_of steps
   pub history : IsHistory old steps new
-  pub told : AreTold old steps
   pub written : Appends before after (transcript (names_of old) steps)
 
 -- a beginning of these events was applied, and a beginning of that transcript was written
-pub record IsPartly (events : List Said) (old new : Shown) (before after : Option (List ℕ)) : Type 0 where
+pub record IsPartly (events : List Said) (old new : SystemView) (before after : Option (List ℕ)) : Type 0 where
   pub steps : List Step
   pub rest : List Said
   pub named : events ≡ events_of steps ++ rest
-  pub last : Shown
+  pub last : SystemView
   pub history : IsHistory old steps last
-  pub told : AreTold old steps
-  pub left : (new ≡ last) ⊎ (new.is_spent ≡ true)
+  pub left : (new ≡ last) ⊎ IsSpentOn last new rest
   pub written : AppendsFront before after (transcript (names_of old) steps)
 
 -- how a failure of a host file is told

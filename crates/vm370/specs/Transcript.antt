@@ -1,64 +1,58 @@
--- The lines that a reply gives.
-use Rattle.std.specs.Prelude.{ℕ, List, [], ◌∷◌, ◌++◌, ◌≡◌, ◌≢◌, All, map, codes, Option, Some, None}
+-- The lines of an event and its reply.
+use Rattle.std.specs.Prelude.{ℕ, List, [], ◌∷◌, ◌++◌, ◌≡◌, ◌≢◌, All, codes, Option, Some, None}
 use Rattle.std.specs.Fmt.{decimal}
+use Rattle.s370_intr.specs.declared.next.Reason.{Reason}
+use Rattle.s370_intr.specs.declared.next.Reason.TheVariants as reasons
+use Rattle.s370_intr.specs.declared.run.Ran.{Ran as RanUnits}
 use Rattle.cp_text.specs.Lines.{lines_of}
-use Rattle.cp_text.specs.Users.{name_of}
-use Rattle.bare_machine.specs.declared.state.Reason.TheVariants as reasons
-use Rattle.cp_core.specs.declared.events.End.{End}
-use Rattle.cp_core.specs.declared.events.End.TheVariants as ends
-use Rattle.vm370.specs.declared.transcript.Ending.{Ending}
-use Rattle.vm370.specs.declared.transcript.Ending.TheVariants as endings
-use Rattle.vm370.specs.declared.transcript.Printed.{Printed}
-use Rattle.vm370.specs.declared.transcript.Told.{Told}
-
--- a line that was printed at a user's terminal
-pub record Line : Type 0 where
-  pub user : ℕ
-  pub text : List ℕ
-
--- what is told of an event
-pub record Telling : Type 0 where
-  pub lines : List Line
-  pub ending : Option Ending
-
--- the line that a value is
-abbrev pub printed : Printed → Line
-printed line = record { user = line.user.0; text = line.text.items }
-
--- what a value tells
-abbrev pub telling : Told → Telling
-telling told = record { lines = map printed told.lines.items; ending = told.ending }
-
--- why a run ended, in one word
-abbrev pub reason_word : End → List ℕ
-reason_word (ends.Ended reasons.Count) = codes "COUNT"
-reason_word (ends.Ended reasons.Wait) = codes "WAIT"
-reason_word (ends.Ended reasons.DisabledWait) = codes "DISABLEDWAIT"
-reason_word (ends.Ended reasons.EcMode) = codes "ECMODE"
-reason_word (ends.Ended reasons.Stopped) = codes "STOPPED"
-reason_word ends.OutOfFrames = codes "FRAMES"
+use Rattle.cp_users.specs.Users.{name_of}
+use Rattle.cp_console.specs.Responses.{text_of}
+use Rattle.cp_console.specs.declared.responses.Response.{Response}
+use Rattle.cp_core.specs.Events.{user_of}
+use Rattle.cp_core.specs.declared.events.Ended.{Ended}
+use Rattle.cp_core.specs.declared.events.Ended.TheVariants.{Ran, Done, FramesOut}
+use Rattle.cp_core.specs.declared.events.Event.{Event}
+use Rattle.cp_core.specs.declared.events.Reply.{Reply}
 
 -- `u: text`
 abbrev pub told_line : List ℕ → List ℕ → List ℕ
 told_line name text = name ++ codes ": " ++ text
 
--- a printed line, by its user's name
-abbrev pub line_of : List (List ℕ) → Line → List ℕ
-line_of names line = told_line (name_of names line.user) line.text
+-- the line at the user's terminal, where something was said
+abbrev pub said_lines : List ℕ → Option Response → List (List ℕ)
+said_lines name None = []
+said_lines name (Some response) = told_line name (text_of response) ∷ []
 
--- `= u units REASON` after a run, `= u FRAMES` after another event that was out of frames
-abbrev pub ending_line : List ℕ → Ending → List ℕ
-ending_line name (endings.Ran units reason) = codes "= " ++ name ++ codes " " ++ decimal units ++ codes " " ++ reason_word reason
-ending_line name endings.OutOfFrames = codes "= " ++ name ++ codes " FRAMES"
+-- why a run ended, in one word
+abbrev pub reason_word : Reason → List ℕ
+reason_word reasons.Count = codes "COUNT"
+reason_word reasons.Wait = codes "WAIT"
+reason_word reasons.DisabledWait = codes "DISABLEDWAIT"
+reason_word reasons.EcMode = codes "ECMODE"
+reason_word reasons.Stopped = codes "STOPPED"
+reason_word reasons.FramesOut = codes "FRAMES"
 
--- the line of an ending, where there is one
-abbrev pub ending_lines : List ℕ → Option Ending → List (List ℕ)
-ending_lines name None = []
-ending_lines name (Some ending) = ending_line name ending ∷ []
+-- `= u units REASON`
+abbrev pub ran_line : List ℕ → RanUnits → List ℕ
+ran_line name ran = codes "= " ++ name ++ codes " " ++ decimal ran.units ++ codes " " ++ reason_word ran.reason
 
--- the lines of an event of this user: those that were printed, and then that of its ending
-abbrev pub reply_lines : List (List ℕ) → ℕ → Telling → List (List ℕ)
-reply_lines names user told = map (line_of names) told.lines ++ ending_lines (name_of names user) told.ending
+-- `= u FRAMES`
+abbrev pub frames_line : List ℕ → List ℕ
+frames_line name = codes "= " ++ name ++ codes " FRAMES"
+
+-- a run is told, and any other event only where it was out of frames
+abbrev pub ending_lines : List ℕ → Ended → List (List ℕ)
+ending_lines name (Ran ran) = ran_line name ran ∷ []
+ending_lines name Done = []
+ending_lines name FramesOut = frames_line name ∷ []
+
+-- what was said to the user of this name, and then how the event ended
+abbrev pub reply_lines : List ℕ → Reply → List (List ℕ)
+reply_lines name reply = said_lines name reply.said ++ ending_lines name reply.ended
+
+-- the lines of an event that was answered so
+abbrev pub event_lines : List (List ℕ) → Event → Reply → List (List ℕ)
+event_lines names event reply = reply_lines (name_of names (user_of event)) reply
 
 -- lines as bytes, each ended by LF
 abbrev pub ended : List (List ℕ) → List ℕ

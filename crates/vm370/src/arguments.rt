@@ -1,10 +1,10 @@
 //! The words of the program: which files it is to read.
-ghost use Rattle.std.specs.Prelude.{◌≡◌, IfOk, IfErr, IfSome, IsSome, map, option_map, true};
+ghost use Rattle.std.specs.Prelude.{◌≡◌, IfOk, IfErr, IfSome, OnOk, IsSome, map, option_map, true};
 ghost use Rattle.clap.specs.Words.{app_of, first_of, found_of, rows_of};
 ghost use Rattle.clap.specs.Values.{kind_of};
 ghost use Rattle.clap.specs.declared.error.kind.ErrorKind.TheVariants.{OutOfMemory};
 ghost use Rattle.vm370.specs.declared.arguments.UsageError.TheVariants.{Memory};
-ghost use Rattle.vm370.specs.Options.{IsNamed, gives_paths, is_taken, rows_named, vm370};
+ghost use Rattle.vm370.specs.Options.{HasNoFault, IsNamed, command_of, gives_paths, is_taken, rows_named};
 
 use clap::error::ErrorKind;
 use clap::{Arg, ArgMatches, Command, Error as ClapError};
@@ -41,14 +41,20 @@ impl From<AllocError> for UsageError {
     }
 }
 
-/// What the words name, the first of which is the program's own name. Words are read as `clap` reads
+/// What the words name, the first of which is the name that the program was started by; `program` is
+/// its name in a text for the person who wrote them. Words are read as `clap` reads
 /// them: `--` before the paths is allowed, and `--help` is a request for the text of
 /// [`UsageError::Usage`].
-pub fn arguments<'a, S: AsStr>(alloc: Global, words: &'a [S]) -> Result<Options<'a>, UsageError>
-    ensures ok { IfOk result (IsNamed (rows_named (map S.text words.entry.now))) }
-    ensures err { is_taken (map S.text words.entry.now) ≡ true → gives_paths (rows_named (map S.text words.entry.now)) ≡ true → IfErr result (λ error. error ≡ UsageError.Memory) }
+pub fn arguments<'a, S: AsStr>(
+    alloc: Global,
+    program: &'a str,
+    words: &'a [S],
+) -> Result<Options<'a>, UsageError>
+    ensures ok { IfOk result (IsNamed (rows_named program.entry.now (map S.text words.entry.now))) }
+    ensures taken { OnOk result (HasNoFault program.entry.now (map S.text words.entry.now)) }
+    ensures err { is_taken program.entry.now (map S.text words.entry.now) ≡ true → gives_paths (rows_named program.entry.now (map S.text words.entry.now)) ≡ true → IfErr result (λ error. error ≡ UsageError.Memory) }
 {
-    let matches = matched(alloc, words)?;
+    let matches = matched(alloc, program, words)?;
     match options_in(&matches) {
         Some(options) => Ok(options),
         None => Err(UsageError::Usage(String::from_str(alloc, "a path is missing\n")?)),
@@ -73,11 +79,16 @@ fn text_of<'a>(matches: &ArgMatches<'a>, id: &str) -> Option<&'a str>
 }
 
 /// What `clap` finds in the words.
-fn matched<'a, S: AsStr>(alloc: Global, words: &'a [S]) -> Result<ArgMatches<'a>, UsageError>
-    ensures ok { IfOk result (λ m. rows_of (found_of m) ≡ rows_named (map S.text words.entry.now)) }
-    ensures err { is_taken (map S.text words.entry.now) ≡ true → IfErr result (λ error. error ≡ UsageError.Memory) }
+fn matched<'a, S: AsStr>(
+    alloc: Global,
+    program: &'a str,
+    words: &'a [S],
+) -> Result<ArgMatches<'a>, UsageError>
+    ensures ok { IfOk result (λ m. rows_of (found_of m) ≡ rows_named program.entry.now (map S.text words.entry.now)) }
+    ensures taken { OnOk result (HasNoFault program.entry.now (map S.text words.entry.now)) }
+    ensures err { is_taken program.entry.now (map S.text words.entry.now) ≡ true → IfErr result (λ error. error ≡ UsageError.Memory) }
 {
-    let command = command(alloc)?;
+    let command = command(alloc, program)?;
     match command.try_get_matches_from(words) {
         Ok(matches) => Ok(matches),
         Err(error) => Err(refusal(alloc, &error)),
@@ -98,8 +109,8 @@ fn refusal(alloc: Global, error: &ClapError) -> UsageError
 }
 
 /// The program's words, as `clap` is told of them.
-fn command<'a>(alloc: Global) -> Result<Command<'a>, AllocError>
-    ensures { IfOk result (λ c. app_of c ≡ vm370) }
+fn command<'a>(alloc: Global, program: &'a str) -> Result<Command<'a>, AllocError>
+    ensures { IfOk result (λ c. app_of c ≡ command_of program.entry.now) }
 {
     let directory = Arg::new(alloc, "DIRECTORY")
         .required(true)
@@ -107,7 +118,7 @@ fn command<'a>(alloc: Global) -> Result<Command<'a>, AllocError>
     let script = Arg::new(alloc, "SCRIPT").required(true).help(
         "What happens to their machines, one event a line (docs/FORMATS.md)",
     );
-    let command = Command::new(alloc, "vm370")
+    let command = Command::new(alloc, program)
         .about("Runs many System/370 machines at once, and prints what their terminals show")
         .arg(directory)?
         .arg(script)?;
@@ -119,12 +130,14 @@ mod tests {
     use super::*;
     use std::test::Fail;
 
+    const NAME: &str = "vm370";
+
     /// The paths that the words name, or nothing for a wrong use; want of memory stands apart.
     fn paths<'a>(
         alloc: Global,
         words: &'a [&'a str],
     ) -> Result<Option<(&'a str, &'a str)>, AllocError> {
-        match arguments(alloc, words) {
+        match arguments(alloc, NAME, words) {
             Ok(options) => Ok(Some((options.directory, options.script))),
             Err(UsageError::Usage(_)) => Ok(None),
             Err(UsageError::Memory) => Err(AllocError),
@@ -169,7 +182,7 @@ mod tests {
     #[test]
     fn helps_whoever_asks(rt: HostRuntime) -> Result<(), Fail> {
         let words = ["vm370", "--help"];
-        match arguments(rt.alloc(), words.as_slice()) {
+        match arguments(rt.alloc(), NAME, words.as_slice()) {
             Err(UsageError::Usage(text)) => {
                 assert!(rt;
                     text.contains("Usage: vm370 <DIRECTORY> <SCRIPT>"),

@@ -1,7 +1,7 @@
 //! What the program says of its failure, and its exit status.
 ghost use Rattle.std.specs.Prelude.{◌≡◌, IfOk, string_bytes};
 ghost use Rattle.vm370.specs.declared.faults.Failure.TheVariants.{Boot, Directory, Memory};
-ghost use Rattle.vm370.specs.Faults.{boot_text, directory_text, fault_text, file_failure, session_failure, status_of};
+ghost use Rattle.vm370.specs.Faults.{boot_text, directory_text, fault_text, file_failure, outcome_of, session_failure, status_of};
 
 use crate::session::SessionError;
 use cp_core::BootError;
@@ -143,6 +143,16 @@ pub fn status(failure: &Failure) -> u8
     }
 }
 
+/// The exit status of the program: 0 where it came to its end, else that of its failure.
+pub fn outcome(ended: &Result<(), Failure>) -> u8
+    ensures { result ≡ outcome_of ended.now }
+{
+    match ended {
+        Ok(()) => 0,
+        Err(failure) => status(failure),
+    }
+}
+
 #[cfg(test)]
 mod tests {
     use super::*;
@@ -181,6 +191,8 @@ mod tests {
             assert_eq!(rt; status(&failure), code, "{line}");
         }
         assert_eq!(rt; status(&Failure::Usage), 2);
+        assert_eq!(rt; outcome(&Err(Failure::File(1))), 3);
+        assert_eq!(rt; outcome(&Ok(())), 0);
         Ok(())
     }
 }

@@ -8,14 +8,11 @@
 //! any other text is refused at its first line that the grammar does not have
 //! ([`script::reads_grammar`] carries that law, [`script::read_script`] keeps it). The lines that the
 //! transcript has for an event are those of that document, in its order
-//! ([`replies::print_event`]).
+//! ([`transcript::print_event`]).
 #![tactic(auto)]
 
 pub mod arguments;
-#[cfg(test)]
-mod examples;
 pub mod faults;
-pub mod replies;
 pub mod script;
 pub mod session;
 pub mod transcript;

@@ -8,8 +8,8 @@ ghost use Rattle.vm370.specs.Script.{IsOfUser, IsRefusal, is_ignored, operands_o
 use cp_core::Event;
 use cp_text::lines::cut_line;
 use cp_text::numbers::decimal_of;
-use cp_text::users::{Named, UserNo, user_of};
 use cp_text::words::cut_word;
+use cp_users::{MOST_USERS, Named, user_of};
 use std::alloc::Global;
 use thiserror::Error;
 
@@ -38,6 +38,7 @@ pub fn read_script<'a, N: Named>(
     users: &[N],
     text: &'a [u8],
 ) -> Result<Vec<Event<'a>>, ScriptError>
+    requires { length users.now ≤ MOST_USERS }
     ensures ok { IfOk result (λ events. script_of (map N.name users.now) text.now ≡ Ok (map said events.items)) }
     ensures users { IfOk result (λ events. All (IsOfUser (length users.now)) events.items) }
     ensures err { IfErr result (IsRefusal (script_of (map N.name users.now) text.now)) }
@@ -48,8 +49,12 @@ pub fn read_script<'a, N: Named>(
     while !rest.is_empty() {
         let (line, after) = cut_line(rest);
         if !is_ignored(line) {
-            let event = read_event(users, line).ok_or(ScriptError::Line(number))?;
-            events.push(event).map_err(|_| ScriptError::Memory)?;
+            let Some(event) = read_event(users, line) else {
+                return Err(ScriptError::Line(number));
+            };
+            if events.push(event).is_err() {
+                return Err(ScriptError::Memory);
+            }
         }
         rest = after;
         number += 1;
@@ -69,6 +74,7 @@ fn is_ignored(line: &[u8]) -> bool
 
 /// The event that a line names, by its first word.
 fn read_event<'a, N: Named>(users: &[N], line: &'a [u8]) -> Option<Event<'a>>
+    requires { length users.now ≤ MOST_USERS }
     ensures users { IfSome result (IsOfUser (length users.now)) }
     ensures said { option_map said result ≡ said_of (map N.name users.now) line.now }
 {
@@ -85,6 +91,7 @@ fn read_event<'a, N: Named>(users: &[N], line: &'a [u8]) -> Option<Event<'a>>
 
 /// `RUN u n`, after its first word.
 fn read_run<'a, N: Named>(users: &[N], operands: &'a [u8]) -> Option<Event<'a>>
+    requires { length users.now ≤ MOST_USERS }
     ensures users { IfSome result (IsOfUser (length users.now)) }
     ensures said { option_map said result ≡ run_of (map N.name users.now) operands.now }
 {
@@ -100,6 +107,7 @@ fn read_run<'a, N: Named>(users: &[N], operands: &'a [u8]) -> Option<Event<'a>>
 
 /// `LINE u text`, after its first word; an empty text may lack the blank before it.
 fn read_typed<'a, N: Named>(users: &[N], operands: &'a [u8]) -> Option<Event<'a>>
+    requires { length users.now ≤ MOST_USERS }
     ensures users { IfSome result (IsOfUser (length users.now)) }
     ensures said { option_map said result ≡ typed_of (map N.name users.now) operands.now }
 {
@@ -120,11 +128,18 @@ pub fn reads_grammar()
 #[cfg(test)]
 mod tests {
     use super::*;
+    use cp_users::UserNo;
     use std::test::Fail;
 
-    const A: UserNo = UserNo(0);
+    /// User A.
+    fn a() -> UserNo {
+        UserNo::new(0)
+    }
 
-    const B: UserNo = UserNo(1);
+    /// User B.
+    fn b() -> UserNo {
+        UserNo::new(1)
+    }
 
     /// What a text is read as where its users are A and B.
     fn read<'a>(alloc: Global, text: &'a [u8]) -> Result<Vec<Event<'a>>, ScriptError> {
@@ -137,14 +152,14 @@ mod tests {
             b"LINE A LOGON\nLINE A STORE 1000 0A07\nLINE A STORE 60 0000000000000200\nLINE A STORE PSW 00000000 00001000\nLINE A BEGIN\nRUN A 1\nLINE A #CP DISPLAY 20\nLINE A #CP DISPLAY PSW\n";
         let events = read(rt.alloc(), text)?;
         let wanted = [
-            Event::Line(A, b"LOGON".as_slice()),
-            Event::Line(A, b"STORE 1000 0A07".as_slice()),
-            Event::Line(A, b"STORE 60 0000000000000200".as_slice()),
-            Event::Line(A, b"STORE PSW 00000000 00001000".as_slice()),
-            Event::Line(A, b"BEGIN".as_slice()),
-            Event::Run(A, 1),
-            Event::Line(A, b"#CP DISPLAY 20".as_slice()),
-            Event::Line(A, b"#CP DISPLAY PSW".as_slice()),
+            Event::Line(a(), b"LOGON".as_slice()),
+            Event::Line(a(), b"STORE 1000 0A07".as_slice()),
+            Event::Line(a(), b"STORE 60 0000000000000200".as_slice()),
+            Event::Line(a(), b"STORE PSW 00000000 00001000".as_slice()),
+            Event::Line(a(), b"BEGIN".as_slice()),
+            Event::Run(a(), 1),
+            Event::Line(a(), b"#CP DISPLAY 20".as_slice()),
+            Event::Line(a(), b"#CP DISPLAY PSW".as_slice()),
         ];
         assert_eq!(rt; events.as_slice(), wanted.as_slice());
         Ok(())
@@ -156,9 +171,9 @@ mod tests {
             b"* A logs on and runs; B gets an empty line.\nLINE A LOGON\n\nRUN A 0000100\nLINE B\n";
         let events = read(rt.alloc(), text)?;
         let wanted = [
-            Event::Line(A, b"LOGON".as_slice()),
-            Event::Run(A, 100),
-            Event::Line(B, b"".as_slice()),
+            Event::Line(a(), b"LOGON".as_slice()),
+            Event::Run(a(), 100),
+            Event::Line(b(), b"".as_slice()),
         ];
         assert_eq!(rt; events.as_slice(), wanted.as_slice());
         Ok(())
@@ -180,23 +195,23 @@ mod tests {
     #[test]
     fn reads_one_event(rt: HostRuntime) -> Result<(), Fail> {
         for (text, event) in [
-            (b"RUN B 1".as_slice(), Event::Run(B, 1)),
-            (b"RUN A 0000001\n".as_slice(), Event::Run(A, 1)),
-            (b"RUN A 1000000\n".as_slice(), Event::Run(A, 1_000_000)),
-            (b"LINE B".as_slice(), Event::Line(B, b"".as_slice())),
-            (b"LINE B ".as_slice(), Event::Line(B, b"".as_slice())),
+            (b"RUN B 1".as_slice(), Event::Run(b(), 1)),
+            (b"RUN A 0000001\n".as_slice(), Event::Run(a(), 1)),
+            (b"RUN A 1000000\n".as_slice(), Event::Run(a(), 1_000_000)),
+            (b"LINE B".as_slice(), Event::Line(b(), b"".as_slice())),
+            (b"LINE B ".as_slice(), Event::Line(b(), b"".as_slice())),
             (
                 b"LINE B x y ".as_slice(),
-                Event::Line(B, b"x y ".as_slice()),
+                Event::Line(b(), b"x y ".as_slice()),
             ),
-            (b"LINE B  x".as_slice(), Event::Line(B, b" x".as_slice())),
+            (b"LINE B  x".as_slice(), Event::Line(b(), b" x".as_slice())),
             (
                 b"LINE B x\r\n".as_slice(),
-                Event::Line(B, b"x\r".as_slice()),
+                Event::Line(b(), b"x\r".as_slice()),
             ),
             (
                 b"LINE A \t\xC1\xFF".as_slice(),
-                Event::Line(A, b"\t\xC1\xFF".as_slice()),
+                Event::Line(a(), b"\t\xC1\xFF".as_slice()),
             ),
         ] {
             assert_eq!(rt;

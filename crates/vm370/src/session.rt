@@ -1,11 +1,11 @@
 //! A session: from a script's bytes to a transcript's bytes.
-ghost use Rattle.std.specs.Prelude.{◌≡◌, ◌<◌, ◌⊎◌, ℕ, [], ◌∷◌, All, Err, OnErr, OnOk, length, map, true};
+ghost use Rattle.std.specs.Prelude.{◌≡◌, ◌<◌, ◌⊎◌, ℕ, [], ◌∷◌, All, Err, OnErr, OnOk, ◌↔◌, false, length, map, true};
 ghost use Rattle.vm370.specs.declared.session.SessionError.TheVariants.{Memory};
 ghost use Rattle.vm370.specs.Script.{IsOfUser, said};
 ghost use Rattle.vm370.specs.Session.{CountsFiles, CountsWriter, IsCut, IsPartly, IsPlayed, IsRefused, IsSession, fault_error, names_of, refusal_error};
 
-use crate::replies::print_event;
 use crate::script::{ScriptError, read_script};
+use crate::transcript::print_event;
 use cp_core::{CpError, Event, System};
 use s370_num::host::{HostFault, HostReader, HostWriter, read_all, write_all};
 use std::alloc::{AllocError, Global};
@@ -59,7 +59,7 @@ impl From<AllocError> for SessionError {
 }
 
 /// Reads a whole script and judges it; then applies its events one after another, and writes each
-/// reply's lines as it comes.
+/// reply's lines as it comes. When it ends well, nothing that was written is held back.
 pub fn session<R: HostReader, W: HostWriter>(
     alloc: Global,
     system: &mut System,
@@ -70,7 +70,8 @@ pub fn session<R: HostReader, W: HostWriter>(
     ensures line { (n : ℕ) → result ≡ Err (SessionError.Line n) → IsRefused (names_of system.old) (R.remaining reader.old) (R.remaining reader.new) n }
     ensures refused { (n : ℕ) → result ≡ Err (SessionError.Line n) → (system.new ≡ system.old) × (writer.new ≡ writer.old) }
     ensures err { OnErr result (((system.new ≡ system.old) × (writer.new ≡ writer.old)) ⊎ IsCut system.old system.new (R.remaining reader.old) (R.remaining reader.new) (W.contents writer.old) (W.contents writer.new)) }
-    ensures spent { result ≡ Err SessionError.Spent → system.new.is_spent ≡ true }
+    ensures spent { result ≡ Err SessionError.Spent → system.old.is_spent ≡ true }
+    ensures flushed { OnOk result (W.held writer.new ≡ []) }
     ensures counts { CountsFiles result (R.HostFile.failures reader.old) (R.HostFile.failures reader.new) (W.HostFile.failures writer.old) (W.HostFile.failures writer.new) }
 {
     let text = read_all(alloc, reader)?;
@@ -89,11 +90,12 @@ fn play<W: HostWriter>(
     ensures ok { OnOk result (IsPlayed (map said events.now) system.old system.new (W.contents writer.old) (W.contents writer.new)) }
     ensures err { OnErr result (IsPartly (map said events.now) system.old system.new (W.contents writer.old) (W.contents writer.new)) }
     ensures line { (n : ℕ) → result ≡ Err (SessionError.Line n) → ⊥ }
-    ensures spent { result ≡ Err SessionError.Spent → system.new.is_spent ≡ true }
+    ensures spent { result ≡ Err SessionError.Spent → system.old.is_spent ≡ true }
+    ensures flushed { OnOk result (W.held writer.new ≡ []) }
     ensures counts { CountsWriter result (W.HostFile.failures writer.old) (W.HostFile.failures writer.new) }
 {
     for event in events {
-        act(alloc, system, *event, writer)?;
+        act(alloc, system, event, writer)?;
     }
     writer.flush()?;
     Ok(())
@@ -103,18 +105,19 @@ fn play<W: HostWriter>(
 fn act<W: HostWriter>(
     alloc: Global,
     system: &mut System,
-    event: Event<'_>,
+    event: &Event<'_>,
     writer: &mut W,
 ) -> Result<(), SessionError>
-    requires { IsOfUser (length system.old.users) event }
-    ensures ok { OnOk result (IsPlayed (said event.entry ∷ []) system.old system.new (W.contents writer.old) (W.contents writer.new)) }
-    ensures err { OnErr result (IsPartly (said event.entry ∷ []) system.old system.new (W.contents writer.old) (W.contents writer.new)) }
+    requires { IsOfUser (length system.old.users) event.now }
+    ensures ok { OnOk result (IsPlayed (said event.now ∷ []) system.old system.new (W.contents writer.old) (W.contents writer.new)) }
+    ensures err { OnErr result (IsPartly (said event.now ∷ []) system.old system.new (W.contents writer.old) (W.contents writer.new)) }
     ensures users { system.new.users ≡ system.old.users }
     ensures line { (n : ℕ) → result ≡ Err (SessionError.Line n) → ⊥ }
-    ensures spent { result ≡ Err SessionError.Spent → system.new.is_spent ≡ true }
+    ensures alive { OnOk result (system.new.is_spent ≡ false) }
+    ensures spent { (result ≡ Err SessionError.Spent) ↔ (system.old.is_spent ≡ true) }
     ensures counts { CountsWriter result (W.HostFile.failures writer.old) (W.HostFile.failures writer.new) }
 {
-    let reply = match system.apply(event) {
+    let reply = match system.apply(copied(event)) {
         Ok(reply) => reply,
         Err(CpError::Memory) => return Err(SessionError::Memory),
         Err(CpError::Spent) => return Err(SessionError::Spent),
@@ -123,6 +126,16 @@ fn act<W: HostWriter>(
     let lines = print_event(alloc, system.directory().users(), event, &reply)?;
     write_all(writer, &lines)?;
     Ok(())
+}
+
+/// The same event once more: to apply an event uses it up.
+fn copied<'a>(event: &Event<'a>) -> Event<'a>
+    ensures { result ≡ event.now }
+{
+    match *event {
+        Event::Run(user, units) => Event::Run(user, units),
+        Event::Line(user, typed) => Event::Line(user, typed),
+    }
 }
 
 #[cfg(test)]

@@ -11,8 +11,11 @@ use std::process::ExitCode;
 use std::rt::{Env, Files};
 use std::{env, fs, io};
 use vm370::arguments::{UsageError, arguments};
-use vm370::faults::{Failure, fault_line, status};
+use vm370::faults::{Failure, fault_line, outcome};
 use vm370::session::session;
+
+/// The program's name, as it tells it.
+const PROGRAM: &str = "vm370";
 
 /// How many frames the machine has.
 const FRAMES: u32 = 64;
@@ -21,29 +24,28 @@ const FRAMES: u32 = 64;
 const SLOTS: u32 = 256;
 
 fn main(rt: HostRuntime) -> ExitCode {
-    match run(&rt) {
-        Ok(()) => ExitCode::SUCCESS,
-        Err(failure) => {
-            if failure != Failure::Usage {
-                tell(&rt, &failure);
-            }
-            ExitCode::from(status(&failure))
-        }
+    let ended = run(&rt);
+    if let Err(failure) = &ended {
+        tell(&rt, failure);
     }
+    ExitCode::from(outcome(&ended))
 }
 
-/// Prints the line of a failure.
+/// Prints the line of a failure. A wrong use has been told by a longer text.
 fn tell<R: AllocGlobal + Eprint>(rt: &R, failure: &Failure) {
+    if *failure == Failure::Usage {
+        return;
+    }
     if let Ok(line) = fault_line(rt.alloc(), failure) {
         let _ = rt.eprintln(&line);
     }
 }
 
-/// Reads the words and both files, and writes the transcript. A wrong use has then been told.
+/// Reads the words and both files, and writes the transcript. A wrong use is told here.
 fn run<R: AllocGlobal + Files + Env + Print + Eprint>(rt: &R) -> Result<(), Failure> {
     let alloc = rt.alloc();
     let words = words(rt)?;
-    let options = match arguments(alloc, words.as_slice()) {
+    let options = match arguments(alloc, PROGRAM, words.as_slice()) {
         Ok(options) => options,
         Err(UsageError::Memory) => return Err(Failure::Memory),
         Err(UsageError::Usage(text)) => {

@@ -1,15 +1,18 @@
 //! A reader or a writer of std with a count of its failures.
 ghost use Rattle.std.specs.Prelude.{◌≡◌};
+ghost use Rattle.std.specs.Io.Buffered.{writer_buffer, writer_contents};
 ghost use Rattle.s370_num.specs.Host.{one_more};
 ghost use Rattle.s370_num.specs.Counted.{failures_of, file_of};
 
 use crate::host::{HostFault, HostFile, HostReader, HostWriter};
-use std::io::{ErrorKind, Read, Write};
+use std::alloc::Allocator;
+use std::io::{BufWriter, ErrorKind, Read, Write};
 
 /// A file of the host or a standard stream, and how often it failed.
 ///
 /// A read or a write that was interrupted is made again, and is no failure. A write of nothing, where
-/// there was something to write, is one. A program writes `Counted::new(fs::open(rt, path)?)`.
+/// there was something to write, is one. A program reads `Counted::new(fs::open(rt, path)?)`, and writes
+/// to `Counted::new(BufWriter::new(alloc, file)?)`.
 #[derive(Drop)]
 pub struct Counted<F> {
     file: F,
@@ -61,8 +64,12 @@ impl<R: Read> HostReader for Counted<R> {
     }
 }
 
-impl<W: Write> HostWriter for Counted<W> {
-    ghost contents = { λ s. W.contents s.file };
+/// Of a buffer it is known what it holds back; of other writers of std it is not, nor of that which the
+/// buffer writes to, whose `flush` is called after the buffer is empty.
+impl<W: Write + Drop, A: Allocator> HostWriter for Counted<BufWriter<W, A>> {
+    ghost contents = { λ s. writer_contents W.contents s.file };
+
+    ghost held = { λ s. writer_buffer s.file };
 
     fn write(&mut self, bytes: &[u8]) -> Result<usize, HostFault> {
         'tries: for _ in 0..u64::MAX {

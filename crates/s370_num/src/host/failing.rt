@@ -77,6 +77,8 @@ impl<R: HostReader> HostReader for Failing<R> {
 impl<W: HostWriter> HostWriter for Failing<W> {
     ghost contents = { λ s. W.contents s.file };
 
+    ghost held = { λ s. W.held s.file };
+
     fn write(&mut self, bytes: &[u8]) -> Result<usize, HostFault> {
         if self.is_due() {
             return Err(self.fail());

@@ -1,5 +1,5 @@
 //! Host files in memory, whose device never fails: their count of failures stays 0.
-ghost use Rattle.std.specs.Prelude.{◌≡◌, ◌<◌, ◌≤◌, Some, IsOk, IfOk, length};
+ghost use Rattle.std.specs.Prelude.{◌≡◌, ◌<◌, ◌≤◌, [], Some, IsOk, IfOk, length};
 ghost use Rattle.std.specs.Io.KnownBytes.{ReadConsumes, WriteAppends};
 ghost use Rattle.s370_num.specs.Host.{Counts};
 
@@ -57,6 +57,8 @@ impl HostFile for Vec<u8> {
 
 impl HostWriter for Vec<u8> {
     ghost contents = { λ v. Some v.items };
+
+    ghost held = { λ _. [] };
 
     fn write(&mut self, bytes: &[u8]) -> Result<usize, HostFault>
         ensures whole { IfOk result (λ n. n ≡ length bytes.now) }

@@ -3,6 +3,7 @@ use cp_core::Sizes;
 use cp_directory::read_directory;
 use s370_num::host::failing::Failing;
 use s370_num::host::{Bytes, Counted};
+use std::io::BufWriter;
 use std::test::Fail;
 
 /// A supervisor call, and what it leaves.
@@ -92,11 +93,13 @@ fn tells_a_write_that_fails_at_each_byte(rt: HostRuntime) -> Result<(), Fail> {
     let mut room = [0; 256];
     for size in 0..CALL_TOLD.len() {
         let mut system = booted(rt.alloc())?;
-        let mut writer = Counted::new(&mut room[..size]);
+        let passing = BufWriter::with_capacity(rt.alloc(), 0, &mut room[..size])?;
+        let mut writer = Counted::new(passing);
         let ended = session(rt.alloc(), &mut system, &mut Bytes::new(CALL), &mut writer);
         if ended == Err(SessionError::Memory) {
             return Err(Fail::from(SessionError::Memory));
         }
+        drop(writer);
         assert_eq!(rt; ended, Err(SessionError::Device(1)), "room for {size}");
         assert_eq!(rt; &room[..size], &CALL_TOLD[..size]);
     }

@@ -11,9 +11,10 @@ pub returns-then-start-count : goal.returns-then-start-count
 returns-then-start-count g c =
     one_beyond _ _ _ _ (beyond _ c.args.access c.args.range.start c.args.range.count (omega arith) (omega arith))
 
-pub returns-then-key-eq0 : goal.returns-then-key-eq0
-returns-then-key-eq0 g c =
-    (one_fine _ _ _ _ (inside _ c.args.access c.args.range.start c.args.range.count (omega arith)) (permitted_is _ _ _ _ _ true (rw c.if-key-eq0.true (key_zero_permits _ _ _ _))), (λ some. record { inside = omega arith; here = λ k h. refl }, tt))
+pub returns-then-get-eq0 : goal.returns-then-get-eq0
+returns-then-get-eq0 g c =
+    let e : c.args.key ≡ 0 = cc in
+    (one_fine _ _ _ _ (inside _ c.args.access c.args.range.start c.args.range.count (omega arith)) (permitted_is _ _ _ _ _ true (rw e (key_zero_permits _ _ _ _))), (λ some. record { inside = omega arith; here = λ k h. refl }, tt))
 
 pub returns : goal.returns
 returns g c =

@@ -1,10 +1,8 @@
-use Rattle.std.proofs.Common.{◌≡◌, ◌+◌, ap, ◌∙◌, map, take, drop, get_or, List, [], ◌∷◌, ◌++◌, arith}
+use Rattle.std.proofs.Common.{◌≡◌, ◌+◌, ap, ◌∙◌, map, take, drop, List, [], ◌∷◌, ◌++◌, arith}
 use Rattle.std.proofs.lemmas.List.{take_all}
-use Rattle.cp_core.specs.declared.events.Event.{Event}
-use Rattle.cp_core.specs.declared.events.Event.TheVariants.{Run}
 use Rattle.vm370.specs.Script.{said, Said}
 use Rattle.vm370.proofs.Lists.{map_take_more, map_around}
-use Rattle.vm370.proofs.Histories.{on_err, played_more, partly_more, partly_rest, partly_all}
+use Rattle.vm370.proofs.Histories.{not_both, on_err, played_more, partly_more, partly_rest, partly_all}
 use Rattle.vm370.proofs.session.play.Goals as goal
 
 pub returns-in_err-act-clause-err : goal.returns-in_err-act-clause-err
@@ -12,11 +10,11 @@ returns-in_err-act-clause-err g c =
     let contents = g.W.HostWriter.contents in
     let events = c.args.events.now in
     let i = c.loop-event.event-index in
-    let none : Event = Run (record { 0 = 0 }) 0 in
+    let event = c.event-item.result in
     let done = map said (take i events) in
-    let one = said (get_or events i none) in
+    let one = said event in
     let rest = map said (drop (i + 1) events) in
-    let whole : map said events ≡ (done ++ one ∷ []) ++ rest = map_around said events (i + 1) ∙ ap (λ (l : List Said). l ++ rest) (map_take_more said events i none (omega arith)) in
+    let whole : map said events ≡ (done ++ one ∷ []) ++ rest = map_around said events (i + 1) ∙ ap (λ (l : List Said). l ++ rest) (map_take_more said events i event (omega arith) c.event-item.is) in
     let both = partly_more done (one ∷ []) c.args.system.now c.loop-event.system c.act.new.system (contents c.args.writer.now) (contents c.loop-event.writer) (contents c.act.new.writer) c.loop-event.invariant.users c.loop-event.invariant.so_far c.in_err-act.ensures.err in
     on_err c.from_residual.result (rw whole (partly_rest (done ++ one ∷ []) rest c.args.system.now c.act.new.system (contents c.args.writer.now) (contents c.act.new.writer) both))
 
@@ -25,12 +23,13 @@ loop-event-preserved g c =
     let contents = g.W.HostWriter.contents in
     let events = c.args.events.now in
     let i = c.loop-event.event-index in
-    let none : Event = Run (record { 0 = 0 }) 0 in
+    let event = c.event-item.result in
     let done = map said (take i events) in
-    let one = said (get_or events i none) in
+    let one = said event in
     record {
-      so_far = rw (map_take_more said events i none (omega arith)) (played_more done (one ∷ []) c.args.system.now c.loop-event.system c.act.new.system (contents c.args.writer.now) (contents c.loop-event.writer) (contents c.act.new.writer) c.loop-event.invariant.users c.loop-event.invariant.so_far c.in_ok-act.ensures.ok);
+      so_far = rw (map_take_more said events i event (omega arith) c.event-item.is) (played_more done (one ∷ []) c.args.system.now c.loop-event.system c.act.new.system (contents c.args.writer.now) (contents c.loop-event.writer) (contents c.act.new.writer) c.loop-event.invariant.users c.loop-event.invariant.so_far c.in_ok-act.ensures.ok);
       users = c.in_ok-act.ensures.users ∙ c.loop-event.invariant.users;
+      spent = not_both c.act.new.system.is_spent c.args.system.now.is_spent c.in_ok-act.ensures.alive;
       same = c.in_ok-act.ensures.counts ∙ c.loop-event.invariant.same;
     }
 

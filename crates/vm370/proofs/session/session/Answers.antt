@@ -16,7 +16,7 @@ line_told script (refusals.Line k) (Err x) n f h e = let same : k ≡ n = cc in 
 
 pub returns-in_err-events-clause-line : goal.returns-in_err-events-clause-line
 returns-in_err-events-clause-line g c = λ n e.
-    let fault = rw (c.deref.ensures.value, c.users.ensures, c.directory.ensures) at c.in_err-events.ensures.err in
+    let fault = rw (c.deref.ensures.value, c.users.ensures.users, c.directory.ensures) at c.in_err-events.ensures.err in
     record {
       text = c.in_ok-text.text.items;
       read = record { given = c.in_ok-text.ensures.ok; end = c.in_ok-text.ensures.end };

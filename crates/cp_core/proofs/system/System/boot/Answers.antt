@@ -1,28 +1,29 @@
-use Rattle.std.proofs.Common.{◌≡◌, ◌∙◌, ◌*◌, ℕ, List, Option, None, ap, map, replicate, subst, false, length, refl}
+use Rattle.std.proofs.Common.{◌≡◌, ◌∙◌, ◌*◌, ℕ, List, Option, None, ap, map, replicate, subst, Bool, false, length, refl}
 use Rattle.cp_directory.specs.Users.{DirectoryUser}
-use Rattle.bare_machine.specs.Machine.{Machine}
+use Rattle.cp_panel.specs.Machine.{Machine}
 use Rattle.cp_frames.specs.declared.numbers.UserPage.{UserPage}
-use Rattle.cp_core.specs.System.{Shown, machines_of, booted}
+use Rattle.cp_core.specs.System.{SystemView, machines_of, booted}
 use Rattle.cp_core.specs.Whole.{AreNew, IsWhole}
-use Rattle.cp_core.specs.Seats.{Seated}
+use Rattle.cp_core.specs.UserMachines.{UserParts}
 use Rattle.cp_core.proofs.Boots.{blank, new_machines, whole_new}
 use Rattle.cp_core.proofs.system.System.boot.Goals as goal
 
 pub invariant_of-result : goal.invariant_of-result
 invariant_of-result c =
     let users = c.args.directory in
-    let seated : AreNew c.in-Ok.seats.items users = subst (AreNew c.in-Ok.seats.items) c.users.ensures c.in-Ok.ensures in
-    let pages = c.in-Ok-pages_of.ensures.pages ∙ ap (λ (us : List DirectoryUser). map (λ (user : DirectoryUser). user.pages) us) c.users-2.ensures in
+    let seated : AreNew c.in-Ok.machines.items users = subst (AreNew c.in-Ok.machines.items) c.users.ensures.users c.in-Ok.ensures in
+    let pages = c.in-Ok-pages_of.ensures.pages ∙ ap (λ (us : List DirectoryUser). map (λ (user : DirectoryUser). user.pages) us) c.users-2.ensures.users in
     let stored : c.in-Ok-new.frames.storages ≡ blank users = c.in-Ok-new.ensures.storages ∙ ap (λ (ps : List ℕ). map (λ pages. replicate (pages * 4096) 0) ps) pages in
-    rw stored (whole_new c.in-Ok.seats.items users seated c.requires)
+    rw stored (whole_new c.in-Ok.machines.items users seated c.requires)
 
-shown_is : (machines machines' : List Machine) (users : List DirectoryUser) (owners owners' : List (Option UserPage)) → machines ≡ machines' → owners ≡ owners' → (let s : Shown = record { machines = machines; users = users; owners = owners; is_spent = false } in s ≡ record { machines = machines'; users = users; owners = owners'; is_spent = false })
-shown_is machines machines' users owners owners' a b = rw (a, b) refl
+view_is : (machines machines' : List Machine) (users : List DirectoryUser) (owners owners' : List (Option UserPage)) (pins pins' : List Bool) → machines ≡ machines' → owners ≡ owners' → pins ≡ pins' → (let s : SystemView = record { machines = machines; users = users; owners = owners; pins = pins; is_spent = false } in s ≡ record { machines = machines'; users = users; owners = owners'; pins = pins'; is_spent = false })
+view_is machines machines' users owners owners' pins pins' a b p = rw (a, b, p) refl
 
 pub returns-in-Ok-new-clause-ok : goal.returns-in-Ok-new-clause-ok
 returns-in-Ok-new-clause-ok c =
     let users = c.args.directory in
-    let seated : AreNew c.in-Ok.seats.items users = subst (AreNew c.in-Ok.seats.items) c.users.ensures c.in-Ok.ensures in
-    let pages = c.in-Ok-pages_of.ensures.pages ∙ ap (λ (us : List DirectoryUser). map (λ (user : DirectoryUser). user.pages) us) c.users-2.ensures in
+    let seated : AreNew c.in-Ok.machines.items users = subst (AreNew c.in-Ok.machines.items) c.users.ensures.users c.in-Ok.ensures in
+    let pages = c.in-Ok-pages_of.ensures.pages ∙ ap (λ (us : List DirectoryUser). map (λ (user : DirectoryUser). user.pages) us) c.users-2.ensures.users in
     let stored : c.in-Ok-new.frames.storages ≡ blank users = c.in-Ok-new.ensures.storages ∙ ap (λ (ps : List ℕ). map (λ pages. replicate (pages * 4096) 0) ps) pages in
-    shown_is _ _ users _ _ (ap (machines_of c.in-Ok.seats.items) stored ∙ new_machines c.in-Ok.seats.items users seated) (c.in-Ok-new.ensures.owners ∙ ap (λ (n : ℕ). replicate n None) c.frames-2.ensures.value)
+    view_is _ _ users _ _ _ _ (ap (machines_of c.in-Ok.machines.items) stored ∙ new_machines c.in-Ok.machines.items users seated) (c.in-Ok-new.ensures.owners ∙ ap (λ (n : ℕ). replicate n None) c.frames-2.ensures.value)
+    (c.in-Ok-new.ensures.pins ∙ ap (λ (n : ℕ). replicate n false) c.frames-2.ensures.value)

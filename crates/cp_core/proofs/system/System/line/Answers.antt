@@ -1,36 +1,62 @@
-use Rattle.std.proofs.Common.{◌≡◌, ◌<◌, ap, arith, length, List, ℕ, set}
-use Rattle.bare_machine.specs.Machine.{Machine}
-use Rattle.cp_core.specs.Lines.{TellsLine}
-use Rattle.cp_core.specs.System.{Shown}
-use Rattle.cp_core.proofs.Systems.{change, is_user, same_if_refused, seat_fits, told_lines}
+use Rattle.std.proofs.Common.{◌≡◌, ◌<◌, ◌∙◌, ap, arith, length, List, ℕ, set, true, false, Err}
+use Rattle.std.specs.Prelude.{IfOk, OnErr}
+use Rattle.s370_store.specs.Access.{Touches}
+use Rattle.s370_intr.specs.Run.{AllNeeded, IsLacking}
+use Rattle.cp_frames.specs.Layout.{cleared_of, is_there}
+use Rattle.cp_frames.specs.Supplied.{IsFilled}
+use Rattle.cp_panel.specs.Machine.{Machine}
+use Rattle.cp_panel.specs.Panel.{line, line_needs, switches_on}
+use Rattle.cp_panel.specs.declared.line.LineError.TheVariants as errors
+use Rattle.cp_core.specs.UserMachines.{IsShort}
+use Rattle.cp_core.specs.System.{SystemView}
+use Rattle.cp_core.proofs.Systems.{change, is_user, seat_fits, transported, same_if_refused}
 use Rattle.cp_core.proofs.system.System.line.Goals as goal
 
-pub index_mut-seat-requires : goal.index_mut-seat-requires
-index_mut-seat-requires c =
-    let inside = is_user c.self.inside.seats.items c.self.inside.frames.storages c.self.inside.directory c.args.self.now.machines c.args.user c.self.invariant (ap (λ (s : Shown). s.machines) c.self.view_is) c.requires in
-    omega (arith, inside, c.self.invariant.seated, c.self.inside.seats.ok.0)
+pub index_mut-machine-requires : goal.index_mut-machine-requires
+index_mut-machine-requires c =
+    let inside = is_user c.self.inside.machines.items c.self.inside.frames.storages c.self.inside.directory c.args.self.now.machines c.args.user c.self.invariant (ap (λ (s : SystemView). s.machines) c.self.view_is) c.requires in
+    omega (arith, inside, c.self.invariant.seated, c.self.inside.machines.ok.0)
 
 pub overflow_cast-user : goal.overflow_cast-user
 overflow_cast-user c =
-    let inside = is_user c.self.inside.seats.items c.self.inside.frames.storages c.self.inside.directory c.args.self.now.machines c.args.user c.self.invariant (ap (λ (s : Shown). s.machines) c.self.view_is) c.requires in
+    let inside = is_user c.self.inside.machines.items c.self.inside.frames.storages c.self.inside.directory c.args.self.now.machines c.args.user c.self.invariant (ap (λ (s : SystemView). s.machines) c.self.view_is) c.requires in
     omega (arith, inside, c.self.invariant.few)
 
 pub line-requires : goal.line-requires
 line-requires c =
-    let inside = is_user c.self.inside.seats.items c.self.inside.frames.storages c.self.inside.directory c.args.self.now.machines c.args.user c.self.invariant (ap (λ (s : Shown). s.machines) c.self.view_is) c.requires in
-    seat_fits c.self.inside.seats.items c.self.inside.frames.storages c.self.inside.directory c.args.user c.index_mut-seat.result.now c.self.invariant inside c.index_mut-seat.ensures.value
+    let inside = is_user c.self.inside.machines.items c.self.inside.frames.storages c.self.inside.directory c.args.self.now.machines c.args.user c.self.invariant (ap (λ (s : SystemView). s.machines) c.self.view_is) c.requires in
+    seat_fits c.self.inside.machines.items c.self.inside.frames.storages c.self.inside.directory c.args.user c.index_mut-machine.result.now c.self.invariant inside c.index_mut-machine.ensures.value
 
 pub returns-clause-ok : goal.returns-clause-ok
 returns-clause-ok c =
-    let changed = change c.self.inside.seats.items c.self.inside.frames.storages c.line.new.frames.storages c.self.inside.directory c.args.self.now.machines c.args.user c.index_mut-seat.result.now c.line.new.self c.self.invariant (ap (λ (s : Shown). s.machines) c.self.view_is) c.requires c.index_mut-seat.ensures.value c.line.ensures.others in
-    told_lines _ _ _ changed.old changed.new c.line.result c.line.ensures.ok
+    let changed = change c.self.inside.machines.items c.self.inside.frames.storages c.line.new.frames.storages c.self.inside.directory c.args.self.now.machines c.args.user c.index_mut-machine.result.now c.line.new.self c.self.invariant (ap (λ (s : SystemView). s.machines) c.self.view_is) c.requires (c.index_mut-machine.ensures.value) c.line.ensures.others in
+    transported (λ old new. IfOk c.line.result (λ reply. line c.args.typed.now old ≡ record { machine = new; reply = reply })) _ _ _ _ changed.old changed.new c.line.ensures.ok
 
 pub returns-clause-err : goal.returns-clause-err
 returns-clause-err c =
-    let changed = change c.self.inside.seats.items c.self.inside.frames.storages c.line.new.frames.storages c.self.inside.directory c.args.self.now.machines c.args.user c.index_mut-seat.result.now c.line.new.self c.self.invariant (ap (λ (s : Shown). s.machines) c.self.view_is) c.requires c.index_mut-seat.ensures.value c.line.ensures.others in
+    let changed = change c.self.inside.machines.items c.self.inside.frames.storages c.line.new.frames.storages c.self.inside.directory c.args.self.now.machines c.args.user c.index_mut-machine.result.now c.line.new.self c.self.invariant (ap (λ (s : SystemView). s.machines) c.self.view_is) c.requires (c.index_mut-machine.ensures.value) c.line.ensures.others in
     same_if_refused changed.old changed.new c.line.result c.line.ensures.err
+
+pub returns-clause-frames : goal.returns-clause-frames
+returns-clause-frames c =
+    let changed = change c.self.inside.machines.items c.self.inside.frames.storages c.line.new.frames.storages c.self.inside.directory c.args.self.now.machines c.args.user c.index_mut-machine.result.now c.line.new.self c.self.invariant (ap (λ (s : SystemView). s.machines) c.self.view_is) c.requires (c.index_mut-machine.ensures.value) c.line.ensures.others in
+    transported (λ old new. c.line.result ≡ Err errors.FramesOut → IsLacking (Touches (line_needs c.args.typed.now old)) (length old.core.processor.bytes) (IsShort c.line.new.frames.owners c.args.user)) _ _ _ _ changed.old changed.new c.line.ensures.frames
+
+pub returns-clause-cleared : goal.returns-clause-cleared
+returns-clause-cleared c =
+    let changed = change c.self.inside.machines.items c.self.inside.frames.storages c.line.new.frames.storages c.self.inside.directory c.args.self.now.machines c.args.user c.index_mut-machine.result.now c.line.new.self c.self.invariant (ap (λ (s : SystemView). s.machines) c.self.view_is) c.requires (c.index_mut-machine.ensures.value) c.line.ensures.others in
+    let o : c.self.inside.frames.owners ≡ c.args.self.now.owners = ap (λ (s : SystemView). s.owners) c.self.view_is in
+    λ on. (
+    let given : (c.line.new.frames.owners ≡ cleared_of c.args.user c.self.inside.frames.owners) × ((page : ℕ) → is_there c.line.new.frames.owners c.args.user page ≡ false) = transported (λ old new. switches_on c.args.typed.now old ≡ true → ((c.line.new.frames.owners ≡ cleared_of c.args.user c.self.inside.frames.owners) × ((page : ℕ) → is_there c.line.new.frames.owners c.args.user page ≡ false))) _ _ _ _ changed.old changed.new c.line.ensures.cleared on in
+    record { owners = rw (← o) given.0; gone = given.1 })
+
+pub returns-clause-supply : goal.returns-clause-supply
+returns-clause-supply c =
+    let changed = change c.self.inside.machines.items c.self.inside.frames.storages c.line.new.frames.storages c.self.inside.directory c.args.self.now.machines c.args.user c.index_mut-machine.result.now c.line.new.self c.self.invariant (ap (λ (s : SystemView). s.machines) c.self.view_is) c.requires (c.index_mut-machine.ensures.value) c.line.ensures.others in
+    let o : c.self.inside.frames.owners ≡ c.args.self.now.owners = ap (λ (s : SystemView). s.owners) c.self.view_is in
+    rw (← o) (transported (λ old new. switches_on c.args.typed.now old ≡ false → ((pages : List ℕ) × IsFilled c.args.user c.self.inside.frames.owners pages c.line.new.frames.owners × AllNeeded (Touches (line_needs c.args.typed.now old)) pages)) _ _ _ _ changed.old changed.new c.line.ensures.supply)
 
 pub returns-clause-machines : goal.returns-clause-machines
 returns-clause-machines c =
-    let changed = change c.self.inside.seats.items c.self.inside.frames.storages c.line.new.frames.storages c.self.inside.directory c.args.self.now.machines c.args.user c.index_mut-seat.result.now c.line.new.self c.self.invariant (ap (λ (s : Shown). s.machines) c.self.view_is) c.requires c.index_mut-seat.ensures.value c.line.ensures.others in
+    let changed = change c.self.inside.machines.items c.self.inside.frames.storages c.line.new.frames.storages c.self.inside.directory c.args.self.now.machines c.args.user c.index_mut-machine.result.now c.line.new.self c.self.invariant (ap (λ (s : SystemView). s.machines) c.self.view_is) c.requires (c.index_mut-machine.ensures.value) c.line.ensures.others in
     changed.machines

@@ -1,9 +1,11 @@
-use Rattle.std.proofs.Common.{◌<◌, ◌∙◌, ap, arith, length, List, ℕ}
+use Rattle.std.proofs.Common.{◌≡◌, ◌<◌, ◌∙◌, ap, arith, length, List, ℕ}
 use Rattle.std.specs.Prelude.{slice_get}
-use Rattle.cp_core.specs.System.{Shown}
+use Rattle.cp_core.specs.System.{SystemView}
 use Rattle.cp_core.proofs.Systems.{bytes_are}
 use Rattle.cp_core.proofs.system.System.storage.Goals as goal
 
 pub returns : goal.returns
 returns c =
-    c.byte.ensures ∙ ap (λ (bytes : List ℕ). slice_get bytes c.args.address) (bytes_are c.self.inside.seats.items c.self.inside.frames.storages c.self.inside.directory c.args.self.now.machines c.args.user.0 c.self.invariant (ap (λ (s : Shown). s.machines) c.self.view_is) (omega arith))
+    let e : c.number.result ≡ c.args.user = c.number.ensures.value in
+    let b = rw e at c.byte.ensures in
+    b ∙ ap (λ (bytes : List ℕ). slice_get bytes c.args.address) (bytes_are c.self.inside.machines.items c.self.inside.frames.storages c.self.inside.directory c.args.self.now.machines c.args.user c.self.invariant (ap (λ (s : SystemView). s.machines) c.self.view_is) (omega arith))

@@ -1,0 +1,61 @@
+-- The texts of responses, and which of them a console keeps.
+use Rattle.std.specs.Prelude.{ℕ, ◌+◌, ◌*◌, ◌/◌, ◌%◌, ◌^◌, Bool, true, false, List, ◌++◌, codes, decimal, slice_range}
+use Rattle.std.specs.Int.{w32, from_be_bytes}
+use Rattle.s370_num.specs.Address.{address_text, word_text}
+use Rattle.cp_console.specs.declared.responses.Response.{Response}
+use Rattle.cp_console.specs.declared.responses.Response.TheVariants.{LogonOk, AlreadyLoggedOn, NotLoggedOn, Psw, General, Storage, Stored, AddressPastStorage, UnknownCommand, BadOperand, NoConsole, StoppedDisabledWait, StoppedEcMode}
+
+-- the word that four bytes are, from this one on
+abbrev pub word_at : List ℕ → ℕ → ℕ
+word_at bytes at = from_be_bytes w32 (slice_range bytes at (at + 4))
+
+-- a PSW as two words
+abbrev pub psw_text : ℕ → List ℕ
+psw_text psw = codes "PSW " ++ word_text (psw / 2 ^ 32) ++ codes " " ++ word_text (psw % 2 ^ 32)
+
+-- a register's number and contents
+abbrev pub general_text : ℕ → ℕ → List ℕ
+general_text register contents = codes "GPR " ++ (decimal register ++ (codes " = " ++ word_text contents))
+
+-- the address rounded down to a multiple of sixteen, and the four words of storage there
+abbrev pub storage_text : ℕ → List ℕ → List ℕ
+storage_text address bytes =
+    address_text (address / 16 * 16)
+    ++ codes " " ++ word_text (word_at bytes 0) ++ codes " " ++ word_text (word_at bytes 4)
+    ++ codes " " ++ word_text (word_at bytes 8) ++ codes " " ++ word_text (word_at bytes 12)
+
+-- the place of a wrong, missing or surplus word
+abbrev pub operand_text : ℕ → List ℕ
+operand_text place = codes "BAD OPERAND " ++ decimal place
+
+-- what a response says
+abbrev pub text_of : Response → List ℕ
+text_of LogonOk = codes "LOGON OK"
+text_of AlreadyLoggedOn = codes "ALREADY LOGGED ON"
+text_of NotLoggedOn = codes "NOT LOGGED ON"
+text_of (Psw psw) = psw_text psw
+text_of (General register contents) = general_text register contents
+text_of (Storage address bytes) = storage_text address bytes
+text_of Stored = codes "STORED"
+text_of AddressPastStorage = codes "ADDRESS PAST STORAGE"
+text_of UnknownCommand = codes "UNKNOWN COMMAND"
+text_of (BadOperand place) = operand_text place
+text_of NoConsole = codes "NO CONSOLE"
+text_of StoppedDisabledWait = codes "STOPPED DISABLED WAIT"
+text_of StoppedEcMode = codes "STOPPED EC MODE"
+
+-- a console keeps displays, answers about storage and notices, and not what was said about the command or the user
+abbrev pub is_panel : Response → Bool
+is_panel LogonOk = false
+is_panel AlreadyLoggedOn = false
+is_panel NotLoggedOn = false
+is_panel (Psw psw) = true
+is_panel (General register contents) = true
+is_panel (Storage address bytes) = true
+is_panel Stored = true
+is_panel AddressPastStorage = true
+is_panel UnknownCommand = false
+is_panel (BadOperand place) = false
+is_panel NoConsole = false
+is_panel StoppedDisabledWait = true
+is_panel StoppedEcMode = true

@@ -1,0 +1,59 @@
+//! The responses of the control program to a line, and its notices.
+ghost use Rattle.std.specs.Prelude.{◌≡◌};
+ghost use Rattle.cp_console.specs.Responses.{is_panel};
+
+use s370_num::{Addr24, Register, Word};
+
+/// What the control program says on a console.
+#[derive(Clone, Copy, Debug, PartialEq, Eq)]
+pub enum Response {
+    /// The user is logged on from now on.
+    LogonOk,
+    /// The user was logged on already.
+    AlreadyLoggedOn,
+    /// A line of a user who is not logged on.
+    NotLoggedOn,
+    /// The 64 bits of the PSW.
+    Psw(u64),
+    /// The contents of a general register.
+    General(Register, Word),
+    /// An address of storage, and the sixteen bytes at that address rounded down to a multiple of sixteen.
+    Storage(Addr24, [u8; 16]),
+    /// What was to be stored was.
+    Stored,
+    /// A byte to be displayed or stored lies past the end of storage.
+    AddressPastStorage,
+    /// The first word of the text is no command.
+    UnknownCommand,
+    /// The first word that is wrong, missing or surplus, counted from 1 after the command's name.
+    BadOperand(u64),
+    /// A line for a machine that runs and has no console.
+    NoConsole,
+    /// A notice: the machine stopped, since it waits and can take no interruption.
+    StoppedDisabledWait,
+    /// A notice: the machine stopped at a PSW of extended control mode.
+    StoppedEcMode,
+}
+
+impl Response {
+    /// Whether the console keeps the response among its output.
+    pub fn is_panel(&self) -> bool
+        ensures { result ≡ is_panel self.now }
+    {
+        match self {
+            Response::Psw(_)
+            | Response::General(_, _)
+            | Response::Storage(_, _)
+            | Response::Stored
+            | Response::AddressPastStorage
+            | Response::StoppedDisabledWait
+            | Response::StoppedEcMode => true,
+            Response::LogonOk
+            | Response::AlreadyLoggedOn
+            | Response::NotLoggedOn
+            | Response::UnknownCommand
+            | Response::BadOperand(_)
+            | Response::NoConsole => false,
+        }
+    }
+}

@@ -1,0 +1,21 @@
+use Rattle.std.proofs.Common.{◌≡◌, ◌∙◌, ◌≤◌, ◌*◌, ◌+◌, ◌++◌, [], ◌∷◌, ℕ, List, ap, sym, arith, take, replicate}
+use Rattle.std.proofs.lemmas.List.{take_more}
+use Rattle.cp_directory.specs.Users.{DirectoryUser}
+use Rattle.cp_core.specs.Whole.{IsNew}
+use Rattle.cp_core.proofs.Boots.{new_more, off_new}
+use Rattle.cp_core.proofs.boot.machines_of.Goals as goal
+
+pub loop-user-preserved : goal.loop-user-preserved
+loop-user-preserved c =
+    let users = c.args.users.now in
+    let i = c.loop-user.user-index in
+    let user = c.user-item.result in
+    let pages : c.pages.result ≡ user.pages = c.pages.ensures.pages ∙ c.storage.ensures in
+    let keys : c.in_ok-machine.machine.keys ≡ replicate (user.pages * 2) 0 = c.in_ok-machine.ensures.keys ∙ ap (λ (n : ℕ). replicate (n * 2) 0) pages in
+    let new : IsNew c.in_ok-machine.machine user = record {
+      off = off_new c.in_ok-machine.machine user keys c.in_ok-machine.ensures.parts;
+      sized = omega (arith, pages, c.pages.ensures.least);
+    } in
+    let more = new_more c.loop-user.machines.items (take i users) c.in_ok-machine.machine user c.loop-user.invariant new in
+    let taken : take (i + 1) users ≡ take i users ++ user ∷ [] = take_more users i user c.loop-user-test.true ∙ ap (λ (u : DirectoryUser). take i users ++ u ∷ []) (sym c.user-item.is) in
+    rw (c.in_ok-push.ensures.items, taken) more

@@ -1,6 +1,0 @@
-use Rattle.std.proofs.Common.{take}
-use Rattle.cp_core.specs.Whole.{AreNew}
-use Rattle.cp_core.proofs.boot.seats_of.Given as goal
-
-abbrev pub invariant-loop-user : goal.invariant-loop-user
-invariant-loop-user l = AreNew l.seats.items (take l.user-index l.users)

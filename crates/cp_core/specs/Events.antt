@@ -1,0 +1,14 @@
+-- Events and their users.
+use Rattle.std.specs.Prelude.{ℕ, List}
+use Rattle.cp_core.specs.declared.events.Event.{Event}
+use Rattle.cp_core.specs.declared.events.Event.TheVariants.{Run, Line}
+
+-- the user whom an event names
+abbrev pub user_of : Event → ℕ
+user_of (Run user units) = user
+user_of (Line user typed) = user
+
+-- the events that may take memory
+abbrev pub MayTakeMemory : Event → Type 0
+MayTakeMemory (Run user units) = ⊥
+MayTakeMemory (Line user typed) = Unit {0}

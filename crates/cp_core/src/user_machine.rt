@@ -1,0 +1,145 @@
+//! A user's machine, of which the storage stands in frames.
+ghost use Rattle.std.specs.Prelude.{◌≡◌, ◌<◌, ◌≤◌, ◌*◌, ℕ, List, Err, IfOk, OnErr, length, replicate, slice_set, true, false};
+ghost use Rattle.s370_store.specs.Access.{Touches};
+ghost use Rattle.s370_intr.specs.Run.{AllNeeded, IsLacking, RunNeeds};
+ghost use Rattle.cp_frames.specs.Layout.{bytes_of, cleared_of, is_there};
+ghost use Rattle.cp_frames.specs.Supplied.{IsFilled};
+ghost use Rattle.cp_panel.specs.declared.line.LineError.TheVariants as errors;
+ghost use Rattle.cp_panel.specs.Machine.{machine_of as parts_with, unused};
+ghost use Rattle.cp_panel.specs.Run.{TellsRun};
+ghost use Rattle.cp_panel.specs.Panel.{line, line_needs, line_room, switches_on};
+ghost use Rattle.cp_core.specs.UserMachines.{Fits, IsShort, machine_of};
+
+use cp_console::responses::Response;
+use cp_frames::{Dat, Frames, UserNo};
+use cp_panel::{LineError, Machine, MachineRan};
+use cp_trap::VirtualCpu;
+use s370_num::StorageKey;
+use std::alloc::{AllocError, Global};
+use std::marker::Model;
+
+/// A user's machine but for the bytes of its storage.
+#[derive(Drop)]
+pub struct UserMachine {
+    pub(crate) machine: Machine,
+    pub(crate) keys: Vec<StorageKey>,
+}
+
+impl Model for UserMachine {
+    ghost use Rattle.cp_core.specs.UserMachines.{UserParts};
+
+    ghost Value = { UserParts };
+
+    ghost view = { λ u. record { parts = u.machine; keys = u.keys.items } };
+}
+
+impl UserMachine {
+    /// A machine that is off, with zero keys for this many pages of 4096 bytes.
+    pub fn new(alloc: Global, pages: u32) -> Result<UserMachine, AllocError>
+        requires { pages ≤ 1024 }
+        ensures keys { IfOk result (λ user. user.keys ≡ replicate (pages * 2) 0) }
+        ensures parts { IfOk result (λ user. (bytes keys : List ℕ) → parts_with user.parts (replicate (length bytes) 0) (replicate (length keys) 0) ≡ unused bytes keys) }
+    {
+        let keys = vec![in alloc; StorageKey::ZERO; pages as usize * 2]?;
+        Ok(UserMachine {
+            machine: Machine::new(alloc),
+            keys,
+        })
+    }
+
+    /// Lets the machine run for at most so many units. This takes no memory.
+    pub fn run(&mut self, frames: &mut Frames, user: UserNo, count: u32) -> MachineRan
+        requires { Fits self.old (bytes_of frames.old user.0) }
+        ensures told { let before = machine_of self.old (bytes_of frames.old user.0) in
+            let after = machine_of self.new (bytes_of frames.new user.0) in
+            TellsRun count before (record { machine = after; units = result.ran.units; reason = result.ran.reason; notice = result.notice }) (IsShort frames.new.owners user.0) }
+        ensures supply { let before = machine_of self.old (bytes_of frames.old user.0) in
+            (pages : List ℕ) × IsFilled user.0 frames.old.owners pages frames.new.owners × AllNeeded (RunNeeds before.core result.ran.units result.ran.reason) pages }
+        ensures pins { frames.new.pins ≡ frames.old.pins }
+        ensures others { frames.new.storages ≡ slice_set frames.old.storages user.0 (bytes_of frames.new user.0) }
+        ensures fits { Fits self.new (bytes_of frames.new user.0) }
+    {
+        run_over(&mut self.machine, frames, &mut self.keys, user, count)
+    }
+
+    /// A line that is typed, and the response, if there is one. Where it is not obeyed nothing has happened.
+    pub fn line(
+        &mut self,
+        frames: &mut Frames,
+        user: UserNo,
+        typed: &[u8],
+    ) -> Result<Option<Response>, LineError>
+        requires { Fits self.old (bytes_of frames.old user.0) }
+        ensures ok { let before = machine_of self.old (bytes_of frames.old user.0) in
+            let after = machine_of self.new (bytes_of frames.new user.0) in
+            IfOk result (λ reply. line typed.now before ≡ record { machine = after; reply = reply }) }
+        ensures err { OnErr result (machine_of self.new (bytes_of frames.new user.0) ≡ machine_of self.old (bytes_of frames.old user.0)) }
+        ensures memory { let before = machine_of self.old (bytes_of frames.old user.0) in
+            result ≡ Err errors.Memory → self.old.parts.room < line_room typed.now before }
+        ensures frames { let before = machine_of self.old (bytes_of frames.old user.0) in
+            result ≡ Err errors.FramesOut → IsLacking (Touches (line_needs typed.now before)) (length before.core.processor.bytes) (IsShort frames.new.owners user.0) }
+        ensures cleared { let before = machine_of self.old (bytes_of frames.old user.0) in
+            switches_on typed.now before ≡ true → ((frames.new.owners ≡ cleared_of user.0 frames.old.owners) × ((page : ℕ) → is_there frames.new.owners user.0 page ≡ false)) }
+        ensures supply { let before = machine_of self.old (bytes_of frames.old user.0) in
+            switches_on typed.now before ≡ false → ((pages : List ℕ) × IsFilled user.0 frames.old.owners pages frames.new.owners × AllNeeded (Touches (line_needs typed.now before)) pages) }
+        ensures pins { frames.new.pins ≡ frames.old.pins }
+        ensures others { frames.new.storages ≡ slice_set frames.old.storages user.0 (bytes_of frames.new user.0) }
+        ensures fits { Fits self.new (bytes_of frames.new user.0) }
+    {
+        line_over(&mut self.machine, frames, &mut self.keys, user, typed)
+    }
+}
+
+/// Lets a machine run whose storage is lent from frames.
+fn run_over(
+    machine: &mut Machine,
+    frames: &mut Frames,
+    keys: &mut [StorageKey],
+    user: UserNo,
+    count: u32,
+) -> MachineRan
+    requires large { 8192 ≤ length (bytes_of frames.old user.0) }
+    requires keyed { length (bytes_of frames.old user.0) ≤ 2048 * length keys.old }
+    ensures told { let before = parts_with machine.old (bytes_of frames.old user.0) keys.old in
+        let after = parts_with machine.new (bytes_of frames.new user.0) keys.new in
+        TellsRun count before (record { machine = after; units = result.ran.units; reason = result.ran.reason; notice = result.notice }) (IsShort frames.new.owners user.0) }
+    ensures supply { let before = parts_with machine.old (bytes_of frames.old user.0) keys.old in
+        (pages : List ℕ) × IsFilled user.0 frames.old.owners pages frames.new.owners × AllNeeded (RunNeeds before.core result.ran.units result.ran.reason) pages }
+    ensures pins { frames.new.pins ≡ frames.old.pins }
+    ensures others { frames.new.storages ≡ slice_set frames.old.storages user.0 (bytes_of frames.new user.0) }
+    ensures size { length (bytes_of frames.new user.0) ≡ length (bytes_of frames.old user.0) }
+{
+    let mut dat = Dat::new(frames, keys, user);
+    machine.run::<VirtualCpu, Dat<'_>>(&mut dat, count)
+}
+
+/// A line to a machine whose storage is lent from frames.
+fn line_over(
+    machine: &mut Machine,
+    frames: &mut Frames,
+    keys: &mut [StorageKey],
+    user: UserNo,
+    typed: &[u8],
+) -> Result<Option<Response>, LineError>
+    requires keyed { length (bytes_of frames.old user.0) ≤ 2048 * length keys.old }
+    ensures ok { let before = parts_with machine.old (bytes_of frames.old user.0) keys.old in
+        let after = parts_with machine.new (bytes_of frames.new user.0) keys.new in
+        IfOk result (λ reply. line typed.now before ≡ record { machine = after; reply = reply }) }
+    ensures err { let before = parts_with machine.old (bytes_of frames.old user.0) keys.old in
+        let after = parts_with machine.new (bytes_of frames.new user.0) keys.new in
+        OnErr result (after ≡ before) }
+    ensures memory { let before = parts_with machine.old (bytes_of frames.old user.0) keys.old in
+        result ≡ Err errors.Memory → machine.old.room < line_room typed.now before }
+    ensures frames { let before = parts_with machine.old (bytes_of frames.old user.0) keys.old in
+        result ≡ Err errors.FramesOut → IsLacking (Touches (line_needs typed.now before)) (length (bytes_of frames.old user.0)) (IsShort frames.new.owners user.0) }
+    ensures cleared { let before = parts_with machine.old (bytes_of frames.old user.0) keys.old in
+        switches_on typed.now before ≡ true → ((frames.new.owners ≡ cleared_of user.0 frames.old.owners) × ((page : ℕ) → is_there frames.new.owners user.0 page ≡ false)) }
+    ensures supply { let before = parts_with machine.old (bytes_of frames.old user.0) keys.old in
+        switches_on typed.now before ≡ false → ((pages : List ℕ) × IsFilled user.0 frames.old.owners pages frames.new.owners × AllNeeded (Touches (line_needs typed.now before)) pages) }
+    ensures pins { frames.new.pins ≡ frames.old.pins }
+    ensures others { frames.new.storages ≡ slice_set frames.old.storages user.0 (bytes_of frames.new user.0) }
+    ensures size { length (bytes_of frames.new user.0) ≡ length (bytes_of frames.old user.0) }
+{
+    let mut dat = Dat::new(frames, keys, user);
+    machine.line(&mut dat, typed)
+}

@@ -1,0 +1,31 @@
+use Rattle.std.proofs.Common.{◌/◌, ◌*◌, ◌<◌, ◌+◌, Some, sym, ◌∙◌, ap, arith, length, get_or}
+use Rattle.std.proofs.lemmas.List.{get_or_read}
+use Rattle.cp_frames.specs.Layout.{frame_of}
+use Rattle.cp_frames.proofs.Tables.{held_none, held_other}
+use Rattle.cp_frames.proofs.Inside.{bytes_in, place_in}
+use Rattle.cp_frames.proofs.pool.Frames.frame_at.Goals as goal
+
+pub index-slot-requires : goal.index-slot-requires
+index-slot-requires c =
+    let f = c.self.inside in
+    let inside : c.args.start < length (bytes_in f c.args.user.0) = rw (← c.self.view_is) at c.requires in
+    let at = place_in f c.args.user.0 c.args.start c.self.invariant inside in
+    omega (arith, at.room, f.table.ok.0)
+
+pub returns-then-slot : goal.returns-then-slot
+returns-then-slot c =
+    let f = c.self.inside in
+    let inside : c.args.start < length (bytes_in f c.args.user.0) = rw (← c.self.view_is) at c.requires in
+    let at = place_in f c.args.user.0 c.args.start c.self.invariant inside in
+    let read = get_or_read f.table.items _ _ at.room c.index-slot.ensures 0 in
+    let tells = c.self.invariant.tabled.agrees c.args.user.0 (c.args.start / 4096) at.of_user at.of_page in
+    rw (← c.self.view_is) (held_none (get_or f.table.items (c.args.user.0 * 1024 + c.args.start / 4096) 0) (frame_of f.owners.items c.args.user.0 (c.args.start / 4096)) (sym read ∙ c.if-slot.true) tells)
+
+pub returns-else-slot : goal.returns-else-slot
+returns-else-slot c =
+    let f = c.self.inside in
+    let inside : c.args.start < length (bytes_in f c.args.user.0) = rw (← c.self.view_is) at c.requires in
+    let at = place_in f c.args.user.0 c.args.start c.self.invariant inside in
+    let read = get_or_read f.table.items _ _ at.room c.index-slot.ensures 0 in
+    let tells = c.self.invariant.tabled.agrees c.args.user.0 (c.args.start / 4096) at.of_user at.of_page in
+    rw (← c.self.view_is) (ap Some read ∙ held_other (get_or f.table.items (c.args.user.0 * 1024 + c.args.start / 4096) 0) (frame_of f.owners.items c.args.user.0 (c.args.start / 4096)) (λ e. c.if-slot.false (read ∙ e)) tells)

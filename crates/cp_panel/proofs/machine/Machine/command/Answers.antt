@@ -1,0 +1,4 @@
+use Rattle.cp_panel.proofs.machine.Machine.command.Goals as goal
+
+pub returns-in-Err-clause-err : goal.returns-in-Err-clause-err
+returns-in-Err-clause-err g c = c.in-Err.ensures.err (g.S.Storage.bytes c.args.storage.now) (g.S.Storage.keys c.args.storage.now)

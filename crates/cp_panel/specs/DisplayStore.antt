@@ -1,0 +1,71 @@
+-- What the panel shows of a processor and its storage, and changes there (docs/COMMANDS.md, DISPLAY and STORE).
+use Rattle.std.specs.Prelude.{◌≡◌, ℕ, ◌+◌, ◌*◌, ◌/◌, if◌then◌else◌, nat_le, Bool, List, [], ◌∷◌, length, slice_index, slice_set, slice_range, Result, Ok, Err, ⊤}
+use Rattle.s370_psw.specs.Fields.{fields_of, word_of}
+use Rattle.s370_store.specs.Access.{Test, put, IsAway, Touches, AreGranted}
+use Rattle.s370_store.specs.declared.Page.{Page}
+use Rattle.s370_store.specs.declared.Access.TheVariants.{Fetch, Store as StoreAccess}
+use Rattle.s370_rows.specs.State.{State}
+use Rattle.cp_console.specs.declared.commands.Place.{Place}
+use Rattle.cp_console.specs.declared.commands.Place.TheVariants as places
+use Rattle.cp_console.specs.declared.commands.Change.{Change}
+use Rattle.cp_console.specs.declared.commands.Change.TheVariants as changes
+use Rattle.cp_console.specs.declared.responses.Response.{Response}
+use Rattle.cp_console.specs.declared.responses.Response.TheVariants as responses
+
+-- ---- DISPLAY
+
+-- what a place holds: the PSW without codes, a register, or the sixteen bytes round an address, where they lie in storage
+abbrev pub displayed : Place → State → Response
+displayed places.Psw s = responses.Psw (word_of s.cpu.psw 0 0)
+displayed (places.General r) s = responses.General r (slice_index s.cpu.general r)
+displayed (places.Storage a) s =
+    if nat_le (a / 16 * 16 + 16) (length s.bytes)
+    then responses.Storage a (slice_range s.bytes (a / 16 * 16) (a / 16 * 16 + 16))
+    else responses.AddressPastStorage
+
+-- the bytes of storage that are shown
+abbrev pub shown : Place → List Test
+shown places.Psw = []
+shown (places.General r) = []
+shown (places.Storage a) = record { access = Fetch; start = a / 16 * 16; count = 16 } ∷ []
+
+-- ---- STORE
+
+-- whether bytes from an address on lie in storage
+abbrev pub lie_in : ℕ → List ℕ → State → Bool
+lie_in a bytes s = nat_le (a + length bytes) (length s.bytes)
+
+-- how a change is answered: bytes past the end of storage are not stored
+abbrev pub stored : Change → State → Response
+stored (changes.Psw word) s = responses.Stored
+stored (changes.General r word) s = responses.Stored
+stored (changes.Storage a bytes) s = if lie_in a bytes s then responses.Stored else responses.AddressPastStorage
+
+-- a processor that was given a PSW, the contents of a register, or bytes of storage, whose keys are not tested
+abbrev pub changed : Change → State → State
+changed (changes.Psw word) s = record s { cpu = record s.cpu { psw = fields_of word } }
+changed (changes.General r word) s = record s { cpu = record s.cpu { general = slice_set s.cpu.general r word } }
+changed (changes.Storage a bytes) s = if lie_in a bytes s then record s { bytes = put s.bytes a bytes } else s
+
+-- the bytes of storage that are changed
+abbrev pub touched : Change → List Test
+touched (changes.Psw word) = []
+touched (changes.General r word) = []
+touched (changes.Storage a bytes) = record { access = StoreAccess; start = a; count = length bytes } ∷ []
+
+-- ---- what the code may answer
+
+-- leave to access ranges that lie in storage, whatever their keys; or a page of theirs that is not present
+abbrev pub Reaches : ℕ → (ℕ → Bool) → List Test → Result ⊤ Page → Type 0
+Reaches size present ts (Ok _) = AreGranted size present ts
+Reaches size present ts (Err page) = IsAway size present page.0 × Touches ts page.0
+
+-- the reply; or a page that is to be shown and is not present
+abbrev pub Displays : Place → (ℕ → Bool) → State → Result Response Page → Type 0
+Displays place present s (Ok reply) = reply ≡ displayed place s
+Displays place present s (Err page) = IsAway (length s.bytes) present page.0 × Touches (shown place) page.0
+
+-- the reply and the change; or, with nothing changed, a page that is to be changed and is not present
+abbrev pub Changes : Change → (ℕ → Bool) → State → Result Response Page → State → Type 0
+Changes change present old (Ok reply) new = (reply ≡ stored change old) × (new ≡ changed change old)
+Changes change present old (Err page) new = (new ≡ old) × IsAway (length old.bytes) present page.0 × Touches (touched change) page.0

@@ -1,0 +1,123 @@
+//! A machine but for its storage.
+ghost use Rattle.std.specs.Prelude.{◌≡◌, ◌≤◌, [], List, ℕ, length, replicate, slice_get};
+ghost use Rattle.std.specs.Option.{option_map};
+ghost use Rattle.cp_console.specs.Responses.{text_of};
+ghost use Rattle.cp_panel.specs.Machine.{cleared, machine_of, reset_cpu, unused};
+
+use cp_console::output::ConsoleOutput;
+use cp_console::responses::Response;
+use s370_intr::Pending;
+use s370_psw::Psw;
+use s370_rows::Cpu;
+use s370_store::Supply;
+use std::alloc::Global;
+use std::marker::Model;
+
+/// Whether a machine is switched on, and whether it runs.
+#[derive(Clone, Copy, Debug, PartialEq, Eq)]
+pub enum Mode {
+    /// Nobody is logged on; the machine does nothing.
+    Off,
+    /// It does no units, and takes lines as commands.
+    Stopped,
+    /// It does units.
+    Running,
+}
+
+/// A System/370 with its panel, but for its storage, which is lent to each of its calls.
+///
+/// A machine that runs has room for the notice of its stop, so a run takes no memory.
+#[derive(Drop)]
+pub struct Machine {
+    pub(crate) cpu: Cpu,
+    pub(crate) pending: Pending,
+    pub(crate) mode: Mode,
+    pub(crate) output: ConsoleOutput,
+}
+
+impl Model for Machine {
+    ghost use Rattle.std.specs.Prelude.{◌≡◌, ◌≤◌};
+    ghost use Rattle.cp_panel.specs.declared.machine.Mode.TheVariants.{Running};
+    ghost use Rattle.cp_panel.specs.Machine.{Parts};
+
+    ghost Value = { Parts };
+
+    ghost view = { λ m. record { cpu = m.cpu; pending = m.pending; mode = m.mode; output = m.output.lines; room = m.output.room } };
+
+    ghost invariant = { λ m. m.mode ≡ Running → 1 ≤ m.output.room };
+}
+
+/// The registers and the PSW after a reset, which leaves the general registers.
+fn reset_cpu(general: [u32; 16]) -> Cpu
+    ensures { result ≡ reset_cpu general }
+{
+    let mut control = [0; 16];
+    control[0] = 0xE0;
+    Cpu {
+        general,
+        control,
+        psw: Psw::from_word(0),
+    }
+}
+
+impl Machine {
+    /// A machine that is off and was never on.
+    pub fn new(alloc: Global) -> Machine
+        ensures machine { (bytes keys : List ℕ) → machine_of result (replicate (length bytes) 0) (replicate (length keys) 0) ≡ unused bytes keys }
+    {
+        Machine {
+            cpu: reset_cpu([0; 16]),
+            pending: Pending::NOTHING,
+            mode: Mode::Off,
+            output: ConsoleOutput::new(alloc),
+        }
+    }
+
+    /// LOGON: a reset machine with zeros everywhere; what was printed stays.
+    pub(crate) fn clear<S: Supply>(&mut self, storage: &mut S)
+        ensures machine { machine_of self.new (S.Storage.bytes storage.new) (S.Storage.keys storage.new) ≡ cleared (machine_of self.old (S.Storage.bytes storage.old) (S.Storage.keys storage.old)) }
+        ensures cleared { S.Cleared storage.old storage.new }
+        ensures size { length (S.Storage.bytes storage.new) ≡ length (S.Storage.bytes storage.old) }
+        ensures keys { length (S.Storage.keys storage.new) ≡ length (S.Storage.keys storage.old) }
+    {
+        self.cpu = reset_cpu([0; 16]);
+        self.pending = Pending::NOTHING;
+        self.mode = Mode::Stopped;
+        storage.clear();
+    }
+
+    /// The registers and the PSW.
+    pub fn cpu(&self) -> &Cpu
+        ensures { result.now ≡ self.now.cpu }
+    {
+        &self.cpu
+    }
+
+    /// The external conditions that are pending.
+    pub fn pending(&self) -> Pending
+        ensures { result ≡ self.now.pending }
+    {
+        self.pending
+    }
+
+    /// Whether the machine is on, and whether it runs.
+    pub fn mode(&self) -> Mode
+        ensures { result ≡ self.now.mode }
+    {
+        self.mode
+    }
+
+    /// How many lines the console has printed.
+    pub fn printed(&self) -> usize
+        ensures { result ≡ length self.now.output }
+    {
+        self.output.len()
+    }
+
+    /// A line that the console has printed, as the response that it says.
+    pub fn console_output(&self, line: usize) -> Option<Response>
+        ensures { option_map text_of result ≡ slice_get self.now.output line }
+    {
+        self.output.get(line)
+    }
+}

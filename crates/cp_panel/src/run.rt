@@ -1,0 +1,83 @@
+//! Units of a machine.
+ghost use Rattle.std.specs.Prelude.{◌≡◌, ℕ, ◌+◌, ◌≤◌, List, Option, length};
+ghost use Rattle.s370_intr.specs.Run.{AllNeeded, RunNeeds};
+ghost use Rattle.cp_panel.specs.Machine.{machine_of};
+ghost use Rattle.cp_panel.specs.Run.{TellsRun, halted, notice_of};
+
+use crate::machine::{Machine, Mode};
+use cp_console::responses::Response;
+use s370_intr::{Processor, Ran, Reason, run_units};
+use s370_store::Supply;
+
+/// What a run of a machine tells: how many units it did, why it did no more, and the notice that it printed, if it
+/// stopped.
+#[derive(Clone, Copy, Debug, PartialEq, Eq)]
+pub struct MachineRan {
+    pub ran: Ran,
+    pub notice: Option<Response>,
+}
+
+/// The notice of a machine that stops by itself.
+fn notice_of(reason: Reason) -> Option<Response>
+    ensures { result ≡ notice_of reason }
+{
+    match reason {
+        Reason::EcMode => Some(Response::StoppedEcMode),
+        Reason::DisabledWait => Some(Response::StoppedDisabledWait),
+        Reason::Stopped | Reason::Count | Reason::Wait | Reason::FramesOut => None,
+    }
+}
+
+/// What a run tells.
+fn told(units: u32, reason: Reason, notice: Option<Response>) -> MachineRan
+    ensures units { result.ran.units ≡ units }
+    ensures reason { result.ran.reason ≡ reason }
+    ensures notice { result.notice ≡ notice }
+{
+    let ran = Ran { units, reason };
+    MachineRan { ran, notice }
+}
+
+impl Machine {
+    /// Lets the machine run for at most so many units. This takes no memory.
+    pub fn run<P: Processor, S: Supply>(&mut self, storage: &mut S, count: u32) -> MachineRan
+        requires { 8192 ≤ length (S.Storage.bytes storage.old) }
+        ensures told { let before = machine_of self.old (S.Storage.bytes storage.old) (S.Storage.keys storage.old) in
+            let after = machine_of self.new (S.Storage.bytes storage.new) (S.Storage.keys storage.new) in
+            TellsRun count before (record { machine = after; units = result.ran.units; reason = result.ran.reason; notice = result.notice }) (S.IsShort storage.new) }
+        ensures supply { let before = machine_of self.old (S.Storage.bytes storage.old) (S.Storage.keys storage.old) in
+            (pages : List ℕ) × S.Brought storage.old pages storage.new × AllNeeded (RunNeeds before.core result.ran.units result.ran.reason) pages }
+        ensures size { length (S.Storage.bytes storage.new) ≡ length (S.Storage.bytes storage.old) }
+        ensures room { length self.new.output + self.new.room ≡ length self.old.output + self.old.room }
+    {
+        match self.mode {
+            Mode::Running => {}
+            Mode::Off | Mode::Stopped => {
+                return told(0, Reason::Stopped, None);
+            }
+        }
+        let Ran { units, reason } = run_units::<P, S>(
+            &mut self.cpu,
+            &mut self.pending,
+            storage,
+            count,
+        );
+        self.halt(notice_of(reason));
+        told(units, reason, notice_of(reason))
+    }
+
+    /// Stops the machine with a notice, where there is one.
+    fn halt(&mut self, notice: Option<Response>)
+        requires { 1 ≤ self.old.room }
+        ensures machine { (bytes keys : List ℕ) → machine_of self.new bytes keys ≡ halted notice (machine_of self.old bytes keys) }
+        ensures room { length self.new.output + self.new.room ≡ length self.old.output + self.old.room }
+    {
+        match notice {
+            Some(notice) => {
+                self.mode = Mode::Stopped;
+                self.output.print(&notice);
+            }
+            None => {}
+        }
+    }
+}

@@ -1,0 +1,51 @@
+//! The privileged instructions of a guest.
+ghost use Rattle.std.specs.Prelude.{◌≡◌, ◌↔◌, true, length, IsTrue};
+ghost use Rattle.s370_rows.specs.State.{state_of};
+ghost use Rattle.s370_cpu.specs.Opcodes.{opcode_at};
+ghost use Rattle.s370_cpu.specs.Unit.{MeetsUnit};
+ghost use Rattle.s370_cpu.specs.Table.{is_supervised, supervised};
+ghost use Rattle.cp_trap.specs.Trap.{stop_of};
+
+use s370_cpu::{Stop, supervise};
+use s370_psw::{Ilc, ProgramCode};
+use s370_rows::{Cpu, Instruction};
+use s370_store::{Keyed, Page};
+
+/// What became of a privileged instruction of a guest.
+#[derive(Clone, Copy, Debug, PartialEq, Eq)]
+pub enum Simulated {
+    /// It is done, on the virtual registers and the guest's storage.
+    Done,
+    /// It is refused: the guest is to be interrupted with this code, and has the next address already.
+    Refused(ProgramCode),
+    /// It has to access this page, which is not present. Nothing is changed.
+    Absent(Page),
+}
+
+/// Carries out a privileged instruction that was handed back with this length code, as the virtual program status word
+/// has it: in the virtual problem state, and there alone, it is refused as a privileged operation.
+#[inline]
+pub fn simulate<S: Keyed>(
+    cpu: &mut Cpu,
+    storage: &mut S,
+    instruction: Instruction,
+    ilc: Ilc,
+) -> Simulated
+    requires { is_supervised (opcode_at instruction.opcode) ≡ true }
+    ensures simulated { let before = state_of cpu.old (S.Storage.bytes storage.old) (S.Storage.keys storage.old) in
+        let after = state_of cpu.new (S.Storage.bytes storage.new) (S.Storage.keys storage.new) in
+        MeetsUnit (supervised before instruction ilc) (S.Storage.present storage.old) before (stop_of result ilc) after }
+    ensures refused { (result ≡ Simulated.Refused ProgramCode.PrivilegedOperation) ↔ IsTrue cpu.old.psw.problem }
+    ensures size { length (S.Storage.bytes storage.new) ≡ length (S.Storage.bytes storage.old) }
+    ensures present { S.Storage.present storage.new ≡ S.Storage.present storage.old }
+    ensures rest { S.Storage.Keeps storage.old storage.new }
+{
+    match supervise(cpu, storage, instruction, ilc) {
+        Stop::Done => Simulated::Done,
+        Stop::Program(code, _) => Simulated::Refused(code),
+        Stop::Absent(page) => Simulated::Absent(page),
+        // No privileged instruction calls the supervisor, or is handed back once more.
+        Stop::Svc(_, _) => unreachable!(),
+        Stop::Privileged(_, _) => unreachable!(),
+    }
+}

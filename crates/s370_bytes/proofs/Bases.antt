@@ -1,0 +1,69 @@
+-- Digits in one base read in another.
+use Rattle.std.proofs.Common.{◌≡◌, ℕ, suc, ◌+◌, ◌-◌, ◌*◌, ◌/◌, ◌%◌, ◌^◌, ◌<◌, ◌≤◌, true, false, ◌&&◌, nat_lt, refl, ◌∙◌, arith, add-one}
+use Rattle.std.proofs.lemmas.Nat.{mul-add-lt}
+use Rattle.std.proofs.lemmas.Bool.Decides.{nat_tests}
+use Rattle.std.proofs.Math.Nat.{pow-suc, pow-le-pow_right, mul_comm, mul_assoc, mul-add}
+use Rattle.s370_bytes.specs.Decimal.{rebased, is_decimal}
+
+pub rebased_step : (to from m n x : ℕ) → m ≡ suc n → rebased to from m x ≡ x % from + to * rebased to from n (x / from)
+unfolding rebased
+rebased_step to from m n x e = rw e refl
+
+pub rebased_none : (to from x : ℕ) → rebased to from 0 x ≡ 0
+unfolding rebased
+rebased_none to from x = refl
+
+pub decimal_step : (m n x : ℕ) → m ≡ suc n → is_decimal m x ≡ nat_lt (x % 16) 10 && is_decimal n (x / 16)
+unfolding is_decimal
+decimal_step m n x e = rw e refl
+
+pub decimal_none : (x : ℕ) → is_decimal 0 x ≡ true
+unfolding is_decimal
+decimal_none x = refl
+
+pub power_next : (b k : ℕ) → b ^ (k + 1) ≡ b ^ k * b
+power_next b k = rw add-one (pow-suc b k)
+
+-- one more digit d of the weight s
+pub more : (v s d to r total : ℕ) → v + s * (d + to * r) ≡ total → v + d * s + s * to * r ≡ total
+more v s d to r total h =
+    let e : s * (d + to * r) ≡ s * d + s * (to * r) = mul-add s d (to * r) in
+    let f : s * d ≡ d * s = mul_comm s d in
+    let g : s * to * r ≡ s * (to * r) = mul_assoc s to r in
+    omega (arith, e, f, g)
+
+pub below_more : (v s d to : ℕ) → v < s → d < to → v + d * s < s * to
+below_more v s d to h g = omega (arith, mul-add-lt d s v to g h)
+
+pub tens : (k : ℕ) → k < 15 → 10 ^ k ≤ 10 ^ 14
+tens k h = let p : 0 < 10 = omega arith in let q : k ≤ 14 = omega arith in pow-le-pow_right p q
+
+pub sixteens : (k : ℕ) → k < 15 → 16 ^ k ≤ 16 ^ 14
+sixteens k h = let p : 0 < 16 = omega arith in let q : k ≤ 14 = omega arith in pow-le-pow_right p q
+
+-- the invariant of both loops after one more digit
+pub number_more : (to from k x v s total : ℕ) → k < 15 → v + s * rebased to from (15 - k) x ≡ total
+    → v + x % from * s + s * to * rebased to from (15 - (k + 1)) (x / from) ≡ total
+number_more to from k x v s total h e =
+    let m : 15 - k ≡ suc (15 - (k + 1)) = omega arith in
+    let f = rebased_step to from (15 - k) (15 - (k + 1)) x m in
+    more v s (x % from) to (rebased to from (15 - (k + 1)) (x / from)) total (rw f at e)
+
+pub all_number : (to from k x v s total : ℕ) → 15 ≤ k → v + s * rebased to from (15 - k) x ≡ total → v ≡ total
+all_number to from k x v s total h e =
+    let m : 15 - k ≡ 0 = omega arith in
+    let f = rw (m, rebased_none to from x) at e in
+    omega (arith, f)
+
+pub digits_more : (k x : ℕ) → k < 15 → x % 16 ≤ 9 → is_decimal (15 - k) x ≡ is_decimal (15 - (k + 1)) (x / 16)
+digits_more k x h d =
+    let m : 15 - k ≡ suc (15 - (k + 1)) = omega arith in
+    decimal_step (15 - k) (15 - (k + 1)) x m ∙ (grind (arith, nat_tests))
+
+pub digits_wrong : (k x : ℕ) → k < 15 → 9 < x % 16 → is_decimal (15 - k) x ≡ false
+digits_wrong k x h d =
+    let m : 15 - k ≡ suc (15 - (k + 1)) = omega arith in
+    decimal_step (15 - k) (15 - (k + 1)) x m ∙ (grind (arith, nat_tests))
+
+pub digits_all : (k x : ℕ) → 15 ≤ k → is_decimal (15 - k) x ≡ true
+digits_all k x h = let m : 15 - k ≡ 0 = omega arith in rw (m) (decimal_none x)

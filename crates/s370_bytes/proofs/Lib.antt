@@ -1,0 +1,9 @@
+pub mod Bases
+pub mod Changes
+pub mod FromRight
+pub mod Padding
+pub mod Places
+pub mod Stored
+pub mod Translated
+pub mod Masked
+pub mod Within

@@ -1,0 +1,35 @@
+-- Bytes that a mask chooses.
+use Rattle.std.proofs.Common.{◌≡◌, ⊎_elim, ℕ, zero, suc, ◌+◌, ◌<◌, ◌≤◌, true, List, [], ◌∷◌, length, get_or, refl, ap, arith}
+use Rattle.std.proofs.lemmas.Bool.{cases_eq}
+use Rattle.s370_bytes.specs.Masks.{is_chosen, chosen_before, byte_inserted, inserted, chosen_count}
+
+-- a list of four bytes, each of which is the one that is inserted
+pub inserted_is : (mask : ℕ) (xs ys zs : List ℕ) → length zs ≡ 4 → ((j : ℕ) → j < 4 → get_or zs j 0 ≡ byte_inserted mask xs ys j) → zs ≡ inserted mask xs ys
+unfolding inserted
+inserted_is mask xs ys [] l h = absurd (omega arith)
+inserted_is mask xs ys (a ∷ []) l h = absurd (omega arith)
+inserted_is mask xs ys (a ∷ b ∷ []) l h = absurd (omega arith)
+inserted_is mask xs ys (a ∷ b ∷ c ∷ []) l h = absurd (omega arith)
+inserted_is mask xs ys (a ∷ b ∷ c ∷ d ∷ []) l h =
+    let p : a ≡ byte_inserted mask xs ys 0 = h 0 (omega arith) in
+    let q : b ≡ byte_inserted mask xs ys 1 = h 1 (omega arith) in
+    let r : c ≡ byte_inserted mask xs ys 2 = h 2 (omega arith) in
+    let s : d ≡ byte_inserted mask xs ys 3 = h 3 (omega arith) in
+    cc
+inserted_is mask xs ys (a ∷ b ∷ c ∷ d ∷ e ∷ zs) l h = absurd (omega arith)
+
+-- a byte that is chosen has its place among all that are
+before_more : (mask k n : ℕ) → k ≤ n → chosen_before mask k ≤ chosen_before mask n
+before_more mask k zero h = let e : k ≡ 0 = omega arith in omega (arith, ap (λ (i : ℕ). chosen_before mask i) e)
+before_more mask k (suc n) h =
+    ⊎_elim
+    (λ (same : k ≡ suc n). omega (arith, ap (λ (i : ℕ). chosen_before mask i) same))
+    (λ (other : k ≡ suc n → ⊥). omega (arith, before_more mask k n (omega (arith, other))))
+    (cases_eq k (suc n))
+
+pub place_inside : (mask k : ℕ) → k < 4 → is_chosen mask k ≡ true → chosen_before mask k < chosen_count mask
+unfolding chosen_count
+place_inside mask k h e =
+    let m : chosen_before mask (suc k) ≤ chosen_before mask 4 = before_more mask (suc k) 4 (omega arith) in
+    let f : chosen_before mask (suc k) ≡ chosen_before mask k + 1 = rw e refl in
+    omega (arith, m, f)

@@ -1,0 +1,9 @@
+pub mod Strings
+pub mod Combine
+pub mod Compare
+pub mod Decimal
+pub mod Digits
+pub mod Long
+pub mod Masks
+pub mod Multiple
+pub mod Translate

@@ -1,0 +1,233 @@
+//! Strings that are changed from left to right.
+ghost use Rattle.std.specs.Prelude.{◌≡◌, ℕ, ◌+◌, ◌==◌, ◌<◌, ◌≤◌, length, slice_index, slice_range};
+ghost use Rattle.s370_store.specs.Access.{IsGranted, put};
+ghost use Rattle.s370_rows.specs.Arithmetic.{zero_code};
+ghost use Rattle.s370_rows.specs.State.{state_of};
+ghost use Rattle.s370_rows.specs.Rows.{MeetsRow};
+ghost use Rattle.s370_bytes.specs.declared.combine.Combine.{Combine};
+ghost use Rattle.s370_bytes.specs.Combine.{combined, combined_condition, string_combined, made_of, lag_of, lagged};
+ghost use Rattle.s370_bytes.specs.Strings.{number};
+
+use s370_num::ConditionCode;
+use s370_rows::{Cpu, Ending, Instruction, Refusal, grant_two};
+use s370_store::{Access, Range, Storage};
+
+/// What is made of a byte of each operand.
+#[derive(Clone, Copy, Debug, PartialEq, Eq)]
+pub enum Combine {
+    Move,
+    MoveNumerics,
+    MoveZones,
+    And,
+    Or,
+    ExclusiveOr,
+}
+
+impl Combine {
+    /// The byte that is made of a byte of each operand.
+    #[inline(always)]
+    fn byte(self, x: u8, y: u8) -> u8
+        ensures { result ≡ combined self x y }
+    {
+        match self {
+            Combine::Move => y,
+            Combine::MoveNumerics => x / 16 * 16 + y % 16,
+            Combine::MoveZones => y / 16 * 16 + x % 16,
+            Combine::And => x & y,
+            Combine::Or => x | y,
+            Combine::ExclusiveOr => x ^ y,
+        }
+    }
+}
+
+/// How many bytes are read before one that was made is read.
+#[inline(always)]
+fn lag_of(to: u32, from: u32, count: u32) -> u32
+    requires { 0 < count }
+    ensures value { result ≡ lag_of to from count }
+    ensures some { 0 < result }
+    ensures within { result ≤ count }
+{
+    if from < to && to - from < count {
+        to - from
+    } else {
+        count
+    }
+}
+
+/// Combines the bytes from left to right, each past the lag with one that was made before it.
+#[inline]
+fn combine_all(operation: Combine, target: &mut [u8], source: &[u8], lag: usize)
+    requires same { length target.old ≡ length source.now }
+    requires some { 0 < lag }
+    requires within { lag ≤ length target.old }
+    ensures size { length target.new ≡ length target.old }
+    ensures each { (k : ℕ) → k < length target.old → slice_index target.new k ≡ combined operation (slice_index target.old k) (lagged source.now target.new lag k) }
+{
+    for k in 0..lag {
+        target[k] = operation.byte(target[k], source[k]);
+    }
+    for k in lag..target.len() {
+        target[k] = operation.byte(target[k], target[k - lag]);
+    }
+}
+
+/// Repeats the first bytes in all that follow.
+#[inline]
+fn repeat(bytes: &mut [u8], lag: usize)
+    requires some { 0 < lag }
+    requires within { lag ≤ length bytes.old }
+    ensures size { length bytes.new ≡ length bytes.old }
+    ensures each { (k : ℕ) → k < length bytes.old → slice_index bytes.new k ≡ lagged bytes.old bytes.new lag k }
+{
+    for k in lag..bytes.len() {
+        bytes[k] = bytes[k - lag];
+    }
+}
+
+/// Whether all bytes are zero.
+#[inline]
+pub fn is_zero(bytes: &[u8]) -> bool
+    ensures { result ≡ (number bytes.now == 0) }
+{
+    for byte in bytes {
+        if *byte != 0 {
+            return false;
+        }
+    }
+    true
+}
+
+/// The condition code of bytes: whether one is not zero.
+#[inline(always)]
+fn condition_of(bytes: &[u8]) -> ConditionCode
+    ensures { result ≡ zero_code (number bytes.now) }
+{
+    if is_zero(bytes) {
+        ConditionCode::ZERO
+    } else {
+        ConditionCode::ONE
+    }
+}
+
+/// The condition of what was made.
+#[inline(always)]
+fn set_combined_condition(operation: Combine, cpu: &mut Cpu, made: &[u8])
+    ensures { cpu.new ≡ combined_condition operation cpu.old made.now }
+{
+    match operation {
+        Combine::And | Combine::Or | Combine::ExclusiveOr => {
+            cpu.psw.set_condition(condition_of(made))
+        }
+        Combine::Move | Combine::MoveNumerics | Combine::MoveZones => {}
+    }
+}
+
+/// Combines two ranges through two buffers of their length, and answers what was made in the first.
+#[inline(always)]
+fn combine_at<S: Storage>(
+    operation: Combine,
+    storage: &mut S,
+    to: u32,
+    from: u32,
+    made: &mut [u8],
+    source: &mut [u8],
+)
+    requires some { 0 < length made.old }
+    requires short { length made.old ≤ 256 }
+    requires same { length made.old ≡ length source.old }
+    requires target { IsGranted (length (S.bytes storage.old)) (S.present storage.old) to (length made.old) }
+    requires source { IsGranted (length (S.bytes storage.old)) (S.present storage.old) from (length made.old) }
+    ensures bytes { S.bytes storage.new ≡ put (S.bytes storage.old) to (made_of operation (S.bytes storage.old) to from (length made.old)) }
+    ensures made { made.new ≡ made_of operation (S.bytes storage.old) to from (length made.old) }
+    ensures size { length (S.bytes storage.new) ≡ length (S.bytes storage.old) }
+    ensures keys { S.keys storage.new ≡ S.keys storage.old }
+    ensures present { S.present storage.new ≡ S.present storage.old }
+    ensures rest { S.Keeps storage.old storage.new }
+{
+    storage.load(to, made);
+    storage.load(from, source);
+    let lag = lag_of(to, from, made.len() as u32);
+    combine_all(operation, made, source, lag as usize);
+    storage.store(to, made);
+}
+
+/// D1 MVN, D3 MVZ, D4 NC, D6 OC, D7 XC: combine a string with another; left to right.
+pub fn combine_row<S: Storage>(
+    operation: Combine,
+    cpu: &mut Cpu,
+    storage: &mut S,
+    i: Instruction,
+) -> Result<Ending, Refusal>
+    ensures row { let before = state_of cpu.old (S.bytes storage.old) (S.keys storage.old) in
+        let after = state_of cpu.new (S.bytes storage.new) (S.keys storage.new) in
+        MeetsRow (string_combined operation before i) (S.present storage.old) before result after }
+    ensures size { length (S.bytes storage.new) ≡ length (S.bytes storage.old) }
+    ensures present { S.present storage.new ≡ S.present storage.old }
+    ensures rest { S.Keeps storage.old storage.new }
+{
+    let to = cpu.based(i.second_half).get();
+    let from = cpu.based(i.third_half).get();
+    let count = i.second_byte as u32 + 1;
+    let target = Range { start: to, count };
+    let source = Range { start: from, count };
+    grant_two(cpu, storage, target, Access::Store, source, Access::Fetch)?;
+    let count = count as usize;
+    let mut made = [0u8; 256];
+    let mut source = [0u8; 256];
+    combine_at(
+        operation,
+        storage,
+        to,
+        from,
+        &mut made[..count],
+        &mut source[..count],
+    );
+    set_combined_condition(operation, cpu, &made[..count]);
+    Ok(Ending::Done)
+}
+
+/// Moves a range through a buffer of its length.
+#[inline(always)]
+fn move_at<S: Storage>(storage: &mut S, to: u32, from: u32, bytes: &mut [u8])
+    requires some { 0 < length bytes.old }
+    requires short { length bytes.old ≤ 256 }
+    requires target { IsGranted (length (S.bytes storage.old)) (S.present storage.old) to (length bytes.old) }
+    requires source { IsGranted (length (S.bytes storage.old)) (S.present storage.old) from (length bytes.old) }
+    ensures bytes { S.bytes storage.new ≡ put (S.bytes storage.old) to (made_of Combine.Move (S.bytes storage.old) to from (length bytes.old)) }
+    ensures size { length (S.bytes storage.new) ≡ length (S.bytes storage.old) }
+    ensures keys { S.keys storage.new ≡ S.keys storage.old }
+    ensures present { S.present storage.new ≡ S.present storage.old }
+    ensures rest { S.Keeps storage.old storage.new }
+{
+    storage.load(from, bytes);
+    let lag = lag_of(to, from, bytes.len() as u32);
+    repeat(bytes, lag as usize);
+    storage.store(to, bytes);
+}
+
+/// D2 MVC: move characters; left to right.
+///
+/// It is [`combine_row`] of [`Combine::Move`] by one load and one store.
+pub fn move_row<S: Storage>(
+    cpu: &mut Cpu,
+    storage: &mut S,
+    i: Instruction,
+) -> Result<Ending, Refusal>
+    ensures row { let before = state_of cpu.old (S.bytes storage.old) (S.keys storage.old) in
+        let after = state_of cpu.new (S.bytes storage.new) (S.keys storage.new) in
+        MeetsRow (string_combined Combine.Move before i) (S.present storage.old) before result after }
+    ensures size { length (S.bytes storage.new) ≡ length (S.bytes storage.old) }
+    ensures present { S.present storage.new ≡ S.present storage.old }
+    ensures rest { S.Keeps storage.old storage.new }
+{
+    let to = cpu.based(i.second_half).get();
+    let from = cpu.based(i.third_half).get();
+    let count = i.second_byte as u32 + 1;
+    let target = Range { start: to, count };
+    let source = Range { start: from, count };
+    grant_two(cpu, storage, target, Access::Store, source, Access::Fetch)?;
+    let mut bytes = [0u8; 256];
+    move_at(storage, to, from, &mut bytes[..count as usize]);
+    Ok(Ending::Done)
+}

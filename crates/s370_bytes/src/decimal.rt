@@ -1,0 +1,142 @@
+//! Numbers of 15 decimal digits and a sign.
+ghost use Rattle.std.specs.Prelude.{◌≡◌, ℕ, ◌^◌, ◌<◌, length, IfSome};
+ghost use Rattle.s370_rows.specs.State.{state_of};
+ghost use Rattle.s370_rows.specs.Rows.{MeetsRow};
+ghost use Rattle.s370_bytes.specs.Decimal.{MeetsEnded, rebased, decimal_value, signed_value, binary_left, binary_loaded, decimal_of, decimal_stored};
+
+use s370_num::Register;
+use s370_psw::ProgramCode;
+use s370_rows::{Cpu, Ending, Instruction, Refusal, grant};
+use s370_store::{Access, Range, Storage, load_doubleword, store_doubleword};
+
+/// The number that 15 decimal digits are, if each is one.
+fn decimal_value(digits: u64) -> Option<u64>
+    ensures value { result ≡ decimal_value digits }
+    ensures below { IfSome result (λ n. n < 10 ^ 15) }
+{
+    let mut rest = digits;
+    let mut value = 0;
+    let mut scale = 1;
+    for _k in 0..15u32 {
+        let digit = rest % 16;
+        if digit > 9 {
+            return None;
+        }
+        value += digit * scale;
+        scale *= 10;
+        rest /= 16;
+    }
+    Some(value)
+}
+
+/// The number that 15 decimal digits and a sign are, if they are one.
+#[inline]
+fn signed_value(doubleword: u64) -> Option<i64>
+    ensures { result ≡ signed_value doubleword }
+{
+    let sign = doubleword % 16;
+    if sign < 10 {
+        return None;
+    }
+    let value = decimal_value(doubleword / 16)? as i64;
+    Some(if sign == 11 || sign == 13 {
+        -value
+    } else {
+        value
+    })
+}
+
+/// The low bits of a number in a register.
+#[inline]
+fn load_binary(cpu: &mut Cpu, register: Register, doubleword: u64) -> Result<Ending, ProgramCode>
+    ensures { MeetsEnded (binary_left cpu.old register (signed_value doubleword)) cpu.old result cpu.new }
+{
+    match signed_value(doubleword) {
+        None => Err(ProgramCode::Data),
+        Some(number) => {
+            cpu.general[register.index()] = (number.cast_unsigned() & 0xFFFF_FFFF) as u32;
+            if number >= -0x8000_0000 && number <= 0x7FFF_FFFF {
+                Ok(Ending::Done)
+            } else {
+                Ok(Ending::Interrupted(ProgramCode::FixedPointDivide))
+            }
+        }
+    }
+}
+
+/// 4F CVB: convert 15 decimal digits and a sign to binary.
+pub fn binary_row<S: Storage>(cpu: &mut Cpu, storage: &S, i: Instruction) -> Result<Ending, Refusal>
+    ensures { let before = state_of cpu.old (S.bytes storage.now) (S.keys storage.now) in
+        let after = state_of cpu.new (S.bytes storage.now) (S.keys storage.now) in
+        MeetsRow (binary_loaded before i) (S.present storage.now) before result after }
+{
+    let at = cpu.indexed(i.r2(), i.second_half).get();
+    grant(
+        cpu,
+        storage,
+        Range {
+            start: at,
+            count: 8,
+        },
+        Access::Fetch,
+    )?;
+    let doubleword = load_doubleword(storage, at);
+    match load_binary(cpu, i.r1(), doubleword) {
+        Ok(ending) => Ok(ending),
+        Err(code) => Err(Refusal::Program(code)),
+    }
+}
+
+/// The decimal digits of a number below ten to the fifteenth, four bits each.
+fn decimal_digits(number: u64) -> u64
+    ensures value { result ≡ rebased 16 10 15 number }
+    ensures below { result < 2 ^ 60 }
+{
+    let mut rest = number;
+    let mut value = 0;
+    let mut scale = 1;
+    for _k in 0..15u32 {
+        value += rest % 10 * scale;
+        scale *= 16;
+        rest /= 10;
+    }
+    value
+}
+
+/// The decimal digits and the sign of the signed number that a word is.
+#[inline]
+#[tactic(auto, unfolding(crate::specs::Decimal::decimal_of))]
+fn decimal_of(word: u32) -> u64
+    ensures { result ≡ decimal_of word }
+{
+    let number = word.cast_signed();
+    let sign = if number < 0 { 13 } else { 12 };
+    decimal_digits(number.unsigned_abs() as u64) * 16 + sign
+}
+
+/// 4E CVD: convert to 15 decimal digits and a sign.
+pub fn decimal_row<S: Storage>(
+    cpu: &Cpu,
+    storage: &mut S,
+    i: Instruction,
+) -> Result<Ending, Refusal>
+    ensures row { let before = state_of cpu.now (S.bytes storage.old) (S.keys storage.old) in
+        let after = state_of cpu.now (S.bytes storage.new) (S.keys storage.new) in
+        MeetsRow (decimal_stored before i) (S.present storage.old) before result after }
+    ensures size { length (S.bytes storage.new) ≡ length (S.bytes storage.old) }
+    ensures present { S.present storage.new ≡ S.present storage.old }
+    ensures rest { S.Keeps storage.old storage.new }
+{
+    let at = cpu.indexed(i.r2(), i.second_half).get();
+    grant(
+        cpu,
+        storage,
+        Range {
+            start: at,
+            count: 8,
+        },
+        Access::Store,
+    )?;
+    store_doubleword(storage, at, decimal_of(cpu.general[i.r1().index()]));
+    Ok(Ending::Done)
+}

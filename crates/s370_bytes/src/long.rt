@@ -1,0 +1,368 @@
+//! The long move and the long comparison, a part of at most 256 bytes at a time.
+ghost use Rattle.std.specs.Prelude.{◌≡◌, ℕ, ◌+◌, ◌^◌, ◌<◌, ◌≤◌, length, min, slice_range, replicate};
+ghost use Rattle.s370_store.specs.Access.{IsGranted, put};
+ghost use Rattle.s370_rows.specs.State.{state_of};
+ghost use Rattle.s370_rows.specs.Rows.{MeetsRow};
+ghost use Rattle.s370_bytes.specs.Long.{operand_of, with_operand, past, counts_code, destroys, part_moved, long_moved, longest, part_ordered, pairs_ordered, part_compared, long_compared};
+ghost use Rattle.s370_bytes.specs.Strings.{padded};
+
+use crate::compare::equal_front;
+use s370_num::{Addr24, ConditionCode, Register};
+use s370_psw::ProgramCode;
+use s370_rows::{Cpu, Ending, Instruction, Refusal, grant_two, order_of};
+use s370_store::{Access, Range, Storage};
+
+/// A long operand: its address, its length and the byte above the length.
+#[derive(Clone, Copy, Debug, PartialEq, Eq)]
+pub struct Operand {
+    /// Where it begins.
+    pub address: Addr24,
+    /// How many bytes it has, in 24 bits.
+    pub count: u32,
+    /// The byte above the count, which pads the second operand.
+    pub pad: u8,
+}
+
+impl Operand {
+    /// The operand that a pair of registers names.
+    #[inline(always)]
+    fn of(cpu: &Cpu, register: Register) -> Operand
+        requires { register < 15 }
+        ensures value { result ≡ operand_of cpu.now register }
+        ensures count { result.count < 2 ^ 24 }
+    {
+        let second = cpu.general[register.index() + 1];
+        Operand {
+            address: Addr24::wrapping(cpu.general[register.index()]),
+            count: second % 0x100_0000,
+            pad: (second >> 24) as u8,
+        }
+    }
+
+    /// What is left after some bytes.
+    #[inline(always)]
+    fn past(&self, count: u32) -> Operand
+        requires enough { count ≤ self.now.count }
+        requires count_below { self.now.count < 2 ^ 24 }
+        ensures value { result ≡ past self.now count }
+        ensures count { result.count < 2 ^ 24 }
+    {
+        Operand {
+            address: self.address.wrapping_add(count),
+            count: self.count - count,
+            pad: self.pad,
+        }
+    }
+
+    /// Sets the pair that names an operand.
+    #[inline(always)]
+    fn set(self, cpu: &mut Cpu, register: Register)
+        requires register { register < 15 }
+        requires count_below { self.count < 2 ^ 24 }
+        ensures { cpu.new ≡ with_operand cpu.old register self }
+    {
+        cpu.general[register.index()] = self.address.get();
+        cpu.general[register.index() + 1] = self.pad as u32 * 0x100_0000 + self.count;
+    }
+}
+
+/// The condition code of two lengths.
+#[inline(always)]
+fn counts_code(first: Operand, second: Operand) -> ConditionCode
+    ensures { result ≡ counts_code first second }
+{
+    order_of(first.count, second.count)
+}
+
+/// Whether a byte of the second operand would be moved after it was changed.
+#[inline(always)]
+fn destroys(first: Operand, second: Operand) -> bool
+    ensures { result ≡ destroys first second }
+{
+    let distance = (first.address.get() + (0x100_0000 - second.address.get())) % 0x100_0000;
+    0 < distance && distance < first.count.min(second.count)
+}
+
+/// Sets each byte.
+#[inline]
+fn set_all(bytes: &mut [u8], pad: u8)
+    ensures { bytes.new ≡ replicate (length bytes.old) pad }
+{
+    for k in 0..bytes.len() {
+        bytes[k] = pad;
+    }
+}
+
+/// Loads a range, and pads after it.
+#[inline]
+fn load_padded<S: Storage>(storage: &S, from: u32, pad: u8, into: &mut [u8], count: u32)
+    requires within { count ≤ length into.old }
+    requires short { length into.old ≤ 256 }
+    requires source { 0 < count → IsGranted (length (S.bytes storage.now)) (S.present storage.now) from count }
+    ensures { into.new ≡ padded (slice_range (S.bytes storage.now) from (from + count)) pad (length into.old) }
+{
+    set_all(into, pad);
+    if count > 0 {
+        storage.load(from, &mut into[..count as usize]);
+    }
+}
+
+/// Moves a range and then pads, through a buffer.
+#[inline(always)]
+fn move_padded<S: Storage>(
+    storage: &mut S,
+    to: u32,
+    from: u32,
+    pad: u8,
+    made: &mut [u8],
+    count: u32,
+)
+    requires within { count ≤ length made.old }
+    requires short { length made.old ≤ 256 }
+    requires target { IsGranted (length (S.bytes storage.old)) (S.present storage.old) to (length made.old) }
+    requires source { 0 < count → IsGranted (length (S.bytes storage.old)) (S.present storage.old) from count }
+    ensures bytes { S.bytes storage.new ≡ put (S.bytes storage.old) to (padded (slice_range (S.bytes storage.old) from (from + count)) pad (length made.old)) }
+    ensures size { length (S.bytes storage.new) ≡ length (S.bytes storage.old) }
+    ensures keys { S.keys storage.new ≡ S.keys storage.old }
+    ensures present { S.present storage.new ≡ S.present storage.old }
+    ensures rest { S.Keeps storage.old storage.new }
+{
+    load_padded(storage, from, pad, made, count);
+    storage.store(to, made);
+}
+
+/// One part of the long move.
+fn move_part<S: Storage>(
+    cpu: &mut Cpu,
+    storage: &mut S,
+    r1: Register,
+    r2: Register,
+) -> Result<Ending, Refusal>
+    requires first { r1 < 15 }
+    requires second { r2 < 15 }
+    requires some { 0 < (operand_of cpu.old r1).count }
+    ensures row { let before = state_of cpu.old (S.bytes storage.old) (S.keys storage.old) in
+        let after = state_of cpu.new (S.bytes storage.new) (S.keys storage.new) in
+        MeetsRow (part_moved before r1 r2) (S.present storage.old) before result after }
+    ensures size { length (S.bytes storage.new) ≡ length (S.bytes storage.old) }
+    ensures present { S.present storage.new ≡ S.present storage.old }
+    ensures rest { S.Keeps storage.old storage.new }
+{
+    let first = Operand::of(cpu, r1);
+    let second = Operand::of(cpu, r2);
+    let count = first.count.min(256);
+    let count_2 = second.count.min(count);
+    let to = first.address.get();
+    let from = second.address.get();
+    let target = Range { start: to, count };
+    let source = Range {
+        start: from,
+        count: count_2,
+    };
+    grant_two(cpu, storage, target, Access::Store, source, Access::Fetch)?;
+    let mut made = [0u8; 256];
+    move_padded(
+        storage,
+        to,
+        from,
+        second.pad,
+        &mut made[..count as usize],
+        count_2,
+    );
+    first.past(count).set(cpu, r1);
+    second.past(count_2).set(cpu, r2);
+    if first.count == count {
+        cpu.psw.set_condition(counts_code(first, second));
+        Ok(Ending::Done)
+    } else {
+        Ok(Ending::Again)
+    }
+}
+
+/// 0E MVCL: move long; a part of at most 256 bytes.
+pub fn move_long_row<S: Storage>(
+    cpu: &mut Cpu,
+    storage: &mut S,
+    i: Instruction,
+) -> Result<Ending, Refusal>
+    ensures row { let before = state_of cpu.old (S.bytes storage.old) (S.keys storage.old) in
+        let after = state_of cpu.new (S.bytes storage.new) (S.keys storage.new) in
+        MeetsRow (long_moved before i) (S.present storage.old) before result after }
+    ensures size { length (S.bytes storage.new) ≡ length (S.bytes storage.old) }
+    ensures present { S.present storage.new ≡ S.present storage.old }
+    ensures rest { S.Keeps storage.old storage.new }
+{
+    let r1 = i.r1();
+    let r2 = i.r2();
+    if r1.number() % 2 != 0 {
+        return Err(Refusal::Program(ProgramCode::Specification));
+    }
+    if r2.number() % 2 != 0 {
+        return Err(Refusal::Program(ProgramCode::Specification));
+    }
+    let first = Operand::of(cpu, r1);
+    let second = Operand::of(cpu, r2);
+    if first.count == 0 {
+        cpu.psw.set_condition(counts_code(first, second));
+        return Ok(Ending::Done);
+    }
+    if destroys(first, second) {
+        cpu.psw.set_condition(ConditionCode::THREE);
+        return Ok(Ending::Done);
+    }
+    move_part(cpu, storage, r1, r2)
+}
+
+/// The lesser of two counts.
+#[inline(always)]
+fn at_most(a: u32, b: u32) -> u32
+    ensures value { result ≡ min a b }
+    ensures first { result ≤ a }
+    ensures second { result ≤ b }
+{
+    if a < b { a } else { b }
+}
+
+/// How many pairs a part of a comparison has.
+#[inline(always)]
+fn longest(first: &Operand, second: &Operand) -> u32
+    ensures value { result ≡ longest first.now second.now }
+    ensures short { result ≤ 256 }
+{
+    let longer = if first.count < second.count {
+        second.count
+    } else {
+        first.count
+    };
+    if longer < 256 { longer } else { 256 }
+}
+
+/// What a comparison of padded parts leaves.
+#[inline]
+fn conclude(
+    cpu: &mut Cpu,
+    r1: Register,
+    r2: Register,
+    count: u32,
+    count_1: u32,
+    count_2: u32,
+    left: &[u8],
+    right: &[u8],
+) -> Ending
+    requires first { r1 < 15 }
+    requires second { r2 < 15 }
+    requires short { count ≤ 256 }
+    requires left { length left.now ≡ count }
+    requires right { length right.now ≡ count }
+    requires count_1 { count_1 ≤ (operand_of cpu.old r1).count }
+    requires count_2 { count_2 ≤ (operand_of cpu.old r2).count }
+    ensures { part_ordered cpu.old r1 r2 count count_1 count_2 left.now right.now ≡ record { ending = result; cpu = cpu.new } }
+{
+    let first = Operand::of(cpu, r1);
+    let second = Operand::of(cpu, r2);
+    let front = equal_front(left, right);
+    first.past(at_most(front as u32, count_1)).set(cpu, r1);
+    second.past(at_most(front as u32, count_2)).set(cpu, r2);
+    if front < count as usize {
+        cpu.psw
+            .set_condition(order_of(left[front] as u32, right[front] as u32));
+        Ending::Done
+    } else if first.count == count_1 && second.count == count_2 {
+        cpu.psw.set_condition(ConditionCode::ZERO);
+        Ending::Done
+    } else {
+        Ending::Again
+    }
+}
+
+/// Compares two ranges with pads after them, through two buffers of one length.
+#[inline(always)]
+fn compare_at<S: Storage>(
+    cpu: &mut Cpu,
+    storage: &S,
+    r1: Register,
+    r2: Register,
+    count: u32,
+    left: &mut [u8],
+    right: &mut [u8],
+) -> Ending
+    requires first { r1 < 15 }
+    requires second { r2 < 15 }
+    requires short { count ≤ 256 }
+    requires left { length left.old ≡ count }
+    requires right { length right.old ≡ count }
+    requires source { 0 < min count (operand_of cpu.old r1).count → IsGranted (length (S.bytes storage.now)) (S.present storage.now) (operand_of cpu.old r1).address (min count (operand_of cpu.old r1).count) }
+    requires source_2 { 0 < min count (operand_of cpu.old r2).count → IsGranted (length (S.bytes storage.now)) (S.present storage.now) (operand_of cpu.old r2).address (min count (operand_of cpu.old r2).count) }
+    ensures { pairs_ordered (S.bytes storage.now) cpu.old r1 r2 count ≡ record { ending = result; cpu = cpu.new } }
+{
+    let first = Operand::of(cpu, r1);
+    let second = Operand::of(cpu, r2);
+    let count_1 = at_most(count, first.count);
+    let count_2 = at_most(count, second.count);
+    load_padded(storage, first.address.get(), second.pad, left, count_1);
+    load_padded(storage, second.address.get(), second.pad, right, count_2);
+    conclude(cpu, r1, r2, count, count_1, count_2, left, right)
+}
+
+/// One part of the long comparison.
+fn compare_part<S: Storage>(
+    cpu: &mut Cpu,
+    storage: &S,
+    r1: Register,
+    r2: Register,
+) -> Result<Ending, Refusal>
+    requires first { r1 < 15 }
+    requires second { r2 < 15 }
+    ensures { let before = state_of cpu.old (S.bytes storage.now) (S.keys storage.now) in
+        let after = state_of cpu.new (S.bytes storage.now) (S.keys storage.now) in
+        MeetsRow (part_compared before r1 r2) (S.present storage.now) before result after }
+{
+    let first = Operand::of(cpu, r1);
+    let second = Operand::of(cpu, r2);
+    let count = longest(&first, &second);
+    let left = Range {
+        start: first.address.get(),
+        count: at_most(count, first.count),
+    };
+    let right = Range {
+        start: second.address.get(),
+        count: at_most(count, second.count),
+    };
+    grant_two(cpu, storage, left, Access::Fetch, right, Access::Fetch)?;
+    let mut left = [0u8; 256];
+    let mut right = [0u8; 256];
+    Ok(compare_at(
+        cpu,
+        storage,
+        r1,
+        r2,
+        count,
+        &mut left[..count as usize],
+        &mut right[..count as usize],
+    ))
+}
+
+/// 0F CLCL: compare logical long; a part of at most 256 pairs.
+pub fn compare_long_row<S: Storage>(
+    cpu: &mut Cpu,
+    storage: &S,
+    i: Instruction,
+) -> Result<Ending, Refusal>
+    ensures { let before = state_of cpu.old (S.bytes storage.now) (S.keys storage.now) in
+        let after = state_of cpu.new (S.bytes storage.now) (S.keys storage.now) in
+        MeetsRow (long_compared before i) (S.present storage.now) before result after }
+{
+    let r1 = i.r1();
+    let r2 = i.r2();
+    if r1.number() % 2 != 0 {
+        return Err(Refusal::Program(ProgramCode::Specification));
+    }
+    if r2.number() % 2 != 0 {
+        return Err(Refusal::Program(ProgramCode::Specification));
+    }
+    if Operand::of(cpu, r1).count == 0 && Operand::of(cpu, r2).count == 0 {
+        cpu.psw.set_condition(ConditionCode::ZERO);
+        return Ok(Ending::Done);
+    }
+    compare_part(cpu, storage, r1, r2)
+}

@@ -1,0 +1,224 @@
+//! Characters of a register that a mask chooses.
+ghost use Rattle.std.specs.Prelude.{◌≡◌, ℕ, ◌+◌, ◌<◌, ◌≤◌, length, slice_range, take};
+ghost use Rattle.s370_store.specs.Access.{IsGranted, put};
+ghost use Rattle.s370_rows.specs.State.{state_of};
+ghost use Rattle.s370_rows.specs.Rows.{MeetsRow};
+ghost use Rattle.s370_bytes.specs.Compare.{string_order};
+ghost use Rattle.s370_bytes.specs.Masks.{is_chosen, chosen_count, chosen, inserted, bytes_of, tested_count, inserted_code, with_inserted, characters_inserted, characters_stored, characters_compared};
+
+use crate::combine::is_zero;
+use crate::compare::string_order;
+use s370_num::{ConditionCode, Register};
+use s370_rows::{Cpu, Ending, Instruction, Refusal, grant};
+use s370_store::{Access, Range, Storage};
+
+/// Whether a mask has the bit that stands for a byte of a register, from the left.
+#[inline(always)]
+fn is_chosen(mask: u8, place: u32) -> bool
+    requires { place < 4 }
+    ensures { result ≡ is_chosen mask place }
+{
+    mask >> (3 - place) & 1 == 1
+}
+
+/// How many bytes a mask chooses.
+#[tactic(auto, unfolding(crate::specs::Masks::chosen_count))]
+fn chosen_count(mask: u8) -> u32
+    ensures value { result ≡ chosen_count mask }
+    ensures few { result ≤ 4 }
+{
+    let mut count = 0;
+    for k in 0..4u32 {
+        if is_chosen(mask, k) {
+            count += 1;
+        }
+    }
+    count
+}
+
+/// How many bytes are tested, of which a mask chooses so many.
+#[inline(always)]
+fn tested_count(count: u32) -> u32
+    ensures { result ≡ tested_count count }
+{
+    if count == 0 { 1 } else { count }
+}
+
+/// Copies the bytes that a mask chooses to the front of others.
+#[tactic(auto, unfolding(crate::specs::Masks::chosen_count, crate::specs::Masks::chosen))]
+fn gather(mask: u8, bytes: &[u8; 4], into: &mut [u8; 4])
+    ensures { take (chosen_count mask) into.new ≡ chosen mask bytes.now }
+{
+    let mut place = 0;
+    for k in 0..4u32 {
+        if is_chosen(mask, k) {
+            into[place] = bytes[k as usize];
+            place += 1;
+        }
+    }
+}
+
+/// Puts bytes in order into those that a mask chooses.
+#[tactic(auto, unfolding(crate::specs::Masks::chosen_count))]
+fn insert(mask: u8, bytes: &mut [u8; 4], from: &[u8])
+    requires { length from.now ≡ chosen_count mask }
+    ensures { bytes.new ≡ inserted mask bytes.old from.now }
+{
+    let mut place = 0;
+    for k in 0..4u32 {
+        if is_chosen(mask, k) {
+            bytes[k as usize] = from[place];
+            place += 1;
+        }
+    }
+}
+
+/// The condition code of bytes that were inserted.
+#[inline]
+fn inserted_code(bytes: &[u8]) -> ConditionCode
+    ensures { result ≡ inserted_code bytes.now }
+{
+    if is_zero(bytes) {
+        return ConditionCode::ZERO;
+    }
+    if bytes[0] >= 128 {
+        ConditionCode::ONE
+    } else {
+        ConditionCode::TWO
+    }
+}
+
+/// Loads the bytes of a range into those of a register that a mask chooses, through a buffer of their number.
+#[inline]
+fn insert_at<S: Storage>(
+    cpu: &mut Cpu,
+    storage: &S,
+    register: Register,
+    mask: u8,
+    start: u32,
+    from: &mut [u8],
+)
+    requires count { length from.old ≡ chosen_count mask }
+    requires short { length from.old ≤ 4 }
+    requires granted { IsGranted (length (S.bytes storage.now)) (S.present storage.now) start (length from.old) }
+    ensures { cpu.new ≡ with_inserted cpu.old register mask (slice_range (S.bytes storage.now) start (start + length from.old)) }
+{
+    storage.load(start, from);
+    let mut bytes = cpu.general[register.index()].to_be_bytes();
+    insert(mask, &mut bytes, from);
+    cpu.general[register.index()] = u32::from_be_bytes(bytes);
+    cpu.psw.set_condition(inserted_code(from));
+}
+
+/// BF ICM: insert characters under mask.
+pub fn insert_characters_row<S: Storage>(
+    cpu: &mut Cpu,
+    storage: &S,
+    i: Instruction,
+) -> Result<Ending, Refusal>
+    ensures { let before = state_of cpu.old (S.bytes storage.now) (S.keys storage.now) in
+        let after = state_of cpu.new (S.bytes storage.now) (S.keys storage.now) in
+        MeetsRow (characters_inserted before i) (S.present storage.now) before result after }
+{
+    let start = cpu.based(i.second_half).get();
+    let mask = i.r2().number();
+    let count = chosen_count(mask);
+    let range = Range {
+        start,
+        count: tested_count(count),
+    };
+    grant(cpu, storage, range, Access::Fetch)?;
+    let mut from = [0u8; 4];
+    insert_at(
+        cpu,
+        storage,
+        i.r1(),
+        mask,
+        start,
+        &mut from[..count as usize],
+    );
+    Ok(Ending::Done)
+}
+
+/// BE STCM: store characters under mask.
+pub fn store_characters_row<S: Storage>(
+    cpu: &Cpu,
+    storage: &mut S,
+    i: Instruction,
+) -> Result<Ending, Refusal>
+    ensures row { let before = state_of cpu.now (S.bytes storage.old) (S.keys storage.old) in
+        let after = state_of cpu.now (S.bytes storage.new) (S.keys storage.new) in
+        MeetsRow (characters_stored before i) (S.present storage.old) before result after }
+    ensures size { length (S.bytes storage.new) ≡ length (S.bytes storage.old) }
+    ensures present { S.present storage.new ≡ S.present storage.old }
+    ensures rest { S.Keeps storage.old storage.new }
+{
+    let start = cpu.based(i.second_half).get();
+    let mask = i.r2().number();
+    let count = chosen_count(mask);
+    let range = Range {
+        start,
+        count: tested_count(count),
+    };
+    grant(cpu, storage, range, Access::Store)?;
+    let mut made = [0u8; 4];
+    gather(mask, &cpu.general[i.r1().index()].to_be_bytes(), &mut made);
+    storage.store(start, &made[..count as usize]);
+    Ok(Ending::Done)
+}
+
+/// The condition code of the bytes of a register that a mask chooses against those of a range, through a buffer.
+#[inline]
+fn order_at<S: Storage>(
+    cpu: &Cpu,
+    storage: &S,
+    register: Register,
+    mask: u8,
+    start: u32,
+    right: &mut [u8],
+) -> ConditionCode
+    requires count { length right.old ≡ chosen_count mask }
+    requires short { length right.old ≤ 4 }
+    requires granted { IsGranted (length (S.bytes storage.now)) (S.present storage.now) start (length right.old) }
+    ensures { result ≡ string_order (chosen mask (bytes_of cpu.now register)) (slice_range (S.bytes storage.now) start (start + length right.old)) }
+{
+    let mut left = [0u8; 4];
+    gather(
+        mask,
+        &cpu.general[register.index()].to_be_bytes(),
+        &mut left,
+    );
+    storage.load(start, right);
+    string_order(&left[..right.len()], right)
+}
+
+/// BD CLM: compare logical characters under mask.
+pub fn compare_characters_row<S: Storage>(
+    cpu: &mut Cpu,
+    storage: &S,
+    i: Instruction,
+) -> Result<Ending, Refusal>
+    ensures { let before = state_of cpu.old (S.bytes storage.now) (S.keys storage.now) in
+        let after = state_of cpu.new (S.bytes storage.now) (S.keys storage.now) in
+        MeetsRow (characters_compared before i) (S.present storage.now) before result after }
+{
+    let start = cpu.based(i.second_half).get();
+    let mask = i.r2().number();
+    let count = chosen_count(mask);
+    let range = Range {
+        start,
+        count: tested_count(count),
+    };
+    grant(cpu, storage, range, Access::Fetch)?;
+    let mut right = [0u8; 4];
+    let code = order_at(
+        cpu,
+        storage,
+        i.r1(),
+        mask,
+        start,
+        &mut right[..count as usize],
+    );
+    cpu.psw.set_condition(code);
+    Ok(Ending::Done)
+}

@@ -1,0 +1,180 @@
+//! Strings that are translated or tested by a table.
+ghost use Rattle.std.specs.Prelude.{◌≡◌, ◌≢◌, ℕ, ◌+◌, ◌^◌, ◌<◌, ◌≤◌, true, length, slice_index, slice_range};
+ghost use Rattle.s370_store.specs.Access.{IsGranted, put};
+ghost use Rattle.s370_rows.specs.State.{state_of};
+ghost use Rattle.s370_rows.specs.Rows.{MeetsRow};
+ghost use Rattle.s370_bytes.specs.Translate.{is_apart, translation, string_translated, zeros, scanned, string_scanned};
+
+use s370_num::{Addr24, ConditionCode};
+use s370_rows::{Cpu, Ending, Instruction, Refusal, grant_two};
+use s370_store::{Access, Range, Storage, load_byte, store_byte};
+
+/// All bytes of a table: an access to it is tested whole, whichever of them are named.
+#[inline(always)]
+fn whole_table(start: u32) -> Range
+    ensures { result ≡ record { start = start; count = 256 } }
+{
+    Range { start, count: 256 }
+}
+
+/// Whether no byte of a string is one of a table.
+#[inline(always)]
+fn is_apart(to: u32, count: u32, table: u32) -> bool
+    requires to { to < 2 ^ 24 }
+    requires short { count ≤ 256 }
+    requires table { table < 2 ^ 24 }
+    ensures { result ≡ is_apart to count table }
+{
+    to + count <= table || table + 256 <= to
+}
+
+/// Translates each byte of a string by a table.
+#[inline]
+fn translate_all(bytes: &mut [u8], table: &[u8])
+    requires whole { length table.now ≡ 256 }
+    ensures size { length bytes.new ≡ length bytes.old }
+    ensures each { (k : ℕ) → k < length bytes.old → slice_index bytes.new k ≡ slice_index table.now (slice_index bytes.old k) }
+{
+    for k in 0..bytes.len() {
+        bytes[k] = table[bytes[k] as usize];
+    }
+}
+
+/// Translates a range by a table that has none of its bytes, through buffers of their lengths.
+#[inline(always)]
+fn translate_apart<S: Storage>(
+    storage: &mut S,
+    to: u32,
+    from: u32,
+    bytes: &mut [u8],
+    table: &mut [u8],
+)
+    requires short { length bytes.old ≤ 256 }
+    requires whole { length table.old ≡ 256 }
+    requires apart { is_apart to (length bytes.old) from ≡ true }
+    requires target { IsGranted (length (S.bytes storage.old)) (S.present storage.old) to (length bytes.old) }
+    requires table { IsGranted (length (S.bytes storage.old)) (S.present storage.old) from 256 }
+    ensures bytes { S.bytes storage.new ≡ put (S.bytes storage.old) to (translation (S.bytes storage.old) to from (length bytes.old)) }
+    ensures size { length (S.bytes storage.new) ≡ length (S.bytes storage.old) }
+    ensures keys { S.keys storage.new ≡ S.keys storage.old }
+    ensures present { S.present storage.new ≡ S.present storage.old }
+    ensures rest { S.Keeps storage.old storage.new }
+{
+    storage.load(to, bytes);
+    storage.load(from, table);
+    translate_all(bytes, table);
+    storage.store(to, bytes);
+}
+
+/// Translates a range by a table that may change with it, byte by byte.
+fn translate_each<S: Storage>(storage: &mut S, to: u32, table: u32, count: u32)
+    requires to { to < 2 ^ 24 }
+    requires from { table < 2 ^ 24 }
+    requires short { count ≤ 256 }
+    requires target { IsGranted (length (S.bytes storage.old)) (S.present storage.old) to count }
+    requires table { IsGranted (length (S.bytes storage.old)) (S.present storage.old) table 256 }
+    ensures bytes { S.bytes storage.new ≡ put (S.bytes storage.old) to (translation (S.bytes storage.old) to table count) }
+    ensures size { length (S.bytes storage.new) ≡ length (S.bytes storage.old) }
+    ensures keys { S.keys storage.new ≡ S.keys storage.old }
+    ensures present { S.present storage.new ≡ S.present storage.old }
+    ensures rest { S.Keeps storage.old storage.new }
+{
+    for k in 0..count {
+        let name = load_byte(storage, to + k);
+        let byte = load_byte(storage, table + name as u32);
+        store_byte(storage, to + k, byte);
+    }
+}
+
+/// DC TR: translate; left to right, each byte becomes the byte of the table that it names.
+pub fn translate_row<S: Storage>(
+    cpu: &Cpu,
+    storage: &mut S,
+    i: Instruction,
+) -> Result<Ending, Refusal>
+    ensures row { let before = state_of cpu.now (S.bytes storage.old) (S.keys storage.old) in
+        let after = state_of cpu.now (S.bytes storage.new) (S.keys storage.new) in
+        MeetsRow (string_translated before i) (S.present storage.old) before result after }
+    ensures size { length (S.bytes storage.new) ≡ length (S.bytes storage.old) }
+    ensures present { S.present storage.new ≡ S.present storage.old }
+    ensures rest { S.Keeps storage.old storage.new }
+{
+    let to = cpu.based(i.second_half).get();
+    let from = cpu.based(i.third_half).get();
+    let count = i.second_byte as u32 + 1;
+    let target = Range { start: to, count };
+    let whole = whole_table(from);
+    grant_two(cpu, storage, target, Access::Store, whole, Access::Fetch)?;
+    if is_apart(to, count, from) {
+        let mut bytes = [0u8; 256];
+        let mut table = [0u8; 256];
+        translate_apart(storage, to, from, &mut bytes[..count as usize], &mut table);
+    } else {
+        translate_each(storage, to, from, count);
+    }
+    Ok(Ending::Done)
+}
+
+/// How many bytes have a function byte of zero before the first that has not.
+#[inline]
+fn zeros(table: &[u8], names: &[u8]) -> usize
+    requires { length table.now ≡ 256 }
+    ensures value { result ≡ zeros table.now names.now }
+    ensures within { result ≤ length names.now }
+{
+    for k in 0..names.len() {
+        if table[names[k] as usize] != 0 {
+            return k;
+        }
+    }
+    names.len()
+}
+
+/// What a test of bytes, of which the first has an address, leaves.
+#[inline]
+fn scan(cpu: &mut Cpu, first: Addr24, names: &[u8], table: &[u8])
+    requires whole { length table.now ≡ 256 }
+    requires short { length names.now ≤ 256 }
+    ensures { cpu.new ≡ scanned cpu.old first (length names.now) names.now table.now }
+{
+    let place = zeros(table, names);
+    if place == names.len() {
+        cpu.psw.set_condition(ConditionCode::ZERO);
+        return;
+    }
+    let address = first.wrapping_add(place as u32).get();
+    let byte = table[names[place] as usize];
+    cpu.general[1] = cpu.general[1] / 0x100_0000 * 0x100_0000 + address;
+    cpu.general[2] = cpu.general[2] / 0x100 * 0x100 + byte as u32;
+    cpu.psw.set_condition(if place + 1 == names.len() {
+        ConditionCode::TWO
+    } else {
+        ConditionCode::ONE
+    });
+}
+
+/// DD TRT: translate and test; the first byte whose function byte is not zero, left to right.
+pub fn translate_test_row<S: Storage>(
+    cpu: &mut Cpu,
+    storage: &S,
+    i: Instruction,
+) -> Result<Ending, Refusal>
+    ensures { let before = state_of cpu.old (S.bytes storage.now) (S.keys storage.now) in
+        let after = state_of cpu.new (S.bytes storage.now) (S.keys storage.now) in
+        MeetsRow (string_scanned before i) (S.present storage.now) before result after }
+{
+    let first = cpu.based(i.second_half);
+    let start = first.get();
+    let from = cpu.based(i.third_half).get();
+    let count = i.second_byte as u32 + 1;
+    let string = Range { start, count };
+    let whole = whole_table(from);
+    grant_two(cpu, storage, string, Access::Fetch, whole, Access::Fetch)?;
+    let mut names = [0u8; 256];
+    let mut table = [0u8; 256];
+    let count = count as usize;
+    storage.load(start, &mut names[..count]);
+    storage.load(from, &mut table);
+    scan(cpu, first, &names[..count], &table);
+    Ok(Ending::Done)
+}

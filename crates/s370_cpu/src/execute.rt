@@ -1,0 +1,40 @@
+//! The instruction that is carried out: GA22-7000, "Execute".
+ghost use Rattle.std.specs.Prelude.{◌≡◌, length};
+ghost use Rattle.s370_rows.specs.State.{state_of};
+ghost use Rattle.s370_cpu.specs.Fetch.{MeetsFetch};
+ghost use Rattle.s370_cpu.specs.Execute.{executed, joined};
+
+use crate::fetch::fetch;
+use s370_rows::{Cpu, Instruction, Refusal};
+use s370_store::Storage;
+
+/// The operation code of EX.
+const EXECUTE: u8 = 0x44;
+
+/// The target of EX, as EX changes it.
+#[inline(always)]
+fn join(cpu: &Cpu, i: Instruction, target: Instruction) -> Instruction
+    ensures { result ≡ joined cpu.now i target }
+{
+    if i.r1().number() == 0 {
+        return target;
+    }
+    let low = (cpu.general[i.r1().index()] & 0xFF) as u8;
+    Instruction {
+        second_byte: target.second_byte | low,
+        ..target
+    }
+}
+
+/// 44 EX: the target, which is fetched; any other instruction is carried out itself.
+#[inline(always)]
+pub fn execute<S: Storage>(cpu: &Cpu, storage: &S, i: Instruction) -> Result<Instruction, Refusal>
+    ensures { let m = state_of cpu.now (S.bytes storage.now) (S.keys storage.now) in
+        MeetsFetch (executed m i) m (S.present storage.now) result }
+{
+    if i.opcode != EXECUTE {
+        return Ok(i);
+    }
+    let target = fetch(cpu, storage, cpu.indexed(i.r2(), i.second_half))?;
+    Ok(join(cpu, i, target))
+}

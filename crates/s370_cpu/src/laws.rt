@@ -1,0 +1,22 @@
+//! What no instruction does, whatever it is.
+ghost use Rattle.s370_cpu.specs.Laws.{ChangedBytesWereTested, ProblemStateHolds, ProtectionHolds, StorageKeepsItsSize, UnitsAreProtected, UnitsStayInTheirRights};
+
+/// Each byte that an instruction changes, it was tested for storing; and storage has as many bytes after it as before.
+pub fn changed_bytes_were_tested()
+    ensures bytes { ChangedBytesWereTested }
+    ensures size { StorageKeepsItsSize }
+{}
+
+/// With a protection key other than zero an instruction, and so a unit, changes a byte only in a block whose key in
+/// storage has this access control.
+pub fn protection_holds()
+    ensures instruction { ProtectionHolds }
+    ensures unit { UnitsAreProtected }
+{}
+
+/// In the problem state an instruction, and so a unit, changes no key in storage and no control register, and of the
+/// program status word neither the system mask, the key nor the state itself: only an interruption leads out of it.
+pub fn problem_state_holds()
+    ensures instruction { ProblemStateHolds }
+    ensures unit { UnitsStayInTheirRights }
+{}

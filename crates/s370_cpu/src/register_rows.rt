@@ -1,0 +1,116 @@
+//! The rows that access no storage.
+ghost use Rattle.std.specs.Prelude.{◌≡◌, ℕ, ◌<◌, Ok};
+ghost use Rattle.s370_rows.specs.Formats.{r1_of, r2_of};
+ghost use Rattle.s370_rows.specs.Product.{multiplied, quotient_left};
+ghost use Rattle.s370_rows.specs.Shift.{pair_shifted};
+ghost use Rattle.s370_rows.specs.Results.{MeetsEnded};
+ghost use Rattle.s370_cpu.specs.RegisterRows.{branched, register_row, shift_count, with_even};
+
+use crate::opcodes::{Branching, RegisterRow};
+use s370_psw::ProgramCode;
+use s370_rows::{
+    Cpu, Ending, Instruction, Place, Shift, arithmetic_row, branch_and_link, branch_on_condition,
+    branch_on_count, branch_on_index, divide_row, load_address_row, multiply_row,
+    set_program_mask_row, shift_pair_row, shift_row,
+};
+
+/// 05 BALR, 45 BAL; 06 BCTR, 46 BCT; 07 BCR, 47 BC. `may` says whether there is an address to branch to.
+#[inline(always)]
+fn branch_row(
+    kind: Branching,
+    cpu: &mut Cpu,
+    place: Place,
+    i: Instruction,
+    may: bool,
+    target: u32,
+) -> Ending
+    ensures { branched kind cpu.old place i may target ≡ record { ending = result; cpu = cpu.new } }
+{
+    match kind {
+        Branching::Count => branch_on_count(cpu, i.r1(), may, target),
+        Branching::Condition => branch_on_condition(cpu, i.r1().number(), may, target),
+        Branching::Link => branch_and_link(cpu, place, i.r1(), may, target),
+    }
+}
+
+/// By how many bits a shift is.
+#[inline(always)]
+fn shift_count(cpu: &Cpu, i: Instruction) -> u8
+    ensures value { result ≡ shift_count cpu.now i }
+    ensures below { result < 64 }
+{
+    (cpu.based(i.second_half).get() % 64) as u8
+}
+
+/// 1C MR: a product of two registers.
+#[inline(always)]
+fn multiply(cpu: &mut Cpu, i: Instruction, b: u32) -> Result<Ending, ProgramCode>
+    ensures { MeetsEnded (with_even (r1_of i) (Ok (multiplied cpu.old (r1_of i) b))) cpu.old result cpu.new }
+{
+    if i.r1().number() % 2 != 0 {
+        return Err(ProgramCode::Specification);
+    }
+    Ok(multiply_row(cpu, i.r1(), b))
+}
+
+/// 1D DR: a quotient of a pair and a register.
+#[inline(always)]
+fn divide(cpu: &mut Cpu, i: Instruction, b: u32) -> Result<Ending, ProgramCode>
+    ensures { MeetsEnded (with_even (r1_of i) (quotient_left cpu.old (r1_of i) b)) cpu.old result cpu.new }
+{
+    if i.r1().number() % 2 != 0 {
+        return Err(ProgramCode::Specification);
+    }
+    divide_row(cpu, i.r1(), b)
+}
+
+/// 8C SRDL, 8D SLDL, 8E SRDA, 8F SLDA: a shift of a pair.
+#[inline(always)]
+fn shift_pair(shift: Shift, cpu: &mut Cpu, i: Instruction) -> Result<Ending, ProgramCode>
+    ensures { MeetsEnded (with_even (r1_of i) (Ok (pair_shifted shift cpu.old (r1_of i) (shift_count cpu.old i)))) cpu.old result cpu.new }
+{
+    if i.r1().number() % 2 != 0 {
+        return Err(ProgramCode::Specification);
+    }
+    let count = shift_count(cpu, i);
+    Ok(shift_pair_row(shift, cpu, i.r1(), count))
+}
+
+/// Carries out a row that accesses no storage, but for the address.
+#[inline(always)]
+pub fn register_row(
+    row: RegisterRow,
+    cpu: &mut Cpu,
+    place: Place,
+    i: Instruction,
+) -> Result<Ending, ProgramCode>
+    ensures { MeetsEnded (register_row row cpu.old place i) cpu.old result cpu.new }
+{
+    let second = cpu.general[i.r2().index()];
+    match row {
+        RegisterRow::SetProgramMask => Ok(set_program_mask_row(cpu, i.r1())),
+        RegisterRow::Register(operation) => Ok(arithmetic_row(operation, cpu, i.r1(), second)),
+        RegisterRow::Multiply => multiply(cpu, i, second),
+        RegisterRow::Divide => divide(cpu, i, second),
+        RegisterRow::LoadAddress => {
+            let address = cpu.indexed(i.r2(), i.second_half);
+            Ok(load_address_row(cpu, i.r1(), address))
+        }
+        RegisterRow::ShiftWord(shift) => {
+            let count = shift_count(cpu, i);
+            Ok(shift_row(shift, cpu, i.r1(), count))
+        }
+        RegisterRow::ShiftPair(shift) => shift_pair(shift, cpu, i),
+        RegisterRow::BranchRegister(kind) => {
+            Ok(branch_row(kind, cpu, place, i, i.r2().number() != 0, second))
+        }
+        RegisterRow::BranchTo(kind) => {
+            let target = cpu.indexed(i.r2(), i.second_half).get();
+            Ok(branch_row(kind, cpu, place, i, true, target))
+        }
+        RegisterRow::BranchOnIndex(kind) => {
+            let target = cpu.based(i.second_half).get();
+            Ok(branch_on_index(kind, cpu, i.r1(), i.r2(), target))
+        }
+    }
+}

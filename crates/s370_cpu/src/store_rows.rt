@@ -1,0 +1,191 @@
+//! The rows that store an operand.
+ghost use Rattle.std.specs.Prelude.{◌≡◌, ℕ, length};
+ghost use Rattle.s370_rows.specs.State.{state_of};
+ghost use Rattle.s370_rows.specs.Rows.{MeetsRow};
+ghost use Rattle.s370_cpu.specs.StoreRows.{byte_changed, character_stored, doubleword_swapped, halfword_stored, store_row, word_stored, word_swapped};
+
+use crate::opcodes::StoreRow;
+use s370_bytes::{
+    Combine, combine_row, decimal_row, layout_row, move_long_row, move_row, store_characters_row,
+    store_multiple_row, translate_row,
+};
+use s370_psw::ProgramCode;
+use s370_rows::{
+    ByteChange, Cpu, Ending, Instruction, Refusal, change_byte, compare_and_swap,
+    compare_and_swap_pair, grant,
+};
+use s370_store::{
+    Access, Range, Storage, load_byte, load_doubleword, load_word, store_byte, store_doubleword,
+    store_halfword, store_word,
+};
+
+/// 50 ST: the store of a register.
+#[inline(always)]
+fn store_word_row<S: Storage>(cpu: &Cpu, storage: &mut S, i: Instruction) -> Result<Ending, Refusal>
+    ensures row { let before = state_of cpu.now (S.bytes storage.old) (S.keys storage.old) in
+        let after = state_of cpu.now (S.bytes storage.new) (S.keys storage.new) in
+        MeetsRow (word_stored before i) (S.present storage.old) before result after }
+    ensures size { length (S.bytes storage.new) ≡ length (S.bytes storage.old) }
+    ensures present { S.present storage.new ≡ S.present storage.old }
+    ensures rest { S.Keeps storage.old storage.new }
+{
+    let start = cpu.indexed(i.r2(), i.second_half).get();
+    grant(cpu, storage, Range { start, count: 4 }, Access::Store)?;
+    store_word(storage, start, cpu.general[i.r1().index()]);
+    Ok(Ending::Done)
+}
+
+/// 40 STH: the store of the right half of a register.
+#[inline(always)]
+fn store_halfword_row<S: Storage>(
+    cpu: &Cpu,
+    storage: &mut S,
+    i: Instruction,
+) -> Result<Ending, Refusal>
+    ensures row { let before = state_of cpu.now (S.bytes storage.old) (S.keys storage.old) in
+        let after = state_of cpu.now (S.bytes storage.new) (S.keys storage.new) in
+        MeetsRow (halfword_stored before i) (S.present storage.old) before result after }
+    ensures size { length (S.bytes storage.new) ≡ length (S.bytes storage.old) }
+    ensures present { S.present storage.new ≡ S.present storage.old }
+    ensures rest { S.Keeps storage.old storage.new }
+{
+    let start = cpu.indexed(i.r2(), i.second_half).get();
+    grant(cpu, storage, Range { start, count: 2 }, Access::Store)?;
+    store_halfword(
+        storage,
+        start,
+        (cpu.general[i.r1().index()] & 0xFFFF) as u16,
+    );
+    Ok(Ending::Done)
+}
+
+/// 42 STC: the store of the rightmost byte of a register.
+#[inline(always)]
+fn store_character_row<S: Storage>(
+    cpu: &Cpu,
+    storage: &mut S,
+    i: Instruction,
+) -> Result<Ending, Refusal>
+    ensures row { let before = state_of cpu.now (S.bytes storage.old) (S.keys storage.old) in
+        let after = state_of cpu.now (S.bytes storage.new) (S.keys storage.new) in
+        MeetsRow (character_stored before i) (S.present storage.old) before result after }
+    ensures size { length (S.bytes storage.new) ≡ length (S.bytes storage.old) }
+    ensures present { S.present storage.new ≡ S.present storage.old }
+    ensures rest { S.Keeps storage.old storage.new }
+{
+    let start = cpu.indexed(i.r2(), i.second_half).get();
+    grant(cpu, storage, Range { start, count: 1 }, Access::Store)?;
+    store_byte(storage, start, (cpu.general[i.r1().index()] & 0xFF) as u8);
+    Ok(Ending::Done)
+}
+
+/// 92 MVI, 93 TS, 94 NI, 96 OI, 97 XI: a change of a byte.
+#[inline(always)]
+fn change_byte_row<S: Storage>(
+    change: ByteChange,
+    cpu: &mut Cpu,
+    storage: &mut S,
+    i: Instruction,
+) -> Result<Ending, Refusal>
+    ensures row { let before = state_of cpu.old (S.bytes storage.old) (S.keys storage.old) in
+        let after = state_of cpu.new (S.bytes storage.new) (S.keys storage.new) in
+        MeetsRow (byte_changed change before i) (S.present storage.old) before result after }
+    ensures size { length (S.bytes storage.new) ≡ length (S.bytes storage.old) }
+    ensures present { S.present storage.new ≡ S.present storage.old }
+    ensures rest { S.Keeps storage.old storage.new }
+{
+    let start = cpu.based(i.second_half).get();
+    grant(cpu, storage, Range { start, count: 1 }, Access::Store)?;
+    let byte = load_byte(storage, start);
+    let changed = change_byte(change, cpu.psw.condition(), byte, i.second_byte);
+    cpu.psw.set_condition(changed.condition);
+    store_byte(storage, start, changed.byte);
+    Ok(Ending::Done)
+}
+
+/// BA CS: the swap of a word.
+#[inline(always)]
+fn swap_word_row<S: Storage>(
+    cpu: &mut Cpu,
+    storage: &mut S,
+    i: Instruction,
+) -> Result<Ending, Refusal>
+    ensures row { let before = state_of cpu.old (S.bytes storage.old) (S.keys storage.old) in
+        let after = state_of cpu.new (S.bytes storage.new) (S.keys storage.new) in
+        MeetsRow (word_swapped before i) (S.present storage.old) before result after }
+    ensures size { length (S.bytes storage.new) ≡ length (S.bytes storage.old) }
+    ensures present { S.present storage.new ≡ S.present storage.old }
+    ensures rest { S.Keeps storage.old storage.new }
+{
+    let start = cpu.based(i.second_half).get();
+    if start % 4 != 0 {
+        return Err(Refusal::Program(ProgramCode::Specification));
+    }
+    grant(cpu, storage, Range { start, count: 4 }, Access::Store)?;
+    let word = load_word(storage, start);
+    match compare_and_swap(cpu, i.r1(), i.r2(), word) {
+        Some(taken) => store_word(storage, start, taken),
+        None => {}
+    }
+    Ok(Ending::Done)
+}
+
+/// BB CDS: the swap of a doubleword.
+#[inline(always)]
+fn swap_doubleword_row<S: Storage>(
+    cpu: &mut Cpu,
+    storage: &mut S,
+    i: Instruction,
+) -> Result<Ending, Refusal>
+    ensures row { let before = state_of cpu.old (S.bytes storage.old) (S.keys storage.old) in
+        let after = state_of cpu.new (S.bytes storage.new) (S.keys storage.new) in
+        MeetsRow (doubleword_swapped before i) (S.present storage.old) before result after }
+    ensures size { length (S.bytes storage.new) ≡ length (S.bytes storage.old) }
+    ensures present { S.present storage.new ≡ S.present storage.old }
+    ensures rest { S.Keeps storage.old storage.new }
+{
+    let start = cpu.based(i.second_half).get();
+    if i.r1().number() % 2 != 0 || i.r2().number() % 2 != 0 || start % 8 != 0 {
+        return Err(Refusal::Program(ProgramCode::Specification));
+    }
+    grant(cpu, storage, Range { start, count: 8 }, Access::Store)?;
+    let doubleword = load_doubleword(storage, start);
+    match compare_and_swap_pair(cpu, i.r1(), i.r2(), doubleword) {
+        Some(taken) => store_doubleword(storage, start, taken),
+        None => {}
+    }
+    Ok(Ending::Done)
+}
+
+/// Carries out a row that stores an operand, but for the address.
+#[inline(always)]
+pub fn store_row<S: Storage>(
+    row: StoreRow,
+    cpu: &mut Cpu,
+    storage: &mut S,
+    i: Instruction,
+) -> Result<Ending, Refusal>
+    ensures row { let before = state_of cpu.old (S.bytes storage.old) (S.keys storage.old) in
+        let after = state_of cpu.new (S.bytes storage.new) (S.keys storage.new) in
+        MeetsRow (store_row row before i) (S.present storage.old) before result after }
+    ensures size { length (S.bytes storage.new) ≡ length (S.bytes storage.old) }
+    ensures present { S.present storage.new ≡ S.present storage.old }
+    ensures rest { S.Keeps storage.old storage.new }
+{
+    match row {
+        StoreRow::StoreWord => store_word_row(cpu, storage, i),
+        StoreRow::StoreHalfword => store_halfword_row(cpu, storage, i),
+        StoreRow::StoreCharacter => store_character_row(cpu, storage, i),
+        StoreRow::StoreCharacters => store_characters_row(cpu, storage, i),
+        StoreRow::StoreMultiple => store_multiple_row(cpu, storage, i),
+        StoreRow::ConvertToDecimal => decimal_row(cpu, storage, i),
+        StoreRow::ChangeByte(change) => change_byte_row(change, cpu, storage, i),
+        StoreRow::SwapWord => swap_word_row(cpu, storage, i),
+        StoreRow::SwapDoubleword => swap_doubleword_row(cpu, storage, i),
+        StoreRow::CombineStrings(Combine::Move) => move_row(cpu, storage, i),
+        StoreRow::CombineStrings(operation) => combine_row(operation, cpu, storage, i),
+        StoreRow::Translate => translate_row(cpu, storage, i),
+        StoreRow::LayOut(layout) => layout_row(layout, cpu, storage, i),
+        StoreRow::MoveLong => move_long_row(cpu, storage, i),
+    }
+}

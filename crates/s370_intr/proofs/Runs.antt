@@ -1,0 +1,126 @@
+-- A run of units done, and what comes after it.
+use Rattle.std.proofs.Common.{◌≡◌, ℕ, ◌+◌, ◌-◌, ◌<◌, ◌≤◌, zero, suc, Bool, true, false, length, List, [], ◌∷◌, ◌++◌, refl, sym, ◌∙◌, ap, arith, subst, add-one, inl, inr, ◌⊎◌}
+use Rattle.std.specs.Prelude.{if◌then◌else◌, ◌==◌}
+use Rattle.s370_intr.specs.declared.pending.Pending.{Pending}
+use Rattle.s370_intr.specs.declared.next.Next.{Next}
+use Rattle.s370_intr.specs.declared.next.Next.TheVariants.{Stops, Accepts, Instructs}
+use Rattle.s370_intr.specs.declared.next.Reason.{Reason}
+use Rattle.s370_intr.specs.declared.next.Reason.TheVariants.{Stopped, Count, EcMode, Wait, DisabledWait, FramesOut}
+use Rattle.s370_intr.specs.Units.{Core, look, unit_at, enabled_of, is_any, Needs, NeedsAt}
+use Rattle.s370_intr.specs.Run.{Run, run, looked, one_more, AllNeeded, RunNeeds, IsLacking, IsCut, TellsRun}
+
+abbrev pub all_done : ℕ → Core → Run
+all_done k c = record { core = c; units = k; reason = Count }
+
+-- the look says that there is a unit
+abbrev pub Goes : Next → Type 0
+Goes (Stops reason) = ⊥
+Goes (Accepts taken) = Unit {0}
+Goes Instructs = Unit {0}
+
+same_run : (c c' : Core) (units units' : ℕ) (reason reason' : Reason) → c ≡ c' → units ≡ units' → reason ≡ reason' → (let r : Run = record { core = c; units = units; reason = reason } in r ≡ record { core = c'; units = units'; reason = reason' })
+same_run c c' units units' reason reason' a b d = rw (a, b, d) refl
+
+-- where a run of one unit more was done whole, its first unit was, and so was the rest
+one_less : (c' : Core) (k : ℕ) (rest : Run) → one_more rest ≡ all_done (suc k) c' → rest ≡ all_done k c'
+one_less c' k rest e =
+    let u : rest.units ≡ k = omega (arith, ap (λ (r : Run). r.units) e) in
+    same_run rest.core c' rest.units k rest.reason Count (ap (λ (r : Run). r.core) e) u (ap (λ (r : Run). r.reason) e)
+
+rest_done : (l : Next) (c c' : Core) (k : ℕ) (rest : Run) → looked l c rest ≡ all_done (suc k) c' → Goes l × (rest ≡ all_done k c')
+rest_done (Stops reason) c c' k rest e = absurd (omega (arith, ap (λ (r : Run). r.units) e))
+rest_done (Accepts taken) c c' k rest e = (tt, one_less c' k rest e)
+rest_done Instructs c c' k rest e = (tt, one_less c' k rest e)
+
+goes_on : (l : Next) (c : Core) (rest : Run) → Goes l → looked l c rest ≡ one_more rest
+goes_on (Stops reason) c rest h = absurd h
+goes_on (Accepts taken) c rest h = refl
+goes_on Instructs c rest h = refl
+
+-- one unit more
+pub does_more : (k : ℕ) (c c' c'' : Core) → run k c ≡ all_done k c' → Goes (look c') → c'' ≡ unit_at (look c') c' → run (k + 1) c ≡ all_done (k + 1) c''
+does_more zero c c' c'' e h u =
+    let same : c ≡ c' = ap (λ (r : Run). r.core) e in
+    let h1 : Goes (look c) = subst (λ (x : Core). Goes (look x)) (sym same) h in
+    let u1 : unit_at (look c) c ≡ c'' = subst (λ (x : Core). unit_at (look x) x ≡ c'') (sym same) (sym u) in
+    goes_on (look c) c (run 0 (unit_at (look c) c)) h1 ∙ ap (λ (x : Core). all_done 1 x) u1
+does_more (suc k) c c' c'' e h u =
+    let first = rest_done (look c) c c' k (run k (unit_at (look c) c)) e in
+    let more = does_more k (unit_at (look c) c) c' c'' first.1 h u in
+    let g : run (suc k + 1) c ≡ looked (look c) c (run (k + 1) (unit_at (look c) c)) = (let a : suc k + 1 ≡ suc (k + 1) = omega arith in rw a refl) in
+    g ∙ goes_on (look c) c (run (k + 1) (unit_at (look c) c)) first.0 ∙ ap one_more more ∙ ap (λ (n : ℕ). all_done n c'') (omega arith)
+
+stops_here : (l : Next) (c : Core) (rest : Run) (reason : Reason) → l ≡ Stops reason → looked l c rest ≡ record { core = c; units = 0; reason = reason }
+stops_here l c rest reason e = rw e refl
+
+-- no more than these, for this reason
+pub does_no_more : (k n : ℕ) (c c' : Core) (reason : Reason) → run k c ≡ all_done k c' → k < n → look c' ≡ Stops reason → run n c ≡ record { core = c'; units = k; reason = reason }
+does_no_more k zero c c' reason e l h = absurd (omega arith)
+does_no_more zero (suc n) c c' reason e l h =
+    let same : c ≡ c' = ap (λ (r : Run). r.core) e in
+    stops_here (look c) c (run n (unit_at (look c) c)) reason (ap look same ∙ h) ∙ ap (λ (x : Core). record { core = x; units = 0; reason = reason }) same
+does_no_more (suc k) (suc n) c c' reason e l h =
+    let first = rest_done (look c) c c' k (run k (unit_at (look c) c)) e in
+    let more = does_no_more k n (unit_at (look c) c) c' reason first.1 (omega arith) h in
+    goes_on (look c) c (run n (unit_at (look c) c)) first.0 ∙ ap one_more more ∙ ap (λ (u : ℕ). record { core = c'; units = u; reason = reason }) (omega arith)
+
+-- ---- the pages that a run needs
+
+pub all_needed : (needs : ℕ → Type 0) (xs ys : List ℕ) → AllNeeded needs xs → AllNeeded needs ys → AllNeeded needs (xs ++ ys)
+all_needed needs [] ys a b = b
+all_needed needs (x ∷ xs) ys a b = (a.0, all_needed needs xs ys a.1 b)
+
+pub more_needs : (needs others : ℕ → Type 0) (xs : List ℕ) → ((page : ℕ) → needs page → others page) → AllNeeded needs xs → AllNeeded others xs
+more_needs needs others [] f a = tt
+more_needs needs others (x ∷ xs) f a = (f x a.0, more_needs needs others xs f a.1)
+
+-- what a beginning of a run needs, the longer run needs
+later : (old : Core) (k n : ℕ) (reason : Reason) (page : ℕ) → k ≤ n → RunNeeds old k Count page → RunNeeds old n reason page
+later old k n reason page l (j, inl h, need) = (j, inl (omega arith), need)
+later old k n reason page l (j, inr h, need) = (let e : Count ≡ FramesOut = h.1 in cc)
+
+pub later_needs : (old : Core) (k n : ℕ) (reason : Reason) (xs : List ℕ) → k ≤ n → AllNeeded (RunNeeds old k Count) xs → AllNeeded (RunNeeds old n reason) xs
+later_needs old k n reason xs l a = more_needs (RunNeeds old k Count) (RunNeeds old n reason) xs (λ page need. later old k n reason page l need) a
+
+-- what the next unit needs, the run needs that does it, or lacks a page for it
+pub next_needs : (old c : Core) (k n : ℕ) (reason : Reason) (xs : List ℕ) → run k old ≡ all_done k c → (k < n) ⊎ ((k ≡ n) × (reason ≡ FramesOut)) → AllNeeded (NeedsAt (look c) c) xs → AllNeeded (RunNeeds old n reason) xs
+next_needs old c k n reason xs e l a =
+    more_needs (NeedsAt (look c) c) (RunNeeds old n reason) xs (λ page need. (k, l, subst (λ (r : Run). Needs r.core page) (sym e) need)) a
+
+-- ---- what a run tells
+
+-- what is not a stop is a unit
+pub not_stopped : (l : Next) → ((reason : Reason) → l ≡ Stops reason → ⊥) → Goes l
+not_stopped (Stops reason) f = absurd (f reason refl)
+not_stopped (Accepts taken) f = tt
+not_stopped Instructs f = tt
+
+waits_for_frames : (wait : Bool) (disabled : Bool) → (if wait then (if disabled then Stops DisabledWait else Stops Wait) else Instructs) ≡ Stops FramesOut → ⊥
+waits_for_frames true true e = cc
+waits_for_frames true false e = cc
+waits_for_frames false disabled e = cc
+
+-- no look stops for want of frames
+looks_for_frames : (extended any wait disabled : Bool) (taken : Pending) → (if extended then Stops EcMode else (if any then Accepts taken else (if wait then (if disabled then Stops DisabledWait else Stops Wait) else Instructs))) ≡ Stops FramesOut → ⊥
+looks_for_frames true any wait disabled taken e = cc
+looks_for_frames false true wait disabled taken e = cc
+looks_for_frames false false wait disabled taken e = waits_for_frames wait disabled e
+
+-- a run that stops by itself
+pub tells_stop : (k n : ℕ) (c c' : Core) (reason : Reason) (is_short : ℕ → Type 0) → run k c ≡ all_done k c' → k < n → look c' ≡ Stops reason → TellsRun n c (record { core = c'; units = k; reason = reason }) is_short
+tells_stop k n c c' Stopped is_short e l h = does_no_more k n c c' Stopped e l h
+tells_stop k n c c' Count is_short e l h = does_no_more k n c c' Count e l h
+tells_stop k n c c' EcMode is_short e l h = does_no_more k n c c' EcMode e l h
+tells_stop k n c c' Wait is_short e l h = does_no_more k n c c' Wait e l h
+tells_stop k n c c' DisabledWait is_short e l h = does_no_more k n c c' DisabledWait e l h
+tells_stop k n c c' FramesOut is_short e l h =
+    let psw = c'.processor.cpu.psw in
+    let enabled = enabled_of c'.processor.cpu c'.pending in
+    absurd (looks_for_frames psw.extended (is_any enabled) psw.wait (psw.system_mask == 0) enabled h)
+
+-- a run that lacks a page
+pub tells_cut : (k n : ℕ) (first c new : Core) (l : Next) (is_short : ℕ → Type 0) → run k first ≡ all_done k c → k < n → l ≡ look c → new ≡ c → IsLacking (NeedsAt l c) (length c.processor.bytes) is_short → TellsRun n first (record { core = new; units = k; reason = FramesOut }) is_short
+tells_cut k n first c new l is_short e less same kept h =
+    let lacking : IsLacking (Needs c) (length c.processor.bytes) is_short = subst (λ (x : Next). IsLacking (NeedsAt x c) (length c.processor.bytes) is_short) same h in
+    let cut : IsCut n first (record { core = c; units = k; reason = FramesOut }) is_short = record { done = e; fewer = less; lacking = lacking } in
+    subst (λ (x : Core). IsCut n first (record { core = x; units = k; reason = FramesOut }) is_short) (sym kept) cut

@@ -1,0 +1,70 @@
+-- What a running processor does in at most n units of operation (docs/MACHINE.md, "Units, states and runs"), and what code
+-- may tell of it whose storage has to bring its pages.
+use Rattle.std.specs.Prelude.{◌≡◌, ℕ, ◌+◌, ◌*◌, ◌<◌, ◌⊎◌, zero, suc, List, [], ◌∷◌, length, Result, Ok, Err, ⊤}
+use Rattle.s370_store.specs.declared.supply.FramesOut.{FramesOut as Lack}
+use Rattle.s370_intr.specs.declared.next.Next.{Next}
+use Rattle.s370_intr.specs.declared.next.Next.TheVariants.{Stops, Accepts, Instructs}
+use Rattle.s370_intr.specs.declared.next.Reason.{Reason}
+use Rattle.s370_intr.specs.declared.next.Reason.TheVariants.{Stopped, Count, EcMode, Wait, DisabledWait, FramesOut}
+use Rattle.s370_intr.specs.Units.{Core, look, unit_at, Needs, NeedsAt}
+
+-- what a run leaves, how many units it did, and why it did no more
+pub record Run : Type 0 where
+  pub core : Core
+  pub units : ℕ
+  pub reason : Reason
+
+-- one unit more
+abbrev pub one_more : Run → Run
+one_more r = record r { units = 1 + r.units }
+
+-- it looks before each unit
+abbrev pub looked : Next → Core → Run → Run
+looked (Stops reason) c rest = record { core = c; units = 0; reason = reason }
+looked (Accepts taken) c rest = one_more rest
+looked Instructs c rest = one_more rest
+
+-- at most n units of a running processor
+abbrev pub run : ℕ → Core → Run
+run zero c = record { core = c; units = 0; reason = Count }
+run (suc n) c = looked (look c) c (run n (unit_at (look c) c))
+
+-- ---- pages that are brought
+
+-- a page of the storage is needed, and there is no room for it
+pub record IsLacking (needs : ℕ → Type 0) (size : ℕ) (is_short : ℕ → Type 0) : Type 0 where
+  pub page : ℕ
+  pub inside : page * 4096 < size
+  pub needed : needs page
+  pub short : is_short page
+
+-- each page of a list is needed
+abbrev pub AllNeeded : (ℕ → Type 0) → List ℕ → Type 0
+AllNeeded needs [] = Unit {0}
+AllNeeded needs (page ∷ pages) = needs page × AllNeeded needs pages
+
+-- what a unit may answer over a storage that brings its pages: the unit; or nothing changed, and a page is lacking
+abbrev pub SuppliesUnit : Next → Core → Result ⊤ Lack → Core → (ℕ → Type 0) → Type 0
+SuppliesUnit l old (Ok _) new is_short = new ≡ unit_at l old
+SuppliesUnit l old (Err _) new is_short = (new ≡ old) × IsLacking (NeedsAt l old) (length old.processor.bytes) is_short
+
+-- ---- what is told of a run
+
+-- of n units so many were done, and the next one needs a page for which there is no room
+pub record IsCut (n : ℕ) (old : Core) (told : Run) (is_short : ℕ → Type 0) : Type 0 where
+  pub done : run told.units old ≡ record told { reason = Count }
+  pub fewer : told.units < n
+  pub lacking : IsLacking (Needs told.core) (length told.core.processor.bytes) is_short
+
+abbrev pub TellsFor : Reason → ℕ → Core → Run → (ℕ → Type 0) → Type 0
+TellsFor FramesOut n old told is_short = IsCut n old told is_short
+TellsFor _ n old told is_short = run n old ≡ told
+
+-- a run of at most n units, or so much of it as there was room for
+abbrev pub TellsRun : ℕ → Core → Run → (ℕ → Type 0) → Type 0
+TellsRun n old told is_short = TellsFor told.reason n old told is_short
+
+-- a page that a run needed: one of its units did, or the one for which there was no room
+abbrev pub RunNeeds : Core → ℕ → Reason → ℕ → Type 0
+RunNeeds old units reason page =
+    (k : ℕ) × ((k < units) ⊎ ((k ≡ units) × (reason ≡ FramesOut))) × Needs (run k old).core page

@@ -1,0 +1,65 @@
+//! What a running processor does next.
+ghost use Rattle.std.specs.Prelude.{◌≡◌, ℕ, List};
+ghost use Rattle.s370_rows.specs.State.{state_of};
+ghost use Rattle.s370_intr.specs.Units.{core_of, look, waits};
+
+use crate::pending::Pending;
+use s370_psw::Psw;
+use s370_rows::Cpu;
+
+/// Why a run did no further unit.
+#[derive(Clone, Copy, Debug, PartialEq, Eq)]
+pub enum Reason {
+    /// The machine does not run.
+    Stopped,
+    /// All the units that were asked for are done.
+    Count,
+    /// The PSW left basic control mode; the machine stopped.
+    EcMode,
+    /// The machine waits for an interruption.
+    Wait,
+    /// The machine waits, and nothing can interrupt it; it stopped.
+    DisabledWait,
+    /// The next unit needs a page that is not present, and there is no room for it.
+    FramesOut,
+}
+
+/// What a running processor does next.
+#[derive(Clone, Copy, Debug, PartialEq, Eq)]
+pub enum Next {
+    /// It does no unit.
+    Stops(Reason),
+    /// It accepts these external conditions together.
+    Accepts(Pending),
+    /// It does an instruction.
+    Instructs,
+}
+
+/// What a running processor does next.
+#[inline(always)]
+pub fn look(cpu: &Cpu, pending: Pending) -> Next
+    ensures { (bytes keys : List ℕ) → result ≡ look (core_of (state_of cpu.now bytes keys) pending) }
+{
+    if cpu.psw.is_ec() {
+        return Next::Stops(Reason::EcMode);
+    }
+    let enabled = pending.enabled(cpu);
+    if enabled.is_any() {
+        return Next::Accepts(enabled);
+    }
+    waits(&cpu.psw)
+}
+
+/// Whether the processor waits.
+#[inline(always)]
+fn waits(psw: &Psw) -> Next
+    ensures { result ≡ waits psw.now }
+{
+    if !psw.waits() {
+        Next::Instructs
+    } else if psw.is_disabled() {
+        Next::Stops(Reason::DisabledWait)
+    } else {
+        Next::Stops(Reason::Wait)
+    }
+}

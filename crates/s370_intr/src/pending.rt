@@ -1,0 +1,78 @@
+//! External conditions.
+ghost use Rattle.std.specs.Prelude.{◌≡◌, ℕ};
+ghost use Rattle.s370_intr.specs.Units.{enabled_of, external_code, has_subclass, is_any, without};
+
+use s370_rows::Cpu;
+
+/// External conditions: those that wait to interrupt, or some of them.
+#[derive(Clone, Copy, Debug, PartialEq, Eq)]
+pub struct Pending {
+    /// The interval timer went below zero.
+    pub timer: bool,
+    /// The operator pressed the interrupt key.
+    pub key: bool,
+}
+
+impl Pending {
+    /// No condition is pending.
+    pub const NOTHING: Pending = Pending {
+        timer: false,
+        key: false,
+    };
+
+    /// Those that the processor has enabled.
+    #[inline(always)]
+    pub fn enabled(self, cpu: &Cpu) -> Pending
+        ensures { result ≡ enabled_of cpu.now self }
+    {
+        Pending {
+            timer: self.timer && (cpu.psw.enables_external() && has_timer_subclass(cpu)),
+            key: self.key && (cpu.psw.enables_external() && has_key_subclass(cpu)),
+        }
+    }
+
+    /// Whether there is one.
+    #[inline(always)]
+    pub fn is_any(self) -> bool
+        ensures { result ≡ is_any self }
+    {
+        self.timer || self.key
+    }
+
+    /// The interruption code of all of them together.
+    #[inline]
+    pub fn code(self) -> u16
+        ensures { result ≡ external_code self }
+    {
+        let timer: u16 = if self.timer { 0x80 } else { 0 };
+        let key: u16 = if self.key { 0x40 } else { 0 };
+        timer | key
+    }
+
+    /// Those that are left when some were taken.
+    #[inline]
+    pub fn without(self, taken: Pending) -> Pending
+        ensures { result ≡ without self taken }
+    {
+        Pending {
+            timer: self.timer && !taken.timer,
+            key: self.key && !taken.key,
+        }
+    }
+}
+
+/// Bit 24 of control register 0.
+#[inline(always)]
+fn has_timer_subclass(cpu: &Cpu) -> bool
+    ensures { result ≡ has_subclass cpu.now 24 }
+{
+    cpu.control[0] >> 7 & 1 == 1
+}
+
+/// Bit 25 of control register 0.
+#[inline(always)]
+fn has_key_subclass(cpu: &Cpu) -> bool
+    ensures { result ≡ has_subclass cpu.now 25 }
+{
+    cpu.control[0] >> 6 & 1 == 1
+}

@@ -1,0 +1,46 @@
+//! The swap of program status words.
+ghost use Rattle.std.specs.Prelude.{◌≡◌, ℕ, ◌≤◌, length};
+ghost use Rattle.s370_rows.specs.State.{state_of};
+ghost use Rattle.s370_intr.specs.Swap.{MeetsSwap, swapped};
+
+use crate::class::Class;
+use s370_num::AccessKey;
+use s370_psw::{Ilc, Psw};
+use s370_rows::Cpu;
+use s370_store::{Access, Fault, Page, Range, Storage, load_doubleword, store_doubleword};
+
+/// The locations of all old and new program status words.
+const PSWS: Range = Range {
+    start: 24,
+    count: 104,
+};
+
+/// Interrupts a processor: stores its program status word with this code and instruction length, and loads the new one.
+/// Keys are not tested. All the locations lie in page 0; where that is not present it is the error, and nothing is
+/// changed.
+pub fn swap<S: Storage>(
+    cpu: &mut Cpu,
+    storage: &mut S,
+    class: Class,
+    code: u16,
+    ilc: Ilc,
+) -> Result<(), Page>
+    requires { 8192 ≤ length (S.bytes storage.old) }
+    ensures swap { let before = state_of cpu.old (S.bytes storage.old) (S.keys storage.old) in
+        let after = state_of cpu.new (S.bytes storage.new) (S.keys storage.new) in
+        MeetsSwap (swapped before class code ilc) (S.present storage.old) before result after }
+    ensures size { length (S.bytes storage.new) ≡ length (S.bytes storage.old) }
+    ensures present { S.present storage.new ≡ S.present storage.old }
+    ensures rest { S.Keeps storage.old storage.new }
+{
+    match storage.check(PSWS, Access::Store, AccessKey::ZERO) {
+        Ok(()) => {}
+        Err(Fault::Absent(page)) => return Err(page),
+        // The locations lie in every storage, and key 0 passes every test.
+        Err(Fault::Addressing) => unreachable!(),
+        Err(Fault::Protection) => unreachable!(),
+    }
+    store_doubleword(storage, class.old_psw(), cpu.psw.to_word(code, ilc));
+    cpu.psw = Psw::from_word(load_doubleword(storage, class.new_psw()));
+    Ok(())
+}

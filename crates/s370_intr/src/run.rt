@@ -1,0 +1,82 @@
+//! Units, one after another.
+ghost use Rattle.std.specs.Prelude.{◌≡◌, ℕ, ◌≤◌, List, length, Result};
+ghost use Rattle.s370_rows.specs.State.{state_of};
+ghost use Rattle.s370_intr.specs.Units.{NeedsAt, core_of};
+ghost use Rattle.s370_intr.specs.Run.{AllNeeded, RunNeeds, SuppliesUnit, TellsRun};
+
+use crate::next::{Next, Reason, look};
+use crate::pending::Pending;
+use crate::unit::{Processor, unit_at};
+use s370_rows::Cpu;
+use s370_store::{FramesOut, Supply};
+
+/// How many units a run did, and why it did no more.
+#[derive(Clone, Copy, Debug, PartialEq, Eq)]
+pub struct Ran {
+    pub units: u32,
+    pub reason: Reason,
+}
+
+/// The unit that a look says, after each page was brought that it needs. Where there is no room for one of them, nothing
+/// has changed; the pages that were brought for it stay.
+#[inline(always)]
+fn supplied<P: Processor, S: Supply>(
+    look: Next,
+    cpu: &mut Cpu,
+    pending: &mut Pending,
+    storage: &mut S,
+) -> Result<(), FramesOut>
+    requires { 8192 ≤ length (S.Storage.bytes storage.old) }
+    ensures unit { let before = core_of (state_of cpu.old (S.Storage.bytes storage.old) (S.Storage.keys storage.old)) pending.old in
+        let after = core_of (state_of cpu.new (S.Storage.bytes storage.new) (S.Storage.keys storage.new)) pending.new in
+        SuppliesUnit look before result after (S.IsShort storage.new) }
+    ensures supply { let before = core_of (state_of cpu.old (S.Storage.bytes storage.old) (S.Storage.keys storage.old)) pending.old in
+        (pages : List ℕ) × S.Brought storage.old pages storage.new × AllNeeded (NeedsAt look before) pages }
+    ensures size { length (S.Storage.bytes storage.new) ≡ length (S.Storage.bytes storage.old) }
+{
+    loop {
+        match unit_at::<P, S>(look, cpu, pending, storage) {
+            Ok(()) => return Ok(()),
+            Err(page) => {
+                storage.bring(page)?;
+            }
+        }
+    }
+}
+
+/// At most so many units of a running processor. This takes no memory.
+pub fn run_units<P: Processor, S: Supply>(
+    cpu: &mut Cpu,
+    pending: &mut Pending,
+    storage: &mut S,
+    count: u32,
+) -> Ran
+    requires { 8192 ≤ length (S.Storage.bytes storage.old) }
+    ensures told { let before = core_of (state_of cpu.old (S.Storage.bytes storage.old) (S.Storage.keys storage.old)) pending.old in
+        let after = core_of (state_of cpu.new (S.Storage.bytes storage.new) (S.Storage.keys storage.new)) pending.new in
+        TellsRun count before (record { core = after; units = result.units; reason = result.reason }) (S.IsShort storage.new) }
+    ensures supply { let before = core_of (state_of cpu.old (S.Storage.bytes storage.old) (S.Storage.keys storage.old)) pending.old in
+        (pages : List ℕ) × S.Brought storage.old pages storage.new × AllNeeded (RunNeeds before result.units result.reason) pages }
+    ensures size { length (S.Storage.bytes storage.new) ≡ length (S.Storage.bytes storage.old) }
+{
+    for units in 0..count {
+        let next = look(cpu, *pending);
+        match next {
+            Next::Stops(reason) => return Ran { units, reason },
+            _ => {}
+        }
+        match supplied::<P, S>(next, cpu, pending, storage) {
+            Ok(()) => {}
+            Err(FramesOut) => {
+                return Ran {
+                    units,
+                    reason: Reason::FramesOut,
+                };
+            }
+        }
+    }
+    Ran {
+        units: count,
+        reason: Reason::Count,
+    }
+}

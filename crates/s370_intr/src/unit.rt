@@ -1,0 +1,161 @@
+//! Units of operation.
+ghost use Rattle.std.specs.Prelude.{◌≡◌, ℕ, ◌≤◌, true, length};
+ghost use Rattle.s370_rows.specs.State.{state_of};
+ghost use Rattle.s370_cpu.specs.Opcodes.{opcode_at};
+ghost use Rattle.s370_cpu.specs.Table.{is_supervised, supervised, unit};
+ghost use Rattle.s370_cpu.specs.Unit.{MeetsUnit};
+ghost use Rattle.s370_intr.specs.Swap.{MeetsSwap, swapped};
+ghost use Rattle.s370_intr.specs.Units.{MeetsInstruction, MeetsInterruption, MeetsUnitAt, core_of};
+
+use crate::class::Class;
+use crate::next::Next;
+use crate::pending::Pending;
+use crate::psw_swap::swap;
+use s370_cpu::{Stop, step, supervise};
+use s370_psw::Ilc;
+use s370_rows::{Cpu, Instruction};
+use s370_store::{Keyed, Page, Storage};
+
+/// How the instructions for the supervisor state and the interruptions of a processor are carried out: by the processor
+/// itself, or for a guest by the control program.
+pub trait Processor {
+    /// Goes on with an instruction for the supervisor state that was handed back with this length code.
+    fn control<S: Keyed>(cpu: &mut Cpu, storage: &mut S, i: Instruction, ilc: Ilc) -> Stop
+        requires { is_supervised (opcode_at i.opcode) ≡ true }
+        ensures unit { let before = state_of cpu.old (S.Storage.bytes storage.old) (S.Storage.keys storage.old) in
+            let after = state_of cpu.new (S.Storage.bytes storage.new) (S.Storage.keys storage.new) in
+            MeetsUnit (supervised before i ilc) (S.Storage.present storage.old) before result after }
+        ensures size { length (S.Storage.bytes storage.new) ≡ length (S.Storage.bytes storage.old) }
+        ensures present { S.Storage.present storage.new ≡ S.Storage.present storage.old }
+        ensures rest { S.Storage.Keeps storage.old storage.new };
+
+    /// Interrupts the processor, with this interruption code and length code. Page 0 is the error where it is not
+    /// present; nothing is then changed.
+    fn interrupt<S: Keyed>(
+        cpu: &mut Cpu,
+        storage: &mut S,
+        class: Class,
+        code: u16,
+        ilc: Ilc,
+    ) -> Result<(), Page>
+        requires { 8192 ≤ length (S.Storage.bytes storage.old) }
+        ensures swap { let before = state_of cpu.old (S.Storage.bytes storage.old) (S.Storage.keys storage.old) in
+            let after = state_of cpu.new (S.Storage.bytes storage.new) (S.Storage.keys storage.new) in
+            MeetsSwap (swapped before class code ilc) (S.Storage.present storage.old) before result after }
+        ensures size { length (S.Storage.bytes storage.new) ≡ length (S.Storage.bytes storage.old) }
+        ensures present { S.Storage.present storage.new ≡ S.Storage.present storage.old }
+        ensures rest { S.Storage.Keeps storage.old storage.new };
+}
+
+/// A processor of its own, which carries out the instructions for the supervisor state itself.
+pub struct RealCpu;
+
+impl Processor for RealCpu {
+    #[inline(always)]
+    fn control<S: Keyed>(cpu: &mut Cpu, storage: &mut S, i: Instruction, ilc: Ilc) -> Stop {
+        supervise(cpu, storage, i, ilc)
+    }
+
+    #[inline(always)]
+    fn interrupt<S: Keyed>(
+        cpu: &mut Cpu,
+        storage: &mut S,
+        class: Class,
+        code: u16,
+        ilc: Ilc,
+    ) -> Result<(), Page> {
+        swap(cpu, storage, class, code, ilc)
+    }
+}
+
+/// One instruction, up to the stop that it ends in.
+#[inline(always)]
+fn perform<P: Processor, S: Keyed>(cpu: &mut Cpu, storage: &mut S) -> Stop
+    ensures unit { let before = state_of cpu.old (S.Storage.bytes storage.old) (S.Storage.keys storage.old) in
+        let after = state_of cpu.new (S.Storage.bytes storage.new) (S.Storage.keys storage.new) in
+        MeetsUnit (unit before) (S.Storage.present storage.old) before result after }
+    ensures size { length (S.Storage.bytes storage.new) ≡ length (S.Storage.bytes storage.old) }
+    ensures present { S.Storage.present storage.new ≡ S.Storage.present storage.old }
+    ensures rest { S.Storage.Keeps storage.old storage.new }
+{
+    match step(cpu, storage) {
+        Stop::Privileged(i, ilc) => P::control(cpu, storage, i, ilc),
+        stop => stop,
+    }
+}
+
+/// One instruction, and the interruption that it ends in. Where they need a page that is not present, that is the error,
+/// and all is as it was.
+#[inline(always)]
+pub fn instruct<P: Processor, S: Keyed>(cpu: &mut Cpu, storage: &mut S) -> Result<(), Page>
+    requires { 8192 ≤ length (S.Storage.bytes storage.old) }
+    ensures instruction { let before = state_of cpu.old (S.Storage.bytes storage.old) (S.Storage.keys storage.old) in
+        let after = state_of cpu.new (S.Storage.bytes storage.new) (S.Storage.keys storage.new) in
+        MeetsInstruction (S.Storage.present storage.old) before result after }
+    ensures size { length (S.Storage.bytes storage.new) ≡ length (S.Storage.bytes storage.old) }
+    ensures present { S.Storage.present storage.new ≡ S.Storage.present storage.old }
+    ensures rest { S.Storage.Keeps storage.old storage.new }
+{
+    let before = *cpu;
+    let stop = perform::<P, S>(cpu, storage);
+    match stop {
+        Stop::Absent(page) => return Err(page),
+        _ => {}
+    }
+    match interrupt::<P, S>(cpu, storage, stop) {
+        Ok(()) => Ok(()),
+        Err(page) => {
+            // What interrupts has changed registers alone.
+            *cpu = before;
+            Err(page)
+        }
+    }
+}
+
+/// Carries out the interruption that an instruction ended in: nothing where it interrupts nobody.
+#[inline(always)]
+fn interrupt<P: Processor, S: Keyed>(cpu: &mut Cpu, storage: &mut S, stop: Stop) -> Result<(), Page>
+    requires { 8192 ≤ length (S.Storage.bytes storage.old) }
+    ensures interruption { let before = state_of cpu.old (S.Storage.bytes storage.old) (S.Storage.keys storage.old) in
+        let after = state_of cpu.new (S.Storage.bytes storage.new) (S.Storage.keys storage.new) in
+        MeetsInterruption stop (S.Storage.present storage.old) before result after }
+    ensures size { length (S.Storage.bytes storage.new) ≡ length (S.Storage.bytes storage.old) }
+    ensures present { S.Storage.present storage.new ≡ S.Storage.present storage.old }
+    ensures rest { S.Storage.Keeps storage.old storage.new }
+{
+    match stop {
+        Stop::Program(code, ilc) => P::interrupt(cpu, storage, Class::Program, code.number(), ilc),
+        Stop::Svc(number, ilc) => {
+            P::interrupt(cpu, storage, Class::SupervisorCall, u16::from(number), ilc)
+        }
+        Stop::Done | Stop::Privileged(_, _) | Stop::Absent(_) => Ok(()),
+    }
+}
+
+/// The unit that a look says: the acceptance of external conditions, or an instruction; none where it stops. Where it needs
+/// a page that is not present, that is the error, and all is as it was.
+#[inline(always)]
+pub fn unit_at<P: Processor, S: Keyed>(
+    look: Next,
+    cpu: &mut Cpu,
+    pending: &mut Pending,
+    storage: &mut S,
+) -> Result<(), Page>
+    requires { 8192 ≤ length (S.Storage.bytes storage.old) }
+    ensures unit { let before = core_of (state_of cpu.old (S.Storage.bytes storage.old) (S.Storage.keys storage.old)) pending.old in
+        let after = core_of (state_of cpu.new (S.Storage.bytes storage.new) (S.Storage.keys storage.new)) pending.new in
+        MeetsUnitAt look (S.Storage.present storage.old) before result after }
+    ensures size { length (S.Storage.bytes storage.new) ≡ length (S.Storage.bytes storage.old) }
+    ensures present { S.Storage.present storage.new ≡ S.Storage.present storage.old }
+    ensures rest { S.Storage.Keeps storage.old storage.new }
+{
+    match look {
+        Next::Stops(_) => Ok(()),
+        Next::Accepts(taken) => {
+            P::interrupt(cpu, storage, Class::External, taken.code(), Ilc::ZERO)?;
+            *pending = pending.without(taken);
+            Ok(())
+        }
+        Next::Instructs => instruct::<P, S>(cpu, storage),
+    }
+}

@@ -1,9 +1,0 @@
-use Rattle.std.proofs.Common.{◌≡◌}
-use Rattle.std.specs.Io.KnownBytes.{Keeps}
-use Rattle.s370_num.proofs.host.counted.CountedHostWriter.write.Given as goal
-
-abbrev pub invariant-tries : goal.invariant-tries
-invariant-tries g l = record {
-  kept : Keeps (g.W.Write.contents l.fn.self.file) (g.W.Write.contents l.self.file);
-  same : l.self.failures ≡ l.fn.self.failures;
-}

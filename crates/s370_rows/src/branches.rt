@@ -1,0 +1,109 @@
+//! Branches.
+ghost use Rattle.std.specs.Prelude.{◌≡◌, ℕ, ◌<◌};
+ghost use Rattle.s370_rows.specs.Branches.{conditional_branch, counted_branch, index_branch, index_is, linked_branch};
+ghost use Rattle.s370_rows.specs.Registers.{link_of};
+
+use crate::cpu::Cpu;
+use crate::ending::Ending;
+use crate::place::Place;
+use s370_num::Register;
+
+/// When a branch on an index is taken.
+#[derive(Clone, Copy, Debug, PartialEq, Eq)]
+pub enum IndexBranch {
+    /// 86 BXH
+    High,
+    /// 87 BXLE
+    LowOrEqual,
+}
+
+/// 06 BCTR, 46 BCT: one less in a register, and a branch where something is left
+///
+/// `may` says whether there is an address to branch to.
+#[inline(always)]
+pub fn branch_on_count(cpu: &mut Cpu, register: Register, may: bool, target: u32) -> Ending
+    ensures { counted_branch cpu.old register may target ≡ record { ending = result; cpu = cpu.new } }
+{
+    let less = cpu.general[register.index()].wrapping_sub(1);
+    cpu.general[register.index()] = less;
+    if may && less > 0 {
+        Ending::Branch(target)
+    } else {
+        Ending::Done
+    }
+}
+
+/// 07 BCR, 47 BC: a branch where the mask has the bit of the condition code
+#[inline(always)]
+pub fn branch_on_condition(cpu: &Cpu, mask: u8, may: bool, target: u32) -> Ending
+    requires { mask < 16 }
+    ensures { conditional_branch cpu.now mask may target ≡ record { ending = result; cpu = cpu.now } }
+{
+    let bit = mask >> (3 - cpu.psw.condition().get()) & 1;
+    if may && bit == 1 {
+        Ending::Branch(target)
+    } else {
+        Ending::Done
+    }
+}
+
+/// The link information: instruction length code, condition code, program mask and next address.
+#[inline(always)]
+fn link_of(cpu: &Cpu, place: Place) -> u32
+    ensures { result ≡ link_of cpu.now place }
+{
+    let condition = cpu.psw.condition().get() as u32 * 0x1000_0000;
+    let mask = cpu.psw.program_mask() as u32 * 0x100_0000;
+    place.ilc.get() as u32 * 0x4000_0000 + condition + mask + place.next.get()
+}
+
+/// 05 BALR, 45 BAL: the link information goes to a register; then a branch, where there is an address to branch to
+#[inline(always)]
+pub fn branch_and_link(
+    cpu: &mut Cpu,
+    place: Place,
+    register: Register,
+    may: bool,
+    target: u32,
+) -> Ending
+    ensures { linked_branch cpu.old place register may target ≡ record { ending = result; cpu = cpu.new } }
+{
+    cpu.general[register.index()] = link_of(cpu, place);
+    if may {
+        Ending::Branch(target)
+    } else {
+        Ending::Done
+    }
+}
+
+/// Whether a sum is high, or is low or equal, as a signed number.
+#[inline(always)]
+fn index_is(kind: IndexBranch, sum: u32, comparand: u32) -> bool
+    ensures { result ≡ index_is kind sum comparand }
+{
+    match kind {
+        IndexBranch::High => comparand.cast_signed() < sum.cast_signed(),
+        IndexBranch::LowOrEqual => sum.cast_signed() <= comparand.cast_signed(),
+    }
+}
+
+/// 86 BXH, 87 BXLE: a register is added to another, and a branch where the sum is high, or is low or equal, to a third
+#[inline(always)]
+pub fn branch_on_index(
+    kind: IndexBranch,
+    cpu: &mut Cpu,
+    first: Register,
+    third: Register,
+    target: u32,
+) -> Ending
+    ensures { index_branch kind cpu.old first third target ≡ record { ending = result; cpu = cpu.new } }
+{
+    let sum = cpu.general[first.index()].wrapping_add(cpu.general[third.index()]);
+    let comparand = cpu.general[third.index() / 2 * 2 + 1];
+    cpu.general[first.index()] = sum;
+    if index_is(kind, sum, comparand) {
+        Ending::Branch(target)
+    } else {
+        Ending::Done
+    }
+}

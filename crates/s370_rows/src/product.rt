@@ -1,0 +1,83 @@
+//! Products and quotients.
+ghost use Rattle.std.specs.Prelude.{◌≡◌, ℕ, ◌<◌};
+ghost use Rattle.s370_rows.specs.Product.{product, multiplied, multiplied_halfword, MeetsDivision, divided, quotient_left};
+ghost use Rattle.s370_rows.specs.Results.{MeetsEnded};
+
+use crate::cpu::Cpu;
+use crate::ending::Ending;
+use s370_num::Register;
+use s370_psw::ProgramCode;
+
+/// A quotient towards zero, and a remainder with the dividend's sign.
+#[derive(Clone, Copy, Debug, PartialEq, Eq)]
+pub struct Quotient {
+    pub quotient: i32,
+    pub remainder: i32,
+}
+
+/// The signed product of two words.
+#[inline(always)]
+fn product(a: u32, b: u32) -> u64
+    ensures { result ≡ product a b }
+{
+    (a.cast_signed() as i64 * b.cast_signed() as i64).cast_unsigned()
+}
+
+/// 1C MR, 5C M: the signed product of the second register of a pair and a word, into the pair
+#[inline(always)]
+pub fn multiply_row(cpu: &mut Cpu, register: Register, b: u32) -> Ending
+    requires { register < 15 }
+    ensures { multiplied cpu.old register b ≡ record { ending = result; cpu = cpu.new } }
+{
+    let value = product(cpu.general[register.index() + 1], b);
+    cpu.set_pair(register, value);
+    Ending::Done
+}
+
+/// 4C MH: the low 32 bits of the signed product of a register and a halfword
+#[inline(always)]
+pub fn multiply_halfword_row(cpu: &mut Cpu, register: Register, b: u32) -> Ending
+    ensures { multiplied_halfword cpu.old register b ≡ record { ending = result; cpu = cpu.new } }
+{
+    let value = product(cpu.general[register.index()], b);
+    cpu.general[register.index()] = (value & 0xFFFF_FFFF) as u32;
+    Ending::Done
+}
+
+/// The quotient and remainder, where the divisor is not zero and the quotient fits.
+#[inline(always)]
+fn quotient_of(dividend: i64, divisor: i32) -> Option<Quotient>
+    ensures { MeetsDivision (divided dividend divisor) result }
+{
+    let quotient = dividend.checked_div(divisor as i64)?;
+    if quotient < -0x8000_0000 || quotient > 0x7FFF_FFFF {
+        return None;
+    }
+    let remainder = dividend % divisor as i64;
+    Some(Quotient {
+        quotient: quotient as i32,
+        remainder: remainder as i32,
+    })
+}
+
+/// 1D DR, 5D D: a signed pair by a word: remainder and quotient; divide exception where the quotient does not fit
+#[inline(always)]
+pub fn divide_row(cpu: &mut Cpu, register: Register, b: u32) -> Result<Ending, ProgramCode>
+    requires { register < 15 }
+    ensures { MeetsEnded (quotient_left cpu.old register b) cpu.old result cpu.new }
+{
+    let dividend = cpu.pair(register).cast_signed();
+    match quotient_of(dividend, b.cast_signed()) {
+        None => Err(ProgramCode::FixedPointDivide),
+        Some(
+            Quotient {
+                quotient,
+                remainder,
+            },
+        ) => {
+            cpu.general[register.index()] = remainder.cast_unsigned();
+            cpu.general[register.index() + 1] = quotient.cast_unsigned();
+            Ok(Ending::Done)
+        }
+    }
+}

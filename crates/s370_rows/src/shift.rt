@@ -1,0 +1,157 @@
+//! Shifts of a register and of a pair.
+ghost use Rattle.std.specs.Prelude.{◌≡◌, ℕ, ◌*◌, ◌%◌, ◌/◌, ◌^◌, ◌<◌, ◌*ℤ◌, pos};
+ghost use Rattle.s370_rows.specs.Shift.{right_word, right_pair, left_word, left_pair, word_shift, word_shifted, pair_shift, pair_shifted, plain_pair};
+
+use crate::arithmetic::{Computed, kept, sign_of};
+use crate::cpu::Cpu;
+use crate::ending::Ending;
+use crate::rows::overflow_ending;
+use s370_num::{ConditionCode, Register};
+
+/// Where bits are shifted to, and whether the sign stays.
+#[derive(Clone, Copy, Debug, PartialEq, Eq)]
+pub enum Shift {
+    Right,
+    Left,
+    RightLogical,
+    LeftLogical,
+}
+
+/// A new value of a pair, a condition code, and whether a signed result did not fit.
+#[derive(Clone, Copy, Debug, PartialEq, Eq)]
+pub struct ComputedPair {
+    pub value: u64,
+    pub condition: ConditionCode,
+    pub overflows: bool,
+}
+
+/// A signed number times a power of two.
+#[inline(always)]
+fn scaled(number: i64, count: u8) -> i128
+    requires { count < 64 }
+    ensures { result ≡ number *ℤ pos (2 ^ count) }
+{
+    number as i128 * (1u64 << count) as i128
+}
+
+#[inline(always)]
+fn shift_right(a: u32, count: u8) -> Computed
+    requires { count < 64 }
+    ensures { result ≡ right_word a count }
+{
+    let number = (a.cast_signed() as i64) >> count;
+    kept((number as i32).cast_unsigned(), sign_of(number))
+}
+
+#[inline(always)]
+fn shift_left(a: u32, count: u8) -> Computed
+    requires { count < 64 }
+    ensures { result ≡ left_word a count }
+{
+    let number = scaled(a.cast_signed() as i64, count);
+    if number >= -0x8000_0000 && number <= 0x7FFF_FFFF {
+        let fits = number as i64;
+        kept((fits as i32).cast_unsigned(), sign_of(fits))
+    } else {
+        let low = (a as u64) << count;
+        Computed {
+            value: a / 0x8000_0000 * 0x8000_0000 + (low % 0x8000_0000) as u32,
+            condition: ConditionCode::THREE,
+            overflows: true,
+        }
+    }
+}
+
+/// A register's contents, shifted.
+#[inline(always)]
+fn shift_word(shift: Shift, condition: ConditionCode, a: u32, count: u8) -> Computed
+    requires { count < 64 }
+    ensures { result ≡ word_shift shift condition a count }
+{
+    match shift {
+        Shift::Right => shift_right(a, count),
+        Shift::Left => shift_left(a, count),
+        Shift::RightLogical => kept(((a as u64) >> count) as u32, condition),
+        Shift::LeftLogical => kept((((a as u64) << count) & 0xFFFF_FFFF) as u32, condition),
+    }
+}
+
+/// 88 SRL, 89 SLL, 8A SRA, 8B SLA: shift a register; the signed ones set the condition code, to the left with overflow
+#[inline(always)]
+pub fn shift_row(shift: Shift, cpu: &mut Cpu, register: Register, count: u8) -> Ending
+    requires { count < 64 }
+    ensures { word_shifted shift cpu.old register count ≡ record { ending = result; cpu = cpu.new } }
+{
+    let a = cpu.general[register.index()];
+    let computed = shift_word(shift, cpu.psw.condition(), a, count);
+    cpu.general[register.index()] = computed.value;
+    cpu.psw.set_condition(computed.condition);
+    overflow_ending(cpu, computed.overflows)
+}
+
+#[inline(always)]
+fn kept_pair(value: u64, condition: ConditionCode) -> ComputedPair
+    ensures { result ≡ plain_pair value condition }
+{
+    ComputedPair {
+        value,
+        condition,
+        overflows: false,
+    }
+}
+
+#[inline(always)]
+fn shift_right_pair(a: u64, count: u8) -> ComputedPair
+    requires { count < 64 }
+    ensures { result ≡ right_pair a count }
+{
+    let number = a.cast_signed() >> count;
+    kept_pair(number.cast_unsigned(), sign_of(number))
+}
+
+#[inline(always)]
+fn shift_left_pair(a: u64, count: u8) -> ComputedPair
+    requires { count < 64 }
+    ensures { result ≡ left_pair a count }
+{
+    let number = scaled(a.cast_signed(), count);
+    if number >= -0x8000_0000_0000_0000 && number <= 0x7FFF_FFFF_FFFF_FFFF {
+        let fits = number as i64;
+        kept_pair(fits.cast_unsigned(), sign_of(fits))
+    } else {
+        let low = a << count;
+        ComputedPair {
+            value: a / 0x8000_0000_0000_0000 * 0x8000_0000_0000_0000 + low % 0x8000_0000_0000_0000,
+            condition: ConditionCode::THREE,
+            overflows: true,
+        }
+    }
+}
+
+/// A pair's contents, shifted.
+#[inline(always)]
+fn shift_pair(shift: Shift, condition: ConditionCode, a: u64, count: u8) -> ComputedPair
+    requires { count < 64 }
+    ensures { result ≡ pair_shift shift condition a count }
+{
+    match shift {
+        Shift::Right => shift_right_pair(a, count),
+        Shift::Left => shift_left_pair(a, count),
+        Shift::RightLogical => kept_pair(a >> count, condition),
+        Shift::LeftLogical => kept_pair(a << count, condition),
+    }
+}
+
+/// 8C SRDL, 8D SLDL, 8E SRDA, 8F SLDA: shift a pair; the signed ones set the condition code, to the left with overflow
+#[inline(always)]
+pub fn shift_pair_row(shift: Shift, cpu: &mut Cpu, register: Register, count: u8) -> Ending
+    requires register { register < 15 }
+    requires count { count < 64 }
+    ensures { pair_shifted shift cpu.old register count ≡ record { ending = result; cpu = cpu.new } }
+{
+    let a = cpu.pair(register);
+    let computed = shift_pair(shift, cpu.psw.condition(), a, count);
+    cpu.set_pair(register, computed.value);
+    cpu.psw.set_condition(computed.condition);
+    overflow_ending(cpu, computed.overflows)
+}

@@ -1,0 +1,95 @@
+//! A storage that brings its absent pages.
+ghost use Rattle.std.specs.Prelude.{◌≡◌, ℕ, ◌<◌, List, [], ◌∷◌, ◌++◌, OnOk, OnErr, length, replicate};
+ghost use Rattle.s370_store.specs.Access.{IsAway};
+
+use crate::{Keyed, Page, PlainStorage};
+use thiserror::Error;
+
+/// No frame is free for a page that is wanted.
+#[derive(Clone, Copy, Debug, PartialEq, Eq, Error)]
+#[error("no frame is free")]
+pub struct FramesOut;
+
+/// A storage whose absent pages can be brought.
+///
+/// Code that has to go on where a page is absent is written over it once, for a storage that is all there as for one that
+/// is lent from frames: it tries, brings the page that was absent, and tries again.
+///
+/// ```
+/// loop {
+///     match try_it(storage) {
+///         Ok(value) => return Ok(value),
+///         Err(page) => storage.bring(page)?,
+///     }
+/// }
+/// ```
+pub trait Supply: Keyed {
+    /// How many more pages can be brought.
+    ghost spare: { Self → ℕ };
+
+    /// There is no room for this page, which is not present.
+    ghost IsShort: { Self → ℕ → Type 0 };
+
+    /// From one to the other just these pages were brought, in this order; what this storage is lent from stays.
+    ghost Brought: { Self → List ℕ → Self → Type 0 };
+
+    /// What clearing leaves of all that this storage is lent from.
+    ghost Cleared: { Self → Self → Type 0 };
+
+    /// Makes all bytes and keys zero, as they are in a machine that is switched on. No page has to be present for that.
+    fn clear(&mut self)
+        ensures bytes { Self.bytes self.new ≡ replicate (length (Self.bytes self.old)) 0 }
+        ensures keys { Self.keys self.new ≡ replicate (length (Self.keys self.old)) 0 }
+        ensures cleared { Cleared self.old self.new };
+
+    /// Brings a page that is absent. No byte changes, and no key.
+    fn bring(&mut self, page: Page) -> Result<(), FramesOut>
+        requires { IsAway (length (Self.bytes self.old)) (Self.present self.old) page.0 }
+        ensures bytes { Self.bytes self.new ≡ Self.bytes self.old }
+        ensures keys { Self.keys self.new ≡ Self.keys self.old }
+        ensures fewer { OnOk result (spare self.new < spare self.old) }
+        ensures brought { OnOk result (Brought self.old (page.0 ∷ []) self.new) }
+        ensures refused { OnErr result (Brought self.old [] self.new) }
+        ensures short { OnErr result (IsShort self.new page.0) };
+
+    /// What an access keeps brings nothing.
+    ghost brought_none: { (s t : Self) → Self.Keeps s t → Brought s [] t };
+
+    /// What is brought twice is brought.
+    ghost brought_on: { (s t u : Self) (before after : List ℕ) → Brought s before t → Brought t after u → Brought s (before ++ after) u };
+
+    /// An access takes no room.
+    ghost spare_kept: { (s t : Self) → Self.Keeps s t → spare t ≡ spare s };
+}
+
+/// All of it is there, so nothing is ever brought: `bring` does nothing, whatever it is asked for.
+impl Supply for PlainStorage {
+    ghost use Rattle.std.specs.Prelude.{refl};
+    ghost use Rattle.s370_store.specs.Plain.{plain_bytes, plain_keys};
+
+    ghost spare = { λ _. 0 };
+
+    ghost IsShort = { λ _ _. ⊥ };
+
+    ghost Brought = { λ _ _ _. Unit {0} };
+
+    ghost Cleared = { λ _ _. Unit {0} };
+
+    fn clear(&mut self) {
+        PlainStorage::zero(self);
+    }
+
+    fn bring(&mut self, _page: Page) -> Result<(), FramesOut>
+        ensures bytes { plain_bytes self.new ≡ plain_bytes self.old }
+        ensures keys { plain_keys self.new ≡ plain_keys self.old }
+        ensures done { result ≡ Ok tt }
+    {
+        Ok(())
+    }
+
+    ghost brought_none = { λ s t k. tt };
+
+    ghost brought_on = { λ s t u before after a b. tt };
+
+    ghost spare_kept = { λ s t k. refl };
+}

@@ -1,0 +1,58 @@
+//! Runs the examples: each script over its directory has to give the transcript that is stored beside it.
+//!
+//! The words of the program are the folders of the examples, each of which has the files `directory`, `script`
+//! and `transcript`. The transcripts go to standard output, in the order of the words.
+#![tactic(auto)]
+
+use anyhow::{Result, bail};
+use cp_core::{Sizes, System};
+use cp_directory::read_directory;
+use s370_num::host::{Counted, read_all};
+use std::io::Write;
+use std::rt::Files;
+use std::{env, fs, io};
+use vm370::session::session;
+
+/// How many frames the machine of the program `vm370` has.
+const FRAMES: u32 = 64;
+
+/// How many slots for pages it has.
+const SLOTS: u32 = 256;
+
+fn main(rt: HostRuntime) -> Result<()> {
+    let mut output = io::writer(&rt);
+    for folder in env::args(&rt)?.skip(1) {
+        let transcript = transcript(&rt, &folder)?;
+        if transcript != contents(&rt, &folder, "transcript")? {
+            bail!("{folder}: the script gives another transcript than is stored");
+        }
+        output.write_all(&transcript)?;
+    }
+    output.flush()?;
+    Ok(())
+}
+
+/// What a folder's script gives over its directory.
+fn transcript<R: AllocGlobal + Files>(rt: &R, folder: &str) -> Result<Vec<u8>> {
+    let alloc = rt.alloc();
+    let directory = read_directory(alloc, &contents(rt, folder, "directory")?)?;
+    let Some(sizes) = Sizes::new(FRAMES, SLOTS) else {
+        unreachable!();
+    };
+    let mut system = System::boot(alloc, directory, sizes)?;
+    let mut script = open(rt, folder, "script")?;
+    let mut transcript = Vec::new(alloc);
+    session(alloc, &mut system, &mut script, &mut transcript)?;
+    Ok(transcript)
+}
+
+/// A file of a folder, whole.
+fn contents<R: AllocGlobal + Files>(rt: &R, folder: &str, name: &str) -> Result<Vec<u8>> {
+    Ok(read_all(rt.alloc(), &mut open(rt, folder, name)?)?)
+}
+
+/// A file of a folder, to be read.
+fn open<R: AllocGlobal + Files>(rt: &R, folder: &str, name: &str) -> Result<Counted<R::File>> {
+    let path = format!(in rt.alloc(); "{folder}/{name}")?;
+    Ok(Counted::new(fs::open(rt, &path)?))
+}
