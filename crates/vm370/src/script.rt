@@ -146,22 +146,33 @@ mod tests {
         read_script(alloc, &[b"A".as_slice(), b"B".as_slice()], text)
     }
 
+    /// What an event says: whose it is, how many units if it is a run, and what is typed.
+    fn parts(event: Event<'_>) -> (u8, Option<u32>, &[u8]) {
+        match event {
+            Event::Run(user, units) => (user.number(), Some(units), b"".as_slice()),
+            Event::Line(user, typed) => (user.number(), None, typed),
+        }
+    }
+
     #[test]
     fn reads_a_whole_script(rt: HostRuntime) -> Result<(), Fail> {
         let text =
             b"LINE A LOGON\nLINE A STORE 1000 0A07\nLINE A STORE 60 0000000000000200\nLINE A STORE PSW 00000000 00001000\nLINE A BEGIN\nRUN A 1\nLINE A #CP DISPLAY 20\nLINE A #CP DISPLAY PSW\n";
-        let events = read(rt.alloc(), text)?;
-        let wanted = [
-            Event::Line(a(), b"LOGON".as_slice()),
-            Event::Line(a(), b"STORE 1000 0A07".as_slice()),
-            Event::Line(a(), b"STORE 60 0000000000000200".as_slice()),
-            Event::Line(a(), b"STORE PSW 00000000 00001000".as_slice()),
-            Event::Line(a(), b"BEGIN".as_slice()),
-            Event::Run(a(), 1),
-            Event::Line(a(), b"#CP DISPLAY 20".as_slice()),
-            Event::Line(a(), b"#CP DISPLAY PSW".as_slice()),
-        ];
-        assert_eq!(rt; events.as_slice(), wanted.as_slice());
+        let mut events = read(rt.alloc(), text)?.into_iter();
+        for (units, typed) in [
+            (None, b"LOGON".as_slice()),
+            (None, b"STORE 1000 0A07".as_slice()),
+            (None, b"STORE 60 0000000000000200".as_slice()),
+            (None, b"STORE PSW 00000000 00001000".as_slice()),
+            (None, b"BEGIN".as_slice()),
+            (Some(1), b"".as_slice()),
+            (None, b"#CP DISPLAY 20".as_slice()),
+            (None, b"#CP DISPLAY PSW".as_slice()),
+        ] {
+            let told = events.next().map(parts);
+            assert_eq!(rt; told, Some((0, units, typed)));
+        }
+        assert!(rt; events.next().is_none());
         Ok(())
     }
 
@@ -169,13 +180,16 @@ mod tests {
     fn reads_the_example_of_the_formats(rt: HostRuntime) -> Result<(), Fail> {
         let text =
             b"* A logs on and runs; B gets an empty line.\nLINE A LOGON\n\nRUN A 0000100\nLINE B\n";
-        let events = read(rt.alloc(), text)?;
-        let wanted = [
-            Event::Line(a(), b"LOGON".as_slice()),
-            Event::Run(a(), 100),
-            Event::Line(b(), b"".as_slice()),
-        ];
-        assert_eq!(rt; events.as_slice(), wanted.as_slice());
+        let mut events = read(rt.alloc(), text)?.into_iter();
+        for wanted in [
+            (0, None, b"LOGON".as_slice()),
+            (0, Some(100), b"".as_slice()),
+            (1, None, b"".as_slice()),
+        ] {
+            let told = events.next().map(parts);
+            assert_eq!(rt; told, Some(wanted));
+        }
+        assert!(rt; events.next().is_none());
         Ok(())
     }
 
@@ -194,31 +208,27 @@ mod tests {
 
     #[test]
     fn reads_one_event(rt: HostRuntime) -> Result<(), Fail> {
-        for (text, event) in [
-            (b"RUN B 1".as_slice(), Event::Run(b(), 1)),
-            (b"RUN A 0000001\n".as_slice(), Event::Run(a(), 1)),
-            (b"RUN A 1000000\n".as_slice(), Event::Run(a(), 1_000_000)),
-            (b"LINE B".as_slice(), Event::Line(b(), b"".as_slice())),
-            (b"LINE B ".as_slice(), Event::Line(b(), b"".as_slice())),
+        for (text, wanted) in [
+            (b"RUN B 1".as_slice(), (1, Some(1), b"".as_slice())),
+            (b"RUN A 0000001\n".as_slice(), (0, Some(1), b"".as_slice())),
             (
-                b"LINE B x y ".as_slice(),
-                Event::Line(b(), b"x y ".as_slice()),
+                b"RUN A 1000000\n".as_slice(),
+                (0, Some(1_000_000), b"".as_slice()),
             ),
-            (b"LINE B  x".as_slice(), Event::Line(b(), b" x".as_slice())),
-            (
-                b"LINE B x\r\n".as_slice(),
-                Event::Line(b(), b"x\r".as_slice()),
-            ),
+            (b"LINE B".as_slice(), (1, None, b"".as_slice())),
+            (b"LINE B ".as_slice(), (1, None, b"".as_slice())),
+            (b"LINE B x y ".as_slice(), (1, None, b"x y ".as_slice())),
+            (b"LINE B  x".as_slice(), (1, None, b" x".as_slice())),
+            (b"LINE B x\r\n".as_slice(), (1, None, b"x\r".as_slice())),
             (
                 b"LINE A \t\xC1\xFF".as_slice(),
-                Event::Line(a(), b"\t\xC1\xFF".as_slice()),
+                (0, None, b"\t\xC1\xFF".as_slice()),
             ),
         ] {
-            assert_eq!(rt;
-                read(rt.alloc(), text)?.as_slice(),
-                [event].as_slice(),
-                "{text:?}"
-            );
+            let mut events = read(rt.alloc(), text)?.into_iter();
+            let told = events.next().map(parts);
+            assert_eq!(rt; told, Some(wanted), "{text:?}");
+            assert!(rt; events.next().is_none(), "{text:?}");
         }
         Ok(())
     }
