@@ -146,33 +146,36 @@ mod tests {
         read_script(alloc, &[b"A".as_slice(), b"B".as_slice()], text)
     }
 
-    /// What an event says: whose it is, how many units if it is a run, and what is typed.
-    fn parts(event: Event<'_>) -> (u8, Option<u32>, &[u8]) {
-        match event {
-            Event::Run(user, units) => (user.number(), Some(units), b"".as_slice()),
-            Event::Line(user, typed) => (user.number(), None, typed),
+    /// What an event says: the number of its user, of how many units a run is, and what is typed.
+    type Said<'a> = (u8, Option<u32>, &'a [u8]);
+
+    /// What the events of a text say.
+    fn said<'a>(alloc: Global, text: &'a [u8]) -> Result<Vec<Said<'a>>, Fail> {
+        let mut all = Vec::new(alloc);
+        for event in read(alloc, text)? {
+            match event {
+                Event::Run(user, units) => all.push((user.number(), Some(units), b"".as_slice()))?,
+                Event::Line(user, typed) => all.push((user.number(), None, typed))?,
+            }
         }
+        Ok(all)
     }
 
     #[test]
     fn reads_a_whole_script(rt: HostRuntime) -> Result<(), Fail> {
         let text =
             b"LINE A LOGON\nLINE A STORE 1000 0A07\nLINE A STORE 60 0000000000000200\nLINE A STORE PSW 00000000 00001000\nLINE A BEGIN\nRUN A 1\nLINE A #CP DISPLAY 20\nLINE A #CP DISPLAY PSW\n";
-        let mut events = read(rt.alloc(), text)?.into_iter();
-        for (units, typed) in [
-            (None, b"LOGON".as_slice()),
-            (None, b"STORE 1000 0A07".as_slice()),
-            (None, b"STORE 60 0000000000000200".as_slice()),
-            (None, b"STORE PSW 00000000 00001000".as_slice()),
-            (None, b"BEGIN".as_slice()),
-            (Some(1), b"".as_slice()),
-            (None, b"#CP DISPLAY 20".as_slice()),
-            (None, b"#CP DISPLAY PSW".as_slice()),
-        ] {
-            let told = events.next().map(parts);
-            assert_eq!(rt; told, Some((0, units, typed)));
-        }
-        assert!(rt; events.next().is_none());
+        let wanted = [
+            (0, None, b"LOGON".as_slice()),
+            (0, None, b"STORE 1000 0A07".as_slice()),
+            (0, None, b"STORE 60 0000000000000200".as_slice()),
+            (0, None, b"STORE PSW 00000000 00001000".as_slice()),
+            (0, None, b"BEGIN".as_slice()),
+            (0, Some(1), b"".as_slice()),
+            (0, None, b"#CP DISPLAY 20".as_slice()),
+            (0, None, b"#CP DISPLAY PSW".as_slice()),
+        ];
+        assert_eq!(rt; said(rt.alloc(), text)?.as_slice(), wanted.as_slice());
         Ok(())
     }
 
@@ -180,16 +183,12 @@ mod tests {
     fn reads_the_example_of_the_formats(rt: HostRuntime) -> Result<(), Fail> {
         let text =
             b"* A logs on and runs; B gets an empty line.\nLINE A LOGON\n\nRUN A 0000100\nLINE B\n";
-        let mut events = read(rt.alloc(), text)?.into_iter();
-        for wanted in [
+        let wanted = [
             (0, None, b"LOGON".as_slice()),
             (0, Some(100), b"".as_slice()),
             (1, None, b"".as_slice()),
-        ] {
-            let told = events.next().map(parts);
-            assert_eq!(rt; told, Some(wanted));
-        }
-        assert!(rt; events.next().is_none());
+        ];
+        assert_eq!(rt; said(rt.alloc(), text)?.as_slice(), wanted.as_slice());
         Ok(())
     }
 
@@ -225,10 +224,11 @@ mod tests {
                 (0, None, b"\t\xC1\xFF".as_slice()),
             ),
         ] {
-            let mut events = read(rt.alloc(), text)?.into_iter();
-            let told = events.next().map(parts);
-            assert_eq!(rt; told, Some(wanted), "{text:?}");
-            assert!(rt; events.next().is_none(), "{text:?}");
+            assert_eq!(rt;
+                said(rt.alloc(), text)?.as_slice(),
+                [wanted].as_slice(),
+                "{text:?}"
+            );
         }
         Ok(())
     }
