@@ -2,7 +2,8 @@
 ghost use Rattle.std.specs.Prelude.{◌≡◌, ◌*◌, ◌/◌, ◌<◌, ◌≤◌, ◌↔◌, length, IfOk, IfSome, IfNone, OnOk, OnErr, All, IsSome, Some, None, false};
 ghost use Rattle.cp_frames.specs.Layout.{bytes_of, number_of, free_count, IsBrought, IsZeroPage};
 
-use crate::{FrameNo, Frames, UserNo};
+use crate::{FrameNo, Frames};
+use cp_users::UserNo;
 use s370_num::{AccessKey, StorageKey};
 use s370_store::{
     Access, BLOCK_SIZE, Fault, FramesOut, Keyed, Listed, PAGE_SIZE, Page, Range, Storage, Supply,
@@ -19,7 +20,7 @@ pub struct Dat<'a> {
     keys: &'a mut [StorageKey],
     user: UserNo,
     size: u32,
-    ghost sized: { size ≡ length (bytes_of frames.now user.0) },
+    ghost sized: { size ≡ length (bytes_of frames.now user) },
     ghost keyed: { size ≤ 2048 * length keys.now },
 }
 
@@ -28,12 +29,12 @@ impl<'a> Dat<'a> {
 
     /// Lends a user's pages, with a key for each 2048 bytes of his storage. A user who is not there has no bytes.
     pub fn new(frames: &'a mut Frames, keys: &'a mut [StorageKey], user: UserNo) -> Dat<'a>
-        requires { length (bytes_of frames.old user.0) ≤ 2048 * length keys.old }
+        requires { length (bytes_of frames.old user) ≤ 2048 * length keys.old }
         ensures same_frames { result.frames.ghost_name ≡ frames.entry.ghost_name }
         ensures same_keys { result.keys.ghost_name ≡ keys.entry.ghost_name }
         ensures frames { result.frames.now ≡ frames.old }
         ensures keys { result.keys.now ≡ keys.old }
-        ensures user { user_of result ≡ user.0 }
+        ensures user { user_of result ≡ user }
     {
         let size = frames.size(user);
         Dat {
@@ -59,7 +60,7 @@ impl<'a> Dat<'a> {
         ensures inside { IfSome result (λ p. p.0 * 4096 < length (lent_bytes self.now)) }
     {
         match self.frames.page_in(frame) {
-            Some(there) => if there.user.0 == self.user.0 {
+            Some(there) => if there.user.number() == self.user.number() {
                 Some(there.page)
             } else {
                 None
