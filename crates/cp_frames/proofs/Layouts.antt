@@ -262,12 +262,12 @@ storages-unwritten bytes owners sizes frame written free =
     (λ k _ _. unwritten_in bytes owners frame h k written (frame_of owners h (k / 4096)) refl free))
 
 pub storages-written : (bytes : List (List ℕ)) (owners : List (Option UserPage)) (sizes : List ℕ) (frame : ℕ) (page : UserPage) (written : List ℕ) → IsWhole bytes owners sizes → frame < length bytes → get_or owners frame None ≡ Some page →
-    storages_of (set bytes frame written) owners sizes ≡ set (storages_of bytes owners sizes) page.user.0 (put_page (get_or (storages_of bytes owners sizes) page.user.0 []) page.page.0 written)
+    storages_of (set bytes frame written) owners sizes ≡ set (storages_of bytes owners sizes) page.user (put_page (get_or (storages_of bytes owners sizes) page.user []) page.page.0 written)
 storages-written bytes owners sizes frame page written whole lt holds =
     let after = set bytes frame written in
     let stands = whole.once frame page holds in
     let small = whole.inside frame page holds in
-    let user = page.user.0 in
+    let user = page.user in
     let in_user : user < length sizes = elim (dec_lt user (length sizes)) [ yes h ↦ h | no past ↦ let none = get_or_past sizes user 0 (omega arith) in absurd (omega arith) ] in
     let before = bytes_of-storages bytes owners sizes user in_user in
     let old = storage_of bytes owners user (get_or sizes user 0) in
@@ -301,7 +301,7 @@ whole-brought old new owners sizes user page frame whole same nowhere within fre
         | yes e ↦ let is : wanted ≡ p = (let h = here f e in cc) in rw (← is) (frame_of-brought owners user page frame nowhere within ∙ ap Some (sym e))
         | no ne ↦ let was : get_or owners f None ≡ Some p = sym (there f ne) ∙ holds in
             let at = whole.once f p was in
-            frame_of_other-brought owners user page frame p.user.0 p.page.0 free (λ g q. let n : frame_of owners p.user.0 p.page.0 ≡ None = rw (← g, ← q) nowhere in cc) ∙ at
+            frame_of_other-brought owners user page frame p.user p.page.0 free (λ g q. let n : frame_of owners p.user p.page.0 ≡ None = rw (← g, ← q) nowhere in cc) ∙ at
       ];
       inside = λ f p holds. elim (dec_eq f frame) [
         | yes e ↦ let is : wanted ≡ p = (let h = here f e in cc) in rw (← is) small
@@ -309,23 +309,23 @@ whole-brought old new owners sizes user page frame whole same nowhere within fre
       ];
     }
 
-kept-without : (user : ℕ) (o : Option UserPage) (p : UserPage) → without user o ≡ Some p → (user ≢ p.user.0) × (o ≡ Some p)
+kept-without : (user : ℕ) (o : Option UserPage) (p : UserPage) → without user o ≡ Some p → (user ≢ p.user) × (o ≡ Some p)
 kept-without user None p e = cc
 kept-without user (Some there) p e =
-    let at : (b : Bool) → (there.user.0 == user) ≡ b → cond b None (Some there) ≡ Some p → (user ≢ p.user.0) × (Some there ≡ Some p) = elim [
+    let at : (b : Bool) → (there.user == user) ≡ b → cond b None (Some there) ≡ Some p → (user ≢ p.user) × (Some there ≡ Some p) = elim [
       | true ↦ λ t h. cc
       | false ↦ λ t h. let is : there ≡ p = cc in let g = ap (λ (x : UserPage). x.user) is in (λ e. grind (arith, nat_tests), h)
     ] in
-    at (there.user.0 == user) refl e
+    at (there.user == user) refl e
 
 -- the frames stay whole where a user gives its frames back
 pub whole-cleared : (bytes : List (List ℕ)) (owners : List (Option UserPage)) (sizes : List ℕ) (user : ℕ) → IsWhole bytes owners sizes → IsWhole bytes (cleared_of user owners) sizes
 whole-cleared bytes owners sizes user whole =
-    let was : (f : ℕ) (p : UserPage) → Holds (cleared_of user owners) f p → (user ≢ p.user.0) × Holds owners f p = λ f p holds. kept-without user (get_or owners f None) p (sym (get_or-map (without user) owners f None) ∙ holds) in
+    let was : (f : ℕ) (p : UserPage) → Holds (cleared_of user owners) f p → (user ≢ p.user) × Holds owners f p = λ f p holds. kept-without user (get_or owners f None) p (sym (get_or-map (without user) owners f None) ∙ holds) in
     record {
       room = rw length-map whole.room;
       small = whole.small;
-      once = λ f p holds. frame_of_other-cleared owners user p.user.0 p.page.0 (was f p holds).0 ∙ whole.once f p (was f p holds).1;
+      once = λ f p holds. frame_of_other-cleared owners user p.user p.page.0 (was f p holds).0 ∙ whole.once f p (was f p holds).1;
       inside = λ f p holds. whole.inside f p (was f p holds).1;
     }
 

@@ -101,7 +101,7 @@ held_other slot o ne h = let f : (slot == 65535) ≡ false = grind (arith, nat_t
 page_is_at : (user page : ℕ) (o : Option UserPage) → is_page user page o ≡ true → o ≡ Some (owned user page)
 page_is_at user page None e = cc
 page_is_at user page (Some there) e =
-    let g : there.user.0 ≡ user = grind (arith, nat_tests, common_steps) in
+    let g : there.user ≡ user = grind (arith, nat_tests, common_steps) in
     let p : there.page.0 ≡ page = grind (arith, nat_tests, common_steps) in
     let middle : UserPage = owned user there.page.0 in
     let wanted : UserPage = owned user page in
@@ -115,15 +115,15 @@ page_is owners user page frame there = page_is_at user page (get_or owners frame
 
 -- the page in a frame, and the frame of a page
 pub page_inverse : (bytes : List (List ℕ)) (owners : List (Option UserPage)) (sizes : List ℕ) (frame : ℕ) (o : Option UserPage) → IsWhole bytes owners sizes → o ≡ get_or owners frame None →
-    (p : UserPage) → ((o ≡ Some p) → frame_of owners p.user.0 p.page.0 ≡ Some frame) × ((frame_of owners p.user.0 p.page.0 ≡ Some frame) → o ≡ Some p)
-page_inverse bytes owners sizes frame o whole e p = (λ h. whole.once frame p (sym e ∙ h), λ h. e ∙ page_is owners p.user.0 p.page.0 frame h)
+    (p : UserPage) → ((o ≡ Some p) → frame_of owners p.user p.page.0 ≡ Some frame) × ((frame_of owners p.user p.page.0 ≡ Some frame) → o ≡ Some p)
+page_inverse bytes owners sizes frame o whole e p = (λ h. whole.once frame p (sym e ∙ h), λ h. e ∙ page_is owners p.user p.page.0 frame h)
 
 pub page_inside : (bytes : List (List ℕ)) (owners : List (Option UserPage)) (sizes : List ℕ) (frame : ℕ) (o : Option UserPage) → IsWhole bytes owners sizes → o ≡ get_or owners frame None →
-    IfSome o (λ p. p.page.0 * 4096 < length (get_or (storages_of bytes owners sizes) p.user.0 []))
+    IfSome o (λ p. p.page.0 * 4096 < length (get_or (storages_of bytes owners sizes) p.user []))
 page_inside bytes owners sizes frame None whole e = tt
 page_inside bytes owners sizes frame (Some p) whole e =
     let small = whole.inside frame p (sym e) in
-    let long = length-bytes_of bytes owners sizes p.user.0 in
+    let long = length-bytes_of bytes owners sizes p.user in
     omega arith
 
 none_stands : (n frame : ℕ) (page : UserPage) → get_or (replicate n None) frame None ≡ Some page → ⊥

@@ -12,7 +12,7 @@ pub record Pool : Type 0 where
 
 -- a page of a user, by their numbers
 abbrev pub owned : ℕ → ℕ → UserPage
-owned user page = record { user = record { 0 = user }; page = record { 0 = page } }
+owned user page = record { user = user; page = record { 0 = page } }
 
 -- the number of a frame
 abbrev pub number_of : Option FrameNo → Option ℕ
@@ -22,7 +22,7 @@ number_of (Some frame) = Some frame.0
 -- whether this page stands in a frame with this owner
 abbrev pub is_page : ℕ → ℕ → Option UserPage → Bool
 is_page user page None = false
-is_page user page (Some there) = (there.user.0 == user) && (there.page.0 == page)
+is_page user page (Some there) = (there.user == user) && (there.page.0 == page)
 
 -- the frame in which a page of a user stands
 abbrev pub frame_of : List (Option UserPage) → ℕ → ℕ → Option ℕ
@@ -65,8 +65,8 @@ Holds owners frame page = slice_index_or owners frame None ≡ Some page
 pub record IsWhole (frames : List (List ℕ)) (owners : List (Option UserPage)) (sizes : List ℕ) : Type 0 where
   pub room : length frames ≡ length owners
   pub small : (user : ℕ) → slice_index sizes user ≤ 1024
-  pub once : (frame : ℕ) (page : UserPage) → Holds owners frame page → frame_of owners page.user.0 page.page.0 ≡ Some frame
-  pub inside : (frame : ℕ) (page : UserPage) → Holds owners frame page → page.page.0 < slice_index sizes page.user.0
+  pub once : (frame : ℕ) (page : UserPage) → Holds owners frame page → frame_of owners page.user page.page.0 ≡ Some frame
+  pub inside : (frame : ℕ) (page : UserPage) → Holds owners frame page → page.page.0 < slice_index sizes page.user
 
 -- the frame that a slot of the table tells
 abbrev pub held : ℕ → Option ℕ
@@ -87,7 +87,7 @@ pub record IsSound (frames : List (List ℕ)) (owners : List (Option UserPage)) 
 -- what stands in a frame when a user's pages have left
 abbrev pub without : ℕ → Option UserPage → Option UserPage
 without user None = None
-without user (Some there) = if there.user.0 == user then None else Some there
+without user (Some there) = if there.user == user then None else Some there
 
 -- what stands in each frame when a user's pages have left
 abbrev pub cleared_of : ℕ → List (Option UserPage) → List (Option UserPage)
@@ -110,7 +110,7 @@ put_page storage page written = map (λ address. if address / 4096 == page then 
 -- what is written to the frame of a page is the content of the page
 abbrev pub written_page : Pool → Option UserPage → List ℕ → Pool
 written_page pool None written = pool
-written_page pool (Some there) written = record pool { storages = slice_set pool.storages there.user.0 (put_page (bytes_of pool there.user.0) there.page.0 written) }
+written_page pool (Some there) written = record pool { storages = slice_set pool.storages there.user (put_page (bytes_of pool there.user) there.page.0 written) }
 
 -- what is written to a frame is the content of the page that stands in it
 abbrev pub written_frame : Pool → ℕ → List ℕ → Pool

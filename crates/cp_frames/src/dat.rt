@@ -1,13 +1,34 @@
 //! One user's storage, lent from the frames.
-ghost use Rattle.std.specs.Prelude.{◌≡◌, ◌*◌, ◌/◌, ◌<◌, ◌≤◌, ◌↔◌, length, IfOk, IfSome, IfNone, OnOk, OnErr, All, IsSome, Some, None, false};
-ghost use Rattle.cp_frames.specs.Layout.{bytes_of, number_of, free_count, IsBrought, IsZeroPage};
+ghost use Rattle.std.specs.Prelude.{◌≡◌, ◌+◌, ◌*◌, ◌/◌, ◌<◌, ◌≤◌, ◌↔◌, ◌%◌, true, length, IfOk, IfSome, IfNone, OnOk, OnErr, All, IsSome, Some, None, false};
+ghost use Rattle.cp_frames.specs.Layout.{bytes_of, frame_of, number_of, free_count, IsBrought, IsZeroPage};
 
-use crate::{FrameNo, Frames, UserNo};
+ghost use Rattle.cp_frames.specs.Settled.{IsSettled};
+
+use crate::{FrameNo, Frames};
+use cp_users::UserNo;
 use s370_num::{AccessKey, StorageKey};
 use s370_store::{
     Access, BLOCK_SIZE, Fault, FramesOut, Keyed, Listed, PAGE_SIZE, Page, Range, Storage, Supply,
     test_range,
 };
+
+/// The block from which instructions were fetched last, as long as they may still be fetched from it: the frame in which
+/// its page stands, and the protection key with which they may.
+#[derive(Clone, Copy)]
+struct Near {
+    block: u32,
+    frame: u16,
+    key: u8,
+}
+
+impl Near {
+    /// No block: no address lies in the block of this number.
+    const NOTHING: Near = Near {
+        block: u32::MAX,
+        frame: 0,
+        key: 0,
+    };
+}
 
 /// One user's pages, of which those that stand in frames are present, and his storage keys.
 ///
@@ -19,8 +40,10 @@ pub struct Dat<'a> {
     keys: &'a mut [StorageKey],
     user: UserNo,
     size: u32,
-    ghost sized: { size ≡ length (bytes_of frames.now user.0) },
+    near: Near,
+    ghost sized: { size ≡ length (bytes_of frames.now user) },
     ghost keyed: { size ≤ 2048 * length keys.now },
+    ghost settled: { IsSettled (bytes_of frames.now user) keys.now frames.now.owners user near },
 }
 
 impl<'a> Dat<'a> {
@@ -28,12 +51,12 @@ impl<'a> Dat<'a> {
 
     /// Lends a user's pages, with a key for each 2048 bytes of his storage. A user who is not there has no bytes.
     pub fn new(frames: &'a mut Frames, keys: &'a mut [StorageKey], user: UserNo) -> Dat<'a>
-        requires { length (bytes_of frames.old user.0) ≤ 2048 * length keys.old }
+        requires { length (bytes_of frames.old user) ≤ 2048 * length keys.old }
         ensures same_frames { result.frames.ghost_name ≡ frames.entry.ghost_name }
         ensures same_keys { result.keys.ghost_name ≡ keys.entry.ghost_name }
         ensures frames { result.frames.now ≡ frames.old }
         ensures keys { result.keys.now ≡ keys.old }
-        ensures user { user_of result ≡ user.0 }
+        ensures user { user_of result ≡ user }
     {
         let size = frames.size(user);
         Dat {
@@ -41,6 +64,7 @@ impl<'a> Dat<'a> {
             keys,
             user,
             size,
+            near: Near::NOTHING,
         }
     }
 
@@ -59,7 +83,7 @@ impl<'a> Dat<'a> {
         ensures inside { IfSome result (λ p. p.0 * 4096 < length (lent_bytes self.now)) }
     {
         match self.frames.page_in(frame) {
-            Some(there) => if there.user.0 == self.user.0 {
+            Some(there) => if there.user.number() == self.user.number() {
                 Some(there.page)
             } else {
                 None
@@ -82,7 +106,48 @@ impl<'a> Dat<'a> {
         ensures absent { OnErr result (is_lent_page self.old page.0 ≡ false) }
         ensures err { OnErr result ((lent_pool self.new).owners ≡ (lent_pool self.old).owners) }
     {
+        self.near = Near::NOTHING;
         self.frames.bring(self.user, page)
+    }
+
+    /// The block of an address, if instructions may be fetched from it with this key and its page stands in a frame.
+    #[inline(never)]
+    fn near_to(&self, start: u32, key: AccessKey) -> Near
+        ensures { IsSettled (lent_bytes self.now) (lent_keys self.now) (lent_pool self.now).owners (user_of self.now) result }
+    {
+        let block = start / BLOCK_SIZE;
+        let range = Range {
+            start: block * BLOCK_SIZE,
+            count: 1,
+        };
+        let keys = Listed { keys: self.keys };
+        match test_range(self.size, &keys, range, Access::Fetch, key) {
+            Ok(()) => {}
+            Err(_) => return Near::NOTHING,
+        }
+        if range.start as u64 + BLOCK_SIZE as u64 > self.size as u64 {
+            return Near::NOTHING;
+        }
+        match self.frames.frame_at(self.user, range.start) {
+            Some(frame) => Near {
+                block,
+                frame: frame.0,
+                key: key.get(),
+            },
+            None => Near::NOTHING,
+        }
+    }
+
+    /// Whether these bytes lie in the block that is settled.
+    #[inline(always)]
+    fn is_near(&self, start: u32, count: u32) -> bool
+        requires { count ≤ 256 }
+        ensures { result ≡ true → (start / 2048 ≡ self.now.near.block) × (start % 2048 + count ≤ 2048) }
+    {
+        if start / BLOCK_SIZE != self.near.block {
+            return false;
+        }
+        start % BLOCK_SIZE + count <= BLOCK_SIZE
     }
 }
 
@@ -115,6 +180,13 @@ impl<'a> Storage for Dat<'a> {
 
     #[inline(always)]
     fn check(&self, range: Range, access: Access, key: AccessKey) -> Result<(), Fault> {
+        if let Access::Fetch = access {
+            if self.is_near(range.start, range.count) {
+                if key.get() == self.near.key {
+                    return Ok(());
+                }
+            }
+        }
         test_range(self.size, &Listed { keys: self.keys }, range, access, key)?;
         let Range { start, count } = range;
         if count == 0 {
@@ -136,8 +208,19 @@ impl<'a> Storage for Dat<'a> {
     }
 
     #[inline(always)]
+    fn settle(&mut self, start: u32, key: AccessKey) {
+        if start / BLOCK_SIZE != self.near.block || key.get() != self.near.key {
+            self.near = self.near_to(start, key);
+        }
+    }
+
+    #[inline(always)]
     fn load(&self, start: u32, into: &mut [u8]) {
-        self.frames.load(self.user, start, into);
+        if self.is_near(start, into.len() as u32) {
+            self.frames.load_in(FrameNo(self.near.frame), self.user, start, into);
+        } else {
+            self.frames.load(self.user, start, into);
+        }
     }
 
     #[inline(always)]
@@ -158,6 +241,7 @@ impl<'a> Keyed for Dat<'a> {
 
     #[inline]
     fn set_key(&mut self, block: u32, key: StorageKey) {
+        self.near = Near::NOTHING;
         self.keys[block as usize] = key;
     }
 }
@@ -177,6 +261,7 @@ impl<'a> Supply for Dat<'a> {
     ghost Cleared = { GivesBack };
 
     fn clear(&mut self) {
+        self.near = Near::NOTHING;
         self.frames.release(self.user);
         self.keys.fill(StorageKey::ZERO);
     }

@@ -11,8 +11,8 @@
 //!
 //! ```
 //! let mut frames = Frames::new(alloc, 64, sizes)?;
-//! let frame = frames.bring(UserNo(0), Page(3))?;
-//! let mut storage = Dat::new(&mut frames, keys, UserNo(0));
+//! let frame = frames.bring(UserNo::new(0), Page(3))?;
+//! let mut storage = Dat::new(&mut frames, keys, UserNo::new(0));
 //! storage.store(0x3000, &[1, 2, 3]);
 //! ```
 #![tactic(auto)]
@@ -27,5 +27,5 @@ mod table;
 mod tests;
 
 pub use dat::Dat;
-pub use numbers::{FRAME_SIZE, FrameNo, UserNo, UserPage};
+pub use numbers::{FRAME_SIZE, FrameNo, UserPage};
 pub use pool::Frames;

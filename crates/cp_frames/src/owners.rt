@@ -2,7 +2,8 @@
 ghost use Rattle.std.specs.Prelude.{◌≡◌, ◌<◌, Some, None, false, length, slice_index_or, IsSome, IfOk, IfSome, IfNone, All, replicate};
 ghost use Rattle.cp_frames.specs.Layout.{without, cleared_of};
 
-use crate::{UserNo, UserPage};
+use crate::UserPage;
+use cp_users::UserNo;
 use std::alloc::{AllocError, Global};
 
 /// So many frames with no page in them.
@@ -35,7 +36,7 @@ pub fn first_free(owners: &[Option<UserPage>]) -> Option<usize>
 
 /// Takes each page of a user out of its frame.
 pub fn give_back(owners: &mut Vec<Option<UserPage>>, user: UserNo)
-    ensures { owners.new.items ≡ cleared_of user.0 owners.old.items }
+    ensures { owners.new.items ≡ cleared_of user owners.old.items }
 {
     for owner in owners.iter_mut() {
         *owner = kept(*owner, user);
@@ -44,10 +45,10 @@ pub fn give_back(owners: &mut Vec<Option<UserPage>>, user: UserNo)
 
 /// What is left in a frame when a user leaves.
 fn kept(owner: Option<UserPage>, user: UserNo) -> Option<UserPage>
-    ensures { result ≡ without user.0 owner }
+    ensures { result ≡ without user owner }
 {
     match owner {
-        Some(there) => if there.user.0 == user.0 {
+        Some(there) => if there.user.number() == user.number() {
             None
         } else {
             Some(there)

@@ -5,8 +5,9 @@ ghost use Rattle.cp_frames.specs.Layout.{frame_of, number_of, is_there, IsBrough
 
 use crate::frame::{blank_frames, clear, copy_in, copy_out};
 use crate::owners::{first_free, free_frames, give_back, no_pins};
-use crate::table::{NOWHERE, SLOTS, empty_table, forget};
-use crate::{FRAME_SIZE, FrameNo, UserNo, UserPage};
+use crate::table::{NOWHERE, SLOTS, empty_table, forget, slot_of};
+use crate::{FRAME_SIZE, FrameNo, UserPage};
+use cp_users::UserNo;
 use s370_store::{BLOCK_SIZE, FramesOut, PAGE_SIZE, Page};
 use std::alloc::{AllocError, Global};
 use std::marker::Model;
@@ -68,9 +69,9 @@ impl Frames {
 
     /// How many bytes a user has: none where there is no such user.
     pub fn size(&self, user: UserNo) -> u32
-        ensures { result ≡ length (bytes_of self.now user.0) }
+        ensures { result ≡ length (bytes_of self.now user) }
     {
-        let user = user.0 as usize;
+        let user = user.index();
         if user < self.sizes.len() {
             self.sizes[user] * PAGE_SIZE
         } else {
@@ -81,12 +82,12 @@ impl Frames {
     /// The frame in which a page of a user stands. A page that stands in none is all zero.
     #[inline(always)]
     pub fn frame_of(&self, user: UserNo, page: Page) -> Option<FrameNo>
-        requires { page.0 * 4096 < length (bytes_of self.now user.0) }
-        ensures frame { number_of result ≡ frame_of self.now.owners user.0 page.0 }
+        requires { page.0 * 4096 < length (bytes_of self.now user) }
+        ensures frame { number_of result ≡ frame_of self.now.owners user page.0 }
         ensures within { IfSome result (λ frame. frame.0 < length self.now.owners) }
-        ensures zero { IfNone result (IsZeroPage (bytes_of self.now user.0) page.0) }
+        ensures zero { IfNone result (IsZeroPage (bytes_of self.now user) page.0) }
     {
-        let slot = self.table[user.0 as usize * SLOTS + page.0 as usize];
+        let slot = self.table[slot_of(user, page.0)];
         if slot == NOWHERE {
             None
         } else {
@@ -97,10 +98,10 @@ impl Frames {
     /// The frame in which the page of an address of a user stands: the one look at the table that each access makes.
     #[inline(always)]
     pub(crate) fn frame_at(&self, user: UserNo, start: u32) -> Option<FrameNo>
-        requires { start < length (bytes_of self.now user.0) }
-        ensures { number_of result ≡ frame_of self.now.owners user.0 (start / 4096) }
+        requires { start < length (bytes_of self.now user) }
+        ensures { number_of result ≡ frame_of self.now.owners user (start / 4096) }
     {
-        let slot = self.table[user.0 as usize * SLOTS + start as usize / FRAME_SIZE];
+        let slot = self.table[slot_of(user, start / PAGE_SIZE)];
         if slot == NOWHERE {
             None
         } else {
@@ -111,8 +112,8 @@ impl Frames {
     /// As `frame_at`, out of line.
     #[inline(never)]
     pub(crate) fn frame_apart(&self, user: UserNo, start: u32) -> Option<FrameNo>
-        requires { start < length (bytes_of self.now user.0) }
-        ensures { number_of result ≡ frame_of self.now.owners user.0 (start / 4096) }
+        requires { start < length (bytes_of self.now user) }
+        ensures { number_of result ≡ frame_of self.now.owners user (start / 4096) }
     {
         self.frame_at(user, start)
     }
@@ -120,8 +121,8 @@ impl Frames {
     /// The page that stands in a frame.
     pub fn page_in(&self, frame: FrameNo) -> Option<UserPage>
         ensures page { result ≡ slice_index_or self.now.owners frame.0 None }
-        ensures once { (p : UserPage) → (result ≡ Some p) ↔ (frame_of self.now.owners p.user.0 p.page.0 ≡ Some frame.0) }
-        ensures inside { IfSome result (λ p. p.page.0 * 4096 < length (bytes_of self.now p.user.0)) }
+        ensures once { (p : UserPage) → (result ≡ Some p) ↔ (frame_of self.now.owners p.user p.page.0 ≡ Some frame.0) }
+        ensures inside { IfSome result (λ p. p.page.0 * 4096 < length (bytes_of self.now p.user)) }
     {
         let frame = frame.0 as usize;
         if frame < self.owners.len() {
@@ -133,15 +134,15 @@ impl Frames {
 
     /// Brings a page into a frame, where it stands in none. No byte of any user changes.
     pub fn bring(&mut self, user: UserNo, page: Page) -> Result<FrameNo, FramesOut>
-        requires { page.0 * 4096 < length (bytes_of self.old user.0) }
+        requires { page.0 * 4096 < length (bytes_of self.old user) }
         ensures storages { self.new.storages ≡ self.old.storages }
         ensures pins { self.new.pins ≡ self.old.pins }
-        ensures there { IfOk result (λ frame. frame_of self.new.owners user.0 page.0 ≡ Some frame.0) }
+        ensures there { IfOk result (λ frame. frame_of self.new.owners user page.0 ≡ Some frame.0) }
         ensures within { IfOk result (λ frame. frame.0 < length self.new.owners) }
-        ensures brought { IfOk result (λ frame. IsBrought self.old.owners self.new.owners user.0 page.0 frame.0) }
-        ensures fewer { frame_of self.old.owners user.0 page.0 ≡ None → OnOk result (free_count self.new.owners < free_count self.old.owners) }
+        ensures brought { IfOk result (λ frame. IsBrought self.old.owners self.new.owners user page.0 frame.0) }
+        ensures fewer { frame_of self.old.owners user page.0 ≡ None → OnOk result (free_count self.new.owners < free_count self.old.owners) }
         ensures refused { OnErr result (All IsSome self.old.owners) }
-        ensures absent { OnErr result (frame_of self.old.owners user.0 page.0 ≡ None) }
+        ensures absent { OnErr result (frame_of self.old.owners user page.0 ≡ None) }
         ensures err { OnErr result (self.new ≡ self.old) }
     {
         match self.frame_of(user, page) {
@@ -154,7 +155,7 @@ impl Frames {
         };
         clear(&mut self.frames[frame]);
         self.owners[frame] = Some(UserPage { user, page });
-        self.table[user.0 as usize * SLOTS + page.0 as usize] = frame as u16;
+        self.table[slot_of(user, page.0)] = frame as u16;
         Ok(FrameNo(frame as u16))
     }
 
@@ -196,13 +197,13 @@ impl Frames {
 
     /// Takes all pages of a user out of their frames, after which his storage is all zero.
     pub fn release(&mut self, user: UserNo)
-        ensures storages { self.new.storages ≡ slice_set self.old.storages user.0 (replicate (length (bytes_of self.old user.0)) 0) }
-        ensures owners { self.new.owners ≡ cleared_of user.0 self.old.owners }
-        ensures gone { (page : ℕ) → frame_of self.new.owners user.0 page ≡ None }
+        ensures storages { self.new.storages ≡ slice_set self.old.storages user (replicate (length (bytes_of self.old user)) 0) }
+        ensures owners { self.new.owners ≡ cleared_of user self.old.owners }
+        ensures gone { (page : ℕ) → frame_of self.new.owners user page ≡ None }
         ensures pins { self.new.pins ≡ self.old.pins }
     {
         give_back(&mut self.owners, user);
-        forget(&mut self.table, user.0 as usize);
+        forget(&mut self.table, user.index());
     }
 
     /// A frame's bytes; None past the frames. What is written there is from then on the content of the page in the frame.
@@ -215,7 +216,7 @@ impl Frames {
 
     /// A byte of a user's storage, wherever its page stands; None past his storage.
     pub fn byte(&self, user: UserNo, address: u32) -> Option<u8>
-        ensures { result ≡ slice_get (bytes_of self.now user.0) address }
+        ensures { result ≡ slice_get (bytes_of self.now user) address }
     {
         if address >= self.size(user) {
             return None;
@@ -229,9 +230,9 @@ impl Frames {
     /// Copies bytes of a user out, whose pages stand in frames.
     #[inline(always)]
     pub fn load(&self, user: UserNo, start: u32, into: &mut [u8])
-        requires granted { IsGranted (length (bytes_of self.now user.0)) (is_there self.now.owners user.0) start (length into.old) }
+        requires granted { IsGranted (length (bytes_of self.now user)) (is_there self.now.owners user) start (length into.old) }
         requires short { length into.old ≤ 256 }
-        ensures { into.new ≡ slice_range (bytes_of self.now user.0) start (start + length into.old) }
+        ensures { into.new ≡ slice_range (bytes_of self.now user) start (start + length into.old) }
     {
         if into.is_empty() {
             return;
@@ -247,27 +248,38 @@ impl Frames {
         }
     }
 
+    /// Copies bytes of one page out, which is known to stand in this frame.
+    #[inline(always)]
+    pub(crate) fn load_in(&self, frame: FrameNo, user: UserNo, start: u32, into: &mut [u8])
+        requires within { start + length into.old ≤ length (bytes_of self.now user) }
+        requires one_page { start % 4096 + length into.old ≤ 4096 }
+        requires there { frame_of self.now.owners user (start / 4096) ≡ Some frame.0 }
+        ensures { into.new ≡ slice_range (bytes_of self.now user) start (start + length into.old) }
+    {
+        copy_out(&self.frames[frame.0 as usize], (start % PAGE_SIZE) as usize, into);
+    }
+
     /// Copies bytes of one page out.
     #[inline(always)]
     fn load_part(&self, user: UserNo, start: u32, into: &mut [u8])
-        requires within { start + length into.old ≤ length (bytes_of self.now user.0) }
+        requires within { start + length into.old ≤ length (bytes_of self.now user) }
         requires some { 0 < length into.old }
         requires one_page { start % 4096 + length into.old ≤ 4096 }
-        requires present { IsSome (frame_of self.now.owners user.0 (start / 4096)) }
-        ensures read { into.new ≡ slice_range (bytes_of self.now user.0) start (start + length into.old) }
-        ensures fits { length (bytes_of self.now user.0) ≤ 4194304 }
+        requires present { IsSome (frame_of self.now.owners user (start / 4096)) }
+        ensures read { into.new ≡ slice_range (bytes_of self.now user) start (start + length into.old) }
+        ensures fits { length (bytes_of self.now user) ≤ 4194304 }
     {
-        let frame = self.table[user.0 as usize * SLOTS + start as usize / FRAME_SIZE] as usize;
+        let frame = self.table[slot_of(user, start / PAGE_SIZE)] as usize;
         copy_out(&self.frames[frame], (start % PAGE_SIZE) as usize, into);
     }
 
     /// Copies bytes out that may lie in two pages.
     #[inline(never)]
     fn load_apart(&self, user: UserNo, start: u32, into: &mut [u8])
-        requires granted { IsGranted (length (bytes_of self.now user.0)) (is_there self.now.owners user.0) start (length into.old) }
+        requires granted { IsGranted (length (bytes_of self.now user)) (is_there self.now.owners user) start (length into.old) }
         requires short { length into.old ≤ 256 }
         requires some { 0 < length into.old }
-        ensures { into.new ≡ slice_range (bytes_of self.now user.0) start (start + length into.old) }
+        ensures { into.new ≡ slice_range (bytes_of self.now user) start (start + length into.old) }
     {
         if start % PAGE_SIZE + into.len() as u32 <= PAGE_SIZE {
             self.load_part(user, start, into);
@@ -278,10 +290,10 @@ impl Frames {
 
     /// Copies bytes of two pages out.
     fn load_across(&self, user: UserNo, start: u32, into: &mut [u8])
-        requires granted { IsGranted (length (bytes_of self.now user.0)) (is_there self.now.owners user.0) start (length into.old) }
+        requires granted { IsGranted (length (bytes_of self.now user)) (is_there self.now.owners user) start (length into.old) }
         requires short { length into.old ≤ 256 }
         requires across { 4096 - start % 4096 < length into.old }
-        ensures { into.new ≡ slice_range (bytes_of self.now user.0) start (start + length into.old) }
+        ensures { into.new ≡ slice_range (bytes_of self.now user) start (start + length into.old) }
     {
         let left = FRAME_SIZE - start as usize % FRAME_SIZE;
         let (first, second) = into.split_at_mut(left);
@@ -292,11 +304,11 @@ impl Frames {
     /// Copies bytes of a user in, whose pages stand in frames. No other byte of any user changes.
     #[inline(always)]
     pub fn store(&mut self, user: UserNo, start: u32, from: &[u8])
-        requires granted { IsGranted (length (bytes_of self.old user.0)) (is_there self.old.owners user.0) start (length from.now) }
+        requires granted { IsGranted (length (bytes_of self.old user)) (is_there self.old.owners user) start (length from.now) }
         requires short { length from.now ≤ 256 }
-        ensures bytes { bytes_of self.new user.0 ≡ put (bytes_of self.old user.0) start from.now }
-        ensures size { length (bytes_of self.new user.0) ≡ length (bytes_of self.old user.0) }
-        ensures others { self.new.storages ≡ slice_set self.old.storages user.0 (bytes_of self.new user.0) }
+        ensures bytes { bytes_of self.new user ≡ put (bytes_of self.old user) start from.now }
+        ensures size { length (bytes_of self.new user) ≡ length (bytes_of self.old user) }
+        ensures others { self.new.storages ≡ slice_set self.old.storages user (bytes_of self.new user) }
         ensures owners { self.new.owners ≡ self.old.owners }
         ensures pins { self.new.pins ≡ self.old.pins }
     {
@@ -316,30 +328,30 @@ impl Frames {
     /// Copies bytes into one page.
     #[inline(always)]
     fn store_part(&mut self, user: UserNo, start: u32, from: &[u8])
-        requires within { start + length from.now ≤ length (bytes_of self.old user.0) }
+        requires within { start + length from.now ≤ length (bytes_of self.old user) }
         requires some { 0 < length from.now }
         requires one_page { start % 4096 + length from.now ≤ 4096 }
-        requires present { IsSome (frame_of self.old.owners user.0 (start / 4096)) }
-        ensures bytes { bytes_of self.new user.0 ≡ put (bytes_of self.old user.0) start from.now }
-        ensures size { length (bytes_of self.new user.0) ≡ length (bytes_of self.old user.0) }
-        ensures others { self.new.storages ≡ slice_set self.old.storages user.0 (bytes_of self.new user.0) }
+        requires present { IsSome (frame_of self.old.owners user (start / 4096)) }
+        ensures bytes { bytes_of self.new user ≡ put (bytes_of self.old user) start from.now }
+        ensures size { length (bytes_of self.new user) ≡ length (bytes_of self.old user) }
+        ensures others { self.new.storages ≡ slice_set self.old.storages user (bytes_of self.new user) }
         ensures owners { self.new.owners ≡ self.old.owners }
         ensures pins { self.new.pins ≡ self.old.pins }
-        ensures fits { length (bytes_of self.old user.0) ≤ 4194304 }
+        ensures fits { length (bytes_of self.old user) ≤ 4194304 }
     {
-        let frame = self.table[user.0 as usize * SLOTS + start as usize / FRAME_SIZE] as usize;
+        let frame = self.table[slot_of(user, start / PAGE_SIZE)] as usize;
         copy_in(&mut self.frames[frame], (start % PAGE_SIZE) as usize, from);
     }
 
     /// Copies bytes in that may lie in two pages.
     #[inline(never)]
     fn store_apart(&mut self, user: UserNo, start: u32, from: &[u8])
-        requires granted { IsGranted (length (bytes_of self.old user.0)) (is_there self.old.owners user.0) start (length from.now) }
+        requires granted { IsGranted (length (bytes_of self.old user)) (is_there self.old.owners user) start (length from.now) }
         requires short { length from.now ≤ 256 }
         requires some { 0 < length from.now }
-        ensures bytes { bytes_of self.new user.0 ≡ put (bytes_of self.old user.0) start from.now }
-        ensures size { length (bytes_of self.new user.0) ≡ length (bytes_of self.old user.0) }
-        ensures others { self.new.storages ≡ slice_set self.old.storages user.0 (bytes_of self.new user.0) }
+        ensures bytes { bytes_of self.new user ≡ put (bytes_of self.old user) start from.now }
+        ensures size { length (bytes_of self.new user) ≡ length (bytes_of self.old user) }
+        ensures others { self.new.storages ≡ slice_set self.old.storages user (bytes_of self.new user) }
         ensures owners { self.new.owners ≡ self.old.owners }
         ensures pins { self.new.pins ≡ self.old.pins }
     {
@@ -352,12 +364,12 @@ impl Frames {
 
     /// Copies bytes into two pages.
     fn store_across(&mut self, user: UserNo, start: u32, from: &[u8])
-        requires granted { IsGranted (length (bytes_of self.old user.0)) (is_there self.old.owners user.0) start (length from.now) }
+        requires granted { IsGranted (length (bytes_of self.old user)) (is_there self.old.owners user) start (length from.now) }
         requires short { length from.now ≤ 256 }
         requires across { 4096 - start % 4096 < length from.now }
-        ensures bytes { bytes_of self.new user.0 ≡ put (bytes_of self.old user.0) start from.now }
-        ensures size { length (bytes_of self.new user.0) ≡ length (bytes_of self.old user.0) }
-        ensures others { self.new.storages ≡ slice_set self.old.storages user.0 (bytes_of self.new user.0) }
+        ensures bytes { bytes_of self.new user ≡ put (bytes_of self.old user) start from.now }
+        ensures size { length (bytes_of self.new user) ≡ length (bytes_of self.old user) }
+        ensures others { self.new.storages ≡ slice_set self.old.storages user (bytes_of self.new user) }
         ensures owners { self.new.owners ≡ self.old.owners }
         ensures pins { self.new.pins ≡ self.old.pins }
     {

@@ -1,6 +1,7 @@
 //! The table of the frame of each page: 1024 slots for each user.
 ghost use Rattle.std.specs.Prelude.{◌≡◌, ◌≢◌, ℕ, ◌+◌, ◌*◌, ◌/◌, ◌<◌, ◌≤◌, length, slice_index, IfOk, replicate};
 
+use cp_users::UserNo;
 use std::alloc::{AllocError, Global};
 
 /// Slots of a user: the pages of the largest storage.
@@ -8,6 +9,14 @@ pub const SLOTS: usize = 1024;
 
 /// The slot of a page that stands in no frame.
 pub const NOWHERE: u16 = 65535;
+
+/// The place of the slot of a user's page.
+#[inline(always)]
+pub fn slot_of(user: UserNo, page: u32) -> usize
+    ensures { result ≡ user * 1024 + page }
+{
+    user.index() * SLOTS + page as usize
+}
 
 /// A table in which no page stands in a frame.
 pub fn empty_table(alloc: Global, count: usize) -> Result<Vec<u16>, AllocError>

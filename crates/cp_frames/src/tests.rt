@@ -1,6 +1,7 @@
 //! Two users' pages in few frames.
 
 use super::*;
+use cp_users::UserNo;
 use s370_num::{AccessKey, StorageKey};
 use s370_store::{
     Access, Fault, FramesOut, Keyed, PAGE_SIZE, Page, Range, Storage, Supply, store_byte,
@@ -9,11 +10,15 @@ use std::alloc::{AllocError, Global};
 use std::process::Abort;
 use std::test::Fail;
 
-const A: UserNo = UserNo(0);
+fn a() -> UserNo {
+    UserNo::new(0)
+}
 
-const B: UserNo = UserNo(1);
+fn b() -> UserNo {
+    UserNo::new(1)
+}
 
-/// Frames for user A with two pages and user B with three.
+/// Frames for user a() with two pages and user b() with three.
 fn two_users(alloc: Global, frames: u8) -> Result<Frames, AllocError> {
     let sizes = vec![in alloc; 2u32, 3]?;
     Frames::new(alloc, u16::from(frames), sizes)
@@ -36,7 +41,7 @@ fn frame_of(rt: &impl Abort, frames: &Frames, user: UserNo, page: u32) -> Option
     frames.frame_of(user, Page(page))
 }
 
-/// A store as a processor makes it: tested, then made.
+/// a() store as a processor makes it: tested, then made.
 fn set<S: Storage>(storage: &mut S, address: u32, byte: u8) -> Result<(), Fault> {
     let range = Range {
         start: address,
@@ -64,7 +69,7 @@ fn write(
 #[test]
 fn pages_of_two_users_in_turn(rt: HostRuntime) -> Result<(), Fail> {
     let mut frames = two_users(rt.alloc(), 5)?;
-    let pages = [(A, 0), (B, 0), (A, 1), (B, 2)];
+    let pages = [(a(), 0), (b(), 0), (a(), 1), (b(), 2)];
     for (user, page) in pages {
         assert_eq!(rt; frame_of(&rt, &frames, user, page), None);
         let frame = bring(&rt, &mut frames, user, page)?;
@@ -76,24 +81,24 @@ fn pages_of_two_users_in_turn(rt: HostRuntime) -> Result<(), Fail> {
         };
         assert_eq!(rt; frames.page_in(frame), Some(owner));
     }
-    assert_eq!(rt; write(&rt, &mut frames, A, 4095, 1), Ok(()));
-    assert_eq!(rt; write(&rt, &mut frames, A, 4096, 2), Ok(()));
-    assert_eq!(rt; write(&rt, &mut frames, B, 4095, 3), Ok(()));
+    assert_eq!(rt; write(&rt, &mut frames, a(), 4095, 1), Ok(()));
+    assert_eq!(rt; write(&rt, &mut frames, a(), 4096, 2), Ok(()));
+    assert_eq!(rt; write(&rt, &mut frames, b(), 4095, 3), Ok(()));
     assert_eq!(rt;
-        write(&rt, &mut frames, B, 4096, 4),
+        write(&rt, &mut frames, b(), 4096, 4),
         Err(Fault::Absent(Page(1)))
     );
     assert_eq!(rt;
-        write(&rt, &mut frames, B, 12288, 5),
+        write(&rt, &mut frames, b(), 12288, 5),
         Err(Fault::Addressing)
     );
     let bytes = [
-        (A, 4095, Some(1)),
-        (A, 4096, Some(2)),
-        (A, 8192, None),
-        (B, 4095, Some(3)),
-        (B, 4096, Some(0)),
-        (UserNo(2), 0, None),
+        (a(), 4095, Some(1)),
+        (a(), 4096, Some(2)),
+        (a(), 8192, None),
+        (b(), 4095, Some(3)),
+        (b(), 4096, Some(0)),
+        (UserNo::new(2), 0, None),
     ];
     for (user, address, want) in bytes {
         assert_eq!(rt; frames.byte(user, address), want, "at {address}");
@@ -104,12 +109,12 @@ fn pages_of_two_users_in_turn(rt: HostRuntime) -> Result<(), Fail> {
 #[test]
 fn a_range_over_two_frames(rt: HostRuntime) -> Result<(), Fail> {
     let mut frames = two_users(rt.alloc(), 4)?;
-    for (user, page) in [(B, 1), (A, 0), (B, 0)] {
+    for (user, page) in [(b(), 1), (a(), 0), (b(), 0)] {
         bring(&rt, &mut frames, user, page)?;
     }
-    assert!(rt; frames.size(B) <= 12288);
+    assert!(rt; frames.size(b()) <= 12288);
     let mut keys = [StorageKey::ZERO; 6];
-    let mut dat = Dat::new(&mut frames, &mut keys, B);
+    let mut dat = Dat::new(&mut frames, &mut keys, b());
     assert_eq!(rt; dat.size(), 12288);
     let frame = dat.bring(Page(2))?;
     assert_eq!(rt; dat.page_in(frame), Some(Page(2)));
@@ -136,24 +141,24 @@ fn a_range_over_two_frames(rt: HostRuntime) -> Result<(), Fail> {
 #[test]
 fn a_full_pool_and_a_user_who_leaves(rt: HostRuntime) -> Result<(), Fail> {
     let mut frames = two_users(rt.alloc(), 2)?;
-    let first = bring(&rt, &mut frames, A, 1)?;
-    let second = bring(&rt, &mut frames, B, 0)?;
-    assert_eq!(rt; bring(&rt, &mut frames, A, 0), Err(FramesOut));
-    assert_eq!(rt; write(&rt, &mut frames, A, 4096, 7), Ok(()));
+    let first = bring(&rt, &mut frames, a(), 1)?;
+    let second = bring(&rt, &mut frames, b(), 0)?;
+    assert_eq!(rt; bring(&rt, &mut frames, a(), 0), Err(FramesOut));
+    assert_eq!(rt; write(&rt, &mut frames, a(), 4096, 7), Ok(()));
     match frames.frame_mut(second) {
         Some(bytes) => bytes[9] = 8,
         None => {}
     }
     frames.pin(second);
-    frames.release(A);
+    frames.release(a());
     assert_eq!(rt; frames.page_in(first), None);
-    assert_eq!(rt; frames.byte(A, 4096), Some(0));
-    assert_eq!(rt; frames.byte(B, 9), Some(8));
+    assert_eq!(rt; frames.byte(a(), 4096), Some(0));
+    assert_eq!(rt; frames.byte(b(), 9), Some(8));
     assert_eq!(rt; frames.is_pinned(second), true);
     frames.unpin(second);
     assert_eq!(rt; frames.is_pinned(second), false);
-    assert_eq!(rt; bring(&rt, &mut frames, B, 2), Ok(first));
-    assert_eq!(rt; frames.byte(B, 8192), Some(0));
+    assert_eq!(rt; bring(&rt, &mut frames, b(), 2), Ok(first));
+    assert_eq!(rt; frames.byte(b(), 8192), Some(0));
     Ok(())
 }
 
@@ -173,10 +178,10 @@ fn supplied<S: Supply>(storage: &mut S, address: u32) -> Result<bool, FramesOut>
 #[test]
 fn a_storage_that_brings_its_pages(rt: HostRuntime) -> Result<(), Fail> {
     let mut frames = two_users(rt.alloc(), 2)?;
-    bring(&rt, &mut frames, A, 1)?;
-    assert!(rt; frames.size(B) <= 12288);
+    bring(&rt, &mut frames, a(), 1)?;
+    assert!(rt; frames.size(b()) <= 12288);
     let mut keys = [StorageKey::ZERO; 6];
-    let mut dat = Dat::new(&mut frames, &mut keys, B);
+    let mut dat = Dat::new(&mut frames, &mut keys, b());
     let cases = [
         // (address, answer)
         (8191, Ok(true)),
@@ -188,7 +193,7 @@ fn a_storage_that_brings_its_pages(rt: HostRuntime) -> Result<(), Fail> {
     for (address, want) in cases {
         assert_eq!(rt; supplied(&mut dat, address), want, "at {address}");
     }
-    assert_eq!(rt; frame_of(&rt, &frames, A, 1), Some(FrameNo(0)));
-    assert_eq!(rt; frame_of(&rt, &frames, B, 1), Some(FrameNo(1)));
+    assert_eq!(rt; frame_of(&rt, &frames, a(), 1), Some(FrameNo(0)));
+    assert_eq!(rt; frame_of(&rt, &frames, b(), 1), Some(FrameNo(1)));
     Ok(())
 }

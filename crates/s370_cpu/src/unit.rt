@@ -57,6 +57,20 @@ pub fn step<S: Storage>(cpu: &mut Cpu, storage: &mut S) -> Stop
     ensures present { S.present storage.new ≡ S.present storage.old }
     ensures rest { S.Keeps storage.old storage.new }
 {
+    storage.settle(cpu.psw.address().get(), cpu.psw.key());
+    step_settled(cpu, storage)
+}
+
+/// As [`step`], once the storage knows what is going to be fetched.
+#[inline(always)]
+fn step_settled<S: Storage>(cpu: &mut Cpu, storage: &mut S) -> Stop
+    ensures unit { let before = state_of cpu.old (S.bytes storage.old) (S.keys storage.old) in
+        let after = state_of cpu.new (S.bytes storage.new) (S.keys storage.new) in
+        MeetsStep (S.present storage.old) before result after }
+    ensures size { length (S.bytes storage.new) ≡ length (S.bytes storage.old) }
+    ensures present { S.present storage.new ≡ S.present storage.old }
+    ensures rest { S.Keeps storage.old storage.new }
+{
     let at = cpu.psw.address();
     let first = match fetch(cpu, storage, at) {
         Ok(first) => first,

@@ -1,5 +1,5 @@
 -- An instruction with its interruption: what it does, and what is undone where page 0 is missing.
-use Rattle.std.proofs.Common.{◌≡◌, ℕ, Bool, length, Result, Ok, Err, refl, ap, subst, sym, ◌∙◌, inl, inr}
+use Rattle.std.proofs.Common.{◌≡◌, ℕ, Bool, true, false, length, Result, Ok, Err, refl, ap, subst, sym, ◌∙◌, inl, inr}
 use Rattle.std.specs.Bool.{⊤}
 use Rattle.s370_store.specs.Access.{IsAway}
 use Rattle.s370_store.specs.declared.Page.{Page}
@@ -44,3 +44,14 @@ interruption_misses m m1 m2 present present1 (Svc n ilc) page e same h =
     missed m m1 m2 present present1 (Svc n ilc) page e s.0 s.1 same h
 interruption_misses m m1 m2 present present1 (Privileged i ilc) page e same h = absurd h.2
 interruption_misses m m1 m2 present present1 (Absent other) page e same h = absurd h.2
+
+away_0 : (present : ℕ → Bool) (n : ℕ) → present 0 ≡ true → present n ≡ false → n ≡ 0 → ⊥
+away_0 present n here away is = let there : present n ≡ true = rw is here in cc
+
+-- where page 0 is present no interruption misses a page
+pub misses_none : (m1 m2 : State) (present : ℕ → Bool) (stop : Stop) (page : Page) → present 0 ≡ true → MeetsInterruption stop present m1 (Err page) m2 → ⊥
+misses_none m1 m2 present Done page here h = h.2
+misses_none m1 m2 present (Program code ilc) page here h = away_0 present page.0 here h.1.away h.2
+misses_none m1 m2 present (Svc n ilc) page here h = away_0 present page.0 here h.1.away h.2
+misses_none m1 m2 present (Privileged i ilc) page here h = h.2
+misses_none m1 m2 present (Absent other) page here h = h.2

@@ -26,4 +26,4 @@ pub use next::{Next, Reason, look};
 pub use pending::Pending;
 pub use psw_swap::swap;
 pub use run::{Ran, run_units};
-pub use unit::{Processor, RealCpu, instruct, unit_at};
+pub use unit::{Processor, RealCpu, accept, instruct};

@@ -2,11 +2,12 @@
 ghost use Rattle.std.specs.Prelude.{◌≡◌, ℕ, ◌≤◌, List, length, Result};
 ghost use Rattle.s370_rows.specs.State.{state_of};
 ghost use Rattle.s370_intr.specs.Units.{NeedsAt, core_of};
+ghost use Rattle.s370_intr.specs.declared.next.Next.TheVariants as next;
 ghost use Rattle.s370_intr.specs.Run.{AllNeeded, RunNeeds, SuppliesUnit, TellsRun};
 
 use crate::next::{Next, Reason, look};
 use crate::pending::Pending;
-use crate::unit::{Processor, unit_at};
+use crate::unit::{Processor, accept, instruct_saving};
 use s370_rows::Cpu;
 use s370_store::{FramesOut, Supply};
 
@@ -17,12 +18,65 @@ pub struct Ran {
     pub reason: Reason,
 }
 
-/// The unit that a look says, after each page was brought that it needs. Where there is no room for one of them, nothing
-/// has changed; the pages that were brought for it stay.
+/// An instruction, after each page was brought that it needs. Where there is no room for one of them, nothing has changed;
+/// the pages that were brought for it stay.
+#[inline(always)]
+fn instruct_supplied<P: Processor, S: Supply>(
+    cpu: &mut Cpu,
+    spare: &mut Cpu,
+    pending: Pending,
+    storage: &mut S,
+) -> Result<(), FramesOut>
+    requires { 8192 ≤ length (S.Storage.bytes storage.old) }
+    ensures unit { let before = core_of (state_of cpu.old (S.Storage.bytes storage.old) (S.Storage.keys storage.old)) pending in
+        let after = core_of (state_of cpu.new (S.Storage.bytes storage.new) (S.Storage.keys storage.new)) pending in
+        SuppliesUnit next.Instructs before result after (S.IsShort storage.new) }
+    ensures supply { let before = core_of (state_of cpu.old (S.Storage.bytes storage.old) (S.Storage.keys storage.old)) pending in
+        (pages : List ℕ) × S.Brought storage.old pages storage.new × AllNeeded (NeedsAt next.Instructs before) pages }
+    ensures size { length (S.Storage.bytes storage.new) ≡ length (S.Storage.bytes storage.old) }
+{
+    loop {
+        match instruct_saving::<P, S>(cpu, spare, storage) {
+            Ok(()) => return Ok(()),
+            Err(page) => {
+                storage.bring(page)?;
+            }
+        }
+    }
+}
+
+/// The acceptance of external conditions, likewise.
+#[inline(never)]
+fn accept_supplied<P: Processor, S: Supply>(
+    taken: Pending,
+    cpu: &mut Cpu,
+    pending: &mut Pending,
+    storage: &mut S,
+) -> Result<(), FramesOut>
+    requires { 8192 ≤ length (S.Storage.bytes storage.old) }
+    ensures unit { let before = core_of (state_of cpu.old (S.Storage.bytes storage.old) (S.Storage.keys storage.old)) pending.old in
+        let after = core_of (state_of cpu.new (S.Storage.bytes storage.new) (S.Storage.keys storage.new)) pending.new in
+        SuppliesUnit (next.Accepts taken) before result after (S.IsShort storage.new) }
+    ensures supply { let before = core_of (state_of cpu.old (S.Storage.bytes storage.old) (S.Storage.keys storage.old)) pending.old in
+        (pages : List ℕ) × S.Brought storage.old pages storage.new × AllNeeded (NeedsAt (next.Accepts taken) before) pages }
+    ensures size { length (S.Storage.bytes storage.new) ≡ length (S.Storage.bytes storage.old) }
+{
+    loop {
+        match accept::<P, S>(taken, cpu, pending, storage) {
+            Ok(()) => return Ok(()),
+            Err(page) => {
+                storage.bring(page)?;
+            }
+        }
+    }
+}
+
+/// The unit that a look says, likewise; none where it stops.
 #[inline(always)]
 fn supplied<P: Processor, S: Supply>(
     look: Next,
     cpu: &mut Cpu,
+    spare: &mut Cpu,
     pending: &mut Pending,
     storage: &mut S,
 ) -> Result<(), FramesOut>
@@ -34,13 +88,10 @@ fn supplied<P: Processor, S: Supply>(
         (pages : List ℕ) × S.Brought storage.old pages storage.new × AllNeeded (NeedsAt look before) pages }
     ensures size { length (S.Storage.bytes storage.new) ≡ length (S.Storage.bytes storage.old) }
 {
-    loop {
-        match unit_at::<P, S>(look, cpu, pending, storage) {
-            Ok(()) => return Ok(()),
-            Err(page) => {
-                storage.bring(page)?;
-            }
-        }
+    match look {
+        Next::Stops(_) => Ok(()),
+        Next::Accepts(taken) => accept_supplied::<P, S>(taken, cpu, pending, storage),
+        Next::Instructs => instruct_supplied::<P, S>(cpu, spare, *pending, storage),
     }
 }
 
@@ -59,13 +110,14 @@ pub fn run_units<P: Processor, S: Supply>(
         (pages : List ℕ) × S.Brought storage.old pages storage.new × AllNeeded (RunNeeds before result.units result.reason) pages }
     ensures size { length (S.Storage.bytes storage.new) ≡ length (S.Storage.bytes storage.old) }
 {
+    let mut spare = *cpu;
     for units in 0..count {
         let next = look(cpu, *pending);
         match next {
             Next::Stops(reason) => return Ran { units, reason },
             _ => {}
         }
-        match supplied::<P, S>(next, cpu, pending, storage) {
+        match supplied::<P, S>(next, cpu, &mut spare, pending, storage) {
             Ok(()) => {}
             Err(FramesOut) => {
                 return Ran {

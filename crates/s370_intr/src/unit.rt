@@ -1,20 +1,21 @@
 //! Units of operation.
-ghost use Rattle.std.specs.Prelude.{◌≡◌, ℕ, ◌≤◌, true, length};
+ghost use Rattle.std.specs.Prelude.{◌≡◌, ℕ, ◌≤◌, ◌⊎◌, true, length};
 ghost use Rattle.s370_rows.specs.State.{state_of};
 ghost use Rattle.s370_cpu.specs.Opcodes.{opcode_at};
 ghost use Rattle.s370_cpu.specs.Table.{is_supervised, supervised, unit};
 ghost use Rattle.s370_cpu.specs.Unit.{MeetsUnit};
 ghost use Rattle.s370_intr.specs.Swap.{MeetsSwap, swapped};
 ghost use Rattle.s370_intr.specs.Units.{MeetsInstruction, MeetsInterruption, MeetsUnitAt, core_of};
+ghost use Rattle.s370_intr.specs.declared.next.Next.TheVariants as next;
 
 use crate::class::Class;
-use crate::next::Next;
 use crate::pending::Pending;
 use crate::psw_swap::swap;
 use s370_cpu::{Stop, step, supervise};
 use s370_psw::Ilc;
 use s370_rows::{Cpu, Instruction};
-use s370_store::{Keyed, Page, Storage};
+use s370_num::AccessKey;
+use s370_store::{Access, Keyed, Page, Range, Storage};
 
 /// How the instructions for the supervisor state and the interruptions of a processor are carried out: by the processor
 /// itself, or for a guest by the control program.
@@ -86,7 +87,6 @@ fn perform<P: Processor, S: Keyed>(cpu: &mut Cpu, storage: &mut S) -> Stop
 
 /// One instruction, and the interruption that it ends in. Where they need a page that is not present, that is the error,
 /// and all is as it was.
-#[inline(always)]
 pub fn instruct<P: Processor, S: Keyed>(cpu: &mut Cpu, storage: &mut S) -> Result<(), Page>
     requires { 8192 ≤ length (S.Storage.bytes storage.old) }
     ensures instruction { let before = state_of cpu.old (S.Storage.bytes storage.old) (S.Storage.keys storage.old) in
@@ -96,7 +96,26 @@ pub fn instruct<P: Processor, S: Keyed>(cpu: &mut Cpu, storage: &mut S) -> Resul
     ensures present { S.Storage.present storage.new ≡ S.Storage.present storage.old }
     ensures rest { S.Storage.Keeps storage.old storage.new }
 {
-    let before = *cpu;
+    let mut spare = *cpu;
+    instruct_saving::<P, S>(cpu, &mut spare, storage)
+}
+
+/// As [`instruct`], with a place for a copy of the registers, of which one is made only where it may be wanted.
+#[inline(always)]
+pub(crate) fn instruct_saving<P: Processor, S: Keyed>(
+    cpu: &mut Cpu,
+    spare: &mut Cpu,
+    storage: &mut S,
+) -> Result<(), Page>
+    requires { 8192 ≤ length (S.Storage.bytes storage.old) }
+    ensures instruction { let before = state_of cpu.old (S.Storage.bytes storage.old) (S.Storage.keys storage.old) in
+        let after = state_of cpu.new (S.Storage.bytes storage.new) (S.Storage.keys storage.new) in
+        MeetsInstruction (S.Storage.present storage.old) before result after }
+    ensures size { length (S.Storage.bytes storage.new) ≡ length (S.Storage.bytes storage.old) }
+    ensures present { S.Storage.present storage.new ≡ S.Storage.present storage.old }
+    ensures rest { S.Storage.Keeps storage.old storage.new }
+{
+    save(cpu, spare, storage);
     let stop = perform::<P, S>(cpu, storage);
     match stop {
         Stop::Absent(page) => return Err(page),
@@ -106,9 +125,22 @@ pub fn instruct<P: Processor, S: Keyed>(cpu: &mut Cpu, storage: &mut S) -> Resul
         Ok(()) => Ok(()),
         Err(page) => {
             // What interrupts has changed registers alone.
-            *cpu = before;
+            *cpu = *spare;
             Err(page)
         }
+    }
+}
+
+/// Copies the registers where an interruption may have to be undone: page 0, in which it stores and loads, is not present.
+#[inline(always)]
+fn save<S: Storage>(cpu: &Cpu, spare: &mut Cpu, storage: &S)
+    requires { 8192 ≤ length (S.bytes storage.now) }
+    ensures { (S.present storage.now 0 ≡ true) ⊎ (spare.new ≡ cpu.now) }
+{
+    let first = Range { start: 0, count: 1 };
+    match storage.check(first, Access::Fetch, AccessKey::ZERO) {
+        Ok(()) => {}
+        Err(_) => *spare = *cpu,
     }
 }
 
@@ -132,11 +164,10 @@ fn interrupt<P: Processor, S: Keyed>(cpu: &mut Cpu, storage: &mut S, stop: Stop)
     }
 }
 
-/// The unit that a look says: the acceptance of external conditions, or an instruction; none where it stops. Where it needs
-/// a page that is not present, that is the error, and all is as it was.
-#[inline(always)]
-pub fn unit_at<P: Processor, S: Keyed>(
-    look: Next,
+/// Accepts external conditions together. Where page 0 is not present, that is the error, and all is as it was.
+#[inline]
+pub fn accept<P: Processor, S: Keyed>(
+    taken: Pending,
     cpu: &mut Cpu,
     pending: &mut Pending,
     storage: &mut S,
@@ -144,18 +175,12 @@ pub fn unit_at<P: Processor, S: Keyed>(
     requires { 8192 ≤ length (S.Storage.bytes storage.old) }
     ensures unit { let before = core_of (state_of cpu.old (S.Storage.bytes storage.old) (S.Storage.keys storage.old)) pending.old in
         let after = core_of (state_of cpu.new (S.Storage.bytes storage.new) (S.Storage.keys storage.new)) pending.new in
-        MeetsUnitAt look (S.Storage.present storage.old) before result after }
+        MeetsUnitAt (next.Accepts taken) (S.Storage.present storage.old) before result after }
     ensures size { length (S.Storage.bytes storage.new) ≡ length (S.Storage.bytes storage.old) }
     ensures present { S.Storage.present storage.new ≡ S.Storage.present storage.old }
     ensures rest { S.Storage.Keeps storage.old storage.new }
 {
-    match look {
-        Next::Stops(_) => Ok(()),
-        Next::Accepts(taken) => {
-            P::interrupt(cpu, storage, Class::External, taken.code(), Ilc::ZERO)?;
-            *pending = pending.without(taken);
-            Ok(())
-        }
-        Next::Instructs => instruct::<P, S>(cpu, storage),
-    }
+    P::interrupt(cpu, storage, Class::External, taken.code(), Ilc::ZERO)?;
+    *pending = pending.without(taken);
+    Ok(())
 }

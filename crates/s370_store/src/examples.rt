@@ -106,6 +106,8 @@ impl<'a> Storage for Lent<'a> {
         test_range(4096, &keys, range, access, key)
     }
 
+    fn settle(&mut self, _start: u32, _key: AccessKey) {}
+
     fn load(&self, start: u32, into: &mut [u8]) {
         let first = start as usize;
         let end = first + into.len();

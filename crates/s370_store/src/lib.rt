@@ -118,6 +118,14 @@ pub trait Storage {
         requires { range.count ≤ 256 }
         ensures { IsVerdict (length (bytes self.now)) (keys self.now) (present self.now) key (tested access range ∷ []) result };
 
+    /// Instructions are going to be fetched from the block of this address, with this protection key. Nothing that can be
+    /// seen changes: a storage may remember what each of those fetches would have to look up.
+    fn settle(&mut self, start: u32, key: AccessKey)
+        ensures bytes { bytes self.new ≡ bytes self.old }
+        ensures keys { keys self.new ≡ keys self.old }
+        ensures present { present self.new ≡ present self.old }
+        ensures rest { Keeps self.old self.new };
+
     /// Copies at most 256 bytes out, which `check` has granted.
     fn load(&self, start: u32, into: &mut [u8])
         requires granted { IsGranted (length (bytes self.now)) (present self.now) start (length into.old) }

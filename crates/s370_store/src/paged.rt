@@ -85,6 +85,8 @@ impl Storage for PagedStorage {
         Ok(())
     }
 
+    fn settle(&mut self, _start: u32, _key: AccessKey) {}
+
     fn load(&self, start: u32, into: &mut [u8]) {
         let first = start as usize;
         let end = first + into.len();

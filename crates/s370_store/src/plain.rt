@@ -79,6 +79,9 @@ impl Storage for PlainStorage {
     }
 
     #[inline(always)]
+    fn settle(&mut self, _start: u32, _key: AccessKey) {}
+
+    #[inline(always)]
     fn load(&self, start: u32, into: &mut [u8]) {
         let first = start as usize;
         let end = first + into.len();

@@ -6,5 +6,5 @@ pub returns-in-Ok-clause-brought : goal.returns-in-Ok-clause-brought
 returns-in-Ok-clause-brought c = record {
   kept = c.in-Ok.ensures.rest;
   same_pins = c.in-Ok.ensures.pins;
-  filled = brought_one c.args.self.now.user.0 c.args.page.0 c.in-Ok.field-0.0 (lent_pool c.args.self.now).owners (lent_pool c.bring.new.self).owners c.requires.away c.in-Ok.ensures.brought;
+  filled = brought_one c.args.self.now.user c.args.page.0 c.in-Ok.field-0.0 (lent_pool c.args.self.now).owners (lent_pool c.bring.new.self).owners c.requires.away c.in-Ok.ensures.brought;
 }

@@ -5,11 +5,11 @@ use Rattle.cp_frames.proofs.pool.Frames.size.Goals as goal
 
 pub returns-then-user-len : goal.returns-then-user-len
 returns-then-user-len c =
-    let long = length-bytes_of c.self.inside.frames.items c.self.inside.owners.items c.self.inside.sizes.items c.args.user.0 in
-    rw (← c.self.view_is, long) (ap (λ n. n * 4096) (get_or_read c.self.inside.sizes.items _ _ (omega arith) c.index.ensures 0))
+    let long = length-bytes_of c.self.inside.frames.items c.self.inside.owners.items c.self.inside.sizes.items c.args.user in
+    rw (← c.self.view_is, long) (ap (λ n. n * 4096) (get_or_read c.self.inside.sizes.items _ _ (omega arith) (rw c.index-user.ensures.value at c.index.ensures) 0))
 
 pub returns-else-user-len : goal.returns-else-user-len
 returns-else-user-len c =
-    let long = length-bytes_of c.self.inside.frames.items c.self.inside.owners.items c.self.inside.sizes.items c.args.user.0 in
-    let none = get_or_past c.self.inside.sizes.items c.args.user.0 0 (omega arith) in
+    let long = length-bytes_of c.self.inside.frames.items c.self.inside.owners.items c.self.inside.sizes.items c.args.user in
+    let none = get_or_past c.self.inside.sizes.items c.args.user 0 (omega arith) in
     rw (← c.self.view_is, long, none) refl
