@@ -305,7 +305,7 @@ const PACK: Opcode = Opcode::Stores(StoreRow::LayOut(Layout::Pack));
 
 const UNPK: Opcode = Opcode::Stores(StoreRow::LayOut(Layout::Unpack));
 
-/// The row of each operation code, by the manual's names, sixteen to a line.
+/// The row of each operation code, by the manual's names: sixteen for each first digit.
 static OPCODES: [Opcode; 256] = [
     // 0x00
     NONE, NONE, NONE, NONE, SPM, BALR, BCTR, BCR, SSK, ISK, SVC, NONE, NONE, NONE, MVCL, CLCL,
