@@ -6,7 +6,6 @@ use Rattle.s370_rows.specs.declared.ending.Ending.TheVariants.{Done, Branch, Aga
 use Rattle.s370_rows.specs.declared.place.Place.{Place}
 use Rattle.s370_rows.specs.State.{State}
 use Rattle.s370_rows.specs.Rows.{Outcome}
-use Rattle.s370_cpu.specs.declared.conclude.Stop.{Stop}
 use Rattle.s370_cpu.specs.declared.conclude.Stop.TheVariants.{Program}
 use Rattle.s370_cpu.specs.Unit.{Ran, concluded, ended}
 

@@ -1,6 +1,5 @@
 -- An instruction with what its stop is followed by: what it does, and what is undone where page 0 is missing.
-use Rattle.std.proofs.Common.{◌≡◌, ℕ, Bool, length, Result, Ok, Err, refl, ap, subst, sym, ◌∙◌, inl, inr}
-use Rattle.std.specs.Bool.{⊤}
+use Rattle.std.proofs.Common.{◌≡◌, ℕ, Bool, length, Err, refl, ap, subst, sym, ◌∙◌, inl, inr}
 use Rattle.s370_store.specs.Access.{IsAway}
 use Rattle.s370_store.specs.declared.Page.{Page}
 use Rattle.s370_rows.specs.State.{State}
@@ -9,7 +8,7 @@ use Rattle.s370_cpu.specs.declared.conclude.Stop.TheVariants.{Done, Program, Svc
 use Rattle.s370_cpu.specs.Unit.{MeetsUnit, Ran}
 use Rattle.s370_cpu.specs.Table.{unit}
 use Rattle.s370_cpu.proofs.Still.{StaysStill, unit_still}
-use Rattle.s370_intr.specs.Units.{Interrupts, InstructionNeeds, MeetsInstruction, MeetsFollowed, instructed, followed}
+use Rattle.s370_intr.specs.Units.{Interrupts, MeetsInstruction, MeetsFollowed, instructed, followed}
 
 -- an instruction that is not missing a page, and what its stop is followed by, make the whole
 pub whole : (m m1 m2 : State) (present : ℕ → Bool) (stop : Stop) → MeetsUnit (unit m) present m stop m1 → ((page : Page) → stop ≡ Absent page → ⊥) → m2 ≡ followed stop m1 → m2 ≡ instructed m
