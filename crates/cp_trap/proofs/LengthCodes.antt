@@ -2,11 +2,10 @@
 use Rattle.std.proofs.Common.{◌≡◌, ℕ, Result, Ok, Err, ap}
 use Rattle.s370_psw.specs.declared.ProgramCode.{ProgramCode}
 use Rattle.s370_rows.specs.declared.ending.Ending.{Ending}
-use Rattle.s370_rows.specs.declared.ending.Ending.TheVariants.{Done, Branch, Again, Interrupted, SupervisorCall}
+use Rattle.s370_rows.specs.declared.ending.Ending.TheVariants.{Done, Branch, Again, Interrupted, SupervisorCall, InputOutput}
 use Rattle.s370_rows.specs.declared.place.Place.{Place}
 use Rattle.s370_rows.specs.State.{State}
 use Rattle.s370_rows.specs.Rows.{Outcome}
-use Rattle.s370_cpu.specs.declared.conclude.Stop.{Stop}
 use Rattle.s370_cpu.specs.declared.conclude.Stop.TheVariants.{Program}
 use Rattle.s370_cpu.specs.Unit.{Ran, concluded, ended}
 
@@ -16,6 +15,7 @@ ended_length (Branch a) place m code ilc e = cc
 ended_length Again place m code ilc e = cc
 ended_length (Interrupted other) place m code ilc e = cc
 ended_length (SupervisorCall n) place m code ilc e = cc
+ended_length (InputOutput operation device) place m code ilc e = cc
 
 refused_length : (other code : ProgramCode) (place : Place) (ilc : ℕ) → Program other place.ilc ≡ Program code ilc → ilc ≡ place.ilc
 refused_length other code place ilc e = cc

@@ -8,7 +8,7 @@ ghost use Rattle.cp_trap.specs.Trap.{stop_of};
 
 use s370_cpu::{Stop, supervise};
 use s370_psw::{Ilc, ProgramCode};
-use s370_rows::{Cpu, Instruction};
+use s370_rows::{Cpu, Instruction, IoOperation};
 use s370_store::{Keyed, Page};
 
 /// What became of a privileged instruction of a guest.
@@ -18,6 +18,9 @@ pub enum Simulated {
     Done,
     /// It is refused: the guest is to be interrupted with this code, and has the next address already.
     Refused(ProgramCode),
+    /// The guest's own device of this address, or its channel, is asked, and the guest has the next address already; the
+    /// condition code is still to be set.
+    InputOutput(IoOperation, u16),
     /// It has to access this page, which is not present. Nothing is changed.
     Absent(Page),
 }
@@ -43,6 +46,7 @@ pub fn simulate<S: Keyed>(
     match supervise(cpu, storage, instruction, ilc) {
         Stop::Done => Simulated::Done,
         Stop::Program(code, _) => Simulated::Refused(code),
+        Stop::InputOutput(operation, device) => Simulated::InputOutput(operation, device),
         Stop::Absent(page) => Simulated::Absent(page),
         // No privileged instruction calls the supervisor, or is handed back once more.
         Stop::Svc(_, _) => unreachable!(),

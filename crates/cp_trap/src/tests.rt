@@ -1,7 +1,7 @@
 //! Guests of two pages: the first has the program status words, the second the program.
 use super::VirtualCpu;
 use s370_intr::{Pending, Ran, Reason, instruct, run_units};
-use s370_num::AccessKey;
+use s370_num::{AccessKey, StorageKey};
 use s370_psw::{Ilc, Psw};
 use s370_rows::Cpu;
 use s370_store::{
@@ -133,5 +133,76 @@ fn a_guest_runs(rt: HostRuntime) -> Result<(), Fail> {
     assert_eq!(rt; ran, two);
     assert_eq!(rt; psw_of(&cpu), 0x300);
     assert_eq!(rt; doubleword_at(&storage, 40), Ok(0x00010002_80000404));
+    Ok(())
+}
+
+/// Runs so many units of a guest whose program, of one doubleword, stands at address 256.
+fn ran(
+    rt: &impl Abort,
+    cpu: &mut Cpu,
+    storage: &mut PlainStorage,
+    program: u64,
+    count: u32,
+) -> Result<(), Fail> {
+    place(storage, 256, program)?;
+    let mut pending = Pending::NOTHING;
+    assert!(rt; storage.size() >= 8192);
+    let ran = run_units::<VirtualCpu, PlainStorage>(cpu, &mut pending, storage, count);
+    let all = Ran {
+        units: count,
+        reason: Reason::Count,
+    };
+    assert_eq!(rt; ran, all);
+    Ok(())
+}
+
+// STOSM 512,1
+#[test]
+fn a_guest_stores_its_system_mask(rt: HostRuntime) -> Result<(), Fail> {
+    let mut storage = PlainStorage::new(rt.alloc(), 4)?;
+    let mut cpu = guest(0x40000000_00000100);
+    ran(&rt, &mut cpu, &mut storage, 0xAD010200_00000000, 1)?;
+    assert_eq!(rt; doubleword_at(&storage, 512), Ok(0x40000000_00000000));
+    assert_eq!(rt; psw_of(&cpu), 0x41000000_00000104);
+    Ok(())
+}
+
+// SSK 1,2; ISK 3,2; STCTL 0,0,768
+#[test]
+fn a_guest_has_keys_and_control_registers(rt: HostRuntime) -> Result<(), Fail> {
+    let mut storage = PlainStorage::new(rt.alloc(), 4)?;
+    let mut cpu = guest(0x100);
+    cpu.general[1] = 0x000000F8;
+    cpu.general[2] = 0x00000800;
+    cpu.general[3] = 0x11223344;
+    cpu.control[0] = 0xE0;
+    ran(&rt, &mut cpu, &mut storage, 0x08120932_B6000300, 3)?;
+    assert_eq!(rt; cpu.general[3], 0x112233F8);
+    assert_eq!(rt; doubleword_at(&storage, 768), Ok(0x000000E0_00000000));
+    assert!(rt; storage.keys().len() == 4);
+    assert_eq!(rt; storage.keys()[1], StorageKey::new(31));
+    Ok(())
+}
+
+// SIO, TIO, HIO and TCH, and EX of TCH: a guest has no device, so none is operational.
+#[test]
+fn a_guest_has_no_device(rt: HostRuntime) -> Result<(), Fail> {
+    let cases = [
+        0x9C000009_00000000,
+        0x9D000009_00000000,
+        0x9E000009_00000000,
+        0x9F000009_00000000,
+        0x44000104_9F000009u64,
+    ];
+    for program in cases {
+        let mut storage = PlainStorage::new(rt.alloc(), 4)?;
+        let mut cpu = guest(0x00F00000_0A000100);
+        ran(&rt, &mut cpu, &mut storage, program, 1)?;
+        assert_eq!(rt; psw_of(&cpu), 0x00F00000_3A000104);
+        // and not in the virtual problem state
+        let mut cpu = guest(0x00010000_0A000100);
+        ran(&rt, &mut cpu, &mut storage, program, 1)?;
+        assert_eq!(rt; doubleword_at(&storage, 40), Ok(0x00010002_8A000104));
+    }
     Ok(())
 }

@@ -19,6 +19,7 @@ impl Processor for VirtualCpu {
         match simulate(cpu, storage, i, ilc) {
             Simulated::Done => Stop::Done,
             Simulated::Refused(code) => Stop::Program(code, ilc),
+            Simulated::InputOutput(operation, device) => Stop::InputOutput(operation, device),
             Simulated::Absent(page) => Stop::Absent(page),
         }
     }

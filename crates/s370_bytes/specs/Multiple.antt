@@ -1,4 +1,4 @@
--- LM and STM: GA22-7000, "Load Multiple" and "Store Multiple".
+-- Several registers in words of storage: GA22-7000, "Load Multiple" and "Store Multiple".
 use Rattle.std.specs.Prelude.{ℕ, zero, suc, ◌+◌, ◌-◌, ◌*◌, ◌%◌, List, [], ◌∷◌, ◌++◌, slice_index, slice_set}
 use Rattle.std.specs.Int.{w32, to_be_bytes}
 use Rattle.s370_rows.specs.declared.instruction.Instruction.{Instruction}
@@ -13,14 +13,14 @@ register_count r1 r3 = (r3 + 16 - r1) % 16 + 1
 
 -- the words of n registers from r on, in order
 abbrev pub words_from : List ℕ → ℕ → ℕ → List ℕ
-words_from general r zero = []
-words_from general r (suc n) = words_from general r n ++ to_be_bytes w32 (slice_index general ((r + n) % 16))
+words_from registers r zero = []
+words_from registers r (suc n) = words_from registers r n ++ to_be_bytes w32 (slice_index registers ((r + n) % 16))
 
 -- the registers, of which n from r on are loaded with the words from a on
 abbrev pub loaded_from : List ℕ → List ℕ → ℕ → ℕ → ℕ → List ℕ
-loaded_from bytes general a r zero = general
-loaded_from bytes general a r (suc n) =
-    slice_set (loaded_from bytes general a r n) ((r + n) % 16) (word_at bytes (a + 4 * n))
+loaded_from bytes registers a r zero = registers
+loaded_from bytes registers a r (suc n) =
+    slice_set (loaded_from bytes registers a r n) ((r + n) % 16) (word_at bytes (a + 4 * n))
 
 -- STM
 abbrev pub multiple_stored : State → Instruction → Row

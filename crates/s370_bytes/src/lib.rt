@@ -20,5 +20,7 @@ pub use decimal::{binary_row, decimal_row};
 pub use digits::{Layout, layout_row};
 pub use long::{compare_long_row, move_long_row};
 pub use masks::{compare_characters_row, insert_characters_row, store_characters_row};
-pub use multiple::{load_multiple_row, store_multiple_row};
+pub use multiple::{
+    load_multiple_row, load_registers, store_multiple_row, store_registers, words_range,
+};
 pub use translate::{translate_row, translate_test_row};

@@ -1,10 +1,12 @@
 //! Several registers, loaded from or stored into the words of a storage.
 ghost use Rattle.std.specs.Prelude.{◌≡◌, ℕ, ◌*◌, ◌<◌, ◌≤◌, length, take};
+ghost use Rattle.s370_store.specs.Access.{IsGranted, put};
+ghost use Rattle.s370_rows.specs.Formats.{r1_of, r2_of};
 ghost use Rattle.s370_rows.specs.State.{state_of};
 ghost use Rattle.s370_rows.specs.Rows.{MeetsRow};
-ghost use Rattle.s370_bytes.specs.Multiple.{multiple_loaded, multiple_stored, register_count, words_from};
+ghost use Rattle.s370_bytes.specs.Multiple.{loaded_from, multiple_loaded, multiple_stored, register_count, words_from};
 
-use s370_num::Register;
+use s370_num::{Addr24, Register};
 use s370_rows::{Cpu, Ending, Instruction, Refusal, grant};
 use s370_store::{Access, Range, Storage, load_word};
 
@@ -19,14 +21,67 @@ fn count_of(first: Register, last: Register) -> u32
 }
 
 /// The words of registers, one after another.
-fn fill(words: &mut [u8; 64], general: &[u32; 16], first: Register, count: u32)
+fn fill(words: &mut [u8; 64], registers: &[u32; 16], first: Register, count: u32)
     requires few { count ≤ 16 }
-    ensures { take (4 * count) words.new ≡ words_from general.now first count }
+    ensures { take (4 * count) words.new ≡ words_from registers.now first count }
 {
     for k in 0..count {
-        let word = general[(first.index() + k as usize) % 16].to_be_bytes();
+        let word = registers[(first.index() + k as usize) % 16].to_be_bytes();
         let start = 4 * k as usize;
         words[start..start + 4].copy_from_slice(&word);
+    }
+}
+
+/// The words from an address on that registers R1 to R3 have, one for each.
+#[inline(always)]
+pub fn words_range(address: Addr24, i: Instruction) -> Range
+    ensures start { result.start ≡ address }
+    ensures count { result.count ≡ 4 * register_count (r1_of i) (r2_of i) }
+    ensures few { result.count ≤ 64 }
+{
+    Range {
+        start: address.get(),
+        count: 4 * count_of(i.r1(), i.r2()),
+    }
+}
+
+/// Stores registers R1 to R3, of those given, into the words from an address on; 0 follows 15.
+#[inline(always)]
+pub fn store_registers<S: Storage>(
+    registers: &[u32; 16],
+    storage: &mut S,
+    address: Addr24,
+    i: Instruction,
+)
+    requires { IsGranted (length (S.bytes storage.old)) (S.present storage.old) address (4 * register_count (r1_of i) (r2_of i)) }
+    ensures bytes { S.bytes storage.new ≡ put (S.bytes storage.old) address (words_from registers.now (r1_of i) (register_count (r1_of i) (r2_of i))) }
+    ensures size { length (S.bytes storage.new) ≡ length (S.bytes storage.old) }
+    ensures keys { S.keys storage.new ≡ S.keys storage.old }
+    ensures present { S.present storage.new ≡ S.present storage.old }
+    ensures rest { S.Keeps storage.old storage.new }
+{
+    let count = count_of(i.r1(), i.r2());
+    let mut words = [0u8; 64];
+    fill(&mut words, registers, i.r1(), count);
+    storage.store(address.get(), &words[..4 * count as usize]);
+}
+
+/// Loads registers R1 to R3, of those given, from the words from an address on; 0 follows 15.
+#[inline(always)]
+pub fn load_registers<S: Storage>(
+    registers: &mut [u32; 16],
+    storage: &S,
+    address: Addr24,
+    i: Instruction,
+)
+    requires { IsGranted (length (S.bytes storage.now)) (S.present storage.now) address (4 * register_count (r1_of i) (r2_of i)) }
+    ensures { registers.new ≡ loaded_from (S.bytes storage.now) registers.old address (r1_of i) (register_count (r1_of i) (r2_of i)) }
+{
+    let start = address.get();
+    let first = i.r1();
+    for k in 0..count_of(first, i.r2()) {
+        let word = load_word(storage, start + 4 * k);
+        registers[(first.index() + k as usize) % 16] = word;
     }
 }
 
@@ -43,16 +98,9 @@ pub fn store_multiple_row<S: Storage>(
     ensures present { S.present storage.new ≡ S.present storage.old }
     ensures rest { S.Keeps storage.old storage.new }
 {
-    let start = cpu.based(i.second_half).get();
-    let count = count_of(i.r1(), i.r2());
-    let range = Range {
-        start,
-        count: 4 * count,
-    };
-    grant(cpu, storage, range, Access::Store)?;
-    let mut words = [0u8; 64];
-    fill(&mut words, &cpu.general, i.r1(), count);
-    storage.store(start, &words[..4 * count as usize]);
+    let address = cpu.based(i.second_half);
+    grant(cpu, storage, words_range(address, i), Access::Store)?;
+    store_registers(&cpu.general, storage, address, i);
     Ok(Ending::Done)
 }
 
@@ -66,17 +114,8 @@ pub fn load_multiple_row<S: Storage>(
         let after = state_of cpu.new (S.bytes storage.now) (S.keys storage.now) in
         MeetsRow (multiple_loaded before i) (S.present storage.now) before result after }
 {
-    let start = cpu.based(i.second_half).get();
-    let first = i.r1();
-    let count = count_of(first, i.r2());
-    let range = Range {
-        start,
-        count: 4 * count,
-    };
-    grant(cpu, storage, range, Access::Fetch)?;
-    for k in 0..count {
-        let word = load_word(storage, start + 4 * k);
-        cpu.general[(first.index() + k as usize) % 16] = word;
-    }
+    let address = cpu.based(i.second_half);
+    grant(cpu, storage, words_range(address, i), Access::Fetch)?;
+    load_registers(&mut cpu.general, storage, address, i);
     Ok(Ending::Done)
 }

@@ -1,5 +1,5 @@
 -- Each row of the table is lawful: what it stores it has tested, and in the problem state it changes no rights.
-use Rattle.std.proofs.Common.{◌≡◌, ℕ, ◌+◌, ◌-◌, ◌<◌, ◌≤◌, ◌==◌, Bool, true, false, List, [], ◌∷◌, length, slice_range, slice_index, Option, Some, None, Result, Ok, Err, refl, inl, arith, ℤ}
+use Rattle.std.proofs.Common.{◌≡◌, ℕ, ◌+◌, ◌-◌, ◌*◌, ◌<◌, ◌≤◌, ◌==◌, Bool, true, false, List, [], ◌∷◌, length, slice_range, slice_index, Option, Some, None, Result, Ok, Err, refl, inl, arith, ℤ}
 use Rattle.std.specs.Prelude.{if◌then◌else◌, ◌&&◌, nat_lt, min}
 use Rattle.std.proofs.lemmas.Bool.{both_ways}
 use Rattle.s370_psw.specs.declared.ProgramCode.{ProgramCode}
@@ -26,13 +26,13 @@ use Rattle.s370_bytes.specs.Compare.{equal_pairs}
 use Rattle.s370_bytes.specs.Decimal.{binary_left, decimal_of, over_result as over_number}
 use Rattle.s370_bytes.specs.Long.{operand_of, with_operand, past, counts_code, part_ended, part_moved, part_ordered, compared_to}
 use Rattle.s370_bytes.specs.Masks.{bytes_of}
-use Rattle.s370_bytes.specs.Multiple.{register_count}
+use Rattle.s370_bytes.specs.Multiple.{register_count, words_from}
 use Rattle.s370_bytes.specs.Translate.{scanned}
 use Rattle.s370_bytes.proofs.Within.{made_within, translation_within, padded_within, string_within, words_within, doubleword_within, chosen_within}
 use Rattle.s370_cpu.specs.declared.opcodes.Branching.{Branching}
 use Rattle.s370_cpu.specs.declared.opcodes.Branching.TheVariants.{Count, Condition, Link}
 use Rattle.s370_cpu.specs.declared.opcodes.Control.{Control}
-use Rattle.s370_cpu.specs.declared.opcodes.Control.TheVariants.{SetSystemMask, LoadPsw}
+use Rattle.s370_cpu.specs.declared.opcodes.Control.TheVariants.{SetStorageKey, InsertStorageKey, SetSystemMask, LoadPsw, StoreThenAnd, StoreThenOr, StoreControl, LoadControl, InputOutput}
 use Rattle.s370_cpu.specs.declared.opcodes.RegisterRow.{RegisterRow}
 use Rattle.s370_cpu.specs.declared.opcodes.RegisterRow.TheVariants.{SetProgramMask, Register, Multiply, Divide, LoadAddress, ShiftWord, ShiftPair, BranchRegister, BranchTo, BranchOnIndex}
 use Rattle.s370_cpu.specs.declared.opcodes.FetchRow.{FetchRow}
@@ -41,7 +41,7 @@ use Rattle.s370_cpu.specs.declared.opcodes.StoreRow.{StoreRow}
 use Rattle.s370_cpu.specs.declared.opcodes.StoreRow.TheVariants.{StoreWord, StoreHalfword, StoreCharacter, StoreCharacters, StoreMultiple, ConvertToDecimal, ChangeByte, SwapWord, SwapDoubleword, CombineStrings, Translate, LayOut, MoveLong}
 use Rattle.s370_cpu.specs.declared.opcodes.Opcode.{Opcode}
 use Rattle.s370_cpu.specs.declared.opcodes.Opcode.TheVariants.{Invalid, Supervised, SupervisorCall, Execute, Computes, Fetches, Stores}
-use Rattle.s370_cpu.specs.Control.{control_named}
+use Rattle.s370_cpu.specs.Control.{control_named, named_block, storage_key_set, storage_key_inserted}
 use Rattle.s370_cpu.specs.RegisterRows.{branched, register_row}
 use Rattle.s370_cpu.specs.FetchRows.{fetch_row}
 use Rattle.s370_cpu.specs.StoreRows.{store_row, word_taken, doubleword_taken}
@@ -101,10 +101,37 @@ either_tested : (b : Bool) (r s : Row) → LeavesTested r.tests r.leaves → Lea
 either_tested true r s h k = h
 either_tested false r s h k = k
 
+key_set_tested : (m : State) (i : Instruction) (block : Result ℕ ProgramCode) → (let r = storage_key_set m i block in LeavesTested r.tests r.leaves)
+key_set_tested m i (Ok block) = tt
+key_set_tested m i (Err code) = tt
+
+key_inserted_tested : (m : State) (i : Instruction) (block : Result ℕ ProgramCode) → (let r = storage_key_inserted m i block in LeavesTested r.tests r.leaves)
+key_inserted_tested m i (Ok block) = tt
+key_inserted_tested m i (Err code) = tt
+
+-- a store of no more bytes than its test has
+one_tested : (a n : ℕ) (xs : List ℕ) → length xs ≤ n → AreTested (store_test a n ∷ []) (record { start = a; written = xs } ∷ [])
+one_tested a n xs e = (λ b low high. inl (refl, low, omega (arith, e, high)), tt)
+
+mask_tested : (m : State) (i : Instruction) → (let a = based_address m.cpu i.second_half in AreTested (store_test a 1 ∷ []) (record { start = a; written = m.cpu.psw.system_mask ∷ [] } ∷ []))
+mask_tested m i = one_tested (based_address m.cpu i.second_half) 1 (m.cpu.psw.system_mask ∷ []) (omega arith)
+
+control_words_tested : (m : State) (i : Instruction) → (let a = based_address m.cpu i.second_half in let k = register_count (r1_of i) (r2_of i) in AreTested (store_test a (4 * k) ∷ []) (record { start = a; written = words_from m.cpu.control (r1_of i) k } ∷ []))
+control_words_tested m i =
+    let k = register_count (r1_of i) (r2_of i) in
+    one_tested (based_address m.cpu i.second_half) (4 * k) (words_from m.cpu.control (r1_of i) k) (words_within m.cpu.control (r1_of i) k)
+
 -- one line for each family of the table
 control_tested : (c : Control) (m : State) (i : Instruction) → (let r = control_named c m i in LeavesTested r.tests r.leaves)
+control_tested SetStorageKey m i = key_set_tested m i (named_block m i)
+control_tested InsertStorageKey m i = key_inserted_tested m i (named_block m i)
 control_tested SetSystemMask m i = tt
 control_tested LoadPsw m i = search (either_tested)
+control_tested StoreThenAnd m i = mask_tested m i
+control_tested StoreThenOr m i = mask_tested m i
+control_tested StoreControl m i = search (either_tested, control_words_tested)
+control_tested LoadControl m i = search (either_tested)
+control_tested (InputOutput operation) m i = tt
 
 -- ---- rows that access no storage: the registers that they leave have the rights of those before
 

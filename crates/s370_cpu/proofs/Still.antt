@@ -1,12 +1,12 @@
--- What an instruction that interrupts has changed: registers, and no byte of storage and no key.
-use Rattle.std.proofs.Common.{◌≡◌, Bool, true, false, List, [], Option, Some, None, Result, Ok, Err, refl}
+-- What an instruction that interrupts, or asks a device, has changed: registers, and no byte of storage and no key.
+use Rattle.std.proofs.Common.{◌≡◌, ℕ, Bool, true, false, List, [], Option, Some, None, Result, Ok, Err, refl}
 use Rattle.std.specs.Prelude.{if◌then◌else◌}
 use Rattle.s370_psw.specs.declared.ProgramCode.{ProgramCode}
 use Rattle.s370_psw.specs.declared.ProgramCode.TheVariants.{PrivilegedOperation}
 use Rattle.s370_store.specs.Access.{Test}
 use Rattle.s370_rows.specs.declared.cpu.Cpu.{Cpu}
 use Rattle.s370_rows.specs.declared.ending.Ending.{Ending}
-use Rattle.s370_rows.specs.declared.ending.Ending.TheVariants.{Done, Branch, Again, Interrupted, SupervisorCall as Called}
+use Rattle.s370_rows.specs.declared.ending.Ending.TheVariants.{Done, Branch, Again, Interrupted, SupervisorCall as Called, InputOutput as Asked}
 use Rattle.s370_rows.specs.declared.instruction.Instruction.{Instruction}
 use Rattle.s370_rows.specs.declared.place.Place.{Place}
 use Rattle.s370_rows.specs.State.{State}
@@ -14,7 +14,7 @@ use Rattle.s370_rows.specs.Registers.{Ended}
 use Rattle.s370_rows.specs.Results.{over_result}
 use Rattle.s370_rows.specs.Rows.{Row, Left, judged, unless, outcome_of, over, suppressed, fault_of}
 use Rattle.s370_bytes.specs.Decimal.{over_result as over_number}
-use Rattle.s370_cpu.specs.declared.conclude.Stop.TheVariants.{Done as DoneStop, Program, Svc, Privileged, Absent}
+use Rattle.s370_cpu.specs.declared.conclude.Stop.TheVariants.{Done as DoneStop, Program, Svc, InputOutput as AskedStop, Privileged, Absent}
 use Rattle.s370_cpu.specs.declared.opcodes.Opcode.{Opcode}
 use Rattle.s370_cpu.specs.declared.opcodes.Opcode.TheVariants.{Invalid, Supervised, SupervisorCall, Execute, Computes, Fetches, Stores}
 use Rattle.s370_cpu.specs.declared.opcodes.FetchRow.{FetchRow}
@@ -22,11 +22,11 @@ use Rattle.s370_cpu.specs.declared.opcodes.FetchRow.TheVariants.{Word, Halfword,
 use Rattle.s370_cpu.specs.declared.opcodes.StoreRow.{StoreRow}
 use Rattle.s370_cpu.specs.declared.opcodes.StoreRow.TheVariants.{StoreWord, StoreHalfword, StoreCharacter, StoreCharacters, StoreMultiple, ConvertToDecimal, ChangeByte, SwapWord, SwapDoubleword, CombineStrings, Translate, LayOut, MoveLong}
 use Rattle.s370_cpu.specs.declared.opcodes.Control.{Control}
-use Rattle.s370_cpu.specs.declared.opcodes.Control.TheVariants.{SetSystemMask, LoadPsw}
+use Rattle.s370_cpu.specs.declared.opcodes.Control.TheVariants.{SetStorageKey, InsertStorageKey, SetSystemMask, LoadPsw, StoreThenAnd, StoreThenOr, StoreControl, LoadControl, InputOutput}
 use Rattle.s370_cpu.specs.Fetch.{fetched, halfwords_of}
 use Rattle.s370_cpu.specs.Execute.{executed}
 use Rattle.s370_cpu.specs.Opcodes.{opcode_at}
-use Rattle.s370_cpu.specs.Control.{control_named}
+use Rattle.s370_cpu.specs.Control.{control_named, named_block, storage_key_set, storage_key_inserted}
 use Rattle.s370_cpu.specs.RegisterRows.{register_row}
 use Rattle.s370_cpu.specs.FetchRows.{fetch_row}
 use Rattle.s370_cpu.specs.StoreRows.{store_row}
@@ -41,6 +41,7 @@ IsStill (Branch a) l = Unit {0}
 IsStill Again l = Unit {0}
 IsStill (Interrupted code) l = (l.stores ≡ []) × (l.keyed ≡ None)
 IsStill (Called n) l = (l.stores ≡ []) × (l.keyed ≡ None)
+IsStill (Asked operation device) l = (l.stores ≡ []) × (l.keyed ≡ None)
 
 abbrev LeavesStill : Result Left ProgramCode → Type 0
 LeavesStill (Err code) = Unit {0}
@@ -53,6 +54,7 @@ still_over (Branch a) l s k = tt
 still_over Again l s k = tt
 still_over (Interrupted code) l s k = (s, k)
 still_over (Called n) l s k = (s, k)
+still_over (Asked operation device) l s k = (s, k)
 
 over_still : (e : Ended) → LeavesStill (Ok (over e))
 over_still e = still_over e.ending (over e) refl refl
@@ -74,10 +76,25 @@ part_still : (b : Bool) (x y : Cpu) (l : Left) → (let e : Ended = if b then (r
 part_still true x y l = tt
 part_still false x y l = tt
 
+key_set_still : (m : State) (i : Instruction) (block : Result ℕ ProgramCode) → LeavesStill (storage_key_set m i block).leaves
+key_set_still m i (Ok block) = tt
+key_set_still m i (Err code) = tt
+
+key_inserted_still : (m : State) (i : Instruction) (block : Result ℕ ProgramCode) → LeavesStill (storage_key_inserted m i block).leaves
+key_inserted_still m i (Ok block) = tt
+key_inserted_still m i (Err code) = tt
+
 -- one line for each family of the table
 control_still : (c : Control) (m : State) (i : Instruction) → LeavesStill (control_named c m i).leaves
+control_still SetStorageKey m i = key_set_still m i (named_block m i)
+control_still InsertStorageKey m i = key_inserted_still m i (named_block m i)
 control_still SetSystemMask m i = tt
 control_still LoadPsw m i = search (either_still)
+control_still StoreThenAnd m i = tt
+control_still StoreThenOr m i = tt
+control_still StoreControl m i = search (either_still)
+control_still LoadControl m i = search (either_still)
+control_still (InputOutput operation) m i = (refl, refl)
 
 fetch_still : (row : FetchRow) (m : State) (i : Instruction) → LeavesStill (fetch_row row m i).leaves
 fetch_still (Word op) m i = over_still _
@@ -121,12 +138,13 @@ row_still (Stores row) m place i = store_still row m i
 
 -- ---- units
 
--- a unit that interrupts has left the bytes and the keys as they were
+-- a unit that interrupts, or asks a device, has left the bytes and the keys as they were
 abbrev pub StaysStill : State → Ran → Type 0
 StaysStill m r = elim r.stop [
   | DoneStop ↦ Unit {0}
   | Program code ilc ↦ (r.state.bytes ≡ m.bytes) × (r.state.keys ≡ m.keys)
   | Svc n ilc ↦ (r.state.bytes ≡ m.bytes) × (r.state.keys ≡ m.keys)
+  | AskedStop operation device ↦ (r.state.bytes ≡ m.bytes) × (r.state.keys ≡ m.keys)
   | Privileged i ilc ↦ Unit {0}
   | Absent page ↦ Unit {0}
 ]
@@ -137,6 +155,7 @@ ended_still m place (Branch a) l h = tt
 ended_still m place Again l h = tt
 ended_still m place (Interrupted code) l h = rw (h.0, h.1) (refl, refl)
 ended_still m place (Called n) l h = rw (h.0, h.1) (refl, refl)
+ended_still m place (Asked operation device) l h = rw (h.0, h.1) (refl, refl)
 
 concluded_still : (m : State) (place : Place) (r : Result Left ProgramCode) → LeavesStill r → StaysStill m (concluded m place (outcome_of m r))
 concluded_still m place (Err code) h = (refl, refl)

@@ -7,17 +7,22 @@ use Rattle.s370_rows.specs.declared.cpu.Cpu.{Cpu}
 use Rattle.s370_rows.specs.declared.instruction.Instruction.{Instruction}
 use Rattle.s370_rows.specs.declared.place.Place.{Place}
 use Rattle.s370_rows.specs.declared.ending.Ending.{Ending}
-use Rattle.s370_rows.specs.declared.ending.Ending.TheVariants.{Done, Branch, Again, Interrupted, SupervisorCall}
+use Rattle.s370_rows.specs.declared.ending.Ending.TheVariants.{Done, Branch, Again, Interrupted, SupervisorCall, InputOutput}
 use Rattle.s370_rows.specs.declared.ending.Refusal.{Refusal}
 use Rattle.s370_rows.specs.declared.ending.Refusal.TheVariants.{Program as Suppressed, Absent as Missing}
 use Rattle.s370_rows.specs.State.{State}
 use Rattle.s370_rows.specs.Rows.{Row, MeetsRow}
 use Rattle.s370_cpu.specs.declared.conclude.Stop.{Stop}
-use Rattle.s370_cpu.specs.declared.conclude.Stop.TheVariants.{Done as DoneStop, Program, Svc, Privileged, Absent}
+use Rattle.s370_cpu.specs.declared.conclude.Stop.TheVariants.{Done as DoneStop, Program, Svc, InputOutput as Asked, Privileged, Absent}
 use Rattle.s370_cpu.specs.Fetch.{Asks, fetched, halfwords_of, MeetsFetch}
 use Rattle.s370_cpu.specs.Execute.{executed}
 use Rattle.s370_cpu.specs.Unit.{Unit as WholeUnit, Carries, MeetsUnit, Stopped, stopped, carried, place_at, unit_executed, unit_fetched, unit_over}
-use Rattle.s370_cpu.specs.Table.{MeetsStep, row_of, unit}
+use Rattle.s370_cpu.specs.declared.opcodes.Control.{Control}
+use Rattle.s370_cpu.specs.declared.opcodes.Opcode.{Opcode}
+use Rattle.s370_cpu.specs.declared.opcodes.Opcode.TheVariants.{Supervised}
+use Rattle.s370_cpu.specs.Control.{control_row}
+use Rattle.s370_cpu.specs.Opcodes.{opcode_at}
+use Rattle.s370_cpu.specs.Table.{MeetsStep, row_named, row_of, supervised, unit}
 
 pub asks_left : (m : State) (ss ts : List (List Test)) (page : ℕ) → Asks m ss page → Asks m (ss ++ ts) page
 asks_left m [] ts page h = absurd h
@@ -54,6 +59,7 @@ carried_meets rows present m place i (Ok (Branch a)) m' h = rw h
 carried_meets rows present m place i (Ok Again) m' h = rw h
 carried_meets rows present m place i (Ok (Interrupted code)) m' h = rw h
 carried_meets rows present m place i (Ok (SupervisorCall n)) m' h = rw h
+carried_meets rows present m place i (Ok (InputOutput operation device)) m' h = rw h
 carried_meets rows present m place i (Err (Suppressed code)) m' h = rw (h.0, h.1)
 carried_meets rows present m place i (Err (Missing page)) m' h = (h.0, h.1, inl h.3)
 
@@ -62,6 +68,7 @@ more_stages : (ss : List (List Test)) (u : WholeUnit) (present : ℕ → Bool) (
 more_stages ss u present m DoneStop m' h = h
 more_stages ss u present m (Program code ilc) m' h = h
 more_stages ss u present m (Svc n ilc) m' h = h
+more_stages ss u present m (Asked operation device) m' h = h
 more_stages ss u present m (Privileged i ilc) m' h = h
 more_stages ss u present m (Absent page) m' h = (h.0, h.1, asks_right m ss u.stages page.0 h.2)
 
@@ -103,6 +110,7 @@ concluded_step (Ok (Branch a)) place cpu present m m' h = h
 concluded_step (Ok Again) place cpu present m m' h = h
 concluded_step (Ok (Interrupted code)) place cpu present m m' h = h
 concluded_step (Ok (SupervisorCall n)) place cpu present m m' h = h
+concluded_step (Ok (InputOutput operation device)) place cpu present m m' h = h
 concluded_step (Err (Suppressed code)) place cpu present m m' h = h
 concluded_step (Err (Missing page)) place cpu present m m' h = h
 
@@ -118,6 +126,12 @@ pub target_steps : (m : State) (first : Instruction) (ilc : ℕ) (stop : Stop) (
 target_steps m first ilc stop cpu' present refusal e1 e2 h e =
     let s = stopped (Err refusal) (place_at m ilc) m.cpu in
     subst (λ (t : Stopped). MeetsStep present m t.stop (record m { cpu = t.cpu })) e (concluded_step (Err refusal) (place_at m ilc) m.cpu present m (record m { cpu = s.cpu }) (target_refused row_of m first ilc present refusal e1 e2 h))
+
+-- the rest of a unit whose instruction was handed back
+pub supervised_meets : (m : State) (ilc : ℕ) (i : Instruction) (control : Control) (stop : Stop) (cpu' : Cpu) (present : ℕ → Bool) (outcome : Result Ending Refusal) (m' : State) → opcode_at i.opcode ≡ Supervised control → MeetsRow (control_row control m i) present m outcome m' → stopped outcome (place_at m ilc) m'.cpu ≡ record { stop = stop; cpu = cpu' } → MeetsUnit (supervised m i ilc) present m stop (record m' { cpu = cpu' })
+supervised_meets m ilc i control stop cpu' present outcome m' named h e =
+    let row : MeetsRow (row_of m (place_at m ilc) i) present m outcome m' = subst (λ (op : Opcode). MeetsRow (row_named op m (place_at m ilc) i) present m outcome m') (sym named) h in
+    subst (λ (t : Stopped). MeetsUnit (supervised m i ilc) present m t.stop (record m' { cpu = t.cpu })) e (carried_meets row_of present m (place_at m ilc) i outcome m' row)
 
 -- an instruction that was handed back, and carried out by `supervise`, makes the unit
 pub handed_back : (m m1 m' : State) (i : Instruction) (ilc : ℕ) (stop : Stop) (present : ℕ → Bool) → MeetsStep present m (Privileged i ilc) m1 → MeetsUnit (carried row_of m1 (place_at m1 ilc) i) present m1 stop m' → MeetsUnit (unit m) present m stop m'

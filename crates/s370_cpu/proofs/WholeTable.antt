@@ -10,7 +10,7 @@ use Rattle.s370_store.specs.declared.Fault.TheVariants.{Addressing, Protection}
 use Rattle.s370_store.proofs.Verdicts.{byte_inside, byte_passes, store_matches}
 use Rattle.s370_store.proofs.Puts.{length-put, put-nothing, changed_within}
 use Rattle.s370_rows.specs.declared.ending.Ending.{Ending}
-use Rattle.s370_rows.specs.declared.ending.Ending.TheVariants.{Done, Branch, Again, Interrupted, SupervisorCall}
+use Rattle.s370_rows.specs.declared.ending.Ending.TheVariants.{Done, Branch, Again, Interrupted, SupervisorCall, InputOutput}
 use Rattle.s370_rows.specs.declared.instruction.Instruction.{Instruction}
 use Rattle.s370_rows.specs.declared.place.Place.{Place}
 use Rattle.s370_rows.specs.State.{State}
@@ -145,6 +145,7 @@ ended_lawful m place (Branch a) s h = record { bytes = h.bytes; rights = h.right
 ended_lawful m place Again s h = record { bytes = h.bytes; rights = h.rights }
 ended_lawful m place (Interrupted code) s h = record { bytes = h.bytes; rights = h.rights }
 ended_lawful m place (SupervisorCall n) s h = record { bytes = h.bytes; rights = h.rights }
+ended_lawful m place (InputOutput operation device) s h = record { bytes = h.bytes; rights = h.rights }
 
 concluded_lawful : (m : State) (place : Place) (r : Result Outcome ProgramCode) → ((o : Outcome) → r ≡ Ok o → IsLawfulState m o.state) → IsLawfulState m (concluded m place r).state
 concluded_lawful m place (Err code) h = record { bytes = λ a some c. absurd (c refl); rights = λ problem. refl }

@@ -2,13 +2,14 @@
 use Rattle.std.specs.Prelude.{ℕ, List, [], ◌∷◌, ◌==◌, if◌then◌else◌}
 use Rattle.s370_rows.specs.declared.arithmetic.Arithmetic.TheVariants.{Load, LoadAndTest, LoadPositive, LoadNegative, LoadComplement, Compare, CompareLogical, Add, Subtract, AddLogical, SubtractLogical, And, Or, ExclusiveOr}
 use Rattle.s370_rows.specs.declared.branches.IndexBranch.TheVariants.{High, LowOrEqual}
+use Rattle.s370_rows.specs.declared.ending.IoOperation.TheVariants.{Start, Test, Halt, TestChannel}
 use Rattle.s370_rows.specs.declared.immediate.ByteChange.TheVariants.{TestAndSet, Move as MoveByte, And as AndByte, Or as OrByte, ExclusiveOr as ExclusiveOrByte}
 use Rattle.s370_rows.specs.declared.immediate.ByteTest.TheVariants.{UnderMask, CompareLogical as CompareByte}
 use Rattle.s370_rows.specs.declared.shift.Shift.TheVariants.{Right, Left, RightLogical, LeftLogical}
 use Rattle.s370_bytes.specs.declared.combine.Combine.TheVariants.{MoveNumerics, MoveZones, Move as MoveStrings, And as AndStrings, Or as OrStrings, ExclusiveOr as ExclusiveOrStrings}
 use Rattle.s370_bytes.specs.declared.digits.Layout.TheVariants.{MoveWithOffset, Pack, Unpack}
 use Rattle.s370_cpu.specs.declared.opcodes.Branching.TheVariants.{Count, Condition, Link}
-use Rattle.s370_cpu.specs.declared.opcodes.Control.TheVariants.{SetSystemMask, LoadPsw}
+use Rattle.s370_cpu.specs.declared.opcodes.Control.TheVariants.{SetStorageKey, InsertStorageKey, SetSystemMask, LoadPsw, StoreThenAnd, StoreThenOr, StoreControl, LoadControl, InputOutput}
 use Rattle.s370_cpu.specs.declared.opcodes.RegisterRow.TheVariants.{SetProgramMask, Register, Multiply, Divide, LoadAddress, ShiftWord, ShiftPair, BranchRegister, BranchTo, BranchOnIndex}
 use Rattle.s370_cpu.specs.declared.opcodes.FetchRow.TheVariants.{Word, Halfword, MultiplyWord, MultiplyHalfword, DivideWord, ConvertToBinary, InsertCharacter, InsertCharacters, CompareCharacters, LoadMultiple, TestByte, CompareStrings, ScanString, CompareLong}
 use Rattle.s370_cpu.specs.declared.opcodes.StoreRow.TheVariants.{StoreWord, StoreHalfword, StoreCharacter, StoreCharacters, StoreMultiple, ConvertToDecimal, ChangeByte, SwapWord, SwapDoubleword, CombineStrings, Translate, LayOut, MoveLong}
@@ -22,6 +23,8 @@ codes =
     ∷ (0x05, Computes (BranchRegister Link))  -- BALR
     ∷ (0x06, Computes (BranchRegister Count))  -- BCTR
     ∷ (0x07, Computes (BranchRegister Condition))  -- BCR
+    ∷ (0x08, Supervised SetStorageKey)  -- SSK
+    ∷ (0x09, Supervised InsertStorageKey)  -- ISK
     ∷ (0x0A, SupervisorCall)  -- SVC
     ∷ (0x0E, Stores MoveLong)  -- MVCL
     ∷ (0x0F, Fetches CompareLong)  -- CLCL
@@ -90,6 +93,14 @@ codes =
     ∷ (0x96, Stores (ChangeByte OrByte))  -- OI
     ∷ (0x97, Stores (ChangeByte ExclusiveOrByte))  -- XI
     ∷ (0x98, Fetches LoadMultiple)  -- LM
+    ∷ (0x9C, Supervised (InputOutput Start))  -- SIO, SIOF
+    ∷ (0x9D, Supervised (InputOutput Test))  -- TIO
+    ∷ (0x9E, Supervised (InputOutput Halt))  -- HIO, HDV
+    ∷ (0x9F, Supervised (InputOutput TestChannel))  -- TCH
+    ∷ (0xAC, Supervised StoreThenAnd)  -- STNSM
+    ∷ (0xAD, Supervised StoreThenOr)  -- STOSM
+    ∷ (0xB6, Supervised StoreControl)  -- STCTL
+    ∷ (0xB7, Supervised LoadControl)  -- LCTL
     ∷ (0xBA, Stores SwapWord)  -- CS
     ∷ (0xBB, Stores SwapDoubleword)  -- CDS
     ∷ (0xBD, Fetches CompareCharacters)  -- CLM

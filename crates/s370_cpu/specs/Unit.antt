@@ -4,7 +4,7 @@ use Rattle.s370_psw.specs.declared.ProgramCode.{ProgramCode}
 use Rattle.s370_store.specs.Access.{Test, IsAway}
 use Rattle.s370_rows.specs.declared.cpu.Cpu.{Cpu}
 use Rattle.s370_rows.specs.declared.ending.Ending.{Ending}
-use Rattle.s370_rows.specs.declared.ending.Ending.TheVariants.{Done, Branch, Again, Interrupted, SupervisorCall}
+use Rattle.s370_rows.specs.declared.ending.Ending.TheVariants.{Done, Branch, Again, Interrupted, SupervisorCall, InputOutput}
 use Rattle.s370_rows.specs.declared.ending.Refusal.{Refusal}
 use Rattle.s370_rows.specs.declared.ending.Refusal.TheVariants.{Program as Suppressed, Absent as Missing}
 use Rattle.s370_rows.specs.declared.instruction.Instruction.{Instruction}
@@ -12,7 +12,7 @@ use Rattle.s370_rows.specs.declared.place.Place.{Place}
 use Rattle.s370_rows.specs.State.{State}
 use Rattle.s370_rows.specs.Rows.{Row, Outcome, judged, outcome_of}
 use Rattle.s370_cpu.specs.declared.conclude.Stop.{Stop}
-use Rattle.s370_cpu.specs.declared.conclude.Stop.TheVariants.{Done as DoneStop, Program, Svc, Absent}
+use Rattle.s370_cpu.specs.declared.conclude.Stop.TheVariants.{Done as DoneStop, Program, Svc, InputOutput as Asked, Absent}
 use Rattle.s370_cpu.specs.Fetch.{Asks, fetched, halfwords_of}
 use Rattle.s370_cpu.specs.Execute.{executed}
 
@@ -48,6 +48,7 @@ ended (Branch a) place cpu = record { stop = DoneStop; cpu = at_address cpu (a %
 ended Again place cpu = record { stop = DoneStop; cpu = cpu }
 ended (Interrupted code) place cpu = interrupted code place cpu
 ended (SupervisorCall n) place cpu = record { stop = Svc n place.ilc; cpu = at_address cpu place.next }
+ended (InputOutput operation device) place cpu = record { stop = Asked operation device; cpu = at_address cpu place.next }
 
 -- the registers are these, and nothing else changes
 abbrev pub ran : State → Stopped → Ran

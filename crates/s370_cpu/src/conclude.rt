@@ -4,7 +4,7 @@ ghost use Rattle.s370_cpu.specs.Unit.{stopped};
 
 use s370_num::Addr24;
 use s370_psw::{Ilc, ProgramCode};
-use s370_rows::{Cpu, Ending, Instruction, Place, Refusal};
+use s370_rows::{Cpu, Ending, Instruction, IoOperation, Place, Refusal};
 use s370_store::Page;
 
 /// How a unit ends.
@@ -17,6 +17,9 @@ pub enum Stop {
     Program(ProgramCode, Ilc),
     /// The program called the supervisor with this number. The program status word has the next address.
     Svc(u8, Ilc),
+    /// The device of this address, or its channel, is asked: the machine that has the devices answers by the condition
+    /// code. The program status word has the next address.
+    InputOutput(IoOperation, u16),
     /// An instruction for the supervisor state only: the one that is carried out, so under EX the target. It was
     /// fetched, and nothing is changed, the address neither.
     Privileged(Instruction, Ilc),
@@ -51,6 +54,10 @@ pub fn conclude(cpu: &mut Cpu, place: Place, outcome: Result<Ending, Refusal>) -
         Ok(Ending::SupervisorCall(number)) => {
             cpu.psw.set_address(place.next);
             Stop::Svc(number, place.ilc)
+        }
+        Ok(Ending::InputOutput(operation, device)) => {
+            cpu.psw.set_address(place.next);
+            Stop::InputOutput(operation, device)
         }
         Err(Refusal::Program(code)) => {
             cpu.psw.set_address(place.next);

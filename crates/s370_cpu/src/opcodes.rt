@@ -3,7 +3,7 @@ ghost use Rattle.std.specs.Prelude.{◌≡◌};
 ghost use Rattle.s370_cpu.specs.Opcodes.{opcode_at};
 
 use s370_bytes::{Combine, Layout};
-use s370_rows::{Arithmetic, ByteChange, ByteTest, IndexBranch, Shift};
+use s370_rows::{Arithmetic, ByteChange, ByteTest, IndexBranch, IoOperation, Shift};
 
 /// When a branch is taken, and what else it does.
 #[derive(Clone, Copy, Debug, PartialEq, Eq)]
@@ -16,8 +16,18 @@ pub enum Branching {
 /// An instruction for the supervisor state only.
 #[derive(Clone, Copy, Debug, PartialEq, Eq)]
 pub enum Control {
+    SetStorageKey,
+    InsertStorageKey,
     SetSystemMask,
     LoadPsw,
+    /// The system mask is stored, then joined by and.
+    StoreThenAnd,
+    /// The system mask is stored, then joined by or.
+    StoreThenOr,
+    StoreControl,
+    LoadControl,
+    /// What a device or a channel is asked.
+    InputOutput(IoOperation),
 }
 
 /// A family of rows that access no storage.
@@ -104,6 +114,10 @@ const BALR: Opcode = Opcode::Computes(RegisterRow::BranchRegister(Branching::Lin
 const BCTR: Opcode = Opcode::Computes(RegisterRow::BranchRegister(Branching::Count));
 
 const BCR: Opcode = Opcode::Computes(RegisterRow::BranchRegister(Branching::Condition));
+
+const SSK: Opcode = Opcode::Supervised(Control::SetStorageKey);
+
+const ISK: Opcode = Opcode::Supervised(Control::InsertStorageKey);
 
 const SVC: Opcode = Opcode::SupervisorCall;
 
@@ -241,6 +255,22 @@ const XI: Opcode = Opcode::Stores(StoreRow::ChangeByte(ByteChange::ExclusiveOr))
 
 const LM: Opcode = Opcode::Fetches(FetchRow::LoadMultiple);
 
+const SIO: Opcode = Opcode::Supervised(Control::InputOutput(IoOperation::Start));
+
+const TIO: Opcode = Opcode::Supervised(Control::InputOutput(IoOperation::Test));
+
+const HIO: Opcode = Opcode::Supervised(Control::InputOutput(IoOperation::Halt));
+
+const TCH: Opcode = Opcode::Supervised(Control::InputOutput(IoOperation::TestChannel));
+
+const STNSM: Opcode = Opcode::Supervised(Control::StoreThenAnd);
+
+const STOSM: Opcode = Opcode::Supervised(Control::StoreThenOr);
+
+const STCTL: Opcode = Opcode::Supervised(Control::StoreControl);
+
+const LCTL: Opcode = Opcode::Supervised(Control::LoadControl);
+
 const CS: Opcode = Opcode::Stores(StoreRow::SwapWord);
 
 const CDS: Opcode = Opcode::Stores(StoreRow::SwapDoubleword);
@@ -275,10 +305,10 @@ const PACK: Opcode = Opcode::Stores(StoreRow::LayOut(Layout::Pack));
 
 const UNPK: Opcode = Opcode::Stores(StoreRow::LayOut(Layout::Unpack));
 
-/// The row of each operation code, by the manual's names, sixteen to a line.
+/// The row of each operation code, by the manual's names: sixteen for each first digit.
 static OPCODES: [Opcode; 256] = [
     // 0x00
-    NONE, NONE, NONE, NONE, SPM, BALR, BCTR, BCR, NONE, NONE, SVC, NONE, NONE, NONE, MVCL, CLCL,
+    NONE, NONE, NONE, NONE, SPM, BALR, BCTR, BCR, SSK, ISK, SVC, NONE, NONE, NONE, MVCL, CLCL,
     // 0x10
     LPR, LNR, LTR, LCR, NR, CLR, OR, XR, LR, CR, AR, SR, MR, DR, ALR, SLR,
     // 0x20
@@ -296,11 +326,12 @@ static OPCODES: [Opcode; 256] = [
     // 0x80
     SSM, NONE, LPSW, NONE, NONE, NONE, BXH, BXLE, SRL, SLL, SRA, SLA, SRDL, SLDL, SRDA, SLDA,
     // 0x90
-    STM, TM, MVI, TS, NI, CLI, OI, XI, LM, NONE, NONE, NONE, NONE, NONE, NONE, NONE,
+    STM, TM, MVI, TS, NI, CLI, OI, XI, LM, NONE, NONE, NONE, SIO, TIO, HIO, TCH,
     // 0xA0
-    NONE, NONE, NONE, NONE, NONE, NONE, NONE, NONE, NONE, NONE, NONE, NONE, NONE, NONE, NONE, NONE,
+    NONE, NONE, NONE, NONE, NONE, NONE, NONE, NONE, NONE, NONE, NONE, NONE, STNSM, STOSM, NONE,
+    NONE,
     // 0xB0
-    NONE, NONE, NONE, NONE, NONE, NONE, NONE, NONE, NONE, NONE, CS, CDS, NONE, CLM, STCM, ICM,
+    NONE, NONE, NONE, NONE, NONE, NONE, STCTL, LCTL, NONE, NONE, CS, CDS, NONE, CLM, STCM, ICM,
     // 0xC0
     NONE, NONE, NONE, NONE, NONE, NONE, NONE, NONE, NONE, NONE, NONE, NONE, NONE, NONE, NONE, NONE,
     // 0xD0

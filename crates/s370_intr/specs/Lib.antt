@@ -1,3 +1,4 @@
 pub mod Swap
+pub mod InputOutput
 pub mod Units
 pub mod Run

@@ -1,4 +1,5 @@
--- Units of operation: an instruction with the interruption that it ends in, or the acceptance of external conditions.
+-- Units of operation: an instruction with the interruption or the answer that it ends in, or the acceptance of external
+-- conditions.
 -- GA22-7000, "Interruptions", "Program Interruption", "Supervisor-Call Interruption" and "External Interruption".
 use Rattle.std.specs.Prelude.{◌≡◌, ℕ, ◌-◌, ◌/◌, ◌%◌, ◌^◌, ◌==◌, if◌then◌else◌, Bool, true, false, not, ◌&&◌, ◌||◌, List, length, slice_index, bit_or, Result, Ok, Err, ⊤, ◌⊎◌}
 use Rattle.s370_psw.specs.Fields.{Fields, enables_external}
@@ -8,7 +9,7 @@ use Rattle.s370_store.specs.declared.Page.{Page}
 use Rattle.s370_rows.specs.declared.cpu.Cpu.{Cpu}
 use Rattle.s370_rows.specs.State.{State}
 use Rattle.s370_cpu.specs.declared.conclude.Stop.{Stop}
-use Rattle.s370_cpu.specs.declared.conclude.Stop.TheVariants.{Done, Program, Svc, Privileged, Absent}
+use Rattle.s370_cpu.specs.declared.conclude.Stop.TheVariants.{Done, Program, Svc, InputOutput, Privileged, Absent}
 use Rattle.s370_cpu.specs.Fetch.{Asks}
 use Rattle.s370_cpu.specs.Table.{unit}
 use Rattle.s370_intr.specs.declared.class.Class.TheVariants.{Program as ProgramClass, SupervisorCall, External}
@@ -16,6 +17,7 @@ use Rattle.s370_intr.specs.declared.next.Next.{Next}
 use Rattle.s370_intr.specs.declared.next.Next.TheVariants.{Stops, Accepts, Instructs}
 use Rattle.s370_intr.specs.declared.next.Reason.TheVariants.{EcMode, Wait, DisabledWait}
 use Rattle.s370_intr.specs.declared.pending.Pending.{Pending}
+use Rattle.s370_intr.specs.InputOutput.{answered}
 use Rattle.s370_intr.specs.Swap.{swapped}
 
 -- a processor with its storage, and the external conditions that are pending
@@ -66,18 +68,19 @@ look c =
 
 -- ---- a unit
 
--- a program that is interrupted, and one that calls the supervisor, have their program status words swapped; no other stop
--- interrupts
-abbrev pub interrupted : Stop → State → State
-interrupted Done m = m
-interrupted (Program code ilc) m = swapped m ProgramClass (program_number code) ilc
-interrupted (Svc n ilc) m = swapped m SupervisorCall n ilc
-interrupted (Privileged i ilc) m = m
-interrupted (Absent page) m = m
+-- what a stop is followed by: a program that is interrupted, and one that calls the supervisor, have their program status
+-- words swapped; one that asks a device is answered; no other stop is followed by anything
+abbrev pub followed : Stop → State → State
+followed Done m = m
+followed (Program code ilc) m = swapped m ProgramClass (program_number code) ilc
+followed (Svc n ilc) m = swapped m SupervisorCall n ilc
+followed (InputOutput operation device) m = answered operation device m
+followed (Privileged i ilc) m = m
+followed (Absent page) m = m
 
--- an instruction, and the interruption that it ends in
+-- an instruction, and what its stop is followed by
 abbrev pub instructed : State → State
-instructed m = let r = (unit m).ran in interrupted r.stop r.state
+instructed m = let r = (unit m).ran in followed r.stop r.state
 
 -- these external conditions are taken
 abbrev pub accepted : Pending → Core → Core
@@ -96,6 +99,7 @@ abbrev pub Interrupts : Stop → ℕ → Type 0
 Interrupts Done page = ⊥
 Interrupts (Program code ilc) page = page ≡ 0
 Interrupts (Svc n ilc) page = page ≡ 0
+Interrupts (InputOutput operation device) page = ⊥
 Interrupts (Privileged i ilc) page = ⊥
 Interrupts (Absent other) page = ⊥
 
@@ -114,13 +118,13 @@ Needs c page = NeedsAt (look c) c page
 
 -- ---- what the code may answer
 
--- the interruption of a stop; or, with nothing changed, the page that it needs and that is not present
-abbrev pub MeetsInterruption : Stop → (ℕ → Bool) → State → Result ⊤ Page → State → Type 0
-MeetsInterruption stop present old (Ok _) new = new ≡ interrupted stop old
-MeetsInterruption stop present old (Err page) new =
+-- what a stop is followed by; or, with nothing changed, the page that this needs and that is not present
+abbrev pub MeetsFollowed : Stop → (ℕ → Bool) → State → Result ⊤ Page → State → Type 0
+MeetsFollowed stop present old (Ok _) new = new ≡ followed stop old
+MeetsFollowed stop present old (Err page) new =
     (new ≡ old) × IsAway (length old.bytes) present page.0 × Interrupts stop page.0
 
--- an instruction, and its interruption; or, with nothing changed, a page that they need and that is not present
+-- an instruction, and what its stop is followed by; or, with nothing changed, a page that they need and that is not present
 abbrev pub MeetsInstruction : (ℕ → Bool) → State → Result ⊤ Page → State → Type 0
 MeetsInstruction present old (Ok _) new = new ≡ instructed old
 MeetsInstruction present old (Err page) new =

@@ -5,10 +5,11 @@ ghost use Rattle.s370_cpu.specs.Opcodes.{opcode_at};
 ghost use Rattle.s370_cpu.specs.Table.{is_supervised, supervised, unit};
 ghost use Rattle.s370_cpu.specs.Unit.{MeetsUnit};
 ghost use Rattle.s370_intr.specs.Swap.{MeetsSwap, swapped};
-ghost use Rattle.s370_intr.specs.Units.{MeetsInstruction, MeetsInterruption, MeetsUnitAt, core_of};
+ghost use Rattle.s370_intr.specs.Units.{MeetsFollowed, MeetsInstruction, MeetsUnitAt, core_of};
 ghost use Rattle.s370_intr.specs.declared.next.Next.TheVariants as next;
 
 use crate::class::Class;
+use crate::input_output::answer;
 use crate::pending::Pending;
 use crate::psw_swap::swap;
 use s370_cpu::{Stop, step, supervise};
@@ -85,8 +86,8 @@ fn perform<P: Processor, S: Keyed>(cpu: &mut Cpu, storage: &mut S) -> Stop
     }
 }
 
-/// One instruction, and the interruption that it ends in. Where they need a page that is not present, that is the error,
-/// and all is as it was.
+/// One instruction, and the interruption or the answer that it ends in. Where they need a page that is not present, that is
+/// the error, and all is as it was.
 pub fn instruct<P: Processor, S: Keyed>(cpu: &mut Cpu, storage: &mut S) -> Result<(), Page>
     requires { 8192 ≤ length (S.Storage.bytes storage.old) }
     ensures instruction { let before = state_of cpu.old (S.Storage.bytes storage.old) (S.Storage.keys storage.old) in
@@ -121,7 +122,7 @@ pub(crate) fn instruct_saving<P: Processor, S: Keyed>(
         Stop::Absent(page) => return Err(page),
         _ => {}
     }
-    match interrupt::<P, S>(cpu, storage, stop) {
+    match follow::<P, S>(cpu, storage, stop) {
         Ok(()) => Ok(()),
         Err(page) => {
             // What interrupts has changed registers alone.
@@ -144,13 +145,13 @@ fn save<S: Storage>(cpu: &Cpu, spare: &mut Cpu, storage: &S)
     }
 }
 
-/// Carries out the interruption that an instruction ended in: nothing where it interrupts nobody.
+/// Carries out what the stop of an instruction is followed by: its interruption, or the answer of the device that it asks.
 #[inline(always)]
-fn interrupt<P: Processor, S: Keyed>(cpu: &mut Cpu, storage: &mut S, stop: Stop) -> Result<(), Page>
+fn follow<P: Processor, S: Keyed>(cpu: &mut Cpu, storage: &mut S, stop: Stop) -> Result<(), Page>
     requires { 8192 ≤ length (S.Storage.bytes storage.old) }
-    ensures interruption { let before = state_of cpu.old (S.Storage.bytes storage.old) (S.Storage.keys storage.old) in
+    ensures followed { let before = state_of cpu.old (S.Storage.bytes storage.old) (S.Storage.keys storage.old) in
         let after = state_of cpu.new (S.Storage.bytes storage.new) (S.Storage.keys storage.new) in
-        MeetsInterruption stop (S.Storage.present storage.old) before result after }
+        MeetsFollowed stop (S.Storage.present storage.old) before result after }
     ensures size { length (S.Storage.bytes storage.new) ≡ length (S.Storage.bytes storage.old) }
     ensures present { S.Storage.present storage.new ≡ S.Storage.present storage.old }
     ensures rest { S.Storage.Keeps storage.old storage.new }
@@ -159,6 +160,10 @@ fn interrupt<P: Processor, S: Keyed>(cpu: &mut Cpu, storage: &mut S, stop: Stop)
         Stop::Program(code, ilc) => P::interrupt(cpu, storage, Class::Program, code.number(), ilc),
         Stop::Svc(number, ilc) => {
             P::interrupt(cpu, storage, Class::SupervisorCall, u16::from(number), ilc)
+        }
+        Stop::InputOutput(operation, device) => {
+            answer(cpu, operation, device);
+            Ok(())
         }
         Stop::Done | Stop::Privileged(_, _) | Stop::Absent(_) => Ok(()),
     }

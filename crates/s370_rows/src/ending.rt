@@ -2,6 +2,19 @@
 use s370_psw::ProgramCode;
 use s370_store::Page;
 
+/// What an instruction asks of a device, or of a channel.
+#[derive(Clone, Copy, Debug, PartialEq, Eq)]
+pub enum IoOperation {
+    /// 9C SIO, SIOF: start a channel program.
+    Start,
+    /// 9D TIO: take the status that is pending.
+    Test,
+    /// 9E HIO, HDV: withdraw a channel program.
+    Halt,
+    /// 9F TCH: whether a device of the channel has a status pending.
+    TestChannel,
+}
+
 /// How an instruction ended that was carried out.
 #[derive(Clone, Copy, Debug, PartialEq, Eq)]
 pub enum Ending {
@@ -15,6 +28,9 @@ pub enum Ending {
     Interrupted(ProgramCode),
     /// A supervisor call with this number; nothing else is done.
     SupervisorCall(u8),
+    /// The device of this address, or its channel, is asked; nothing else is done. Who has the devices sets the condition
+    /// code.
+    InputOutput(IoOperation, u16),
 }
 
 /// Why an instruction was not carried out. It changed nothing.

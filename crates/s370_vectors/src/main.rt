@@ -22,21 +22,6 @@ use s370_store::{PagedStorage, PlainStorage};
 use std::alloc::Global;
 use std::{env, fs};
 
-/// The rows that the processor does not have yet.
-const LACKING: [&[u8]; 10] = [
-    b"SSK", b"ISK", b"SIO", b"TIO", b"HIO", b"TCH", b"STNSM", b"STOSM", b"STCTL", b"LCTL",
-];
-
-/// Whether a row is one that the processor does not have yet.
-fn is_lacking(row: &[u8]) -> bool {
-    for name in LACKING {
-        if row == name {
-            return true;
-        }
-    }
-    false
-}
-
 /// Runs each line over a storage, and prints those that do not agree and how many do.
 fn run_all<R: Print, S: Bed>(
     rt: &R,
@@ -57,9 +42,6 @@ fn run_all<R: Print, S: Bed>(
             println!(rt; "{name}: line {} can't be read", line.number)?;
             continue;
         };
-        if is_lacking(case.row) {
-            continue;
-        }
         lines = lines.wrapping_add(1);
         match difference(storage, &mut image, &case) {
             None => agreed = agreed.wrapping_add(1),

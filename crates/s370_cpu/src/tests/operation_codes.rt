@@ -25,8 +25,12 @@ static ANY_STATE: [u8; 87] = [
 ];
 
 /// The first bytes of those for the supervisor state.
-static SUPERVISOR_STATE: [u8; 2] = [
+static SUPERVISOR_STATE: [u8; 12] = [
+    0x08, 0x09, // SSK ISK
     0x80, 0x82, // SSM LPSW
+    0x9C, 0x9D, 0x9E, 0x9F, // SIO TIO HIO TCH
+    0xAC, 0xAD, // STNSM STOSM
+    0xB6, 0xB7, // STCTL LCTL
 ];
 
 /// How an instruction ends at address 100 whose operands stand at address 200, where a branch stands that is never taken.

@@ -7,10 +7,10 @@ pub returns-in-Err-clause-instruction : goal.returns-in-Err-clause-instruction
 returns-in-Err-clause-instruction g c =
     let m = state_of c.args.cpu.now (g.S.Storage.bytes c.args.storage.now) (g.S.Storage.keys c.args.storage.now) in
     let m1 = state_of c.perform-stop.new.cpu (g.S.Storage.bytes c.perform-stop.new.storage) (g.S.Storage.keys c.perform-stop.new.storage) in
-    let m2 = state_of c.interrupt.new.cpu (g.S.Storage.bytes c.interrupt.new.storage) (g.S.Storage.keys c.interrupt.new.storage) in
+    let m2 = state_of c.follow.new.cpu (g.S.Storage.bytes c.follow.new.storage) (g.S.Storage.keys c.follow.new.storage) in
     let before = g.S.Storage.present c.args.storage.now in
     let after = g.S.Storage.present c.perform-stop.new.storage in
     elim c.save.ensures [
-      | inl here ↦ absurd (misses_none m1 m2 after c.perform-stop.result c.in-Err.page (subst (λ (p : ℕ → Bool). p 0 ≡ true) (sym c.perform-stop.ensures.present) here) c.in-Err.ensures.interruption)
-      | inr copied ↦ rw copied (interruption_misses m m1 m2 before after c.perform-stop.result c.in-Err.page c.perform-stop.ensures.unit c.perform-stop.ensures.present c.in-Err.ensures.interruption)
+      | inl here ↦ absurd (misses_none m1 m2 after c.perform-stop.result c.in-Err.page (subst (λ (p : ℕ → Bool). p 0 ≡ true) (sym c.perform-stop.ensures.present) here) c.in-Err.ensures.followed)
+      | inr copied ↦ rw copied (interruption_misses m m1 m2 before after c.perform-stop.result c.in-Err.page c.perform-stop.ensures.unit c.perform-stop.ensures.present c.in-Err.ensures.followed)
     ]
