@@ -1,3 +1,4 @@
 pub mod Swap
 pub mod Units
+pub mod Timer
 pub mod Run
