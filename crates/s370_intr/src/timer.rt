@@ -1,9 +1,6 @@
 //! The interval timer.
 ghost use Rattle.std.specs.Prelude.{◌≡◌, ◌≤◌, length};
-ghost use Rattle.s370_rows.specs.declared.cpu.Cpu.{Cpu};
-ghost use Rattle.s370_rows.specs.State.{state_of};
-ghost use Rattle.s370_intr.specs.Timer.{MeetsTick, is_negative, stepped};
-ghost use Rattle.s370_intr.specs.Units.{core_of};
+ghost use Rattle.s370_intr.specs.Timer.{MeetsTick, is_negative, timed};
 
 use crate::pending::Pending;
 use s370_num::AccessKey;
@@ -23,10 +20,8 @@ const STEP: u32 = 256;
 /// the error, and nothing is changed.
 pub fn tick<S: Storage>(pending: &mut Pending, storage: &mut S) -> Result<(), Page>
     requires { 8192 ≤ length (S.bytes storage.old) }
-    ensures tick { (cpu : Cpu) →
-        let before = core_of (state_of cpu (S.bytes storage.old) (S.keys storage.old)) pending.old in
-        let after = core_of (state_of cpu (S.bytes storage.new) (S.keys storage.new)) pending.new in
-        MeetsTick (S.present storage.old) before result after }
+    ensures tick { MeetsTick (S.present storage.old) (timed (S.bytes storage.old) pending.old) result (timed (S.bytes storage.new) pending.new) }
+    ensures keys { S.keys storage.new ≡ S.keys storage.old }
     ensures size { length (S.bytes storage.new) ≡ length (S.bytes storage.old) }
     ensures present { S.present storage.new ≡ S.present storage.old }
     ensures rest { S.Keeps storage.old storage.new }
