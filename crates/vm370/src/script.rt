@@ -3,7 +3,7 @@ ghost use Rattle.std.specs.Prelude.{◌≡◌, ℕ, ◌<◌, ◌≤◌, ◌+◌,
 ghost use Rattle.std.specs.Option.{option_map};
 ghost use Rattle.cp_text.specs.Lines.{lines_of};
 ghost use Rattle.vm370.specs.Grammar.{ReadsGrammar};
-ghost use Rattle.vm370.specs.Script.{IsOfUser, IsRefusal, is_ignored, operands_of, run_of, said, said_of, script_of, typed_of};
+ghost use Rattle.vm370.specs.Script.{IsOfUser, IsRefusal, is_ignored, operands_of, run_of, said, said_of, script_of, tick_of, typed_of};
 
 use cp_core::Event;
 use cp_text::lines::cut_line;
@@ -84,6 +84,8 @@ fn read_event<'a, N: Named>(users: &[N], line: &'a [u8]) -> Option<Event<'a>>
         read_run(users, operands)
     } else if verb == b"LINE".as_slice() {
         read_typed(users, operands)
+    } else if verb == b"TICK".as_slice() {
+        read_tick(users, operands)
     } else {
         None
     }
@@ -117,6 +119,20 @@ fn read_typed<'a, N: Named>(users: &[N], operands: &'a [u8]) -> Option<Event<'a>
         Some(text) => Some(Event::Line(user, text)),
         None => Some(Event::Line(user, &[])),
     }
+}
+
+/// `TICK u`, after its first word: nothing follows the name.
+fn read_tick<'a, N: Named>(users: &[N], operands: &'a [u8]) -> Option<Event<'a>>
+    requires { length users.now ≤ MOST_USERS }
+    ensures users { IfSome result (IsOfUser (length users.now)) }
+    ensures said { option_map said result ≡ tick_of (map N.name users.now) operands.now }
+{
+    let (name, more) = cut_word(operands);
+    if more.is_some() {
+        return None;
+    }
+    let user = user_of(users, name)?;
+    Some(Event::Tick(user))
 }
 
 /// A script is read as its events, nothing else is accepted, and a text that is no script is refused
@@ -205,6 +221,8 @@ mod tests {
                 Event::Line(b(), b"x y ".as_slice()),
             ),
             (b"LINE B  x".as_slice(), Event::Line(b(), b" x".as_slice())),
+            (b"TICK A".as_slice(), Event::Tick(a())),
+            (b"*\n\nTICK B\n".as_slice(), Event::Tick(b())),
             (
                 b"LINE B x\r\n".as_slice(),
                 Event::Line(b(), b"x\r".as_slice()),
@@ -248,6 +266,14 @@ mod tests {
             (b"LINE".as_slice(), 1),
             (b"LINE ".as_slice(), 1),
             (b"LINE A\nRUN A 1 1".as_slice(), 2),
+            (b"TICK".as_slice(), 1),
+            (b"TICK ".as_slice(), 1),
+            (b"TICK A\nTICK A ".as_slice(), 2),
+            (b"TICK A 1".as_slice(), 1),
+            (b"TICK  A".as_slice(), 1),
+            (b"TICK C".as_slice(), 1),
+            (b"Tick A".as_slice(), 1),
+            (b"TICK A\r\n".as_slice(), 1),
             // numbers
             (b"RUN A 0".as_slice(), 1),
             (b"LINE A\nRUN A 0000000".as_slice(), 2),
