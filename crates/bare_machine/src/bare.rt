@@ -6,6 +6,7 @@ ghost use Rattle.cp_console.specs.Responses.{text_of};
 ghost use Rattle.cp_panel.specs.Machine.{unused};
 ghost use Rattle.cp_panel.specs.Panel.{line, line_room};
 ghost use Rattle.cp_panel.specs.Run.{run};
+ghost use Rattle.cp_panel.specs.Tick.{ticked};
 
 use cp_console::responses::Response;
 use cp_panel::{LineError, Machine, MachineRan, Mode};
@@ -71,6 +72,17 @@ impl Bare {
             Err(LineError::Memory) => Err(AllocError),
             // Every page of its storage is present.
             Err(LineError::FramesOut) => unreachable!(),
+        }
+    }
+
+    /// A tick of the interval timer, which steps where the machine runs. This takes no memory.
+    pub fn tick(&mut self)
+        ensures { self.new ≡ ticked self.old }
+    {
+        match self.machine.tick(&mut self.storage) {
+            Ok(()) => {}
+            // Every page of its storage is present.
+            Err(_) => unreachable!(),
         }
     }
 

@@ -4,14 +4,14 @@ use Rattle.std.specs.Str.{bytes_eq}
 use Rattle.std.proofs.lemmas.Slice.Eq.{bytes_eq-Decides}
 use Rattle.cp_text.specs.Words.{words_of}
 use Rattle.cp_console.specs.Operands.{address_of, contents_of, bytes_of}
-use Rattle.cp_console.specs.Commands.{operand_read, operand, ended, place_of, logon_of, begin_of, display_of, change_of, store_of, command_by}
+use Rattle.cp_console.specs.Commands.{operand_read, operand, ended, place_of, logon_of, begin_of, external_of, display_of, change_of, store_of, command_by}
 use Rattle.cp_console.specs.Grammar.{Begins, ReadsGrammar, Spells, SpellsStore, Tells}
 use Rattle.cp_console.specs.declared.commands.Place.{Place}
 use Rattle.cp_console.specs.declared.commands.Place.TheVariants as places
 use Rattle.cp_console.specs.declared.commands.Change.{Change}
 use Rattle.cp_console.specs.declared.commands.Change.TheVariants as changes
 use Rattle.cp_console.specs.declared.commands.Command.{Command}
-use Rattle.cp_console.specs.declared.commands.Command.TheVariants.{Nothing, Logon, Begin, Display, Store}
+use Rattle.cp_console.specs.declared.commands.Command.TheVariants.{Nothing, Logon, Begin, External, Display, Store}
 use Rattle.cp_console.specs.declared.commands.CommandError.{CommandError}
 use Rattle.cp_console.specs.declared.commands.CommandError.TheVariants.{Unknown, Operand}
 
@@ -20,6 +20,7 @@ again words Nothing h = rw h refl
 again words Logon h = rw h refl
 again words (Begin None) h = rw h refl
 again words (Begin (Some address)) h = rw (h.spelled, h.read) refl
+again words External h = rw h refl
 again words (Display place) h = rw (h.spelled, h.read) refl
 again words (Store (changes.Psw psw)) h = rw (h.spelled, h.read, h.left_read, h.right_read, h.joined) refl
 again words (Store (changes.General register contents)) h = rw (h.spelled, h.read, h.digits_read) refl
@@ -98,6 +99,11 @@ begin_on word (more ∷ words) (Some address) h =
 tells_begin : (operands : List (List ℕ)) → Tells (codes "BEGIN" ∷ operands) (begin_of operands)
 tells_begin [] = refl
 tells_begin (word ∷ words) = begin_on word words (address_of word) refl
+
+tells_external : (operands : List (List ℕ)) → Tells (codes "EXTERNAL" ∷ operands) (external_of operands)
+tells_external [] = refl
+tells_external (word ∷ words) =
+    record { front = codes "EXTERNAL" ∷ []; after = word ∷ words; split = refl; counted = refl; begins = whole_begins (codes "EXTERNAL" ∷ []) External refl; stops = never (codes "EXTERNAL" ∷ word ∷ []) (Operand 1) (λ rest. refl) }
 
 display_on : (word : List ℕ) (words : List (List ℕ)) (o : Option Place) → place_of word ≡ o → Tells (codes "DISPLAY" ∷ word ∷ words) (operand_read 1 o (λ place. ended 2 (Display place) words))
 display_on word words None h =
@@ -178,6 +184,10 @@ change_on word [] places.Psw p =
 change_on word (left ∷ words) places.Psw p = left_on word left words (contents_of left) p refl
 change_on word words (places.General register) p =
     given contents_of (places.General register) (λ contents. changes.General register contents) (λ ws. refl) (λ ws a h. h) word words (general_begins word register p) p
+change_on word words (places.Control register) p =
+    record { front = codes "STORE" ∷ []; after = word ∷ words; split = refl; counted = refl; begins = store_begins; stops = never (codes "STORE" ∷ word ∷ []) (Operand 1) (λ rest. rw p refl) }
+change_on word words (places.Key address) p =
+    record { front = codes "STORE" ∷ []; after = word ∷ words; split = refl; counted = refl; begins = store_begins; stops = never (codes "STORE" ∷ word ∷ []) (Operand 1) (λ rest. rw p refl) }
 change_on word words (places.Storage address) p =
     given bytes_of (places.Storage address) (λ bytes. changes.Storage address bytes) (λ ws. refl) (λ ws a h. h) word words (storage_begins word address p) p
 
@@ -190,18 +200,19 @@ tells_store : (operands : List (List ℕ)) → Tells (codes "STORE" ∷ operands
 tells_store [] = record { front = codes "STORE" ∷ []; after = []; split = refl; counted = refl; begins = store_begins; stops = missing (codes "STORE" ∷ []) (Operand 1) refl }
 tells_store (word ∷ words) = store_on word words (place_of word) refl
 
-named_on : (name : List ℕ) (operands : List (List ℕ)) (a b c d : Bool) → bytes_eq name (codes "LOGON") ≡ a → bytes_eq name (codes "BEGIN") ≡ b → bytes_eq name (codes "DISPLAY") ≡ c → bytes_eq name (codes "STORE") ≡ d
-    → Tells (name ∷ operands) (cond a (logon_of operands) (cond b (begin_of operands) (cond c (display_of operands) (cond d (store_of operands) (Err Unknown)))))
-named_on name operands true b c d e f g h = rw ((bytes_eq-Decides name (codes "LOGON")).0 e) (tells_logon operands)
-named_on name operands false true c d e f g h = rw ((bytes_eq-Decides name (codes "BEGIN")).0 f) (tells_begin operands)
-named_on name operands false false true d e f g h = rw ((bytes_eq-Decides name (codes "DISPLAY")).0 g) (tells_display operands)
-named_on name operands false false false true e f g h = rw ((bytes_eq-Decides name (codes "STORE")).0 h) (tells_store operands)
-named_on name operands false false false false e f g h =
-    record { name = name; operands = operands; split = refl; unknown = never (name ∷ []) Unknown (λ rest. rw (e, f, g, h) refl) }
+named_on : (name : List ℕ) (operands : List (List ℕ)) (a b x c d : Bool) → bytes_eq name (codes "LOGON") ≡ a → bytes_eq name (codes "BEGIN") ≡ b → bytes_eq name (codes "EXTERNAL") ≡ x → bytes_eq name (codes "DISPLAY") ≡ c → bytes_eq name (codes "STORE") ≡ d
+    → Tells (name ∷ operands) (cond a (logon_of operands) (cond b (begin_of operands) (cond x (external_of operands) (cond c (display_of operands) (cond d (store_of operands) (Err Unknown))))))
+named_on name operands true b x c d e f i g h = rw ((bytes_eq-Decides name (codes "LOGON")).0 e) (tells_logon operands)
+named_on name operands false true x c d e f i g h = rw ((bytes_eq-Decides name (codes "BEGIN")).0 f) (tells_begin operands)
+named_on name operands false false true c d e f i g h = rw ((bytes_eq-Decides name (codes "EXTERNAL")).0 i) (tells_external operands)
+named_on name operands false false false true d e f i g h = rw ((bytes_eq-Decides name (codes "DISPLAY")).0 g) (tells_display operands)
+named_on name operands false false false false true e f i g h = rw ((bytes_eq-Decides name (codes "STORE")).0 h) (tells_store operands)
+named_on name operands false false false false false e f i g h =
+    record { name = name; operands = operands; split = refl; unknown = never (name ∷ []) Unknown (λ rest. rw (e, f, i, g, h) refl) }
 
 tells : (words : List (List ℕ)) → Tells words (command_by words)
 tells [] = refl
-tells (name ∷ operands) = named_on name operands (bytes_eq name (codes "LOGON")) (bytes_eq name (codes "BEGIN")) (bytes_eq name (codes "DISPLAY")) (bytes_eq name (codes "STORE")) refl refl refl refl
+tells (name ∷ operands) = named_on name operands (bytes_eq name (codes "LOGON")) (bytes_eq name (codes "BEGIN")) (bytes_eq name (codes "EXTERNAL")) (bytes_eq name (codes "DISPLAY")) (bytes_eq name (codes "STORE")) refl refl refl refl refl
 
 pub reads : ReadsGrammar
 reads text = (tells (words_of text), again (words_of text))

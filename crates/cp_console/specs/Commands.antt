@@ -8,7 +8,7 @@ use Rattle.cp_console.specs.declared.commands.Place.{Place}
 use Rattle.cp_console.specs.declared.commands.Place.TheVariants as places
 use Rattle.cp_console.specs.declared.commands.Change.TheVariants as changes
 use Rattle.cp_console.specs.declared.commands.Command.{Command}
-use Rattle.cp_console.specs.declared.commands.Command.TheVariants.{Nothing, Logon, Begin, Display, Store}
+use Rattle.cp_console.specs.declared.commands.Command.TheVariants.{Nothing, Logon, Begin, External, Display, Store}
 use Rattle.cp_console.specs.declared.commands.CommandError.{CommandError}
 use Rattle.cp_console.specs.declared.commands.CommandError.TheVariants.{Unknown, Operand}
 
@@ -27,12 +27,16 @@ abbrev pub ended : ℕ → Command → List (List ℕ) → Result Command Comman
 ended place command [] = Ok command
 ended place command (word ∷ words) = Err (Operand place)
 
--- `G` and a register's number, or an address of storage
+-- `G` or `X` and a register's number, `K` and an address, or an address of storage
 abbrev pub numbered_place : List ℕ → Option Place
 numbered_place [] = None
-numbered_place (c ∷ cs) = if c == 71 then option_map places.General (register_of cs) else option_map places.Storage (address_of (c ∷ cs))
+numbered_place (c ∷ cs) =
+    if c == 71 then option_map places.General (register_of cs)
+    else if c == 88 then option_map places.Control (register_of cs)
+    else if c == 75 then option_map places.Key (address_of cs)
+    else option_map places.Storage (address_of (c ∷ cs))
 
--- what is displayed or changed: `PSW`, a register or storage
+-- what is displayed or changed: `PSW`, a register, a key or storage
 abbrev pub place_of : List ℕ → Option Place
 place_of word = if bytes_eq word (codes "PSW") then Some places.Psw else numbered_place word
 
@@ -45,14 +49,21 @@ abbrev pub begin_of : List (List ℕ) → Result Command CommandError
 begin_of [] = Ok (Begin None)
 begin_of (word ∷ words) = operand 1 address_of (word ∷ words) (λ address. ended 2 (Begin (Some address)))
 
+-- `EXTERNAL`
+abbrev pub external_of : List (List ℕ) → Result Command CommandError
+external_of words = ended 1 External words
+
 -- `DISPLAY` and a place
 abbrev pub display_of : List (List ℕ) → Result Command CommandError
 display_of words = operand 1 place_of words (λ place. ended 2 (Display place))
 
--- what a place is given: the PSW its two halves, a register its contents, storage some bytes from the address on
+-- what a place is given: the PSW its two halves, a general register its contents, storage some bytes from the address on;
+-- control registers and keys are not stored
 abbrev pub change_of : Place → List (List ℕ) → Result Command CommandError
 change_of places.Psw words = operand 2 contents_of words (λ left rest. operand 3 contents_of rest (λ right. ended 4 (Store (changes.Psw (left * 2 ^ 32 + right)))))
 change_of (places.General register) words = operand 2 contents_of words (λ contents. ended 3 (Store (changes.General register contents)))
+change_of (places.Control register) words = Err (Operand 1)
+change_of (places.Key address) words = Err (Operand 1)
 change_of (places.Storage address) words = operand 2 bytes_of words (λ bytes. ended 3 (Store (changes.Storage address bytes)))
 
 -- `STORE`, a place and what it is given
@@ -64,6 +75,7 @@ abbrev pub command_named : List ℕ → List (List ℕ) → Result Command Comma
 command_named name operands =
     if bytes_eq name (codes "LOGON") then logon_of operands
     else if bytes_eq name (codes "BEGIN") then begin_of operands
+    else if bytes_eq name (codes "EXTERNAL") then external_of operands
     else if bytes_eq name (codes "DISPLAY") then display_of operands
     else if bytes_eq name (codes "STORE") then store_of operands
     else Err Unknown

@@ -7,7 +7,7 @@ use Rattle.cp_console.specs.declared.commands.Place.{Place}
 use Rattle.cp_console.specs.declared.commands.Place.TheVariants as places
 use Rattle.cp_console.specs.declared.commands.Change.TheVariants as changes
 use Rattle.cp_console.specs.declared.commands.Command.{Command}
-use Rattle.cp_console.specs.declared.commands.Command.TheVariants.{Nothing, Logon, Begin, Display, Store}
+use Rattle.cp_console.specs.declared.commands.Command.TheVariants.{Nothing, Logon, Begin, External, Display, Store}
 use Rattle.cp_console.specs.declared.commands.CommandError.{CommandError}
 use Rattle.cp_console.specs.declared.commands.CommandError.TheVariants.{Memory, Unknown, Operand}
 
@@ -50,6 +50,7 @@ Spells words Nothing = words ≡ []
 Spells words Logon = words ≡ codes "LOGON" ∷ []
 Spells words (Begin None) = words ≡ codes "BEGIN" ∷ []
 Spells words (Begin (Some address)) = SpellsBegin words address
+Spells words External = words ≡ codes "EXTERNAL" ∷ []
 Spells words (Display place) = SpellsDisplay words place
 Spells words (Store (changes.Psw psw)) = SpellsPsw words psw
 Spells words (Store (changes.General register contents)) = SpellsStore contents_of words (places.General register) contents

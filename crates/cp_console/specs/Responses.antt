@@ -1,9 +1,9 @@
 -- The texts of responses, and which of them a console keeps.
 use Rattle.std.specs.Prelude.{ℕ, ◌+◌, ◌*◌, ◌/◌, ◌%◌, ◌^◌, Bool, true, false, List, ◌++◌, codes, decimal, slice_range}
 use Rattle.std.specs.Int.{w32, from_be_bytes}
-use Rattle.s370_num.specs.Address.{address_text, word_text}
+use Rattle.s370_num.specs.Address.{address_text, two_digits, word_text}
 use Rattle.cp_console.specs.declared.responses.Response.{Response}
-use Rattle.cp_console.specs.declared.responses.Response.TheVariants.{LogonOk, AlreadyLoggedOn, NotLoggedOn, Psw, General, Storage, Stored, AddressPastStorage, UnknownCommand, BadOperand, NoConsole, StoppedDisabledWait, StoppedEcMode}
+use Rattle.cp_console.specs.declared.responses.Response.TheVariants.{LogonOk, AlreadyLoggedOn, NotLoggedOn, Psw, General, Control, Key, Storage, Stored, AddressPastStorage, UnknownCommand, BadOperand, NoConsole, StoppedDisabledWait, StoppedEcMode}
 
 -- the word that four bytes are, from this one on
 abbrev pub word_at : List ℕ → ℕ → ℕ
@@ -13,9 +13,17 @@ word_at bytes at = from_be_bytes w32 (slice_range bytes at (at + 4))
 abbrev pub psw_text : ℕ → List ℕ
 psw_text psw = codes "PSW " ++ word_text (psw / 2 ^ 32) ++ codes " " ++ word_text (psw % 2 ^ 32)
 
--- a register's number and contents
+-- a general register's number and contents
 abbrev pub general_text : ℕ → ℕ → List ℕ
 general_text register contents = codes "GPR " ++ (decimal register ++ (codes " = " ++ word_text contents))
+
+-- a control register's number and contents
+abbrev pub control_text : ℕ → ℕ → List ℕ
+control_text register contents = codes "CR " ++ (decimal register ++ (codes " = " ++ word_text contents))
+
+-- the address rounded down to a multiple of 2048, and the five bits of the key of that block at the left of a byte
+abbrev pub key_text : ℕ → ℕ → List ℕ
+key_text address key = codes "KEY " ++ (address_text (address / 2048 * 2048) ++ (codes " = " ++ two_digits (key * 8)))
 
 -- the address rounded down to a multiple of sixteen, and the four words of storage there
 abbrev pub storage_text : ℕ → List ℕ → List ℕ
@@ -35,6 +43,8 @@ text_of AlreadyLoggedOn = codes "ALREADY LOGGED ON"
 text_of NotLoggedOn = codes "NOT LOGGED ON"
 text_of (Psw psw) = psw_text psw
 text_of (General register contents) = general_text register contents
+text_of (Control register contents) = control_text register contents
+text_of (Key address key) = key_text address key
 text_of (Storage address bytes) = storage_text address bytes
 text_of Stored = codes "STORED"
 text_of AddressPastStorage = codes "ADDRESS PAST STORAGE"
@@ -51,6 +61,8 @@ is_panel AlreadyLoggedOn = false
 is_panel NotLoggedOn = false
 is_panel (Psw psw) = true
 is_panel (General register contents) = true
+is_panel (Control register contents) = true
+is_panel (Key address key) = true
 is_panel (Storage address bytes) = true
 is_panel Stored = true
 is_panel AddressPastStorage = true

@@ -1,6 +1,6 @@
 //! The commands, and how their texts are read.
 ghost use Rattle.std.specs.Prelude.{◌≡◌, [], ◌∷◌, MatchResult};
-ghost use Rattle.cp_console.specs.Commands.{begin_of, change_of, command_named, command_of, display_of, ended, logon_of, numbered_place, place_of, store_of};
+ghost use Rattle.cp_console.specs.Commands.{begin_of, change_of, command_named, command_of, display_of, ended, external_of, logon_of, numbered_place, place_of, store_of};
 ghost use Rattle.cp_console.specs.Grammar.{ReadsGrammar};
 ghost use Rattle.cp_text.specs.Words.{words_of};
 
@@ -16,6 +16,10 @@ pub enum Place {
     Psw,
     /// A general register.
     General(Register),
+    /// A control register, which is only displayed.
+    Control(Register),
+    /// The key of the block of storage in which an address lies, which is only displayed.
+    Key(Addr24),
     /// Storage at an address.
     Storage(Addr24),
 }
@@ -40,6 +44,8 @@ pub enum Command {
     Logon,
     /// `BEGIN`: the machine runs, at an address where one is given.
     Begin(Option<Addr24>),
+    /// `EXTERNAL`: the interrupt key is pressed.
+    External,
     /// `DISPLAY`.
     Display(Place),
     /// `STORE`.
@@ -84,6 +90,8 @@ fn read_named(name: &[u8], operands: &[u8]) -> Result<Command, CommandError>
         ended(1, Command::Logon, operands)
     } else if name == b"BEGIN".as_slice() {
         read_begin(operands)
+    } else if name == b"EXTERNAL".as_slice() {
+        ended(1, Command::External, operands)
     } else if name == b"DISPLAY".as_slice() {
         read_display(operands)
     } else if name == b"STORE".as_slice() {
@@ -139,6 +147,7 @@ fn read_store(operands: &[u8]) -> Result<Command, CommandError>
     match place {
         Place::Psw => read_psw(rest),
         Place::General(register) => read_general(register, rest),
+        Place::Control(_) | Place::Key(_) => Err(CommandError::Operand(1)),
         Place::Storage(address) => read_storage(address, rest),
     }
 }
@@ -173,7 +182,7 @@ fn read_storage(address: Addr24, operands: &[u8]) -> Result<Command, CommandErro
     ended(3, Command::Store(Change::Storage(address, bytes)), rest)
 }
 
-/// What is displayed or changed: `PSW`, a register or storage.
+/// What is displayed or changed: `PSW`, a register, a key or storage.
 fn place_of(word: &[u8]) -> Option<Place>
     ensures { result ≡ place_of word.now }
 {
@@ -182,6 +191,8 @@ fn place_of(word: &[u8]) -> Option<Place>
     }
     match word {
         [b'G', number @ ..] => Some(Place::General(register_of(number)?)),
+        [b'X', number @ ..] => Some(Place::Control(register_of(number)?)),
+        [b'K', address @ ..] => Some(Place::Key(address_of(address)?)),
         _ => Some(Place::Storage(address_of(word)?)),
     }
 }

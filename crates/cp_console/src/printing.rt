@@ -1,10 +1,10 @@
 //! The texts of responses.
 ghost use Rattle.std.specs.Prelude.{◌≡◌, ◌+◌, ◌*◌, ◌/◌, ◌≤◌, IfOk, length, string_bytes};
-ghost use Rattle.cp_console.specs.Responses.{general_text, psw_text, storage_text, text_of, word_at};
+ghost use Rattle.cp_console.specs.Responses.{control_text, general_text, key_text, psw_text, storage_text, text_of, word_at};
 
 use crate::responses::Response;
 use byteorder::{BigEndian, ByteOrder};
-use s370_num::{Addr24, Register, Word};
+use s370_num::{Addr24, Register, StorageKey, Word};
 use std::alloc::{AllocError, Global};
 
 /// The text of a response, without the end of a line. Only want of memory is an error.
@@ -24,6 +24,8 @@ fn response_text(alloc: Global, response: &Response) -> Result<String, AllocErro
         Response::NotLoggedOn => "NOT LOGGED ON".to_string(alloc),
         Response::Psw(psw) => psw_text(alloc, *psw),
         Response::General(register, contents) => general_text(alloc, *register, *contents),
+        Response::Control(register, contents) => control_text(alloc, *register, *contents),
+        Response::Key(address, key) => key_text(alloc, *address, *key),
         Response::Storage(address, bytes) => storage_text(alloc, *address, bytes),
         Response::Stored => "STORED".to_string(alloc),
         Response::AddressPastStorage => "ADDRESS PAST STORAGE".to_string(alloc),
@@ -44,12 +46,36 @@ fn psw_text(alloc: Global, psw: u64) -> Result<String, AllocError>
     format!(in alloc; "PSW {left} {right}")
 }
 
-/// A register's number and contents.
+/// A general register's number and contents.
 fn general_text(alloc: Global, register: Register, contents: Word) -> Result<String, AllocError>
     ensures { IfOk result (λ text. string_bytes text ≡ general_text register contents) }
 {
     let number = register.number();
     format!(in alloc; "GPR {number} = {contents}")
+}
+
+/// A control register's number and contents.
+fn control_text(alloc: Global, register: Register, contents: Word) -> Result<String, AllocError>
+    ensures { IfOk result (λ text. string_bytes text ≡ control_text register contents) }
+{
+    let number = register.number();
+    format!(in alloc; "CR {number} = {contents}")
+}
+
+/// The address of a block of storage, and its key.
+fn key_text(alloc: Global, address: Addr24, key: StorageKey) -> Result<String, AllocError>
+    ensures { IfOk result (λ text. string_bytes text ≡ key_text address key) }
+{
+    let block = block_of(address);
+    let bits = key.get() * 8;
+    format!(in alloc; "KEY {block} = {bits:02X}")
+}
+
+/// The address rounded down to a multiple of 2048.
+fn block_of(address: Addr24) -> Addr24
+    ensures { result ≡ address / 2048 * 2048 }
+{
+    Addr24::wrapping(address.get() / 2048 * 2048)
 }
 
 /// The address of a line of storage, and its four words.

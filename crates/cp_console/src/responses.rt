@@ -2,7 +2,7 @@
 ghost use Rattle.std.specs.Prelude.{◌≡◌};
 ghost use Rattle.cp_console.specs.Responses.{is_panel};
 
-use s370_num::{Addr24, Register, Word};
+use s370_num::{Addr24, Register, StorageKey, Word};
 
 /// What the control program says on a console.
 #[derive(Clone, Copy, Debug, PartialEq, Eq)]
@@ -17,6 +17,10 @@ pub enum Response {
     Psw(u64),
     /// The contents of a general register.
     General(Register, Word),
+    /// The contents of a control register.
+    Control(Register, Word),
+    /// An address of storage, and the key of the block in which it lies.
+    Key(Addr24, StorageKey),
     /// An address of storage, and the sixteen bytes at that address rounded down to a multiple of sixteen.
     Storage(Addr24, [u8; 16]),
     /// What was to be stored was.
@@ -43,6 +47,8 @@ impl Response {
         match self {
             Response::Psw(_)
             | Response::General(_, _)
+            | Response::Control(_, _)
+            | Response::Key(_, _)
             | Response::Storage(_, _)
             | Response::Stored
             | Response::AddressPastStorage

@@ -3,7 +3,7 @@ use crate::commands::{Change, Command, CommandError, Place, read_command};
 use crate::lines::{Asked, ConsoleText, asked_of};
 use crate::printing::reply;
 use crate::responses::Response;
-use s370_num::{Addr24, Register, Word};
+use s370_num::{Addr24, Register, StorageKey, Word};
 use std::test::Fail;
 
 // A tab and a character outside the alphabet become blanks, and the 131st character is cut.
@@ -44,6 +44,19 @@ fn reads_commands(rt: HostRuntime) {
             b"DISPLAY G15".as_slice(),
             Command::Display(Place::General(Register::new(15))),
         ),
+        (
+            b"DISPLAY X0".as_slice(),
+            Command::Display(Place::Control(Register::new(0))),
+        ),
+        (
+            b"DISPLAY X15".as_slice(),
+            Command::Display(Place::Control(Register::new(15))),
+        ),
+        (
+            b"DISPLAY K1000".as_slice(),
+            Command::Display(Place::Key(page_one)),
+        ),
+        (b" EXTERNAL ".as_slice(), Command::External),
         (
             b"DISPLAY  1000".as_slice(),
             Command::Display(Place::Storage(page_one)),
@@ -95,6 +108,8 @@ fn refuses_what_is_no_command(rt: HostRuntime) {
         b"FOO".as_slice(),
         b"logon".as_slice(),
         b"LOGONX 1".as_slice(),
+        b"EXT".as_slice(),
+        b"external".as_slice(),
         b"#CP LOGON".as_slice(),
     ] {
         assert_eq!(rt; read_command(text), Err(CommandError::Unknown));
@@ -109,10 +124,17 @@ fn refuses_what_is_no_command(rt: HostRuntime) {
         (b"DISPLAY G01".as_slice(), 1),
         (b"DISPLAY G".as_slice(), 1),
         (b"DISPLAY 2a".as_slice(), 1),
-        (b"DISPLAY X1".as_slice(), 1),
-        (b"DISPLAY K0".as_slice(), 1),
+        (b"DISPLAY X".as_slice(), 1),
+        (b"DISPLAY X16".as_slice(), 1),
+        (b"DISPLAY X01".as_slice(), 1),
+        (b"DISPLAY X1 X2".as_slice(), 2),
+        (b"DISPLAY K".as_slice(), 1),
+        (b"DISPLAY K1000000".as_slice(), 1),
+        (b"DISPLAY Kg".as_slice(), 1),
+        (b"EXTERNAL 1".as_slice(), 1),
         (b"DISPLAY PSW PSW".as_slice(), 2),
         (b"STORE X1 00000000".as_slice(), 1),
+        (b"STORE K800 F8".as_slice(), 1),
         (b"STORE 100".as_slice(), 2),
         (b"STORE 100 0".as_slice(), 2),
         (
@@ -141,6 +163,16 @@ fn prints_responses(rt: HostRuntime) -> Result<(), Fail> {
         (
             Response::General(Register::new(1), Word::from_unsigned(0xABCD_0000)),
             "GPR 1 = ABCD0000",
+            true,
+        ),
+        (
+            Response::Control(Register::new(0), Word::from_unsigned(0xE0)),
+            "CR 0 = 000000E0",
+            true,
+        ),
+        (
+            Response::Key(Addr24::wrapping(0xFFF), StorageKey::new(0x1F)),
+            "KEY 000800 = F8",
             true,
         ),
         (

@@ -11,10 +11,11 @@ use Rattle.s370_intr.specs.declared.run.Ran.{Ran as RanUnits}
 use Rattle.cp_console.specs.declared.responses.Response.{Response}
 use Rattle.cp_panel.specs.Run.{MachineRun, TellsRun}
 use Rattle.cp_panel.specs.Panel.{Answer, line}
+use Rattle.cp_panel.specs.Tick.{ticked}
 use Rattle.bare_machine.specs.Life.{Event as Local, Units, Line as Typed, life, after}
 use Rattle.cp_core.specs.declared.events.Ended.{Ended}
 use Rattle.cp_core.specs.declared.events.Ended.TheVariants.{Ran, Done, FramesOut}
-use Rattle.cp_core.specs.System.{SystemView, nobody, machine_at, units_of, run_of, line_of, local, own, Step, IsHistory, EachIsBare, IsApplied}
+use Rattle.cp_core.specs.System.{SystemView, nobody, machine_at, units_of, run_of, line_of, tick_of, local, own, Step, IsHistory, EachIsBare, IsApplied}
 
 -- where one user's machine changes, and to that user the events do this, to every user his own events do what they do
 named_alone : (old new : SystemView) (user : ℕ) (events : List Local) → new.machines ≡ set old.machines user (machine_at new user) → machine_at new user ≡ life events (machine_at old user) → (u : ℕ) (b : Bool) → (user == u) ≡ b → machine_at new u ≡ life (if b then events else []) (machine_at old u)
@@ -44,6 +45,13 @@ line_applied old new user typed said e h u =
 -- a line that nothing came of
 pub nothing_applied : (old new : SystemView) (user : ℕ) (typed : List ℕ) → new.machines ≡ set old.machines user (machine_at new user) → machine_at new user ≡ machine_at old user → (u : ℕ) → machine_at new u ≡ life (if user == u then line_of typed FramesOut else []) (machine_at old u)
 nothing_applied old new user typed e h u = named_alone old new user (line_of typed FramesOut) e h u (user == u) refl
+
+pub tick_applied : (old new : SystemView) (user : ℕ) → new.machines ≡ set old.machines user (machine_at new user) → machine_at new user ≡ ticked (machine_at old user) → (u : ℕ) → machine_at new u ≡ life (if user == u then tick_of Done else []) (machine_at old u)
+tick_applied old new user e h u = named_alone old new user (tick_of Done) e h u (user == u) refl
+
+-- a tick that nothing came of
+pub no_tick_applied : (old new : SystemView) (user : ℕ) → new.machines ≡ set old.machines user (machine_at new user) → machine_at new user ≡ machine_at old user → (u : ℕ) → machine_at new u ≡ life (if user == u then tick_of FramesOut else []) (machine_at old u)
+no_tick_applied old new user e h u = named_alone old new user (tick_of FramesOut) e h u (user == u) refl
 
 -- events and then more events
 life_on : (es fs : List Local) (m : Machine) → life (es ++ fs) m ≡ life fs (life es m)

@@ -2,3 +2,4 @@ pub mod Systems
 pub mod Histories
 pub mod Boots
 pub mod Kept
+pub mod Loans

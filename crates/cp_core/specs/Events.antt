@@ -1,14 +1,16 @@
 -- Events and their users.
 use Rattle.std.specs.Prelude.{ℕ, List}
 use Rattle.cp_core.specs.declared.events.Event.{Event}
-use Rattle.cp_core.specs.declared.events.Event.TheVariants.{Run, Line}
+use Rattle.cp_core.specs.declared.events.Event.TheVariants.{Run, Line, Tick}
 
 -- the user whom an event names
 abbrev pub user_of : Event → ℕ
 user_of (Run user units) = user
 user_of (Line user typed) = user
+user_of (Tick user) = user
 
 -- the events that may take memory
 abbrev pub MayTakeMemory : Event → Type 0
 MayTakeMemory (Run user units) = ⊥
 MayTakeMemory (Line user typed) = Unit {0}
+MayTakeMemory (Tick user) = ⊥

@@ -12,13 +12,14 @@ use Rattle.cp_frames.specs.Supplied.{IsFilled}
 use Rattle.cp_panel.specs.Machine.{Machine, unused}
 use Rattle.cp_panel.specs.Run.{MachineRun, TellsRun}
 use Rattle.cp_panel.specs.Panel.{Answer, line, line_needs, switches_on}
-use Rattle.bare_machine.specs.Life.{Event as Local, Units, Line as Typed, life}
+use Rattle.cp_panel.specs.Tick.{TickNeeds, ticked}
+use Rattle.bare_machine.specs.Life.{Event as Local, Units, Line as Typed, Tick as Ticked, life}
 use Rattle.cp_core.specs.UserMachines.{UserParts, machine_of, IsShort}
 use Rattle.cp_core.specs.Events.{user_of}
 use Rattle.cp_core.specs.declared.events.Ended.{Ended}
 use Rattle.cp_core.specs.declared.events.Ended.TheVariants.{Ran, Done, FramesOut}
 use Rattle.cp_core.specs.declared.events.Event.{Event}
-use Rattle.cp_core.specs.declared.events.Event.TheVariants.{Run, Line}
+use Rattle.cp_core.specs.declared.events.Event.TheVariants.{Run, Line, Tick}
 use Rattle.cp_core.specs.declared.events.Reply.{Reply}
 
 -- each user's machine, the users of the directory, the page in each frame, which frames are pinned, and whether want of
@@ -77,10 +78,17 @@ line_of typed Done = Typed typed ∷ []
 line_of typed (Ran ran) = []
 line_of typed FramesOut = []
 
+-- neither is a tick
+abbrev pub tick_of : Ended → List Local
+tick_of Done = Ticked ∷ []
+tick_of (Ran ran) = []
+tick_of FramesOut = []
+
 -- what an event is to the machine of the user whom it names, by the reply
 abbrev pub local_event : Event → Reply → List Local
 local_event (Run user asked) reply = run_of asked reply.ended
 local_event (Line user typed) reply = line_of typed.now reply.ended
+local_event (Tick user) reply = tick_of reply.ended
 
 -- what an event is to a user's machine
 abbrev pub local : ℕ → Event → Reply → List Local
@@ -104,12 +112,20 @@ TellsOfLine typed old reply FramesOut new is_short =
     (reply.said ≡ None) × (new ≡ old) × IsLacking (Touches (line_needs typed old)) (length old.core.processor.bytes) is_short
 TellsOfLine typed old reply (Ran ran) new is_short = ⊥
 
+abbrev pub TellsOfTick : Machine → Reply → Ended → Machine → (ℕ → Type 0) → Type 0
+TellsOfTick old reply Done new is_short = (reply.said ≡ None) × (new ≡ ticked old)
+TellsOfTick old reply FramesOut new is_short =
+    (reply.said ≡ None) × (new ≡ old) × IsLacking (TickNeeds old) (length old.core.processor.bytes) is_short
+TellsOfTick old reply (Ran ran) new is_short = ⊥
+
 -- the reply tells what a bare machine tells, or that frames are lacking
 abbrev pub IsTold : SystemView → Event → Reply → SystemView → Type 0
 IsTold old (Run user asked) reply new =
     TellsOfRun asked (machine_at old user) reply reply.ended (machine_at new user) (IsShort new.owners user)
 IsTold old (Line user typed) reply new =
     TellsOfLine typed.now (machine_at old user) reply reply.ended (machine_at new user) (IsShort new.owners user)
+IsTold old (Tick user) reply new =
+    TellsOfTick (machine_at old user) reply reply.ended (machine_at new user) (IsShort new.owners user)
 
 -- ---- the supply of frames
 
@@ -119,15 +135,17 @@ RunAsks m Done page = ⊥
 RunAsks m FramesOut page = ⊥
 
 -- a page that an event needs: of a unit that was done, or of the one that lacked a page; of the bytes that a line shows or
--- changes
+-- changes; of the timer of a machine that runs
 abbrev pub EventNeeds : SystemView → Event → Reply → ℕ → Type 0
 EventNeeds old (Run user asked) reply page = RunAsks (machine_at old user) reply.ended page
 EventNeeds old (Line user typed) reply page = Touches (line_needs typed.now (machine_at old user)) page
+EventNeeds old (Tick user) reply page = TickNeeds (machine_at old user) page
 
 -- whether an event switches a machine on, which gives back all the user's pages
 abbrev pub gives_back : SystemView → Event → Bool
 gives_back old (Run user asked) = false
 gives_back old (Line user typed) = switches_on typed.now (machine_at old user)
+gives_back old (Tick user) = false
 
 -- pages that an event needs were put into frames that were free, and no page has left its frame
 abbrev pub IsFilledFor : SystemView → Event → Reply → SystemView → Type 0

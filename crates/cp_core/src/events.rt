@@ -13,6 +13,8 @@ pub enum Event<'a> {
     Run(UserNo, u32),
     /// A user types a line.
     Line(UserNo, &'a [u8]),
+    /// The interval timer of a user's machine ticks.
+    Tick(UserNo),
 }
 
 impl<'a> Event<'a> {
@@ -25,6 +27,7 @@ impl<'a> Event<'a> {
         match self {
             Event::Run(user, _) => *user,
             Event::Line(user, _) => *user,
+            Event::Tick(user) => *user,
         }
     }
 }
@@ -48,6 +51,20 @@ pub struct Reply {
     /// The line that is printed at the terminal of the user whom the event names, if there is one: the response to a
     /// line, or the notice of a machine that stopped.
     pub said: Option<Response>,
+}
+
+impl Reply {
+    /// The event is done, and nothing is said.
+    pub(crate) const DONE: Reply = Reply {
+        ended: Ended::Done,
+        said: None,
+    };
+
+    /// No frame is free, and nothing is said.
+    pub(crate) const OUT_OF_FRAMES: Reply = Reply {
+        ended: Ended::FramesOut,
+        said: None,
+    };
 }
 
 /// Why an event was refused.

@@ -3,7 +3,8 @@
 //! Its one theorem: whatever the events, each user has the machine that a bare System/370 is after that user's own events
 //! ([`System::apply`], clause `views`, and [`each_is_bare`] for whole histories); each reply tells what a bare machine
 //! tells, or that frames are lacking (`told`); and only pages that the event needs are brought into frames, which are
-//! given back where the machine is switched on (`supplied`).
+//! given back where the machine is switched on (`supplied`). What is written to a frame that is lent
+//! ([`System::frame_mut`]) is the content of the page that stands in it, and all else stays.
 //!
 //! It is given a directory and the number of frames ([`System::boot`]), and then one event after another.
 //!
@@ -16,11 +17,13 @@
 
 mod boot;
 mod events;
+mod loan;
 mod system;
 mod user_machine;
 mod views;
 
 pub use boot::Sizes;
+pub use cp_frames::{FRAME_SIZE, FrameNo};
 pub use events::{BootError, CpError, Ended, Event, Reply};
 pub use system::{System, each_is_bare};
 

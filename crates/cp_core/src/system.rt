@@ -1,11 +1,12 @@
 //! The system: its users, their machines and the frames that they share.
-ghost use Rattle.std.specs.Prelude.{◌≡◌, ◌<◌, ◌≤◌, ◌↔◌, ℕ, List, Err, true, false, IsOk, IfOk, OnErr, length, slice_set};
+ghost use Rattle.std.specs.Prelude.{◌≡◌, ◌<◌, ◌≤◌, ◌↔◌, ℕ, List, Err, true, false, IsOk, IfOk, OnErr, OnOk, length, slice_set};
 ghost use Rattle.s370_store.specs.Access.{Touches};
 ghost use Rattle.s370_intr.specs.Run.{AllNeeded, IsLacking, RunNeeds};
 ghost use Rattle.cp_frames.specs.Supplied.{IsFilled};
 ghost use Rattle.cp_panel.specs.declared.line.LineError.TheVariants as errors;
 ghost use Rattle.cp_panel.specs.Run.{TellsRun};
 ghost use Rattle.cp_panel.specs.Panel.{line, line_needs, line_room, switches_on};
+ghost use Rattle.cp_panel.specs.Tick.{TickNeeds, ticked};
 ghost use Rattle.cp_core.specs.Events.{MayTakeMemory, user_of};
 ghost use Rattle.cp_core.specs.UserMachines.{IsShort};
 ghost use Rattle.cp_core.specs.System.{EachIsBare, IsApplied, IsGivenBack, IsSupplied, IsTold, SystemView, machine_at};
@@ -16,6 +17,8 @@ use cp_console::responses::Response;
 use cp_directory::Directory;
 use cp_frames::{Frames, UserNo as Owner};
 use cp_panel::{LineError, MachineRan};
+use cp_users::UserNo;
+use s370_store::FramesOut;
 use std::marker::Model;
 
 /// Many users' machines on shared frames.
@@ -69,6 +72,26 @@ impl System {
         self.is_spent = true;
     }
 
+    /// The place of a user's machine, in a system that applies events.
+    fn place_of(&self, user: UserNo) -> Result<usize, CpError>
+        ensures place { IfOk result (λ place. place ≡ user) }
+        ensures inside { IsOk result → user < length self.now.machines }
+        ensures alive { IsOk result → self.now.is_spent ≡ false }
+        ensures spent { (result ≡ Err CpError.Spent) ↔ (self.now.is_spent ≡ true) }
+        ensures no_such_user { (result ≡ Err CpError.NoSuchUser) ↔ ((self.now.is_spent ≡ false) × (length self.now.machines ≤ user)) }
+        ensures not_stated { result ≡ Err CpError.NoSuchUser → length self.now.users ≤ user }
+        ensures memory { result ≡ Err CpError.Memory → ⊥ }
+    {
+        if self.is_spent() {
+            return Err(CpError::Spent);
+        }
+        let place = user.index();
+        if place >= self.users() {
+            return Err(CpError::NoSuchUser);
+        }
+        Ok(place)
+    }
+
     /// Lets a user's machine run. This takes no memory.
     fn run(&mut self, user: usize, units: u32) -> MachineRan
         requires { user < length self.old.machines }
@@ -81,6 +104,22 @@ impl System {
     {
         let machine = &mut self.machines[user];
         machine.run(&mut self.frames, Owner(user as u8), units)
+    }
+
+    /// A tick of the timer of a user's machine. This takes no memory.
+    fn tick(&mut self, user: usize) -> Result<(), FramesOut>
+        requires { user < length self.old.machines }
+        ensures ok { OnOk result (machine_at self.new user ≡ ticked (machine_at self.old user)) }
+        ensures err { OnErr result (machine_at self.new user ≡ machine_at self.old user) }
+        ensures frames { OnErr result (IsLacking (TickNeeds (machine_at self.old user)) (length (machine_at self.old user).core.processor.bytes) (IsShort self.new.owners user)) }
+        ensures supply { (pages : List ℕ) × IsFilled user self.old.owners pages self.new.owners × AllNeeded (TickNeeds (machine_at self.old user)) pages }
+        ensures machines { self.new.machines ≡ slice_set self.old.machines user (machine_at self.new user) }
+        ensures pins { self.new.pins ≡ self.old.pins }
+        ensures users { self.new.users ≡ self.old.users }
+        ensures spent { self.new.is_spent ≡ self.old.is_spent }
+    {
+        let machine = &mut self.machines[user];
+        machine.tick(&mut self.frames, Owner(user as u8))
     }
 
     /// A line that a user types.
@@ -119,15 +158,9 @@ impl System {
         ensures memory { result ≡ Err CpError.Memory → (self.new.is_spent ≡ true) × MayTakeMemory event.entry }
         ensures unchanged_without_memory { result ≡ Err CpError.Memory → (user : ℕ) → machine_at self.new user ≡ machine_at self.old user }
     {
-        if self.is_spent() {
-            return Err(CpError::Spent);
-        }
         match event {
             Event::Run(user, units) => {
-                let place = user.index();
-                if place >= self.users() {
-                    return Err(CpError::NoSuchUser);
-                }
+                let place = self.place_of(user)?;
                 let MachineRan { ran, notice } = self.run(place, units);
                 Ok(Reply {
                     ended: Ended::Ran(ran),
@@ -135,23 +168,24 @@ impl System {
                 })
             }
             Event::Line(user, typed) => {
-                let place = user.index();
-                if place >= self.users() {
-                    return Err(CpError::NoSuchUser);
-                }
+                let place = self.place_of(user)?;
                 match self.line(place, typed) {
                     Ok(said) => Ok(Reply {
                         ended: Ended::Done,
                         said,
                     }),
-                    Err(LineError::FramesOut) => Ok(Reply {
-                        ended: Ended::FramesOut,
-                        said: None,
-                    }),
+                    Err(LineError::FramesOut) => Ok(Reply::OUT_OF_FRAMES),
                     Err(LineError::Memory) => {
                         self.spend();
                         Err(CpError::Memory)
                     }
+                }
+            }
+            Event::Tick(user) => {
+                let place = self.place_of(user)?;
+                match self.tick(place) {
+                    Ok(()) => Ok(Reply::DONE),
+                    Err(FramesOut) => Ok(Reply::OUT_OF_FRAMES),
                 }
             }
         }

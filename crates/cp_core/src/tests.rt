@@ -82,6 +82,7 @@ fn apply(rt: &impl Abort, system: &mut System, event: &Event<'_>) -> Result<Repl
     let answer = match *event {
         Event::Run(user, units) => system.apply(Event::Run(user, units)),
         Event::Line(user, typed) => system.apply(Event::Line(user, typed)),
+        Event::Tick(user) => system.apply(Event::Tick(user)),
     };
     match answer {
         Err(CpError::Memory) => {

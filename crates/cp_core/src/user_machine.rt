@@ -1,5 +1,5 @@
 //! A user's machine, of which the storage stands in frames.
-ghost use Rattle.std.specs.Prelude.{◌≡◌, ◌<◌, ◌≤◌, ◌*◌, ℕ, List, Err, IfOk, OnErr, length, replicate, slice_set, true, false};
+ghost use Rattle.std.specs.Prelude.{◌≡◌, ◌<◌, ◌≤◌, ◌*◌, ℕ, List, Err, IfOk, OnErr, OnOk, length, replicate, slice_set, true, false};
 ghost use Rattle.s370_store.specs.Access.{Touches};
 ghost use Rattle.s370_intr.specs.Run.{AllNeeded, IsLacking, RunNeeds};
 ghost use Rattle.cp_frames.specs.Layout.{bytes_of, cleared_of, is_there};
@@ -8,6 +8,7 @@ ghost use Rattle.cp_panel.specs.declared.line.LineError.TheVariants as errors;
 ghost use Rattle.cp_panel.specs.Machine.{machine_of as parts_with, unused};
 ghost use Rattle.cp_panel.specs.Run.{TellsRun};
 ghost use Rattle.cp_panel.specs.Panel.{line, line_needs, line_room, switches_on};
+ghost use Rattle.cp_panel.specs.Tick.{TickNeeds, ticked};
 ghost use Rattle.cp_core.specs.UserMachines.{Fits, IsShort, machine_of};
 
 use cp_console::responses::Response;
@@ -15,6 +16,7 @@ use cp_frames::{Dat, Frames, UserNo};
 use cp_panel::{LineError, Machine, MachineRan};
 use cp_trap::VirtualCpu;
 use s370_num::StorageKey;
+use s370_store::FramesOut;
 use std::alloc::{AllocError, Global};
 use std::marker::Model;
 
@@ -60,6 +62,23 @@ impl UserMachine {
         ensures fits { Fits self.new (bytes_of frames.new user.0) }
     {
         run_over(&mut self.machine, frames, &mut self.keys, user, count)
+    }
+
+    /// A tick of the interval timer. Where there is no room for the page that it needs, nothing has happened. This takes
+    /// no memory.
+    pub fn tick(&mut self, frames: &mut Frames, user: UserNo) -> Result<(), FramesOut>
+        requires { Fits self.old (bytes_of frames.old user.0) }
+        ensures ok { OnOk result (machine_of self.new (bytes_of frames.new user.0) ≡ ticked (machine_of self.old (bytes_of frames.old user.0))) }
+        ensures err { OnErr result (machine_of self.new (bytes_of frames.new user.0) ≡ machine_of self.old (bytes_of frames.old user.0)) }
+        ensures frames { let before = machine_of self.old (bytes_of frames.old user.0) in
+            OnErr result (IsLacking (TickNeeds before) (length before.core.processor.bytes) (IsShort frames.new.owners user.0)) }
+        ensures supply { let before = machine_of self.old (bytes_of frames.old user.0) in
+            (pages : List ℕ) × IsFilled user.0 frames.old.owners pages frames.new.owners × AllNeeded (TickNeeds before) pages }
+        ensures pins { frames.new.pins ≡ frames.old.pins }
+        ensures others { frames.new.storages ≡ slice_set frames.old.storages user.0 (bytes_of frames.new user.0) }
+        ensures fits { Fits self.new (bytes_of frames.new user.0) }
+    {
+        tick_over(&mut self.machine, frames, &mut self.keys, user)
     }
 
     /// A line that is typed, and the response, if there is one. Where it is not obeyed nothing has happened.
@@ -111,6 +130,33 @@ fn run_over(
 {
     let mut dat = Dat::new(frames, keys, user);
     machine.run::<VirtualCpu, Dat<'_>>(&mut dat, count)
+}
+
+/// A tick of a machine whose storage is lent from frames.
+fn tick_over(
+    machine: &mut Machine,
+    frames: &mut Frames,
+    keys: &mut [StorageKey],
+    user: UserNo,
+) -> Result<(), FramesOut>
+    requires large { 8192 ≤ length (bytes_of frames.old user.0) }
+    requires keyed { length (bytes_of frames.old user.0) ≤ 2048 * length keys.old }
+    ensures ok { let before = parts_with machine.old (bytes_of frames.old user.0) keys.old in
+        let after = parts_with machine.new (bytes_of frames.new user.0) keys.new in
+        OnOk result (after ≡ ticked before) }
+    ensures err { let before = parts_with machine.old (bytes_of frames.old user.0) keys.old in
+        let after = parts_with machine.new (bytes_of frames.new user.0) keys.new in
+        OnErr result (after ≡ before) }
+    ensures frames { let before = parts_with machine.old (bytes_of frames.old user.0) keys.old in
+        OnErr result (IsLacking (TickNeeds before) (length (bytes_of frames.old user.0)) (IsShort frames.new.owners user.0)) }
+    ensures supply { let before = parts_with machine.old (bytes_of frames.old user.0) keys.old in
+        (pages : List ℕ) × IsFilled user.0 frames.old.owners pages frames.new.owners × AllNeeded (TickNeeds before) pages }
+    ensures pins { frames.new.pins ≡ frames.old.pins }
+    ensures others { frames.new.storages ≡ slice_set frames.old.storages user.0 (bytes_of frames.new user.0) }
+    ensures size { length (bytes_of frames.new user.0) ≡ length (bytes_of frames.old user.0) }
+{
+    let mut dat = Dat::new(frames, keys, user);
+    machine.tick(&mut dat)
 }
 
 /// A line to a machine whose storage is lent from frames.

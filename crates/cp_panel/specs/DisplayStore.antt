@@ -1,5 +1,5 @@
 -- What the panel shows of a processor and its storage, and changes there (docs/COMMANDS.md, DISPLAY and STORE).
-use Rattle.std.specs.Prelude.{◌≡◌, ℕ, ◌+◌, ◌*◌, ◌/◌, if◌then◌else◌, nat_le, Bool, List, [], ◌∷◌, length, slice_index, slice_set, slice_range, Result, Ok, Err, ⊤}
+use Rattle.std.specs.Prelude.{◌≡◌, ℕ, ◌+◌, ◌*◌, ◌/◌, if◌then◌else◌, nat_le, nat_lt, Bool, List, [], ◌∷◌, length, slice_index, slice_set, slice_range, Result, Ok, Err, ⊤}
 use Rattle.s370_psw.specs.Fields.{fields_of, word_of}
 use Rattle.s370_store.specs.Access.{Test, put, IsAway, Touches, AreGranted}
 use Rattle.s370_store.specs.declared.Page.{Page}
@@ -14,19 +14,25 @@ use Rattle.cp_console.specs.declared.responses.Response.TheVariants as responses
 
 -- ---- DISPLAY
 
--- what a place holds: the PSW without codes, a register, or the sixteen bytes round an address, where they lie in storage
+-- what a place holds: the PSW without codes, a register, the key of an address's block, or the sixteen bytes round an
+-- address, where they lie in storage
 abbrev pub displayed : Place → State → Response
 displayed places.Psw s = responses.Psw (word_of s.cpu.psw 0 0)
 displayed (places.General r) s = responses.General r (slice_index s.cpu.general r)
+displayed (places.Control r) s = responses.Control r (slice_index s.cpu.control r)
+displayed (places.Key a) s =
+    if nat_lt a (length s.bytes) then responses.Key a (slice_index s.keys (a / 2048)) else responses.AddressPastStorage
 displayed (places.Storage a) s =
     if nat_le (a / 16 * 16 + 16) (length s.bytes)
     then responses.Storage a (slice_range s.bytes (a / 16 * 16) (a / 16 * 16 + 16))
     else responses.AddressPastStorage
 
--- the bytes of storage that are shown
+-- the bytes of storage that are shown: a key is none of them
 abbrev pub shown : Place → List Test
 shown places.Psw = []
 shown (places.General r) = []
+shown (places.Control r) = []
+shown (places.Key a) = []
 shown (places.Storage a) = record { access = Fetch; start = a / 16 * 16; count = 16 } ∷ []
 
 -- ---- STORE

@@ -5,13 +5,14 @@ use Rattle.cp_console.specs.Asked.{Asked, Stop, Command as ToControlProgram, Pla
 use Rattle.cp_console.specs.Commands.{command_of}
 use Rattle.cp_console.specs.Responses.{text_of, is_panel}
 use Rattle.cp_console.specs.declared.commands.Command.{Command}
-use Rattle.cp_console.specs.declared.commands.Command.TheVariants.{Nothing, Logon, Begin, Display, Store}
+use Rattle.cp_console.specs.declared.commands.Command.TheVariants.{Nothing, Logon, Begin, External, Display, Store}
 use Rattle.cp_console.specs.declared.commands.CommandError.{CommandError}
 use Rattle.cp_console.specs.declared.commands.CommandError.TheVariants.{Memory, Unknown, Operand}
 use Rattle.cp_console.specs.declared.responses.Response.{Response}
 use Rattle.cp_console.specs.declared.responses.Response.TheVariants as responses
 use Rattle.s370_store.specs.Access.{Test}
 use Rattle.s370_rows.specs.State.{State}
+use Rattle.s370_intr.specs.Units.{Core}
 use Rattle.cp_panel.specs.DisplayStore.{displayed, shown, stored, changed, touched}
 use Rattle.cp_panel.specs.declared.machine.Mode.{Mode}
 use Rattle.cp_panel.specs.declared.machine.Mode.TheVariants.{Off, Stopped, Running}
@@ -35,12 +36,19 @@ abbrev pub at_address : Option ℕ → State → State
 at_address None s = s
 at_address (Some a) s = record s { cpu = record s.cpu { psw = record s.cpu.psw { address = a } } }
 
+-- ---- EXTERNAL
+
+-- the interrupt key is pending from then on
+abbrev pub with_key_pressed : Core → Core
+with_key_pressed c = record c { pending = record c.pending { key = true } }
+
 -- ---- a command to a machine that is on
 
 abbrev pub obeyed : Command → Machine → Answer
 obeyed Nothing m = silent m
 obeyed Logon m = answered responses.AlreadyLoggedOn m
 obeyed (Begin address) m = silent (record m { core = record m.core { processor = at_address address m.core.processor }; mode = Running })
+obeyed External m = silent (record m { core = with_key_pressed m.core })
 obeyed (Display place) m = answered (displayed place m.core.processor) m
 obeyed (Store change) m =
     answered (stored change m.core.processor) (record m { core = record m.core { processor = changed change m.core.processor } })
@@ -88,6 +96,7 @@ command_needs (Ok (Store change)) = touched change
 command_needs (Ok Nothing) = []
 command_needs (Ok Logon) = []
 command_needs (Ok (Begin address)) = []
+command_needs (Ok External) = []
 command_needs (Err fault) = []
 
 abbrev pub plain_needs : Mode → List ℕ → List Test
@@ -116,6 +125,7 @@ command_room (Ok (Store change)) = 2
 command_room (Ok (Begin address)) = 1
 command_room (Ok Nothing) = 0
 command_room (Ok Logon) = 0
+command_room (Ok External) = 0
 command_room (Err fault) = 0
 
 abbrev pub plain_room : Mode → List ℕ → ℕ

@@ -35,6 +35,13 @@ impl Machine {
         Ok(())
     }
 
+    /// EXTERNAL: the interrupt key is pressed.
+    pub(crate) fn external(&mut self)
+        ensures { (bytes keys : List ℕ) → obeyed commands.External (machine_of self.old bytes keys) ≡ record { machine = machine_of self.new bytes keys; reply = None } }
+    {
+        self.pending.key = true;
+    }
+
     /// DISPLAY. A machine that runs keeps the room for the notice of its stop.
     pub(crate) fn display<S: Supply>(
         &mut self,

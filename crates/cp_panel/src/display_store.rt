@@ -2,7 +2,7 @@
 ghost use Rattle.std.specs.Prelude.{◌≡◌, ◌*◌, ◌+◌, ◌/◌, ◌≤◌, ℕ, [], ◌∷◌, length, Result};
 ghost use Rattle.s370_rows.specs.State.{state_of};
 ghost use Rattle.s370_store.specs.Access.{tested};
-ghost use Rattle.cp_panel.specs.DisplayStore.{Changes, Displays, Reaches};
+ghost use Rattle.cp_panel.specs.DisplayStore.{Changes, Displays, Reaches, displayed};
 
 use cp_console::StoredBytes;
 use cp_console::commands::{Change, Place};
@@ -10,12 +10,12 @@ use cp_console::responses::Response;
 use s370_num::{AccessKey, Addr24, Word};
 use s370_psw::{Ilc, Psw};
 use s370_rows::Cpu;
-use s370_store::{Access, Fault, Page, Range, Storage};
+use s370_store::{Access, BLOCK_SIZE, Fault, Keyed, Page, Range, Storage};
 
 /// What a place holds.
-pub fn display<S: Storage>(place: Place, cpu: &Cpu, storage: &S) -> Result<Response, Page>
-    ensures { let s = state_of cpu.now (S.bytes storage.now) (S.keys storage.now) in
-        Displays place (S.present storage.now) s result }
+pub fn display<S: Keyed>(place: Place, cpu: &Cpu, storage: &S) -> Result<Response, Page>
+    ensures { let s = state_of cpu.now (S.Storage.bytes storage.now) (S.Storage.keys storage.now) in
+        Displays place (S.Storage.present storage.now) s result }
 {
     match place {
         Place::Psw => Ok(Response::Psw(cpu.psw.to_word(0, Ilc::ZERO))),
@@ -23,8 +23,24 @@ pub fn display<S: Storage>(place: Place, cpu: &Cpu, storage: &S) -> Result<Respo
             let contents = cpu.general[register.index()];
             Ok(Response::General(register, Word::from_unsigned(contents)))
         }
+        Place::Control(register) => {
+            let contents = cpu.control[register.index()];
+            Ok(Response::Control(register, Word::from_unsigned(contents)))
+        }
+        Place::Key(address) => Ok(display_key(address, cpu, storage)),
         Place::Storage(address) => display_storage(address, cpu, storage),
     }
+}
+
+/// The key of the block in which an address lies.
+fn display_key<S: Keyed>(address: Addr24, cpu: &Cpu, storage: &S) -> Response
+    ensures { let s = state_of cpu.now (S.Storage.bytes storage.now) (S.Storage.keys storage.now) in
+        result ≡ displayed (Place.Key address) s }
+{
+    if address.get() >= storage.size() {
+        return Response::AddressPastStorage;
+    }
+    Response::Key(address, storage.key_of(address.get() / BLOCK_SIZE))
 }
 
 /// The sixteen bytes round an address.

@@ -1,10 +1,10 @@
 //! The machine with its operator's panel, but for its storage: what both a bare machine and a user of the control program
 //! have, written once.
 //!
-//! Its one theorem: what a [`Machine`] does when it is let run ([`Machine::run`]) and when a line is typed
-//! ([`Machine::line`]) is what `specs/` defines (docs/MACHINE.md, docs/COMMANDS.md), over any storage that can bring its
-//! absent pages; and it brings only pages that the run or the line needs. Where there is no room for one, a run stands
-//! after the units that it tells, and a line has done nothing.
+//! Its one theorem: what a [`Machine`] does when it is let run ([`Machine::run`]), when a line is typed
+//! ([`Machine::line`]) and at a tick of its timer ([`Machine::tick`]) is what `specs/` defines (docs/MACHINE.md,
+//! docs/COMMANDS.md), over any storage that can bring its absent pages; and it brings only pages that these need. Where
+//! there is no room for one, a run stands after the units that it tells, and a line or a tick has done nothing.
 //!
 //! ```
 //! let mut machine = Machine::new(alloc);
@@ -19,6 +19,7 @@ mod display_store;
 mod line;
 mod machine;
 mod run;
+mod tick;
 
 pub use display_store::{change, display};
 pub use line::LineError;

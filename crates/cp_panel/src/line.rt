@@ -130,6 +130,10 @@ impl Machine {
                 Ok(()) => Ok(None),
                 Err(_) => Err(LineError::Memory),
             },
+            Ok(Command::External) => {
+                self.external();
+                Ok(None)
+            }
             Ok(Command::Display(place)) => self.display(storage, place),
             Ok(Command::Store(change)) => self.store(storage, change),
             Err(CommandError::Unknown) => Ok(Some(Response::UnknownCommand)),

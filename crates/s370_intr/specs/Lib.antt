@@ -1,4 +1,5 @@
 pub mod Swap
 pub mod InputOutput
 pub mod Units
+pub mod Timer
 pub mod Run

@@ -20,6 +20,7 @@ mod psw_swap;
 mod run;
 #[cfg(test)]
 mod tests;
+mod timer;
 mod unit;
 
 pub use class::Class;
@@ -27,4 +28,5 @@ pub use next::{Next, Reason, look};
 pub use pending::Pending;
 pub use psw_swap::swap;
 pub use run::{Ran, run_units};
+pub use timer::tick;
 pub use unit::{Processor, RealCpu, accept, instruct};

@@ -1,5 +1,6 @@
 -- What is read is in the grammar, and what is in the grammar is read.
 use Rattle.std.proofs.Common.{◌≡◌, ℕ, ◌+◌, ◌≤◌, inl, inr, ◌&&◌, Bool, true, false, cond, leb, List, [], ◌∷◌, ◌++◌, length, codes, Option, Some, None, Ok, Err, refl, ap, sym, ◌∙◌, subst, append_assoc, append-nil, arith}
+use Rattle.std.specs.Prelude.{is_some}
 use Rattle.std.specs.Option.{option_map, option_and_then}
 use Rattle.std.specs.Str.{bytes_eq}
 use Rattle.std.proofs.lemmas.Option.{option_and_then_some}
@@ -10,7 +11,7 @@ use Rattle.cp_text.specs.Words.{word_of, after_word}
 use Rattle.cp_text.specs.Numbers.{decimal_of}
 use Rattle.cp_users.specs.Users.{user_of}
 use Rattle.cp_text.proofs.Spellings.{chosen, parts, alone, word_whole, word_again, after_again, word_again_alone, after_again_alone}
-use Rattle.vm370.specs.Script.{Said, Run, Line, counted, is_ignored, joined, line_step, operands_of, run_of, said_of, text_of, typed_of}
+use Rattle.vm370.specs.Script.{Said, Run, Line, Tick, counted, is_ignored, joined, line_step, operands_of, run_of, said_of, text_of, tick_of, typed_of}
 use Rattle.vm370.specs.Grammar.{IsName, SaysLine, Says, IsScript, ReadsGrammar}
 
 is_word : (xs ys : List ℕ) → bytes_eq xs ys ≡ true → xs ≡ ys
@@ -56,12 +57,26 @@ typed_by names line operands e (Some user) named spelled h =
     let same : Line user (text_of (after_word operands)) ≡ e = cc in
     subst (Says names line) same (typed_on names line operands user (after_word operands) refl named spelled)
 
+ticked_by : (names : List (List ℕ)) (line operands : List ℕ) (e : Said) (o : Option (List ℕ)) (u : Option ℕ) → after_word operands ≡ o → user_of names (word_of operands) ≡ u → line ≡ codes "TICK" ++ 32 ∷ operands → cond (is_some o) None (option_map Tick u) ≡ Some e → Says names line e
+ticked_by names line operands e (Some rest) u after named spelled h = cc
+ticked_by names line operands e None None after named spelled h = cc
+ticked_by names line operands e None (Some user) after named spelled h =
+    let same : Tick user ≡ e = cc in
+    subst (Says names line) same (record {
+      name = word_of operands;
+      spelled = spelled ∙ ap (λ (l : List ℕ). codes "TICK" ++ 32 ∷ l) (sym (alone operands after));
+      named = record { whole = word_whole operands; found = named };
+    })
+
 found_on : (names : List (List ℕ)) (line verb operands : List ℕ) (e : Said) → line ≡ verb ++ 32 ∷ operands → operands_of names verb operands ≡ Some e → Says names line e
-found_on names line verb operands e spelled h = elim (chosen (bytes_eq verb (codes "RUN")) (run_of names operands) (cond (bytes_eq verb (codes "LINE")) (typed_of names operands) None) (Some e) h) [
+found_on names line verb operands e spelled h = elim (chosen (bytes_eq verb (codes "RUN")) (run_of names operands) (cond (bytes_eq verb (codes "LINE")) (typed_of names operands) (cond (bytes_eq verb (codes "TICK")) (tick_of names operands) None)) (Some e) h) [
   | inl k ↦ run_found names line operands e (spelled ∙ ap (λ (v : List ℕ). v ++ 32 ∷ operands) (is_word verb (codes "RUN") k.0)) k.1
-  | inr k ↦ elim (chosen (bytes_eq verb (codes "LINE")) (typed_of names operands) None (Some e) k.1) [
+  | inr k ↦ elim (chosen (bytes_eq verb (codes "LINE")) (typed_of names operands) (cond (bytes_eq verb (codes "TICK")) (tick_of names operands) None) (Some e) k.1) [
     | inl j ↦ typed_by names line operands e (user_of names (word_of operands)) refl (spelled ∙ ap (λ (v : List ℕ). v ++ 32 ∷ operands) (is_word verb (codes "LINE") j.0)) j.1
-    | inr j ↦ cc
+    | inr j ↦ elim (chosen (bytes_eq verb (codes "TICK")) (tick_of names operands) None (Some e) j.1) [
+      | inl i ↦ ticked_by names line operands e (after_word operands) (user_of names (word_of operands)) refl refl (spelled ∙ ap (λ (v : List ℕ). v ++ 32 ∷ operands) (is_word verb (codes "TICK") i.0)) i.1
+      | inr i ↦ cc
+    ]
   ]
 ]
 
@@ -86,6 +101,8 @@ again names line (Line user text) h = elim h.spelled [
   | inl spelled ↦ rw spelled (rw (word_again h.name text h.named.whole, h.named.found, after_again h.name text h.named.whole) refl)
   | inr k ↦ rw (k.1, k.0) (rw (word_again_alone h.name h.named.whole, h.named.found, after_again_alone h.name h.named.whole) refl)
 ]
+again names line (Tick user) h =
+    rw h.spelled (rw (after_again_alone h.name h.named.whole, word_again_alone h.name h.named.whole, h.named.found) refl)
 
 -- what is read of lines, after what was read before them
 record Read (names : List (List ℕ)) (lines : List (List ℕ)) (front events : List Said) : Type 0 where

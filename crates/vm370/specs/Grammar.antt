@@ -4,7 +4,7 @@ use Rattle.cp_text.specs.Lines.{lines_of}
 use Rattle.cp_text.specs.Words.{NoBlank}
 use Rattle.cp_text.specs.Numbers.{decimal_of}
 use Rattle.cp_users.specs.Users.{user_of}
-use Rattle.vm370.specs.Script.{Said, Run, Line, is_ignored, script_of}
+use Rattle.vm370.specs.Script.{Said, Run, Line, Tick, is_ignored, script_of}
 
 -- a word that is the name of this user
 pub record IsName (names : List (List ℕ)) (user : ℕ) (name : List ℕ) : Type 0 where
@@ -27,10 +27,17 @@ pub record SaysLine (names : List (List ℕ)) (line : List ℕ) (user : ℕ) (te
   pub named : IsName names user name
   pub spelled : (line ≡ codes "LINE" ++ 32 ∷ (name ++ 32 ∷ text)) ⊎ ((text ≡ []) × (line ≡ codes "LINE" ++ 32 ∷ name))
 
+-- `TICK u`: one blank between the words
+pub record SaysTick (names : List (List ℕ)) (line : List ℕ) (user : ℕ) : Type 0 where
+  pub name : List ℕ
+  pub spelled : line ≡ codes "TICK" ++ 32 ∷ name
+  pub named : IsName names user name
+
 -- a line says an event
 abbrev pub Says : List (List ℕ) → List ℕ → Said → Type 0
 Says names line (Run user units) = SaysRun names line user units
 Says names line (Line user text) = SaysLine names line user text
+Says names line (Tick user) = SaysTick names line user
 
 -- the lines are a script of these events: each line is ignored, or says the next event
 abbrev pub IsScript : List (List ℕ) → List (List ℕ) → List Said → Type 0

@@ -1,5 +1,5 @@
 -- What a script says, line by line.
-use Rattle.std.specs.Prelude.{◌≡◌, ℕ, ◌<◌, ◌==◌, ◌&&◌, Bool, true, if◌then◌else◌, nat_le, List, [], ◌∷◌, ◌++◌, codes, Option, Some, None, Result, Ok, Err}
+use Rattle.std.specs.Prelude.{◌≡◌, ℕ, ◌<◌, ◌==◌, ◌&&◌, Bool, true, if◌then◌else◌, is_some, nat_le, List, [], ◌∷◌, ◌++◌, codes, Option, Some, None, Result, Ok, Err}
 use Rattle.std.specs.Option.{option_map, option_and_then}
 use Rattle.std.specs.Str.{bytes_eq}
 use Rattle.cp_text.specs.Lines.{lines_of, read_lines}
@@ -18,11 +18,14 @@ pub data Said : Type 0 where
   Run : ℕ → ℕ → Said
   -- this line, typed at the user's terminal
   Line : ℕ → List ℕ → Said
+  -- a tick of this user's timer
+  Tick : ℕ → Said
 
 -- the event that a value is
 abbrev pub said : Event → Said
 said (events.Run user units) = Run user units
 said (events.Line user text) = Line user text.now
+said (events.Tick user) = Tick user
 
 -- an event of one of so many users
 abbrev pub IsOfUser : ℕ → Event → Type 0
@@ -45,11 +48,16 @@ text_of (Some text) = text
 abbrev pub typed_of : List (List ℕ) → List ℕ → Option Said
 typed_of names operands = option_map (λ user. Line user (text_of (after_word operands))) (user_of names (word_of operands))
 
+-- `TICK u`, after its first word: nothing follows the name
+abbrev pub tick_of : List (List ℕ) → List ℕ → Option Said
+tick_of names operands = if is_some (after_word operands) then None else option_map Tick (user_of names (word_of operands))
+
 -- by the first word
 abbrev pub operands_of : List (List ℕ) → List ℕ → List ℕ → Option Said
 operands_of names verb operands =
     if bytes_eq verb (codes "RUN") then run_of names operands
     else if bytes_eq verb (codes "LINE") then typed_of names operands
+    else if bytes_eq verb (codes "TICK") then tick_of names operands
     else None
 
 -- what a line names, none where it is refused

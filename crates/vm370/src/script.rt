@@ -3,7 +3,7 @@ ghost use Rattle.std.specs.Prelude.{◌≡◌, ℕ, ◌<◌, ◌≤◌, ◌+◌,
 ghost use Rattle.std.specs.Option.{option_map};
 ghost use Rattle.cp_text.specs.Lines.{lines_of};
 ghost use Rattle.vm370.specs.Grammar.{ReadsGrammar};
-ghost use Rattle.vm370.specs.Script.{IsOfUser, IsRefusal, is_ignored, operands_of, run_of, said, said_of, script_of, typed_of};
+ghost use Rattle.vm370.specs.Script.{IsOfUser, IsRefusal, is_ignored, operands_of, run_of, said, said_of, script_of, tick_of, typed_of};
 
 use cp_core::Event;
 use cp_text::lines::cut_line;
@@ -84,6 +84,8 @@ fn read_event<'a, N: Named>(users: &[N], line: &'a [u8]) -> Option<Event<'a>>
         read_run(users, operands)
     } else if verb == b"LINE".as_slice() {
         read_typed(users, operands)
+    } else if verb == b"TICK".as_slice() {
+        read_tick(users, operands)
     } else {
         None
     }
@@ -119,6 +121,20 @@ fn read_typed<'a, N: Named>(users: &[N], operands: &'a [u8]) -> Option<Event<'a>
     }
 }
 
+/// `TICK u`, after its first word: nothing follows the name.
+fn read_tick<'a, N: Named>(users: &[N], operands: &'a [u8]) -> Option<Event<'a>>
+    requires { length users.now ≤ MOST_USERS }
+    ensures users { IfSome result (IsOfUser (length users.now)) }
+    ensures said { option_map said result ≡ tick_of (map N.name users.now) operands.now }
+{
+    let (name, more) = cut_word(operands);
+    if more.is_some() {
+        return None;
+    }
+    let user = user_of(users, name)?;
+    Some(Event::Tick(user))
+}
+
 /// A script is read as its events, nothing else is accepted, and a text that is no script is refused
 /// at its first bad line.
 pub fn reads_grammar()
@@ -146,16 +162,17 @@ mod tests {
         read_script(alloc, &[b"A".as_slice(), b"B".as_slice()], text)
     }
 
-    /// What an event says: the number of its user, of how many units a run is, and what is typed.
-    type Said<'a> = (u8, Option<u32>, &'a [u8]);
+    /// What an event says: the number of its user; whether something is typed, and what; and of how many units a run is.
+    type Said<'a> = (u8, bool, &'a [u8], u32);
 
     /// What the events of a text say.
     fn said<'a>(alloc: Global, text: &'a [u8]) -> Result<Vec<Said<'a>>, Fail> {
         let mut all = Vec::new(alloc);
         for event in read(alloc, text)? {
             match event {
-                Event::Run(user, units) => all.push((user.number(), Some(units), b"".as_slice()))?,
-                Event::Line(user, typed) => all.push((user.number(), None, typed))?,
+                Event::Run(user, units) => all.push((user.number(), false, b"".as_slice(), units))?,
+                Event::Line(user, typed) => all.push((user.number(), true, typed, 0))?,
+                Event::Tick(user) => all.push((user.number(), false, b"".as_slice(), 0))?,
             }
         }
         Ok(all)
@@ -166,14 +183,14 @@ mod tests {
         let text =
             b"LINE A LOGON\nLINE A STORE 1000 0A07\nLINE A STORE 60 0000000000000200\nLINE A STORE PSW 00000000 00001000\nLINE A BEGIN\nRUN A 1\nLINE A #CP DISPLAY 20\nLINE A #CP DISPLAY PSW\n";
         let wanted = [
-            (0, None, b"LOGON".as_slice()),
-            (0, None, b"STORE 1000 0A07".as_slice()),
-            (0, None, b"STORE 60 0000000000000200".as_slice()),
-            (0, None, b"STORE PSW 00000000 00001000".as_slice()),
-            (0, None, b"BEGIN".as_slice()),
-            (0, Some(1), b"".as_slice()),
-            (0, None, b"#CP DISPLAY 20".as_slice()),
-            (0, None, b"#CP DISPLAY PSW".as_slice()),
+            (0, true, b"LOGON".as_slice(), 0),
+            (0, true, b"STORE 1000 0A07".as_slice(), 0),
+            (0, true, b"STORE 60 0000000000000200".as_slice(), 0),
+            (0, true, b"STORE PSW 00000000 00001000".as_slice(), 0),
+            (0, true, b"BEGIN".as_slice(), 0),
+            (0, false, b"".as_slice(), 1),
+            (0, true, b"#CP DISPLAY 20".as_slice(), 0),
+            (0, true, b"#CP DISPLAY PSW".as_slice(), 0),
         ];
         assert_eq!(rt; said(rt.alloc(), text)?.as_slice(), wanted.as_slice());
         Ok(())
@@ -184,9 +201,9 @@ mod tests {
         let text =
             b"* A logs on and runs; B gets an empty line.\nLINE A LOGON\n\nRUN A 0000100\nLINE B\n";
         let wanted = [
-            (0, None, b"LOGON".as_slice()),
-            (0, Some(100), b"".as_slice()),
-            (1, None, b"".as_slice()),
+            (0, true, b"LOGON".as_slice(), 0),
+            (0, false, b"".as_slice(), 100),
+            (1, true, b"".as_slice(), 0),
         ];
         assert_eq!(rt; said(rt.alloc(), text)?.as_slice(), wanted.as_slice());
         Ok(())
@@ -208,27 +225,19 @@ mod tests {
     #[test]
     fn reads_one_event(rt: HostRuntime) -> Result<(), Fail> {
         for (text, wanted) in [
-            (b"RUN B 1".as_slice(), (1, Some(1), b"".as_slice())),
-            (b"RUN A 0000001\n".as_slice(), (0, Some(1), b"".as_slice())),
-            (
-                b"RUN A 1000000\n".as_slice(),
-                (0, Some(1_000_000), b"".as_slice()),
-            ),
-            (b"LINE B".as_slice(), (1, None, b"".as_slice())),
-            (b"LINE B ".as_slice(), (1, None, b"".as_slice())),
-            (b"LINE B x y ".as_slice(), (1, None, b"x y ".as_slice())),
-            (b"LINE B  x".as_slice(), (1, None, b" x".as_slice())),
-            (b"LINE B x\r\n".as_slice(), (1, None, b"x\r".as_slice())),
-            (
-                b"LINE A \t\xC1\xFF".as_slice(),
-                (0, None, b"\t\xC1\xFF".as_slice()),
-            ),
+            (b"RUN B 1".as_slice(), (1, false, b"".as_slice(), 1)),
+            (b"RUN A 0000001\n".as_slice(), (0, false, b"".as_slice(), 1)),
+            (b"RUN A 1000000\n".as_slice(), (0, false, b"".as_slice(), 1_000_000)),
+            (b"LINE B".as_slice(), (1, true, b"".as_slice(), 0)),
+            (b"LINE B ".as_slice(), (1, true, b"".as_slice(), 0)),
+            (b"LINE B x y ".as_slice(), (1, true, b"x y ".as_slice(), 0)),
+            (b"LINE B  x".as_slice(), (1, true, b" x".as_slice(), 0)),
+            (b"LINE B x\r\n".as_slice(), (1, true, b"x\r".as_slice(), 0)),
+            (b"LINE A \t\xC1\xFF".as_slice(), (0, true, b"\t\xC1\xFF".as_slice(), 0)),
+            (b"TICK A".as_slice(), (0, false, b"".as_slice(), 0)),
+            (b"*\n\nTICK B\n".as_slice(), (1, false, b"".as_slice(), 0)),
         ] {
-            assert_eq!(rt;
-                said(rt.alloc(), text)?.as_slice(),
-                [wanted].as_slice(),
-                "{text:?}"
-            );
+            assert_eq!(rt; said(rt.alloc(), text)?.as_slice(), [wanted].as_slice(), "{text:?}");
         }
         Ok(())
     }
@@ -258,6 +267,14 @@ mod tests {
             (b"LINE".as_slice(), 1),
             (b"LINE ".as_slice(), 1),
             (b"LINE A\nRUN A 1 1".as_slice(), 2),
+            (b"TICK".as_slice(), 1),
+            (b"TICK ".as_slice(), 1),
+            (b"TICK A\nTICK A ".as_slice(), 2),
+            (b"TICK A 1".as_slice(), 1),
+            (b"TICK  A".as_slice(), 1),
+            (b"TICK C".as_slice(), 1),
+            (b"Tick A".as_slice(), 1),
+            (b"TICK A\r\n".as_slice(), 1),
             // numbers
             (b"RUN A 0".as_slice(), 1),
             (b"LINE A\nRUN A 0000000".as_slice(), 2),

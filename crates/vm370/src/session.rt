@@ -135,6 +135,7 @@ fn copied<'a>(event: &Event<'a>) -> Event<'a>
     match *event {
         Event::Run(user, units) => Event::Run(user, units),
         Event::Line(user, typed) => Event::Line(user, typed),
+        Event::Tick(user) => Event::Tick(user),
     }
 }
 

@@ -1,0 +1,77 @@
+-- What is written to a lent frame, seen in the machines of a system.
+use Rattle.std.proofs.Common.{◌≡◌, Option, None, Some, ℕ, ◌<◌, ◌≤◌, Bool, true, false, nat_lt, List, [], ◌∷◌, length, get_or, set, zero, suc, refl, sym, ◌∙◌, ap, arith}
+use Rattle.std.specs.Prelude.{if◌then◌else◌}
+use Rattle.std.proofs.lemmas.Bool.Decides.{nat_tests}
+use Rattle.std.proofs.lemmas.List.{length-set}
+use Rattle.std.proofs.lemmas.List.FromFn.{length-map-range_with_len}
+use Rattle.cp_directory.specs.Users.{DirectoryUser}
+use Rattle.cp_frames.specs.declared.numbers.UserPage.{UserPage}
+use Rattle.cp_frames.specs.Layout.{Pool, bytes_of, put_page}
+use Rattle.cp_frames.specs.Layout.{written_page as pool_page, written_frame as pool_frame}
+use Rattle.cp_panel.specs.Machine.{Machine}
+use Rattle.cp_core.specs.UserMachines.{UserParts, machine_of, Fits}
+use Rattle.cp_core.specs.System.{SystemView, machines_of, nobody}
+use Rattle.cp_core.specs.Loan.{with_page, written_page, written_frame}
+use Rattle.cp_core.specs.Whole.{IsWhole, no_machine}
+
+-- a page that is written leaves the size of its storage
+same_size : (bytes : List ℕ) (page : ℕ) (written : List ℕ) → length (put_page bytes page written) ≡ length bytes
+same_size bytes page written = length-map-range_with_len _ 0 (length bytes)
+
+-- where one storage is changed for another of its size, each is as long as it was
+same_sizes : (storages : List (List ℕ)) (user k : ℕ) (bytes : List ℕ) → length bytes ≡ length (get_or storages user []) → length (get_or (set storages user bytes) k []) ≡ length (get_or storages k [])
+same_sizes [] user k bytes e = refl
+same_sizes (x ∷ xs) zero zero bytes e = e
+same_sizes (x ∷ xs) zero (suc k) bytes e = refl
+same_sizes (x ∷ xs) (suc user) zero bytes e = refl
+same_sizes (x ∷ xs) (suc user) (suc k) bytes e = same_sizes xs user k bytes e
+
+fits_same : (seat : UserParts) (old new : List ℕ) → length new ≡ length old → Fits seat old → Fits seat new
+fits_same seat old new e f = record { large = omega (arith, e, f.large); keyed = omega (arith, e, f.keyed) }
+
+whole_page : (seats : List UserParts) (pool : Pool) (users : List DirectoryUser) (o : Option UserPage) (written : List ℕ) → IsWhole seats pool.storages users → IsWhole seats (pool_page pool o written).storages users
+whole_page seats pool users None written whole = whole
+whole_page seats pool users (Some there) written whole =
+    let user = there.user.0 in
+    let bytes = put_page (bytes_of pool user) there.page.0 written in
+    record {
+      seated = whole.seated;
+      stored = length-set pool.storages user bytes ∙ whole.stored;
+      few = whole.few;
+      fits = λ k less. fits_same (get_or seats k no_machine) (get_or pool.storages k []) (get_or (set pool.storages user bytes) k [])
+          (same_sizes pool.storages user k bytes (same_size (bytes_of pool user) there.page.0 written)) (whole.fits k less);
+    }
+
+-- each user has a machine and a storage that fits it, whatever is written
+pub whole_written : (seats : List UserParts) (pool : Pool) (users : List DirectoryUser) (frame : ℕ) (written : List ℕ) → IsWhole seats pool.storages users → IsWhole seats (pool_frame pool frame written).storages users
+whole_written seats pool users frame written whole = whole_page seats pool users (get_or pool.owners frame None) written whole
+
+set_written : (seats : List UserParts) (storages : List (List ℕ)) (user page : ℕ) (written : List ℕ)
+    → machines_of seats (set storages user (put_page (get_or storages user []) page written)) ≡ set (machines_of seats storages) user (with_page (get_or (machines_of seats storages) user nobody) page written)
+set_written [] storages user page written = refl
+set_written (seat ∷ seats) [] zero page written = refl
+set_written (seat ∷ seats) [] (suc user) page written = refl
+set_written (seat ∷ seats) (bytes ∷ storages) zero page written = refl
+set_written (seat ∷ seats) (bytes ∷ storages) (suc user) page written = ap (λ (ms : List Machine). machine_of seat bytes ∷ ms) (set_written seats storages user page written)
+
+-- a system as it is seen, by its frames
+abbrev pub seen : List UserParts → List DirectoryUser → Bool → Pool → SystemView
+seen seats users is_spent pool = record { machines = machines_of seats pool.storages; users = users; owners = pool.owners; pins = pool.pins; is_spent = is_spent }
+
+seen_page : (seats : List UserParts) (users : List DirectoryUser) (is_spent : Bool) (pool : Pool) (o : Option UserPage) (written : List ℕ)
+    → seen seats users is_spent (pool_page pool o written) ≡ written_page (seen seats users is_spent pool) o written
+seen_page seats users is_spent pool None written = refl
+seen_page seats users is_spent pool (Some there) written =
+    ap (λ (ms : List Machine). record (seen seats users is_spent pool) { machines = ms }) (set_written seats pool.storages there.user.0 there.page.0 written)
+
+-- what is written to a frame of the pool is written to that frame of the system
+pub seen_written : (seats : List UserParts) (users : List DirectoryUser) (is_spent : Bool) (pool : Pool) (frame : ℕ) (written : List ℕ)
+    → seen seats users is_spent (pool_frame pool frame written) ≡ written_frame (seen seats users is_spent pool) frame written
+seen_written seats users is_spent pool frame written = seen_page seats users is_spent pool (get_or pool.owners frame None) written
+
+-- which of two is chosen by an order
+pub past : (a b : ℕ) (x y : Option ℕ) → b ≤ a → (if nat_lt a b then x else y) ≡ y
+past a b x y h = let t : nat_lt a b ≡ false = grind (arith, nat_tests) in rw t refl
+
+pub before : (a b : ℕ) (x y : Option ℕ) → a < b → (if nat_lt a b then x else y) ≡ x
+before a b x y h = let t : nat_lt a b ≡ true = grind (arith, nat_tests) in rw t refl

@@ -1,0 +1,31 @@
+-- The frames of users' pages, and what is written to a frame that is lent.
+use Rattle.std.specs.Prelude.{◌≡◌, ℕ, ◌*◌, nat_lt, if◌then◌else◌, List, length, slice_index_or, slice_set, Option, Some, None}
+use Rattle.std.specs.Borrow.{LendsSo, MutBor, Fml, u8, Array}
+use Rattle.cp_frames.specs.declared.numbers.UserPage.{UserPage}
+use Rattle.cp_frames.specs.Layout.{frame_of, put_page}
+use Rattle.cp_panel.specs.Machine.{Machine}
+use Rattle.cp_core.specs.System.{SystemView, machine_at}
+use Rattle.cp_core.specs.contracts.system.System.{the_row}
+
+-- the frame in which a page of a user's storage stands; a page past storage stands in none
+abbrev pub frame_at : SystemView → ℕ → ℕ → Option ℕ
+frame_at s user page = if nat_lt (page * 4096) (length (machine_at s user).core.processor.bytes) then frame_of s.owners user page else None
+
+-- a machine of which a page of storage has this content
+abbrev pub with_page : Machine → ℕ → List ℕ → Machine
+with_page m page written =
+    record m { core = record m.core { processor = record m.core.processor { bytes = put_page m.core.processor.bytes page written } } }
+
+-- what is written to a page is its content, and all else stays
+abbrev pub written_page : SystemView → Option UserPage → List ℕ → SystemView
+written_page s None written = s
+written_page s (Some there) written =
+    record s { machines = slice_set s.machines there.user.0 (with_page (machine_at s there.user.0) there.page.0 written) }
+
+-- what is written to a frame is the content of the page that stands in it
+abbrev pub written_frame : SystemView → ℕ → List ℕ → SystemView
+written_frame s frame written = written_page s (slice_index_or s.owners frame None) written
+
+-- what is left in the frame is the content of the page that stands in it, and all else stays
+abbrev pub LendsFrame : MutBor SystemView → ℕ → Option (MutBor (List ℕ)) → Fml
+LendsFrame system frame lent = LendsSo the_row (Array u8 4096) system lent (λ new written. new ≡ written_frame system.now frame written) (λ new. new ≡ system.now)

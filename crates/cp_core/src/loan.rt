@@ -1,0 +1,37 @@
+//! The loan of frames: where a user's page stands, and the bytes of a frame.
+ghost use Rattle.std.specs.Prelude.{◌≡◌, ◌<◌, ◌↔◌, IsSome, length};
+ghost use Rattle.cp_frames.specs.Layout.{number_of};
+ghost use Rattle.cp_core.specs.Loan.{frame_at};
+
+use crate::system::System;
+use cp_frames::{FRAME_SIZE, FrameNo, UserNo as Owner};
+use cp_users::UserNo;
+use s370_store::{PAGE_SIZE, Page};
+
+impl System {
+    ghost use Rattle.std.specs.Borrow.{sem};
+    ghost use Rattle.cp_core.specs.Loan.{LendsFrame};
+
+    /// The frame in which a page of a user's storage stands; `None` past storage too. This takes no memory.
+    pub fn frame_of(&self, user: UserNo, page: Page) -> Option<FrameNo>
+        ensures { number_of result ≡ frame_at self.now user page.0 }
+    {
+        if user.index() >= self.users() {
+            return None;
+        }
+        let owner = Owner(user.number());
+        if u64::from(page.0) * u64::from(PAGE_SIZE) >= u64::from(self.frames.size(owner)) {
+            return None;
+        }
+        self.frames.frame_of(owner, page)
+    }
+
+    /// A frame's bytes, `None` past the frames. What is written there is from then on the content of the page that stands in
+    /// the frame. This takes no memory.
+    pub fn frame_mut(&mut self, frame: FrameNo) -> Option<&mut [u8; FRAME_SIZE]>
+        ensures* writes_back { sem 𝓛 (LendsFrame self.entry frame.0 result) }
+        ensures some { IsSome result ↔ (frame.0 < length self.old.owners) }
+    {
+        self.frames.frame_mut(frame)
+    }
+}
