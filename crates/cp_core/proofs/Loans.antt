@@ -32,7 +32,7 @@ fits_same seat old new e f = record { large = omega (arith, e, f.large); keyed =
 whole_page : (seats : List UserParts) (pool : Pool) (users : List DirectoryUser) (o : Option UserPage) (written : List ℕ) → IsWhole seats pool.storages users → IsWhole seats (pool_page pool o written).storages users
 whole_page seats pool users None written whole = whole
 whole_page seats pool users (Some there) written whole =
-    let user = there.user.0 in
+    let user = there.user in
     let bytes = put_page (bytes_of pool user) there.page.0 written in
     record {
       seated = whole.seated;
@@ -62,7 +62,7 @@ seen_page : (seats : List UserParts) (users : List DirectoryUser) (is_spent : Bo
     → seen seats users is_spent (pool_page pool o written) ≡ written_page (seen seats users is_spent pool) o written
 seen_page seats users is_spent pool None written = refl
 seen_page seats users is_spent pool (Some there) written =
-    ap (λ (ms : List Machine). record (seen seats users is_spent pool) { machines = ms }) (set_written seats pool.storages there.user.0 there.page.0 written)
+    ap (λ (ms : List Machine). record (seen seats users is_spent pool) { machines = ms }) (set_written seats pool.storages there.user there.page.0 written)
 
 -- what is written to a frame of the pool is written to that frame of the system
 pub seen_written : (seats : List UserParts) (users : List DirectoryUser) (is_spent : Bool) (pool : Pool) (frame : ℕ) (written : List ℕ)

@@ -20,7 +20,7 @@ with_page m page written =
 abbrev pub written_page : SystemView → Option UserPage → List ℕ → SystemView
 written_page s None written = s
 written_page s (Some there) written =
-    record s { machines = slice_set s.machines there.user.0 (with_page (machine_at s there.user.0) there.page.0 written) }
+    record s { machines = slice_set s.machines there.user (with_page (machine_at s there.user) there.page.0 written) }
 
 -- what is written to a frame is the content of the page that stands in it
 abbrev pub written_frame : SystemView → ℕ → List ℕ → SystemView

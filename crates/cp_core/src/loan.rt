@@ -4,7 +4,7 @@ ghost use Rattle.cp_frames.specs.Layout.{number_of};
 ghost use Rattle.cp_core.specs.Loan.{frame_at};
 
 use crate::system::System;
-use cp_frames::{FRAME_SIZE, FrameNo, UserNo as Owner};
+use cp_frames::{FRAME_SIZE, FrameNo};
 use cp_users::UserNo;
 use s370_store::{PAGE_SIZE, Page};
 
@@ -19,18 +19,17 @@ impl System {
         if user.index() >= self.users() {
             return None;
         }
-        let owner = Owner(user.number());
-        if u64::from(page.0) * u64::from(PAGE_SIZE) >= u64::from(self.frames.size(owner)) {
+        if u64::from(page.0) * u64::from(PAGE_SIZE) >= u64::from(self.frames.size(user)) {
             return None;
         }
-        self.frames.frame_of(owner, page)
+        self.frames.frame_of(user, page)
     }
 
     /// A frame's bytes, `None` past the frames. What is written there is from then on the content of the page that stands in
     /// the frame. This takes no memory.
     pub fn frame_mut(&mut self, frame: FrameNo) -> Option<&mut [u8; FRAME_SIZE]>
         ensures* writes_back { sem 𝓛 (LendsFrame self.entry frame.0 result) }
-        ensures some { IsSome result ↔ (frame.0 < length self.old.owners) }
+        ensures some { IsSome result ↔ (frame.0 < length self.old.users) }
     {
         self.frames.frame_mut(frame)
     }

@@ -15,7 +15,7 @@ use crate::events::{CpError, Ended, Event, Reply};
 use crate::user_machine::UserMachine;
 use cp_console::responses::Response;
 use cp_directory::Directory;
-use cp_frames::{Frames, UserNo as Owner};
+use cp_frames::Frames;
 use cp_panel::{LineError, MachineRan};
 use cp_users::UserNo;
 use s370_store::FramesOut;
@@ -103,7 +103,7 @@ impl System {
         ensures spent { self.new.is_spent ≡ self.old.is_spent }
     {
         let machine = &mut self.machines[user];
-        machine.run(&mut self.frames, Owner(user as u8), units)
+        machine.run(&mut self.frames, UserNo::new(user as u8), units)
     }
 
     /// A tick of the timer of a user's machine. This takes no memory.
@@ -119,7 +119,7 @@ impl System {
         ensures spent { self.new.is_spent ≡ self.old.is_spent }
     {
         let machine = &mut self.machines[user];
-        machine.tick(&mut self.frames, Owner(user as u8))
+        machine.tick(&mut self.frames, UserNo::new(user as u8))
     }
 
     /// A line that a user types.
@@ -136,7 +136,7 @@ impl System {
         ensures spent { self.new.is_spent ≡ self.old.is_spent }
     {
         let machine = &mut self.machines[user];
-        machine.line(&mut self.frames, Owner(user as u8), typed)
+        machine.line(&mut self.frames, UserNo::new(user as u8), typed)
     }
 
     /// Applies an event. To the user whom it names it is what a bare machine does; every other user's machine stays.

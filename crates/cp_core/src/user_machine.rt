@@ -12,7 +12,8 @@ ghost use Rattle.cp_panel.specs.Tick.{TickNeeds, ticked};
 ghost use Rattle.cp_core.specs.UserMachines.{Fits, IsShort, machine_of};
 
 use cp_console::responses::Response;
-use cp_frames::{Dat, Frames, UserNo};
+use cp_frames::{Dat, Frames};
+use cp_users::UserNo;
 use cp_panel::{LineError, Machine, MachineRan};
 use cp_trap::VirtualCpu;
 use s370_num::StorageKey;
@@ -51,15 +52,15 @@ impl UserMachine {
 
     /// Lets the machine run for at most so many units. This takes no memory.
     pub fn run(&mut self, frames: &mut Frames, user: UserNo, count: u32) -> MachineRan
-        requires { Fits self.old (bytes_of frames.old user.0) }
-        ensures told { let before = machine_of self.old (bytes_of frames.old user.0) in
-            let after = machine_of self.new (bytes_of frames.new user.0) in
-            TellsRun count before (record { machine = after; units = result.ran.units; reason = result.ran.reason; notice = result.notice }) (IsShort frames.new.owners user.0) }
-        ensures supply { let before = machine_of self.old (bytes_of frames.old user.0) in
-            (pages : List ℕ) × IsFilled user.0 frames.old.owners pages frames.new.owners × AllNeeded (RunNeeds before.core result.ran.units result.ran.reason) pages }
+        requires { Fits self.old (bytes_of frames.old user) }
+        ensures told { let before = machine_of self.old (bytes_of frames.old user) in
+            let after = machine_of self.new (bytes_of frames.new user) in
+            TellsRun count before (record { machine = after; units = result.ran.units; reason = result.ran.reason; notice = result.notice }) (IsShort frames.new.owners user) }
+        ensures supply { let before = machine_of self.old (bytes_of frames.old user) in
+            (pages : List ℕ) × IsFilled user frames.old.owners pages frames.new.owners × AllNeeded (RunNeeds before.core result.ran.units result.ran.reason) pages }
         ensures pins { frames.new.pins ≡ frames.old.pins }
-        ensures others { frames.new.storages ≡ slice_set frames.old.storages user.0 (bytes_of frames.new user.0) }
-        ensures fits { Fits self.new (bytes_of frames.new user.0) }
+        ensures others { frames.new.storages ≡ slice_set frames.old.storages user (bytes_of frames.new user) }
+        ensures fits { Fits self.new (bytes_of frames.new user) }
     {
         run_over(&mut self.machine, frames, &mut self.keys, user, count)
     }
@@ -67,16 +68,16 @@ impl UserMachine {
     /// A tick of the interval timer. Where there is no room for the page that it needs, nothing has happened. This takes
     /// no memory.
     pub fn tick(&mut self, frames: &mut Frames, user: UserNo) -> Result<(), FramesOut>
-        requires { Fits self.old (bytes_of frames.old user.0) }
-        ensures ok { OnOk result (machine_of self.new (bytes_of frames.new user.0) ≡ ticked (machine_of self.old (bytes_of frames.old user.0))) }
-        ensures err { OnErr result (machine_of self.new (bytes_of frames.new user.0) ≡ machine_of self.old (bytes_of frames.old user.0)) }
-        ensures frames { let before = machine_of self.old (bytes_of frames.old user.0) in
-            OnErr result (IsLacking (TickNeeds before) (length before.core.processor.bytes) (IsShort frames.new.owners user.0)) }
-        ensures supply { let before = machine_of self.old (bytes_of frames.old user.0) in
-            (pages : List ℕ) × IsFilled user.0 frames.old.owners pages frames.new.owners × AllNeeded (TickNeeds before) pages }
+        requires { Fits self.old (bytes_of frames.old user) }
+        ensures ok { OnOk result (machine_of self.new (bytes_of frames.new user) ≡ ticked (machine_of self.old (bytes_of frames.old user))) }
+        ensures err { OnErr result (machine_of self.new (bytes_of frames.new user) ≡ machine_of self.old (bytes_of frames.old user)) }
+        ensures frames { let before = machine_of self.old (bytes_of frames.old user) in
+            OnErr result (IsLacking (TickNeeds before) (length before.core.processor.bytes) (IsShort frames.new.owners user)) }
+        ensures supply { let before = machine_of self.old (bytes_of frames.old user) in
+            (pages : List ℕ) × IsFilled user frames.old.owners pages frames.new.owners × AllNeeded (TickNeeds before) pages }
         ensures pins { frames.new.pins ≡ frames.old.pins }
-        ensures others { frames.new.storages ≡ slice_set frames.old.storages user.0 (bytes_of frames.new user.0) }
-        ensures fits { Fits self.new (bytes_of frames.new user.0) }
+        ensures others { frames.new.storages ≡ slice_set frames.old.storages user (bytes_of frames.new user) }
+        ensures fits { Fits self.new (bytes_of frames.new user) }
     {
         tick_over(&mut self.machine, frames, &mut self.keys, user)
     }
@@ -88,22 +89,22 @@ impl UserMachine {
         user: UserNo,
         typed: &[u8],
     ) -> Result<Option<Response>, LineError>
-        requires { Fits self.old (bytes_of frames.old user.0) }
-        ensures ok { let before = machine_of self.old (bytes_of frames.old user.0) in
-            let after = machine_of self.new (bytes_of frames.new user.0) in
+        requires { Fits self.old (bytes_of frames.old user) }
+        ensures ok { let before = machine_of self.old (bytes_of frames.old user) in
+            let after = machine_of self.new (bytes_of frames.new user) in
             IfOk result (λ reply. line typed.now before ≡ record { machine = after; reply = reply }) }
-        ensures err { OnErr result (machine_of self.new (bytes_of frames.new user.0) ≡ machine_of self.old (bytes_of frames.old user.0)) }
-        ensures memory { let before = machine_of self.old (bytes_of frames.old user.0) in
+        ensures err { OnErr result (machine_of self.new (bytes_of frames.new user) ≡ machine_of self.old (bytes_of frames.old user)) }
+        ensures memory { let before = machine_of self.old (bytes_of frames.old user) in
             result ≡ Err errors.Memory → self.old.parts.room < line_room typed.now before }
-        ensures frames { let before = machine_of self.old (bytes_of frames.old user.0) in
-            result ≡ Err errors.FramesOut → IsLacking (Touches (line_needs typed.now before)) (length before.core.processor.bytes) (IsShort frames.new.owners user.0) }
-        ensures cleared { let before = machine_of self.old (bytes_of frames.old user.0) in
-            switches_on typed.now before ≡ true → ((frames.new.owners ≡ cleared_of user.0 frames.old.owners) × ((page : ℕ) → is_there frames.new.owners user.0 page ≡ false)) }
-        ensures supply { let before = machine_of self.old (bytes_of frames.old user.0) in
-            switches_on typed.now before ≡ false → ((pages : List ℕ) × IsFilled user.0 frames.old.owners pages frames.new.owners × AllNeeded (Touches (line_needs typed.now before)) pages) }
+        ensures frames { let before = machine_of self.old (bytes_of frames.old user) in
+            result ≡ Err errors.FramesOut → IsLacking (Touches (line_needs typed.now before)) (length before.core.processor.bytes) (IsShort frames.new.owners user) }
+        ensures cleared { let before = machine_of self.old (bytes_of frames.old user) in
+            switches_on typed.now before ≡ true → ((frames.new.owners ≡ cleared_of user frames.old.owners) × ((page : ℕ) → is_there frames.new.owners user page ≡ false)) }
+        ensures supply { let before = machine_of self.old (bytes_of frames.old user) in
+            switches_on typed.now before ≡ false → ((pages : List ℕ) × IsFilled user frames.old.owners pages frames.new.owners × AllNeeded (Touches (line_needs typed.now before)) pages) }
         ensures pins { frames.new.pins ≡ frames.old.pins }
-        ensures others { frames.new.storages ≡ slice_set frames.old.storages user.0 (bytes_of frames.new user.0) }
-        ensures fits { Fits self.new (bytes_of frames.new user.0) }
+        ensures others { frames.new.storages ≡ slice_set frames.old.storages user (bytes_of frames.new user) }
+        ensures fits { Fits self.new (bytes_of frames.new user) }
     {
         line_over(&mut self.machine, frames, &mut self.keys, user, typed)
     }
@@ -117,16 +118,16 @@ fn run_over(
     user: UserNo,
     count: u32,
 ) -> MachineRan
-    requires large { 8192 ≤ length (bytes_of frames.old user.0) }
-    requires keyed { length (bytes_of frames.old user.0) ≤ 2048 * length keys.old }
-    ensures told { let before = parts_with machine.old (bytes_of frames.old user.0) keys.old in
-        let after = parts_with machine.new (bytes_of frames.new user.0) keys.new in
-        TellsRun count before (record { machine = after; units = result.ran.units; reason = result.ran.reason; notice = result.notice }) (IsShort frames.new.owners user.0) }
-    ensures supply { let before = parts_with machine.old (bytes_of frames.old user.0) keys.old in
-        (pages : List ℕ) × IsFilled user.0 frames.old.owners pages frames.new.owners × AllNeeded (RunNeeds before.core result.ran.units result.ran.reason) pages }
+    requires large { 8192 ≤ length (bytes_of frames.old user) }
+    requires keyed { length (bytes_of frames.old user) ≤ 2048 * length keys.old }
+    ensures told { let before = parts_with machine.old (bytes_of frames.old user) keys.old in
+        let after = parts_with machine.new (bytes_of frames.new user) keys.new in
+        TellsRun count before (record { machine = after; units = result.ran.units; reason = result.ran.reason; notice = result.notice }) (IsShort frames.new.owners user) }
+    ensures supply { let before = parts_with machine.old (bytes_of frames.old user) keys.old in
+        (pages : List ℕ) × IsFilled user frames.old.owners pages frames.new.owners × AllNeeded (RunNeeds before.core result.ran.units result.ran.reason) pages }
     ensures pins { frames.new.pins ≡ frames.old.pins }
-    ensures others { frames.new.storages ≡ slice_set frames.old.storages user.0 (bytes_of frames.new user.0) }
-    ensures size { length (bytes_of frames.new user.0) ≡ length (bytes_of frames.old user.0) }
+    ensures others { frames.new.storages ≡ slice_set frames.old.storages user (bytes_of frames.new user) }
+    ensures size { length (bytes_of frames.new user) ≡ length (bytes_of frames.old user) }
 {
     let mut dat = Dat::new(frames, keys, user);
     machine.run::<VirtualCpu, Dat<'_>>(&mut dat, count)
@@ -139,21 +140,21 @@ fn tick_over(
     keys: &mut [StorageKey],
     user: UserNo,
 ) -> Result<(), FramesOut>
-    requires large { 8192 ≤ length (bytes_of frames.old user.0) }
-    requires keyed { length (bytes_of frames.old user.0) ≤ 2048 * length keys.old }
-    ensures ok { let before = parts_with machine.old (bytes_of frames.old user.0) keys.old in
-        let after = parts_with machine.new (bytes_of frames.new user.0) keys.new in
+    requires large { 8192 ≤ length (bytes_of frames.old user) }
+    requires keyed { length (bytes_of frames.old user) ≤ 2048 * length keys.old }
+    ensures ok { let before = parts_with machine.old (bytes_of frames.old user) keys.old in
+        let after = parts_with machine.new (bytes_of frames.new user) keys.new in
         OnOk result (after ≡ ticked before) }
-    ensures err { let before = parts_with machine.old (bytes_of frames.old user.0) keys.old in
-        let after = parts_with machine.new (bytes_of frames.new user.0) keys.new in
+    ensures err { let before = parts_with machine.old (bytes_of frames.old user) keys.old in
+        let after = parts_with machine.new (bytes_of frames.new user) keys.new in
         OnErr result (after ≡ before) }
-    ensures frames { let before = parts_with machine.old (bytes_of frames.old user.0) keys.old in
-        OnErr result (IsLacking (TickNeeds before) (length (bytes_of frames.old user.0)) (IsShort frames.new.owners user.0)) }
-    ensures supply { let before = parts_with machine.old (bytes_of frames.old user.0) keys.old in
-        (pages : List ℕ) × IsFilled user.0 frames.old.owners pages frames.new.owners × AllNeeded (TickNeeds before) pages }
+    ensures frames { let before = parts_with machine.old (bytes_of frames.old user) keys.old in
+        OnErr result (IsLacking (TickNeeds before) (length (bytes_of frames.old user)) (IsShort frames.new.owners user)) }
+    ensures supply { let before = parts_with machine.old (bytes_of frames.old user) keys.old in
+        (pages : List ℕ) × IsFilled user frames.old.owners pages frames.new.owners × AllNeeded (TickNeeds before) pages }
     ensures pins { frames.new.pins ≡ frames.old.pins }
-    ensures others { frames.new.storages ≡ slice_set frames.old.storages user.0 (bytes_of frames.new user.0) }
-    ensures size { length (bytes_of frames.new user.0) ≡ length (bytes_of frames.old user.0) }
+    ensures others { frames.new.storages ≡ slice_set frames.old.storages user (bytes_of frames.new user) }
+    ensures size { length (bytes_of frames.new user) ≡ length (bytes_of frames.old user) }
 {
     let mut dat = Dat::new(frames, keys, user);
     machine.tick(&mut dat)
@@ -167,24 +168,24 @@ fn line_over(
     user: UserNo,
     typed: &[u8],
 ) -> Result<Option<Response>, LineError>
-    requires keyed { length (bytes_of frames.old user.0) ≤ 2048 * length keys.old }
-    ensures ok { let before = parts_with machine.old (bytes_of frames.old user.0) keys.old in
-        let after = parts_with machine.new (bytes_of frames.new user.0) keys.new in
+    requires keyed { length (bytes_of frames.old user) ≤ 2048 * length keys.old }
+    ensures ok { let before = parts_with machine.old (bytes_of frames.old user) keys.old in
+        let after = parts_with machine.new (bytes_of frames.new user) keys.new in
         IfOk result (λ reply. line typed.now before ≡ record { machine = after; reply = reply }) }
-    ensures err { let before = parts_with machine.old (bytes_of frames.old user.0) keys.old in
-        let after = parts_with machine.new (bytes_of frames.new user.0) keys.new in
+    ensures err { let before = parts_with machine.old (bytes_of frames.old user) keys.old in
+        let after = parts_with machine.new (bytes_of frames.new user) keys.new in
         OnErr result (after ≡ before) }
-    ensures memory { let before = parts_with machine.old (bytes_of frames.old user.0) keys.old in
+    ensures memory { let before = parts_with machine.old (bytes_of frames.old user) keys.old in
         result ≡ Err errors.Memory → machine.old.room < line_room typed.now before }
-    ensures frames { let before = parts_with machine.old (bytes_of frames.old user.0) keys.old in
-        result ≡ Err errors.FramesOut → IsLacking (Touches (line_needs typed.now before)) (length (bytes_of frames.old user.0)) (IsShort frames.new.owners user.0) }
-    ensures cleared { let before = parts_with machine.old (bytes_of frames.old user.0) keys.old in
-        switches_on typed.now before ≡ true → ((frames.new.owners ≡ cleared_of user.0 frames.old.owners) × ((page : ℕ) → is_there frames.new.owners user.0 page ≡ false)) }
-    ensures supply { let before = parts_with machine.old (bytes_of frames.old user.0) keys.old in
-        switches_on typed.now before ≡ false → ((pages : List ℕ) × IsFilled user.0 frames.old.owners pages frames.new.owners × AllNeeded (Touches (line_needs typed.now before)) pages) }
+    ensures frames { let before = parts_with machine.old (bytes_of frames.old user) keys.old in
+        result ≡ Err errors.FramesOut → IsLacking (Touches (line_needs typed.now before)) (length (bytes_of frames.old user)) (IsShort frames.new.owners user) }
+    ensures cleared { let before = parts_with machine.old (bytes_of frames.old user) keys.old in
+        switches_on typed.now before ≡ true → ((frames.new.owners ≡ cleared_of user frames.old.owners) × ((page : ℕ) → is_there frames.new.owners user page ≡ false)) }
+    ensures supply { let before = parts_with machine.old (bytes_of frames.old user) keys.old in
+        switches_on typed.now before ≡ false → ((pages : List ℕ) × IsFilled user frames.old.owners pages frames.new.owners × AllNeeded (Touches (line_needs typed.now before)) pages) }
     ensures pins { frames.new.pins ≡ frames.old.pins }
-    ensures others { frames.new.storages ≡ slice_set frames.old.storages user.0 (bytes_of frames.new user.0) }
-    ensures size { length (bytes_of frames.new user.0) ≡ length (bytes_of frames.old user.0) }
+    ensures others { frames.new.storages ≡ slice_set frames.old.storages user (bytes_of frames.new user) }
+    ensures size { length (bytes_of frames.new user) ≡ length (bytes_of frames.old user) }
 {
     let mut dat = Dat::new(frames, keys, user);
     machine.line(&mut dat, typed)

@@ -8,7 +8,6 @@ ghost use Rattle.cp_core.specs.System.{machine_at};
 use crate::system::System;
 use crate::user_machine::UserMachine;
 use cp_console::responses::Response;
-use cp_frames::UserNo as Owner;
 use cp_panel::Mode;
 use cp_users::UserNo;
 use s370_intr::Pending;
@@ -121,7 +120,7 @@ impl System {
         if user.index() >= self.users() {
             return None;
         }
-        self.frames.byte(Owner(user.number()), address)
+        self.frames.byte(user, address)
     }
 }
 

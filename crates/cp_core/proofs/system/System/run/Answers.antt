@@ -21,20 +21,20 @@ overflow_cast-user c =
 pub run-requires : goal.run-requires
 run-requires c =
     let inside = is_user c.self.inside.machines.items c.self.inside.frames.storages c.self.inside.directory c.args.self.now.machines c.args.user c.self.invariant (ap (λ (s : SystemView). s.machines) c.self.view_is) c.requires in
-    seat_fits c.self.inside.machines.items c.self.inside.frames.storages c.self.inside.directory c.args.user c.index_mut-machine.result.now c.self.invariant inside c.index_mut-machine.ensures.value
+    rw c.new.ensures (seat_fits c.self.inside.machines.items c.self.inside.frames.storages c.self.inside.directory c.args.user c.index_mut-machine.result.now c.self.invariant inside c.index_mut-machine.ensures.value)
 
 pub returns-clause-told : goal.returns-clause-told
 returns-clause-told c =
-    let changed = change c.self.inside.machines.items c.self.inside.frames.storages c.run.new.frames.storages c.self.inside.directory c.args.self.now.machines c.args.user c.index_mut-machine.result.now c.run.new.self c.self.invariant (ap (λ (s : SystemView). s.machines) c.self.view_is) c.requires (c.index_mut-machine.ensures.value) c.run.ensures.others in
-    transported (λ old new. TellsRun c.args.units old (record { machine = new; units = c.run.result.ran.units; reason = c.run.result.ran.reason; notice = c.run.result.notice }) (IsShort c.run.new.frames.owners c.args.user)) _ _ _ _ changed.old changed.new c.run.ensures.told
+    let changed = change c.self.inside.machines.items c.self.inside.frames.storages c.run.new.frames.storages c.self.inside.directory c.args.self.now.machines c.args.user c.index_mut-machine.result.now c.run.new.self c.self.invariant (ap (λ (s : SystemView). s.machines) c.self.view_is) c.requires (c.index_mut-machine.ensures.value) (rw c.new.ensures at c.run.ensures.others) in
+    transported (λ old new. TellsRun c.args.units old (record { machine = new; units = c.run.result.ran.units; reason = c.run.result.ran.reason; notice = c.run.result.notice }) (IsShort c.run.new.frames.owners c.args.user)) _ _ _ _ changed.old changed.new (rw c.new.ensures at c.run.ensures.told)
 
 pub returns-clause-supply : goal.returns-clause-supply
 returns-clause-supply c =
-    let changed = change c.self.inside.machines.items c.self.inside.frames.storages c.run.new.frames.storages c.self.inside.directory c.args.self.now.machines c.args.user c.index_mut-machine.result.now c.run.new.self c.self.invariant (ap (λ (s : SystemView). s.machines) c.self.view_is) c.requires (c.index_mut-machine.ensures.value) c.run.ensures.others in
+    let changed = change c.self.inside.machines.items c.self.inside.frames.storages c.run.new.frames.storages c.self.inside.directory c.args.self.now.machines c.args.user c.index_mut-machine.result.now c.run.new.self c.self.invariant (ap (λ (s : SystemView). s.machines) c.self.view_is) c.requires (c.index_mut-machine.ensures.value) (rw c.new.ensures at c.run.ensures.others) in
     let o : c.self.inside.frames.owners ≡ c.args.self.now.owners = ap (λ (s : SystemView). s.owners) c.self.view_is in
-    rw (← o) (transported (λ old new. (pages : List ℕ) × IsFilled c.args.user c.self.inside.frames.owners pages c.run.new.frames.owners × AllNeeded (RunNeeds old.core c.run.result.ran.units c.run.result.ran.reason) pages) _ _ _ _ changed.old changed.new c.run.ensures.supply)
+    rw (← o) (transported (λ old new. (pages : List ℕ) × IsFilled c.args.user c.self.inside.frames.owners pages c.run.new.frames.owners × AllNeeded (RunNeeds old.core c.run.result.ran.units c.run.result.ran.reason) pages) _ _ _ _ changed.old changed.new (rw c.new.ensures at c.run.ensures.supply))
 
 pub returns-clause-machines : goal.returns-clause-machines
 returns-clause-machines c =
-    let changed = change c.self.inside.machines.items c.self.inside.frames.storages c.run.new.frames.storages c.self.inside.directory c.args.self.now.machines c.args.user c.index_mut-machine.result.now c.run.new.self c.self.invariant (ap (λ (s : SystemView). s.machines) c.self.view_is) c.requires (c.index_mut-machine.ensures.value) c.run.ensures.others in
+    let changed = change c.self.inside.machines.items c.self.inside.frames.storages c.run.new.frames.storages c.self.inside.directory c.args.self.now.machines c.args.user c.index_mut-machine.result.now c.run.new.self c.self.invariant (ap (λ (s : SystemView). s.machines) c.self.view_is) c.requires (c.index_mut-machine.ensures.value) (rw c.new.ensures at c.run.ensures.others) in
     changed.machines

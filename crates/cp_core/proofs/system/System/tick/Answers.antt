@@ -22,30 +22,30 @@ overflow_cast-user c =
 pub tick-requires : goal.tick-requires
 tick-requires c =
     let inside = is_user c.self.inside.machines.items c.self.inside.frames.storages c.self.inside.directory c.args.self.now.machines c.args.user c.self.invariant (ap (λ (s : SystemView). s.machines) c.self.view_is) c.requires in
-    seat_fits c.self.inside.machines.items c.self.inside.frames.storages c.self.inside.directory c.args.user c.index_mut-machine.result.now c.self.invariant inside c.index_mut-machine.ensures.value
+    rw c.new.ensures (seat_fits c.self.inside.machines.items c.self.inside.frames.storages c.self.inside.directory c.args.user c.index_mut-machine.result.now c.self.invariant inside c.index_mut-machine.ensures.value)
 
 pub returns-clause-ok : goal.returns-clause-ok
 returns-clause-ok c =
-    let changed = change c.self.inside.machines.items c.self.inside.frames.storages c.tick.new.frames.storages c.self.inside.directory c.args.self.now.machines c.args.user c.index_mut-machine.result.now c.tick.new.self c.self.invariant (ap (λ (s : SystemView). s.machines) c.self.view_is) c.requires (c.index_mut-machine.ensures.value) c.tick.ensures.others in
-    transported (λ old new. OnOk c.tick.result (new ≡ ticked old)) _ _ _ _ changed.old changed.new c.tick.ensures.ok
+    let changed = change c.self.inside.machines.items c.self.inside.frames.storages c.tick.new.frames.storages c.self.inside.directory c.args.self.now.machines c.args.user c.index_mut-machine.result.now c.tick.new.self c.self.invariant (ap (λ (s : SystemView). s.machines) c.self.view_is) c.requires (c.index_mut-machine.ensures.value) (rw c.new.ensures at c.tick.ensures.others) in
+    transported (λ old new. OnOk c.tick.result (new ≡ ticked old)) _ _ _ _ changed.old changed.new (rw c.new.ensures at c.tick.ensures.ok)
 
 pub returns-clause-err : goal.returns-clause-err
 returns-clause-err c =
-    let changed = change c.self.inside.machines.items c.self.inside.frames.storages c.tick.new.frames.storages c.self.inside.directory c.args.self.now.machines c.args.user c.index_mut-machine.result.now c.tick.new.self c.self.invariant (ap (λ (s : SystemView). s.machines) c.self.view_is) c.requires (c.index_mut-machine.ensures.value) c.tick.ensures.others in
-    same_if_refused changed.old changed.new c.tick.result c.tick.ensures.err
+    let changed = change c.self.inside.machines.items c.self.inside.frames.storages c.tick.new.frames.storages c.self.inside.directory c.args.self.now.machines c.args.user c.index_mut-machine.result.now c.tick.new.self c.self.invariant (ap (λ (s : SystemView). s.machines) c.self.view_is) c.requires (c.index_mut-machine.ensures.value) (rw c.new.ensures at c.tick.ensures.others) in
+    same_if_refused changed.old changed.new c.tick.result (rw c.new.ensures at c.tick.ensures.err)
 
 pub returns-clause-frames : goal.returns-clause-frames
 returns-clause-frames c =
-    let changed = change c.self.inside.machines.items c.self.inside.frames.storages c.tick.new.frames.storages c.self.inside.directory c.args.self.now.machines c.args.user c.index_mut-machine.result.now c.tick.new.self c.self.invariant (ap (λ (s : SystemView). s.machines) c.self.view_is) c.requires (c.index_mut-machine.ensures.value) c.tick.ensures.others in
-    transported (λ old new. OnErr c.tick.result (IsLacking (TickNeeds old) (length old.core.processor.bytes) (IsShort c.tick.new.frames.owners c.args.user))) _ _ _ _ changed.old changed.new c.tick.ensures.frames
+    let changed = change c.self.inside.machines.items c.self.inside.frames.storages c.tick.new.frames.storages c.self.inside.directory c.args.self.now.machines c.args.user c.index_mut-machine.result.now c.tick.new.self c.self.invariant (ap (λ (s : SystemView). s.machines) c.self.view_is) c.requires (c.index_mut-machine.ensures.value) (rw c.new.ensures at c.tick.ensures.others) in
+    transported (λ old new. OnErr c.tick.result (IsLacking (TickNeeds old) (length old.core.processor.bytes) (IsShort c.tick.new.frames.owners c.args.user))) _ _ _ _ changed.old changed.new (rw c.new.ensures at c.tick.ensures.frames)
 
 pub returns-clause-supply : goal.returns-clause-supply
 returns-clause-supply c =
-    let changed = change c.self.inside.machines.items c.self.inside.frames.storages c.tick.new.frames.storages c.self.inside.directory c.args.self.now.machines c.args.user c.index_mut-machine.result.now c.tick.new.self c.self.invariant (ap (λ (s : SystemView). s.machines) c.self.view_is) c.requires (c.index_mut-machine.ensures.value) c.tick.ensures.others in
+    let changed = change c.self.inside.machines.items c.self.inside.frames.storages c.tick.new.frames.storages c.self.inside.directory c.args.self.now.machines c.args.user c.index_mut-machine.result.now c.tick.new.self c.self.invariant (ap (λ (s : SystemView). s.machines) c.self.view_is) c.requires (c.index_mut-machine.ensures.value) (rw c.new.ensures at c.tick.ensures.others) in
     let o : c.self.inside.frames.owners ≡ c.args.self.now.owners = ap (λ (s : SystemView). s.owners) c.self.view_is in
-    rw (← o) (transported (λ old new. (pages : List ℕ) × IsFilled c.args.user c.self.inside.frames.owners pages c.tick.new.frames.owners × AllNeeded (TickNeeds old) pages) _ _ _ _ changed.old changed.new c.tick.ensures.supply)
+    rw (← o) (transported (λ old new. (pages : List ℕ) × IsFilled c.args.user c.self.inside.frames.owners pages c.tick.new.frames.owners × AllNeeded (TickNeeds old) pages) _ _ _ _ changed.old changed.new (rw c.new.ensures at c.tick.ensures.supply))
 
 pub returns-clause-machines : goal.returns-clause-machines
 returns-clause-machines c =
-    let changed = change c.self.inside.machines.items c.self.inside.frames.storages c.tick.new.frames.storages c.self.inside.directory c.args.self.now.machines c.args.user c.index_mut-machine.result.now c.tick.new.self c.self.invariant (ap (λ (s : SystemView). s.machines) c.self.view_is) c.requires (c.index_mut-machine.ensures.value) c.tick.ensures.others in
+    let changed = change c.self.inside.machines.items c.self.inside.frames.storages c.tick.new.frames.storages c.self.inside.directory c.args.self.now.machines c.args.user c.index_mut-machine.result.now c.tick.new.self c.self.invariant (ap (λ (s : SystemView). s.machines) c.self.view_is) c.requires (c.index_mut-machine.ensures.value) (rw c.new.ensures at c.tick.ensures.others) in
     changed.machines
