@@ -148,7 +148,7 @@ fn carry_out_all<R: Print>(
             Err(SideError::Differs(view)) => {
                 if tally.told < MOST_TOLD {
                     tally.told += 1;
-                    println!(rt; "{state}: {halfword:04X}: {view} differs")?;
+                    println!(rt; "{state}: {halfword:04X}: not the same: {view}")?;
                 }
                 machines = two_users(alloc)?;
             }

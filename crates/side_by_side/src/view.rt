@@ -49,7 +49,7 @@ impl fmt::Display for View {
 #[derive(Debug, Drop, Error)]
 pub enum SideError {
     /// The user does not see what the bare machine shows.
-    #[error("{0} differs")]
+    #[error("not the same: {0}")]
     Differs(View),
     /// A growth was refused.
     #[error("no memory is left")]
