@@ -364,3 +364,95 @@ fn nothing_is_in(rt: &impl Abort, machine: &Bare) -> Result<(), Fail> {
     assert_eq!(rt; machine.console_output(0), None);
     Ok(())
 }
+
+/// Displays while a machine runs, each with the response that is wanted: `("PSW", "PSW 00000000 00000100")`.
+fn displays(
+    rt: &(impl Abort + AllocGlobal),
+    machine: &mut Bare,
+    places: &[(&str, &str)],
+) -> Result<(), Fail> {
+    for (place, wanted) in places {
+        let line = format!(in rt.alloc(); "#CP DISPLAY {place}")?;
+        session(rt, machine, &[(line.as_str(), *wanted)])?;
+    }
+    Ok(())
+}
+
+#[test]
+fn a_long_move_is_done_in_parts(rt: HostRuntime) -> Result<(), Fail> {
+    // MVCL of 600 bytes from 400 to 1000, with letters at the end of its first part and at its own end
+    let stores = [
+        "STORE 100 0E24",
+        "STORE G2 00001000",
+        "STORE G3 00000258",
+        "STORE G4 00000400",
+        "STORE G5 00000258",
+        "STORE 4FC C1C2C3C4C5C6C7C8",
+        "STORE 650 D1D2D3D4D5D6D7D8FFFFFFFF",
+        "STORE PSW 00000000 00000100",
+    ];
+    let mut machine = begin(&rt, &stores)?;
+    let zeros = "00000000 00000000 00000000";
+    let first_end = format!(in rt.alloc(); "0010F0 {zeros} C1C2C3C4")?;
+    let second = format!(in rt.alloc(); "001100 C5C6C7C8 {zeros}")?;
+    let end = "001250 D1D2D3D4 D5D6D7D8 00000000 00000000";
+    for (to, left, from, address) in [
+        ("00001100", "00000158", "00000500", "00000100"),
+        ("00001200", "00000058", "00000600", "00000100"),
+        ("00001258", "00000000", "00000658", "00000102"),
+    ] {
+        assert_eq!(rt; machine.units(1), ran(1, Reason::Count));
+        let psw = format!(in rt.alloc(); "PSW 00000000 {address}")?;
+        displays(&rt, &mut machine, &[("PSW", psw.as_str())])?;
+        for (register, value) in [(2u8, to), (3, left), (4, from), (5, left)] {
+            let place = format!(in rt.alloc(); "G{register}")?;
+            let wanted = format!(in rt.alloc(); "GPR {register} = {value}")?;
+            displays(&rt, &mut machine, &[(place.as_str(), wanted.as_str())])?;
+        }
+        displays(&rt, &mut machine, &[("10F0", first_end.as_str())])?;
+    }
+    let moved = [("1100", second.as_str()), ("1250", end)];
+    displays(&rt, &mut machine, &moved)
+}
+
+/// A machine of 32 KiB that has done one unit: EX, its target `MVC 0(4,10),0(11)` and both operands of that cross a page's end.
+fn eight_pages(
+    rt: &(impl Abort + AllocGlobal),
+    second_operand: &'static str,
+) -> Result<Bare, Fail> {
+    let mut machine = Bare::new(rt.alloc(), PlainStorage::new(rt.alloc(), 16)?);
+    let lines = [
+        ("LOGON", "LOGON OK"),
+        ("STORE FFE 44009000", "STORED"),
+        ("STORE G9 00002FFE", "STORED"),
+        ("STORE 2FFE D203A000B000", "STORED"),
+        ("STORE G10 00004FFF", "STORED"),
+        (second_operand, "STORED"),
+        ("STORE 6FFF 11223344", "STORED"),
+        ("STORE 68 0000000000000500", "STORED"),
+        ("BEGIN FFE", ""),
+    ];
+    session(rt, &mut machine, &lines)?;
+    assert_eq!(rt; machine.units(1), ran(1, Reason::Count));
+    Ok(machine)
+}
+
+#[test]
+fn an_instruction_that_lies_in_eight_pages(rt: HostRuntime) -> Result<(), Fail> {
+    let mut machine = eight_pages(&rt, "STORE G11 00006FFF")?;
+    let moved = [
+        ("4FF0", "004FF0 00000000 00000000 00000000 00000011"),
+        ("5000", "005000 22334400 00000000 00000000 00000000"),
+        ("PSW", "PSW 00000000 00001002"),
+    ];
+    displays(&rt, &mut machine, &moved)?;
+    // the second operand ends past the end of storage
+    let mut machine = eight_pages(&rt, "STORE G11 00007FFE")?;
+    let refused = [
+        ("4FF0", "004FF0 00000000 00000000 00000000 00000000"),
+        ("5000", "005000 00000000 00000000 00000000 00000000"),
+        ("20", "000020 00000000 00000000 00000005 80001002"),
+        ("PSW", "PSW 00000000 00000500"),
+    ];
+    displays(&rt, &mut machine, &refused)
+}

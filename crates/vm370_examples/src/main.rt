@@ -1,4 +1,5 @@
-//! Runs the examples: each script over its directory has to give the transcript that is stored beside it.
+//! Runs the examples: each script over its directory has to give the transcript that is stored beside it, on as many frames
+//! as the program `vm370` has, and on the fewest that a system may have.
 //!
 //! The words of the program are the folders of the examples, each of which has the files `directory`, `script`
 //! and `transcript`. The transcripts go to standard output, in the order of the words.
@@ -16,28 +17,33 @@ use vm370::session::session;
 /// How many frames the machine of the program `vm370` has.
 const FRAMES: u32 = 64;
 
+/// The fewest that a system may have.
+const FEWEST_FRAMES: u32 = 16;
+
 /// How many slots for pages it has.
 const SLOTS: u32 = 256;
 
 fn main(rt: HostRuntime) -> Result<()> {
     let mut output = io::writer(&rt);
     for folder in env::args(&rt)?.skip(1) {
-        let transcript = transcript(&rt, &folder)?;
-        if transcript != contents(&rt, &folder, "transcript")? {
-            bail!("{folder}: the script gives another transcript than is stored");
+        let stored = contents(&rt, &folder, "transcript")?;
+        for frames in [FEWEST_FRAMES, FRAMES] {
+            if transcript(&rt, &folder, frames)? != stored {
+                bail!("{folder}: on {frames} frames the script gives another transcript");
+            }
         }
-        output.write_all(&transcript)?;
+        output.write_all(&stored)?;
     }
     output.flush()?;
     Ok(())
 }
 
-/// What a folder's script gives over its directory.
-fn transcript<R: AllocGlobal + Files>(rt: &R, folder: &str) -> Result<Vec<u8>> {
+/// What a folder's script gives over its directory, on so many frames.
+fn transcript<R: AllocGlobal + Files>(rt: &R, folder: &str, frames: u32) -> Result<Vec<u8>> {
     let alloc = rt.alloc();
     let directory = read_directory(alloc, &contents(rt, folder, "directory")?)?;
-    let Some(sizes) = Sizes::new(FRAMES, SLOTS) else {
-        unreachable!();
+    let Some(sizes) = Sizes::new(frames, SLOTS) else {
+        bail!("{frames} frames are too many");
     };
     let mut system = System::boot(alloc, directory, sizes)?;
     let mut script = open(rt, folder, "script")?;

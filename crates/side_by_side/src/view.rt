@@ -1,0 +1,69 @@
+//! What is seen of a machine, and why two machines are not the same.
+use cp_core::{BootError, CpError};
+use cp_directory::DirError;
+use std::alloc::AllocError;
+use std::fmt;
+use thiserror::Error;
+
+/// What is seen of a machine.
+#[derive(Clone, Copy, Debug, PartialEq, Eq)]
+pub enum View {
+    /// What an event is answered.
+    Answer,
+    /// The general registers.
+    General,
+    /// The control registers.
+    Control,
+    /// The PSW.
+    Psw,
+    /// Whether the machine is on, and whether it runs.
+    Mode,
+    /// The external conditions that are pending.
+    Pending,
+    /// The lines that the console has printed.
+    Console,
+    /// The keys of the blocks.
+    Keys,
+    /// The bytes of storage.
+    Storage,
+}
+
+impl fmt::Display for View {
+    fn fmt<W: fmt::Write>(&self, f: &mut fmt::Formatter<W>) -> fmt::Result {
+        let name = match self {
+            View::Answer => "the answer",
+            View::General => "the general registers",
+            View::Control => "the control registers",
+            View::Psw => "the PSW",
+            View::Mode => "the mode",
+            View::Pending => "what is pending",
+            View::Console => "the console",
+            View::Keys => "the keys",
+            View::Storage => "storage",
+        };
+        write!(f, "{name}")
+    }
+}
+
+/// Why an event was not given to both machines, or how they differ.
+#[derive(Debug, Drop, Error)]
+pub enum SideError {
+    /// The user does not see what the bare machine shows.
+    #[error("not the same: {0}")]
+    Differs(View),
+    /// A growth was refused.
+    #[error("no memory is left")]
+    Memory(#[from(alloc)] AllocError),
+    /// The directory is refused.
+    #[error("{0}")]
+    Directory(#[from] DirError),
+    /// The system is not booted.
+    #[error("{0}")]
+    Boot(#[from] BootError),
+    /// The system refuses the event.
+    #[error("{0}")]
+    Event(#[from] CpError),
+    /// The directory has no such user.
+    #[error("the directory has no such user")]
+    NoSuchUser,
+}
