@@ -9,6 +9,7 @@ use cp_panel::Mode;
 use cp_users::UserNo;
 use s370_intr::{Pending, Ran, Reason};
 use s370_psw::Psw;
+use s370_store::Page;
 use std::alloc::{AllocError, Global};
 use std::process::Abort;
 use std::test::Fail;
@@ -140,6 +141,14 @@ fn run(
     Ok(())
 }
 
+/// A tick of a user's timer that is to end so.
+fn tick(rt: &impl Abort, system: &mut System, user: UserNo, wanted: Ended) -> Result<(), Fail> {
+    let reply = apply(rt, system, &Event::Tick(user))?;
+    assert_eq!(rt; reply.ended, wanted);
+    assert_eq!(rt; reply.said, None);
+    Ok(())
+}
+
 /// Types `STORE` lines that are each answered `STORED`.
 fn stores(
     rt: &(impl Abort + AllocGlobal),
@@ -244,6 +253,100 @@ fn stops_and_refused_commands(rt: HostRuntime) -> Result<(), Fail> {
 }
 
 #[test]
+fn timers_of_two_users(rt: HostRuntime) -> Result<(), Fail> {
+    let mut system = two_users(&rt)?;
+    // B waits for its timer, which is at zero too
+    let waits = ["58 0000000000000300", "PSW 01020000 00000100"];
+    stores(&rt, &mut system, b(), &waits)?;
+    session(&rt, &mut system, b(), &[("BEGIN", "")])?;
+    let beside = views(rt.alloc(), &system, b())?;
+    let places = [
+        "100 80000200",
+        "200 01",
+        "58 0000000000000300",
+        "PSW 00000000 00000100",
+    ];
+    stores(&rt, &mut system, a(), &places)?;
+    // the timer of a machine that does not run stands still
+    let stopped = views(rt.alloc(), &system, a())?;
+    tick(&rt, &mut system, a(), Ended::Done)?;
+    assert_eq!(rt; views(rt.alloc(), &system, a())?, stopped);
+
+    session(&rt, &mut system, a(), &[("BEGIN", "")])?;
+    tick(&rt, &mut system, a(), Ended::Done)?;
+    run(&rt, &mut system, a(), 2, (2, Reason::Count))?;
+    let shown = [
+        (
+            "#CP DISPLAY 50",
+            "000050 FFFFFF00 00000000 00000000 00000300",
+        ),
+        (
+            "#CP DISPLAY 10",
+            "000010 00000000 00000000 01000080 00000104",
+        ),
+    ];
+    session(&rt, &mut system, a(), &shown)?;
+    assert_eq!(rt; system.pending(a()), Some(Pending::NOTHING));
+    assert_eq!(rt; views(rt.alloc(), &system, b())?, beside);
+
+    run(&rt, &mut system, b(), 5, (0, Reason::Wait))?;
+    tick(&rt, &mut system, b(), Ended::Done)?;
+    run(&rt, &mut system, b(), 1, (1, Reason::Count))?;
+    let old = "000010 00000000 00000000 01020080 00000100";
+    session(&rt, &mut system, b(), &[("#CP DISPLAY 10", old)])
+}
+
+#[test]
+fn a_tick_without_a_frame(rt: HostRuntime) -> Result<(), Fail> {
+    let mut system = booted(&rt, "USER A PW 128K\nUSER B PW 8K\n", 16)??;
+    session(&rt, &mut system, a(), &[("LOGON", "LOGON OK")])?;
+    session(&rt, &mut system, b(), &[("LOGON", "LOGON OK")])?;
+    // sixteen pages of A, and page 0 is none of them
+    for page in 1..17u32 {
+        let place = format!(in rt.alloc(); "{page:X}000 01")?;
+        stores(&rt, &mut system, a(), &[place.as_str()])?;
+    }
+    session(&rt, &mut system, a(), &[("BEGIN", "")])?;
+    let before = views(rt.alloc(), &system, a())?;
+    tick(&rt, &mut system, a(), Ended::FramesOut)?;
+    tick(&rt, &mut system, a(), Ended::FramesOut)?;
+    // a machine that does not run needs no page
+    tick(&rt, &mut system, b(), Ended::Done)?;
+    assert_eq!(rt; views(rt.alloc(), &system, a())?, before);
+    Ok(())
+}
+
+#[test]
+fn a_lent_frame(rt: HostRuntime) -> Result<(), Fail> {
+    let mut system = two_users(&rt)?;
+    let places = ["100 58100FFE", "FFE ABCD", "PSW 00000000 00000100"];
+    stores(&rt, &mut system, a(), &places)?;
+    stores(&rt, &mut system, b(), &["FFE 99"])?;
+    session(&rt, &mut system, a(), &[("BEGIN", "")])?;
+    let beside = views(rt.alloc(), &system, b())?;
+    assert_eq!(rt; system.frame_of(a(), Page(1)), None);
+    assert_eq!(rt; system.frame_of(a(), Page(2)), None);
+    assert_eq!(rt; system.frame_of(UserNo::new(2), Page(0)), None);
+    let Some(frame) = system.frame_of(a(), Page(0)) else {
+        return Err(Fail::from("page 0 stands in a frame"));
+    };
+    match system.frame_mut(frame) {
+        Some(bytes) => bytes[0xFFE] = 0xEE,
+        None => return Err(Fail::from("the frame is one of the system")),
+    }
+    assert!(rt; system.frame_mut(FrameNo(16)).is_none());
+    run(&rt, &mut system, a(), 1, (1, Reason::Count))?;
+    session(
+        &rt,
+        &mut system,
+        a(),
+        &[("#CP DISPLAY G1", "GPR 1 = EECD0000")],
+    )?;
+    assert_eq!(rt; views(rt.alloc(), &system, b())?, beside);
+    Ok(())
+}
+
+#[test]
 fn pages_of_two_users_in_turn(rt: HostRuntime) -> Result<(), Fail> {
     let mut system = two_users(&rt)?;
     // a guest whose code is in its first page and whose words are in its second: `L 1,0(2)`, `ST 1,4(2)`
@@ -335,6 +438,7 @@ fn who_and_how_many(rt: HostRuntime) -> Result<(), Fail> {
         system.apply(Event::Line(nobody, b"LOGON")),
         Err(CpError::NoSuchUser)
     );
+    assert_eq!(rt; system.apply(Event::Tick(nobody)), Err(CpError::NoSuchUser));
     assert!(rt; !system.is_spent());
     assert_eq!(rt; system.registers(nobody), None);
     assert_eq!(rt; system.psw(nobody), None);
