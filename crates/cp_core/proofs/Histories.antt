@@ -12,7 +12,7 @@ use Rattle.cp_console.specs.declared.responses.Response.{Response}
 use Rattle.cp_panel.specs.Run.{MachineRun, TellsRun}
 use Rattle.cp_panel.specs.Panel.{Answer, line}
 use Rattle.cp_panel.specs.Tick.{ticked}
-use Rattle.bare_machine.specs.Life.{Event as Local, Units, Line as Typed, life, after}
+use Rattle.cp_panel.specs.Life.{Event as Local, Units, Line as Typed, life, after}
 use Rattle.cp_core.specs.declared.events.Ended.{Ended}
 use Rattle.cp_core.specs.declared.events.Ended.TheVariants.{Ran, Done, FramesOut}
 use Rattle.cp_core.specs.System.{SystemView, nobody, machine_at, units_of, run_of, line_of, tick_of, local, own, Step, IsHistory, EachIsBare, IsApplied}

@@ -13,7 +13,7 @@ use Rattle.cp_panel.specs.Machine.{Machine, unused}
 use Rattle.cp_panel.specs.Run.{MachineRun, TellsRun}
 use Rattle.cp_panel.specs.Panel.{Answer, line, line_needs, switches_on}
 use Rattle.cp_panel.specs.Tick.{TickNeeds, ticked}
-use Rattle.bare_machine.specs.Life.{Event as Local, Units, Line as Typed, Tick as Ticked, life}
+use Rattle.cp_panel.specs.Life.{Event as Local, Units, Line as Typed, Tick as Ticked, life}
 use Rattle.cp_core.specs.UserMachines.{UserParts, machine_of, IsShort}
 use Rattle.cp_core.specs.Events.{user_of}
 use Rattle.cp_core.specs.declared.events.Ended.{Ended}

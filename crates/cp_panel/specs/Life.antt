@@ -1,4 +1,4 @@
--- The life of a bare machine: one event after another.
+-- The life of a machine: one event after another.
 use Rattle.std.specs.Prelude.{ℕ, List, [], ◌∷◌}
 use Rattle.cp_panel.specs.Machine.{Machine}
 use Rattle.cp_panel.specs.Run.{run}
