@@ -78,3 +78,16 @@ impl ConsoleOutput {
         self.lines.get(line).copied()
     }
 }
+
+#[cfg(test)]
+mod tests {
+    use super::*;
+
+    // All that the output of a console keeps.
+    #[test]
+    fn output_has_no_other_parts(rt: HostRuntime) {
+        let output = ConsoleOutput::new(rt.alloc());
+        let ConsoleOutput { lines } = &output;
+        assert!(rt; lines.is_empty());
+    }
+}

@@ -2,6 +2,8 @@
 ghost use Rattle.std.specs.Prelude.{◌≡◌};
 
 use super::*;
+use crate::system::System;
+use crate::user_machine::UserMachine;
 use cp_console::printing;
 use cp_console::responses::Response;
 use cp_directory::read_directory;
@@ -445,4 +447,27 @@ fn who_and_how_many(rt: HostRuntime) -> Result<(), Fail> {
     assert_eq!(rt; system.storage(nobody, 0), None);
     assert_eq!(rt; system.console_output(nobody, 0), None);
     run(&rt, &mut system, a(), 1, (0, Reason::Stopped))
+}
+
+// A field more, in which a copy of a guest's storage could hide beside the frames, is no part of these patterns. The crates
+// below have the like for what they keep.
+#[test]
+fn a_system_has_no_other_parts(rt: HostRuntime) -> Result<(), Fail> {
+    let system = booted(&rt, "USER A PW 8K\nUSER B PW 12K", 16)??;
+    let System {
+        directory,
+        machines,
+        frames: _,
+        is_spent,
+    } = &system;
+    assert_eq!(rt; directory.len(), 2);
+    assert!(rt; !*is_spent);
+    let mut blocks = 0usize;
+    for user_machine in machines.iter() {
+        let UserMachine { machine, keys } = user_machine;
+        assert_eq!(rt; machine.mode(), Mode::Off);
+        blocks = blocks.wrapping_add(keys.len());
+    }
+    assert_eq!(rt; blocks, 10);
+    Ok(())
 }

@@ -379,3 +379,27 @@ impl Frames {
         self.store_part(user, start + left as u32, second);
     }
 }
+
+#[cfg(test)]
+mod tests {
+    use super::*;
+    use std::test::Fail;
+
+    // All that frames keep: no field but `frames` has bytes.
+    #[test]
+    fn frames_have_no_other_parts(rt: HostRuntime) -> Result<(), Fail> {
+        let sizes = vec![in rt.alloc(); 2u32, 3]?;
+        let all = Frames::new(rt.alloc(), 4, sizes)?;
+        let Frames {
+            frames,
+            owners,
+            pins,
+            sizes,
+            table,
+        } = &all;
+        assert_eq!(rt; (frames.len(), owners.len(), pins.len()), (4, 4, 4));
+        assert_eq!(rt; sizes.as_slice(), [2u32, 3].as_slice());
+        assert_eq!(rt; table.len(), 2048);
+        Ok(())
+    }
+}

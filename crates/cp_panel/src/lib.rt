@@ -19,6 +19,8 @@ mod display_store;
 mod line;
 mod machine;
 mod run;
+#[cfg(test)]
+mod tests;
 mod tick;
 
 pub use display_store::{change, display};

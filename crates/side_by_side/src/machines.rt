@@ -82,6 +82,17 @@ impl SideBySide {
         Ok(told.ran)
     }
 
+    /// Lets the timers of both tick.
+    pub fn tick(&mut self, user: UserNo) -> Result<(), SideError> {
+        self.bare_mut(user)?.tick();
+        let reply = self.system.apply(Event::Tick(user))?;
+        let wanted = Reply {
+            ended: Ended::Done,
+            said: None,
+        };
+        same(reply == wanted, View::Answer)
+    }
+
     /// Compares all views of a user, the bytes of storage and the whole console among them.
     pub fn compare(&self, user: UserNo) -> Result<(), SideError> {
         self.compare_registers(user)?;

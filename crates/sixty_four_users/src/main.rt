@@ -1,7 +1,7 @@
 //! Sixty-four users, each with a program of its own, run in turns of one to seven units beside sixty-four bare machines.
 //!
 //! The programs are made of pieces of code, and the events come in the order of a fixed sequence of numbers: mostly a run
-//! of some user, and now and then a line that its operator types. After each event every view of every user has to be that
+//! of some user, and now and then a tick of its timer or a line that its operator types. After each event every view of every user has to be that
 //! of the bare machine that was given that user's own events. It prints how many events there were, or the first after
 //! which a view differs.
 #![tactic(auto)]
@@ -29,21 +29,23 @@ const EVENTS: u32 = 20_000;
 /// How many pieces of code a program has.
 const PIECES_EACH: u32 = 40;
 
-/// What happens to a user. Another kind of event is a variant here, drawn in `next_happening` and given in `happen`.
+/// What happens to a user.
 #[derive(Clone, Copy)]
 enum Happening {
     /// Its machine runs for so many units.
     Run(u32),
     /// Its operator types this.
     Line(&'static str),
+    /// Its timer ticks.
+    Tick,
 }
 
-/// What happens next. One event in eight is a line.
+/// What happens next. Of eight events one is a line, and one a tick.
 fn next_happening(sequence: &mut Sequence) -> Happening {
-    if sequence.next_number() % 8 == 0 {
-        Happening::Line(sequence.pick(&TYPED))
-    } else {
-        Happening::Run(sequence.next_number() % 7 + 1)
+    match sequence.next_number() % 8 {
+        0 => Happening::Line(sequence.pick(&TYPED)),
+        1 => Happening::Tick,
+        _ => Happening::Run(sequence.next_number() % 7 + 1),
     }
 }
 
@@ -134,6 +136,7 @@ fn happen(machines: &mut SideBySide, user: UserNo, what: Happening) -> Result<()
         Happening::Line(typed) => {
             machines.line(user, typed.as_bytes())?;
         }
+        Happening::Tick => machines.tick(user)?,
     }
     machines.compare_console(user, printed)?;
     compare_all(machines)

@@ -1,11 +1,18 @@
 //! What the users' programs are made of, and what their operators type.
 
-/// What stands in every user's storage: the PSWs of interruptions, the two instructions that go on after one, and operands.
-pub const DATA: [&str; 15] = [
+/// What stands in every user's storage: the PSWs of interruptions, the instructions that go on after one, operands, and the
+/// timer.
+pub const DATA: [&str; 19] = [
     // a supervisor call and a program interruption each go on with the next instruction
     "STORE 60 00000000000003000000000000000310",
     "STORE 300 82000020",
     "STORE 310 82000028",
+    // so does an external interruption; the timer is about to go below zero
+    "STORE 58 0000000000000320",
+    "STORE 320 82000018",
+    "STORE 50 00000300",
+    // control register 0 with the timer and the interrupt key, with the timer alone, and with the key alone
+    "STORE 9A0 000000C00000008000000040",
     "STORE 800 0000004100000FFF7FFFFFFF80000000",
     "STORE 810 000000000012345DC1C2C3C4C5C6C7C8",
     "STORE 840 F1F2F3F4F5F6F7C8123456789012345C",
@@ -24,7 +31,7 @@ pub const DATA: [&str; 15] = [
 ];
 
 /// Pieces of code, each a few instructions that can stand one after the other.
-pub const PIECES: [&str; 31] = [
+pub const PIECES: [&str; 34] = [
     // A, ST, SR, ALR, SLR
     "5A100800501008041B121E341F56",
     // LH, MH, SH, CH
@@ -77,6 +84,11 @@ pub const PIECES: [&str; 31] = [
     "413008000823094341301000084309A3",
     // STNSM, STOSM, STCTL
     "AC000878AD000879B6020980",
+    // LCTL with subclasses of external interruptions, and STOSM that enables them
+    "B70009A0AD01087A",
+    "B70009A4",
+    // LA and ST: a small number in the timer
+    "410000FF50000050",
     // shifts
     "88100005892000078A3000038C400009",
     // codes that there are not, and EX of an odd address
@@ -89,7 +101,7 @@ pub const PIECES: [&str; 31] = [
 ];
 
 /// Lines that an operator types now and then.
-pub const TYPED: [&str; 20] = [
+pub const TYPED: [&str; 24] = [
     "#CP STORE PSW 00000000 00000400",
     "#CP STORE PSW 00000000 00000400",
     "#CP STORE PSW 00000000 0F000400",
@@ -107,6 +119,10 @@ pub const TYPED: [&str; 20] = [
     "#CP STORE 310 82000028",
     "#CP STORE G15 00001FFD",
     "#CP DISPLAY 28",
+    "#CP DISPLAY X0",
+    "#CP DISPLAY K800",
+    "#CP EXTERNAL",
+    "#CP STORE 50 00000100",
     "#CP DISPLAY 2000",
     "BEGIN",
     "#CP",
