@@ -259,6 +259,117 @@ fn a_wait_with_a_mask_goes_on(rt: HostRuntime) -> Result<(), Fail> {
 }
 
 #[test]
+fn a_timer_interrupts(rt: HostRuntime) -> Result<(), Fail> {
+    let stores = [
+        "STORE 100 80000200",
+        "STORE 200 01",
+        "STORE 58 0000000000000300",
+        "STORE PSW 00000000 00000100",
+    ];
+    let mut machine = begin(&rt, &stores)?;
+    machine.tick();
+    let timer = Pending {
+        timer: true,
+        key: false,
+    };
+    assert_eq!(rt; machine.pending(), timer);
+    assert_eq!(rt; machine.units(2), ran(2, Reason::Count));
+    let lines = [
+        (
+            "#CP DISPLAY 50",
+            "000050 FFFFFF00 00000000 00000000 00000300",
+        ),
+        (
+            "#CP DISPLAY 10",
+            "000010 00000000 00000000 01000080 00000104",
+        ),
+        ("#CP DISPLAY PSW", "PSW 00000000 00000300"),
+    ];
+    session(&rt, &mut machine, &lines)?;
+    assert_eq!(rt; machine.pending(), Pending::NOTHING);
+    Ok(())
+}
+
+#[test]
+fn timers_of_machines(rt: HostRuntime) -> Result<(), Fail> {
+    // a machine that is off, and one that is stopped
+    let mut machine = Bare::new(rt.alloc(), PlainStorage::new(rt.alloc(), 4)?);
+    machine.tick();
+    assert_eq!(rt; machine.storage().get(80), Some(&0));
+    session(&rt, &mut machine, &[("LOGON", "LOGON OK")])?;
+    machine.tick();
+    assert_eq!(rt; machine.storage().get(80), Some(&0));
+    // one that waits: it runs, so its timer goes on, and ends the wait below zero
+    let stores = ["STORE 50 00000100", "STORE PSW 01020000 00000100"];
+    let mut machine = begin(&rt, &stores)?;
+    for wanted in [ran(0, Reason::Wait), ran(1, Reason::Count)] {
+        machine.tick();
+        assert_eq!(rt; machine.units(1), wanted);
+    }
+    Ok(())
+}
+
+#[test]
+fn the_interrupt_key(rt: HostRuntime) -> Result<(), Fail> {
+    let stores = ["STORE 58 0000000000000300", "STORE PSW 01020000 00000100"];
+    let mut machine = begin(&rt, &stores)?;
+    assert_eq!(rt; machine.units(1), ran(0, Reason::Wait));
+    machine.tick();
+    session(&rt, &mut machine, &[("#CP EXTERNAL", "")])?;
+    let both = Pending {
+        timer: true,
+        key: true,
+    };
+    assert_eq!(rt; machine.pending(), both);
+    assert_eq!(rt; machine.units(1), ran(1, Reason::Count));
+    // both conditions at once
+    let old = "000010 00000000 00000000 010200C0 00000100";
+    session(&rt, &mut machine, &[("#CP DISPLAY 10", old)])?;
+    // a machine that is stopped has the key too, until it is switched on anew
+    let lines = [
+        ("#CP", ""),
+        ("EXTERNAL", ""),
+        ("EXTERNAL 1", "BAD OPERAND 1"),
+    ];
+    session(&rt, &mut machine, &lines)?;
+    let key = Pending {
+        timer: false,
+        key: true,
+    };
+    assert_eq!(rt; machine.pending(), key);
+    assert_eq!(rt; machine.mode(), Mode::Stopped);
+    Ok(())
+}
+
+#[test]
+fn control_registers_and_keys_are_shown(rt: HostRuntime) -> Result<(), Fail> {
+    let mut storage = PlainStorage::new(rt.alloc(), 4)?;
+    assert_eq!(rt; storage.keys().len(), 4);
+    storage.set_key(1, StorageKey::new(0x1F));
+    let mut machine = Bare::new(rt.alloc(), storage);
+    let lines = [
+        ("LOGON", "LOGON OK"),
+        ("DISPLAY X0", "CR 0 = 000000E0"),
+        ("DISPLAY X15", "CR 15 = 00000000"),
+        // LOGON makes keys zero
+        ("DISPLAY KFFF", "KEY 000800 = 00"),
+        ("DISPLAY K1FFF", "KEY 001800 = 00"),
+        ("DISPLAY K2000", "ADDRESS PAST STORAGE"),
+        ("STORE X0 00000000", "BAD OPERAND 1"),
+        ("STORE K800 F8", "BAD OPERAND 1"),
+    ];
+    session(&rt, &mut machine, &lines)?;
+    let kept = [
+        "CR 0 = 000000E0",
+        "CR 15 = 00000000",
+        "KEY 000800 = 00",
+        "KEY 001800 = 00",
+        "ADDRESS PAST STORAGE",
+    ];
+    console(&rt, &machine, &kept)
+}
+
+#[test]
 fn lines_to_a_machine_that_is_off(rt: HostRuntime) -> Result<(), Fail> {
     let mut machine = Bare::new(rt.alloc(), PlainStorage::new(rt.alloc(), 4)?);
     for line in ["", "#CP", "#CP LOGON", "BEGIN", "FOO", "LOGON X", "logon"] {
