@@ -13,9 +13,9 @@ ghost use Rattle.cp_core.specs.UserMachines.{Fits, IsShort, machine_of};
 
 use cp_console::responses::Response;
 use cp_frames::{Dat, Frames};
-use cp_users::UserNo;
 use cp_panel::{LineError, Machine, MachineRan};
 use cp_trap::VirtualCpu;
+use cp_users::UserNo;
 use s370_num::StorageKey;
 use s370_store::FramesOut;
 use std::alloc::{AllocError, Global};

@@ -1,7 +1,6 @@
 //! One user's storage, lent from the frames.
 ghost use Rattle.std.specs.Prelude.{◌≡◌, ◌+◌, ◌*◌, ◌/◌, ◌<◌, ◌≤◌, ◌↔◌, ◌%◌, true, length, IfOk, IfSome, IfNone, OnOk, OnErr, All, IsSome, Some, None, false};
 ghost use Rattle.cp_frames.specs.Layout.{bytes_of, frame_of, number_of, free_count, IsBrought, IsZeroPage};
-
 ghost use Rattle.cp_frames.specs.Settled.{IsSettled};
 
 use crate::{FrameNo, Frames};
@@ -217,7 +216,8 @@ impl<'a> Storage for Dat<'a> {
     #[inline(always)]
     fn load(&self, start: u32, into: &mut [u8]) {
         if self.is_near(start, into.len() as u32) {
-            self.frames.load_in(FrameNo(self.near.frame), self.user, start, into);
+            self.frames
+                .load_in(FrameNo(self.near.frame), self.user, start, into);
         } else {
             self.frames.load(self.user, start, into);
         }

@@ -256,7 +256,11 @@ impl Frames {
         requires there { frame_of self.now.owners user (start / 4096) ≡ Some frame.0 }
         ensures { into.new ≡ slice_range (bytes_of self.now user) start (start + length into.old) }
     {
-        copy_out(&self.frames[frame.0 as usize], (start % PAGE_SIZE) as usize, into);
+        copy_out(
+            &self.frames[frame.0 as usize],
+            (start % PAGE_SIZE) as usize,
+            into,
+        );
     }
 
     /// Copies bytes of one page out.

@@ -13,9 +13,9 @@ use crate::input_output::answer;
 use crate::pending::Pending;
 use crate::psw_swap::swap;
 use s370_cpu::{Stop, step, supervise};
+use s370_num::AccessKey;
 use s370_psw::Ilc;
 use s370_rows::{Cpu, Instruction};
-use s370_num::AccessKey;
 use s370_store::{Access, Keyed, Page, Range, Storage};
 
 /// How the instructions for the supervisor state and the interruptions of a processor are carried out: by the processor

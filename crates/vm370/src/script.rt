@@ -227,17 +227,27 @@ mod tests {
         for (text, wanted) in [
             (b"RUN B 1".as_slice(), (1, false, b"".as_slice(), 1)),
             (b"RUN A 0000001\n".as_slice(), (0, false, b"".as_slice(), 1)),
-            (b"RUN A 1000000\n".as_slice(), (0, false, b"".as_slice(), 1_000_000)),
+            (
+                b"RUN A 1000000\n".as_slice(),
+                (0, false, b"".as_slice(), 1_000_000),
+            ),
             (b"LINE B".as_slice(), (1, true, b"".as_slice(), 0)),
             (b"LINE B ".as_slice(), (1, true, b"".as_slice(), 0)),
             (b"LINE B x y ".as_slice(), (1, true, b"x y ".as_slice(), 0)),
             (b"LINE B  x".as_slice(), (1, true, b" x".as_slice(), 0)),
             (b"LINE B x\r\n".as_slice(), (1, true, b"x\r".as_slice(), 0)),
-            (b"LINE A \t\xC1\xFF".as_slice(), (0, true, b"\t\xC1\xFF".as_slice(), 0)),
+            (
+                b"LINE A \t\xC1\xFF".as_slice(),
+                (0, true, b"\t\xC1\xFF".as_slice(), 0),
+            ),
             (b"TICK A".as_slice(), (0, false, b"".as_slice(), 0)),
             (b"*\n\nTICK B\n".as_slice(), (1, false, b"".as_slice(), 0)),
         ] {
-            assert_eq!(rt; said(rt.alloc(), text)?.as_slice(), [wanted].as_slice(), "{text:?}");
+            assert_eq!(rt;
+                said(rt.alloc(), text)?.as_slice(),
+                [wanted].as_slice(),
+                "{text:?}"
+            );
         }
         Ok(())
     }

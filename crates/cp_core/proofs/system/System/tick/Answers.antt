@@ -19,6 +19,11 @@ overflow_cast-user c =
     let inside = is_user c.self.inside.machines.items c.self.inside.frames.storages c.self.inside.directory c.args.self.now.machines c.args.user c.self.invariant (ap (λ (s : SystemView). s.machines) c.self.view_is) c.requires in
     omega (arith, inside, c.self.invariant.few)
 
+pub new-requires : goal.new-requires
+new-requires c =
+    let inside = is_user c.self.inside.machines.items c.self.inside.frames.storages c.self.inside.directory c.args.self.now.machines c.args.user c.self.invariant (ap (λ (s : SystemView). s.machines) c.self.view_is) c.requires in
+    omega (arith, inside, c.self.invariant.few)
+
 pub tick-requires : goal.tick-requires
 tick-requires c =
     let inside = is_user c.self.inside.machines.items c.self.inside.frames.storages c.self.inside.directory c.args.self.now.machines c.args.user c.self.invariant (ap (λ (s : SystemView). s.machines) c.self.view_is) c.requires in
