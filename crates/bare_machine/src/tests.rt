@@ -120,6 +120,37 @@ fn a_psw_and_a_mask_are_loaded(rt: HostRuntime) -> Result<(), Fail> {
 }
 
 #[test]
+fn masks_keys_and_control_registers(rt: HostRuntime) -> Result<(), Fail> {
+    let nothing = "00000000 00000000 00000000 00000000";
+    // STOSM keeps the mask as it was
+    let stores = ["STORE 100 AD010200", "STORE PSW 40000000 00000100"];
+    let mut machine = program(&rt, &stores, 1, nothing, "41000000 00000104")?;
+    let kept = [(
+        "#CP DISPLAY 200",
+        "000200 40000000 00000000 00000000 00000000",
+    )];
+    session(&rt, &mut machine, &kept)?;
+    // SSK, ISK of the same block, and STCTL
+    let stores = [
+        "STORE G1 000000F8",
+        "STORE G2 00000800",
+        "STORE G3 11223344",
+        "STORE 100 08120932B6000300",
+        "STORE PSW 00000000 00000100",
+    ];
+    let mut machine = program(&rt, &stores, 3, nothing, "00000000 00000108")?;
+    let shown = [
+        ("#CP DISPLAY G3", "GPR 3 = 112233F8"),
+        ("#CP DISPLAY K800", "KEY 000800 = F8"),
+        (
+            "#CP DISPLAY 300",
+            "000300 000000E0 00000000 00000000 00000000",
+        ),
+    ];
+    session(&rt, &mut machine, &shown)
+}
+
+#[test]
 fn operands_in_storage(rt: HostRuntime) -> Result<(), Fail> {
     // a load over the end of a page, with a key that a fetch does not need
     let stores = [
