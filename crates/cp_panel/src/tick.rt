@@ -1,5 +1,5 @@
 //! Ticks of the interval timer.
-ghost use Rattle.std.specs.Prelude.{◌≡◌, ◌≤◌, ℕ, List, OnErr, OnOk, Result, length};
+ghost use Rattle.std.specs.Prelude.{◌≡◌, ◌+◌, ◌≤◌, ℕ, List, OnErr, OnOk, Result, length};
 ghost use Rattle.s370_intr.specs.Run.{AllNeeded, IsLacking};
 ghost use Rattle.s370_intr.specs.Timer.{tick, timed};
 ghost use Rattle.cp_panel.specs.Machine.{machine_of};
@@ -25,6 +25,7 @@ impl Machine {
         ensures supply { let before = machine_of self.old (S.Storage.bytes storage.old) (S.Storage.keys storage.old) in
             (pages : List ℕ) × S.Brought storage.old pages storage.new × AllNeeded (TickNeeds before) pages }
         ensures size { length (S.Storage.bytes storage.new) ≡ length (S.Storage.bytes storage.old) }
+        ensures room { length self.new.output + self.new.room ≡ length self.old.output + self.old.room }
     {
         match self.mode {
             Mode::Running => tick_supplied(&mut self.pending, storage),
