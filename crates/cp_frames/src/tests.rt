@@ -1,5 +1,7 @@
 //! Two users' pages in few frames.
 
+ghost use Rattle.std.specs.Prelude.{◌≡◌};
+
 use super::*;
 use cp_users::UserNo;
 use s370_num::{AccessKey, StorageKey};
@@ -10,15 +12,21 @@ use std::alloc::{AllocError, Global};
 use std::process::Abort;
 use std::test::Fail;
 
-fn a() -> UserNo {
+/// The first user.
+fn a() -> UserNo
+    ensures { result ≡ 0 }
+{
     UserNo::new(0)
 }
 
-fn b() -> UserNo {
+/// The second user.
+fn b() -> UserNo
+    ensures { result ≡ 1 }
+{
     UserNo::new(1)
 }
 
-/// Frames for user a() with two pages and user b() with three.
+/// Frames for user A with two pages and user B with three.
 fn two_users(alloc: Global, frames: u8) -> Result<Frames, AllocError> {
     let sizes = vec![in alloc; 2u32, 3]?;
     Frames::new(alloc, u16::from(frames), sizes)
@@ -41,7 +49,7 @@ fn frame_of(rt: &impl Abort, frames: &Frames, user: UserNo, page: u32) -> Option
     frames.frame_of(user, Page(page))
 }
 
-/// a() store as a processor makes it: tested, then made.
+/// A store as a processor makes it: tested, then made.
 fn set<S: Storage>(storage: &mut S, address: u32, byte: u8) -> Result<(), Fault> {
     let range = Range {
         start: address,
