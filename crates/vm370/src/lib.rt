@@ -13,6 +13,7 @@
 
 pub mod arguments;
 pub mod faults;
+pub mod program;
 pub mod script;
 pub mod session;
 pub mod transcript;

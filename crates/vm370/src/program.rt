@@ -1,0 +1,137 @@
+//! The program `vm370 DIRECTORY SCRIPT`: its words, its files, its session, and what it says of a failure.
+//!
+//! The transcript goes to standard output. A failure is one line on standard error, and its kind is the
+//! exit status.
+ghost use Rattle.std.specs.Prelude.{◌≡◌};
+ghost use Rattle.std.specs.Process.{exit_status};
+ghost use Rattle.vm370.specs.Faults.{outcome_of};
+
+use crate::arguments::{UsageError, arguments};
+use crate::faults::{Failure, fault_line, outcome};
+use crate::session::session;
+use cp_core::{Sizes, System};
+use cp_directory::read_directory;
+use s370_num::host::{Counted, read_all};
+use std::process::{ExitCode, Termination};
+use std::rt::{Env, Files};
+use std::{env, fs, io};
+
+/// The program's name, as it tells it.
+const PROGRAM: &str = "vm370";
+
+/// What is told after a usage text: an example, and the exit statuses.
+const USAGE_NOTE: &str = "
+Example:
+  printf 'USER A PW 8K\\n' > users
+  printf 'LINE A LOGON\\nLINE A DISPLAY PSW\\n' > script
+  vm370 users script
+
+The transcript goes to standard output, a fault as one line to standard error. Exit statuses:
+  0  the script was done to its end
+  1  the directory or the script was refused; the line tells where
+  2  wrong words, or --help
+  3  a file could not be opened, read or written
+  4  there was not memory enough
+";
+
+/// How many frames the machine has.
+const FRAMES: u32 = 64;
+
+/// How many slots for pages it has.
+const SLOTS: u32 = 256;
+
+/// How the program ended. Only [`program`] makes one, so that a `main` which returns it has no other exit status to give.
+#[derive(Drop)]
+pub struct Ended {
+    ended: Result<(), Failure>,
+}
+
+impl Termination for Ended {
+    fn report<R: Eprint>(self, _rt: &R) -> ExitCode
+        ensures { exit_status result ≡ outcome_of self.ended }
+    {
+        ExitCode::from(outcome(&self.ended))
+    }
+}
+
+/// The whole program: what it is started with names a directory and a script, and the transcript of that script is
+/// written. A failure is told on standard error.
+pub fn program<R: AllocGlobal + Files + Env + Print + Eprint>(rt: &R) -> Ended {
+    let ended = run(rt);
+    if let Err(failure) = &ended {
+        tell(rt, failure);
+    }
+    Ended { ended }
+}
+
+/// Prints the line of a failure. A wrong use has been told by a longer text.
+fn tell<R: AllocGlobal + Eprint>(rt: &R, failure: &Failure) {
+    if *failure == Failure::Usage {
+        return;
+    }
+    if let Ok(line) = fault_line(rt.alloc(), failure) {
+        let _ = rt.eprintln(&line);
+    }
+}
+/// Reads the words and both files, and writes the transcript. A wrong use is told here.
+fn run<R: AllocGlobal + Files + Env + Print + Eprint>(rt: &R) -> Result<(), Failure> {
+    let alloc = rt.alloc();
+    let words = words(rt)?;
+    let options = match arguments(alloc, PROGRAM, words.as_slice()) {
+        Ok(options) => options,
+        Err(UsageError::Memory) => return Err(Failure::Memory),
+        Err(UsageError::Usage(text)) => {
+            let _ = rt.eprint(&text);
+            let _ = rt.eprint(USAGE_NOTE);
+            return Err(Failure::Usage);
+        }
+    };
+    let mut system = boot(rt, options.directory)?;
+    let mut script = open(rt, options.script)?;
+    let Ok(output) = io::BufWriter::new(alloc, io::writer(rt)) else {
+        return Err(Failure::Memory);
+    };
+    let mut transcript = Counted::new(output);
+    Ok(session(alloc, &mut system, &mut script, &mut transcript)?)
+}
+
+/// The words that the program was started with, of which the first is its name. Words that are no UTF-8 are a wrong use,
+/// which is told here: no file can be opened by such a name.
+fn words<R: AllocGlobal + Env + Eprint>(rt: &R) -> Result<Vec<String>, Failure> {
+    match env::args(rt) {
+        Ok(typed) => {
+            let alloc = rt.alloc();
+            let mut words: Vec<String> = typed.collect(alloc)?;
+            if let Some(name) = words.first_mut() {
+                *name = String::from_str(alloc, PROGRAM)?;
+            }
+            Ok(words)
+        }
+        Err(error) if error.kind() == io::ErrorKind::InvalidData => {
+            let _ = rt.eprintln(
+                "vm370: a word of the command line is no UTF-8 text, and so names no file here",
+            );
+            Err(Failure::Usage)
+        }
+        Err(_) => Err(Failure::Memory),
+    }
+}
+
+/// The file at a path, to be read. One that can't be opened has failed once.
+fn open<R: Files>(rt: &R, path: &str) -> Result<Counted<R::File>, Failure> {
+    match fs::open(rt, path) {
+        Ok(file) => Ok(Counted::new(file)),
+        Err(_) => Err(Failure::File(1)),
+    }
+}
+
+/// The system that the directory at a path states.
+fn boot<R: AllocGlobal + Files>(rt: &R, path: &str) -> Result<System, Failure> {
+    let alloc = rt.alloc();
+    let text = read_all(alloc, &mut open(rt, path)?)?;
+    let directory = read_directory(alloc, &text)?;
+    let Some(sizes) = Sizes::new(FRAMES, SLOTS) else {
+        unreachable!();
+    };
+    Ok(System::boot(alloc, directory, sizes)?)
+}
