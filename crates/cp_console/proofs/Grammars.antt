@@ -116,13 +116,13 @@ system_on word words false h =
     record { front = codes "SYSTEM" ∷ []; after = word ∷ words; split = refl; counted = refl; begins = reset_begins; stops = never (codes "SYSTEM" ∷ word ∷ []) (Operand 1) (λ rest. rw h refl) }
 system_on word [] true h = rw ((bytes_eq-Decides word (codes "RESET")).0 h) refl
 system_on word (more ∷ words) true h = rw ((bytes_eq-Decides word (codes "RESET")).0 h) (record {
-      front = codes "SYSTEM" ∷ codes "RESET" ∷ [];
-      after = more ∷ words;
-      split = refl;
-      counted = refl;
-      begins = whole_begins (codes "SYSTEM" ∷ codes "RESET" ∷ []) SystemReset refl;
-      stops = never (codes "SYSTEM" ∷ codes "RESET" ∷ more ∷ []) (Operand 2) (λ rest. refl);
-    })
+  front = codes "SYSTEM" ∷ codes "RESET" ∷ [];
+  after = more ∷ words;
+  split = refl;
+  counted = refl;
+  begins = whole_begins (codes "SYSTEM" ∷ codes "RESET" ∷ []) SystemReset refl;
+  stops = never (codes "SYSTEM" ∷ codes "RESET" ∷ more ∷ []) (Operand 2) (λ rest. refl);
+})
 
 tells_system : (operands : List (List ℕ)) → Tells (codes "SYSTEM" ∷ operands) (system_of operands)
 tells_system [] = record { front = codes "SYSTEM" ∷ []; after = []; split = refl; counted = refl; begins = reset_begins; stops = missing (codes "SYSTEM" ∷ []) (Operand 1) refl }
