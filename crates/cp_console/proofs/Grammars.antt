@@ -4,22 +4,24 @@ use Rattle.std.specs.Str.{bytes_eq}
 use Rattle.std.proofs.lemmas.Slice.Eq.{bytes_eq-Decides}
 use Rattle.cp_text.specs.Words.{words_of}
 use Rattle.cp_console.specs.Operands.{address_of, contents_of, bytes_of}
-use Rattle.cp_console.specs.Commands.{operand_read, operand, ended, place_of, logon_of, begin_of, external_of, display_of, change_of, store_of, command_by}
+use Rattle.cp_console.specs.Commands.{operand_read, operand, ended, place_of, keyword, logon_of, logoff_of, begin_of, system_of, external_of, display_of, change_of, store_of, command_by}
 use Rattle.cp_console.specs.Grammar.{Begins, ReadsGrammar, Spells, SpellsStore, Tells}
 use Rattle.cp_console.specs.declared.commands.Place.{Place}
 use Rattle.cp_console.specs.declared.commands.Place.TheVariants as places
 use Rattle.cp_console.specs.declared.commands.Change.{Change}
 use Rattle.cp_console.specs.declared.commands.Change.TheVariants as changes
 use Rattle.cp_console.specs.declared.commands.Command.{Command}
-use Rattle.cp_console.specs.declared.commands.Command.TheVariants.{Nothing, Logon, Begin, External, Display, Store}
+use Rattle.cp_console.specs.declared.commands.Command.TheVariants.{Nothing, Logon, Logoff, Begin, SystemReset, External, Display, Store}
 use Rattle.cp_console.specs.declared.commands.CommandError.{CommandError}
 use Rattle.cp_console.specs.declared.commands.CommandError.TheVariants.{Unknown, Operand}
 
 again : (words : List (List ℕ)) (command : Command) → Spells words command → command_by words ≡ Ok command
 again words Nothing h = rw h refl
 again words Logon h = rw h refl
+again words Logoff h = rw h refl
 again words (Begin None) h = rw h refl
 again words (Begin (Some address)) h = rw (h.spelled, h.read) refl
+again words SystemReset h = rw h refl
 again words External h = rw h refl
 again words (Display place) h = rw (h.spelled, h.read) refl
 again words (Store (changes.Psw psw)) h = rw (h.spelled, h.read, h.left_read, h.right_read, h.joined) refl
@@ -82,6 +84,11 @@ tells_logon [] = refl
 tells_logon (word ∷ words) =
     record { front = codes "LOGON" ∷ []; after = word ∷ words; split = refl; counted = refl; begins = whole_begins (codes "LOGON" ∷ []) Logon refl; stops = never (codes "LOGON" ∷ word ∷ []) (Operand 1) (λ rest. refl) }
 
+tells_logoff : (operands : List (List ℕ)) → Tells (codes "LOGOFF" ∷ operands) (logoff_of operands)
+tells_logoff [] = refl
+tells_logoff (word ∷ words) =
+    record { front = codes "LOGOFF" ∷ []; after = word ∷ words; split = refl; counted = refl; begins = whole_begins (codes "LOGOFF" ∷ []) Logoff refl; stops = never (codes "LOGOFF" ∷ word ∷ []) (Operand 1) (λ rest. refl) }
+
 begin_on : (word : List ℕ) (words : List (List ℕ)) (o : Option ℕ) → address_of word ≡ o → Tells (codes "BEGIN" ∷ word ∷ words) (operand_read 1 o (λ address. ended 2 (Begin (Some address)) words))
 begin_on word words None h =
     record { front = codes "BEGIN" ∷ []; after = word ∷ words; split = refl; counted = refl; begins = whole_begins (codes "BEGIN" ∷ []) (Begin None) refl; stops = never (codes "BEGIN" ∷ word ∷ []) (Operand 1) (λ rest. rw h refl) }
@@ -99,6 +106,27 @@ begin_on word (more ∷ words) (Some address) h =
 tells_begin : (operands : List (List ℕ)) → Tells (codes "BEGIN" ∷ operands) (begin_of operands)
 tells_begin [] = refl
 tells_begin (word ∷ words) = begin_on word words (address_of word) refl
+
+reset_begins : Begins (codes "SYSTEM" ∷ [])
+reset_begins = record { rest = codes "RESET" ∷ []; command = SystemReset; whole = refl }
+
+system_on : (word : List ℕ) (words : List (List ℕ)) (b : Bool) → bytes_eq word (codes "RESET") ≡ b
+    → Tells (codes "SYSTEM" ∷ word ∷ words) (operand_read 1 (cond b (Some word) None) (λ w. ended 2 SystemReset words))
+system_on word words false h =
+    record { front = codes "SYSTEM" ∷ []; after = word ∷ words; split = refl; counted = refl; begins = reset_begins; stops = never (codes "SYSTEM" ∷ word ∷ []) (Operand 1) (λ rest. rw h refl) }
+system_on word [] true h = rw ((bytes_eq-Decides word (codes "RESET")).0 h) refl
+system_on word (more ∷ words) true h = rw ((bytes_eq-Decides word (codes "RESET")).0 h) (record {
+  front = codes "SYSTEM" ∷ codes "RESET" ∷ [];
+  after = more ∷ words;
+  split = refl;
+  counted = refl;
+  begins = whole_begins (codes "SYSTEM" ∷ codes "RESET" ∷ []) SystemReset refl;
+  stops = never (codes "SYSTEM" ∷ codes "RESET" ∷ more ∷ []) (Operand 2) (λ rest. refl);
+})
+
+tells_system : (operands : List (List ℕ)) → Tells (codes "SYSTEM" ∷ operands) (system_of operands)
+tells_system [] = record { front = codes "SYSTEM" ∷ []; after = []; split = refl; counted = refl; begins = reset_begins; stops = missing (codes "SYSTEM" ∷ []) (Operand 1) refl }
+tells_system (word ∷ words) = system_on word words (bytes_eq word (codes "RESET")) refl
 
 tells_external : (operands : List (List ℕ)) → Tells (codes "EXTERNAL" ∷ operands) (external_of operands)
 tells_external [] = refl
@@ -200,19 +228,21 @@ tells_store : (operands : List (List ℕ)) → Tells (codes "STORE" ∷ operands
 tells_store [] = record { front = codes "STORE" ∷ []; after = []; split = refl; counted = refl; begins = store_begins; stops = missing (codes "STORE" ∷ []) (Operand 1) refl }
 tells_store (word ∷ words) = store_on word words (place_of word) refl
 
-named_on : (name : List ℕ) (operands : List (List ℕ)) (a b x c d : Bool) → bytes_eq name (codes "LOGON") ≡ a → bytes_eq name (codes "BEGIN") ≡ b → bytes_eq name (codes "EXTERNAL") ≡ x → bytes_eq name (codes "DISPLAY") ≡ c → bytes_eq name (codes "STORE") ≡ d
-    → Tells (name ∷ operands) (cond a (logon_of operands) (cond b (begin_of operands) (cond x (external_of operands) (cond c (display_of operands) (cond d (store_of operands) (Err Unknown))))))
-named_on name operands true b x c d e f i g h = rw ((bytes_eq-Decides name (codes "LOGON")).0 e) (tells_logon operands)
-named_on name operands false true x c d e f i g h = rw ((bytes_eq-Decides name (codes "BEGIN")).0 f) (tells_begin operands)
-named_on name operands false false true c d e f i g h = rw ((bytes_eq-Decides name (codes "EXTERNAL")).0 i) (tells_external operands)
-named_on name operands false false false true d e f i g h = rw ((bytes_eq-Decides name (codes "DISPLAY")).0 g) (tells_display operands)
-named_on name operands false false false false true e f i g h = rw ((bytes_eq-Decides name (codes "STORE")).0 h) (tells_store operands)
-named_on name operands false false false false false e f i g h =
-    record { name = name; operands = operands; split = refl; unknown = never (name ∷ []) Unknown (λ rest. rw (e, f, i, g, h) refl) }
+named_on : (name : List ℕ) (operands : List (List ℕ)) (b0 b1 b2 b3 b4 b5 b6 : Bool) → bytes_eq name (codes "LOGON") ≡ b0 → bytes_eq name (codes "LOGOFF") ≡ b1 → bytes_eq name (codes "BEGIN") ≡ b2 → bytes_eq name (codes "SYSTEM") ≡ b3 → bytes_eq name (codes "EXTERNAL") ≡ b4 → bytes_eq name (codes "DISPLAY") ≡ b5 → bytes_eq name (codes "STORE") ≡ b6
+    → Tells (name ∷ operands) (cond b0 (logon_of operands) (cond b1 (logoff_of operands) (cond b2 (begin_of operands) (cond b3 (system_of operands) (cond b4 (external_of operands) (cond b5 (display_of operands) (cond b6 (store_of operands) (Err Unknown))))))))
+named_on name operands true b1 b2 b3 b4 b5 b6 h0 h1 h2 h3 h4 h5 h6 = rw ((bytes_eq-Decides name (codes "LOGON")).0 h0) (tells_logon operands)
+named_on name operands false true b2 b3 b4 b5 b6 h0 h1 h2 h3 h4 h5 h6 = rw ((bytes_eq-Decides name (codes "LOGOFF")).0 h1) (tells_logoff operands)
+named_on name operands false false true b3 b4 b5 b6 h0 h1 h2 h3 h4 h5 h6 = rw ((bytes_eq-Decides name (codes "BEGIN")).0 h2) (tells_begin operands)
+named_on name operands false false false true b4 b5 b6 h0 h1 h2 h3 h4 h5 h6 = rw ((bytes_eq-Decides name (codes "SYSTEM")).0 h3) (tells_system operands)
+named_on name operands false false false false true b5 b6 h0 h1 h2 h3 h4 h5 h6 = rw ((bytes_eq-Decides name (codes "EXTERNAL")).0 h4) (tells_external operands)
+named_on name operands false false false false false true b6 h0 h1 h2 h3 h4 h5 h6 = rw ((bytes_eq-Decides name (codes "DISPLAY")).0 h5) (tells_display operands)
+named_on name operands false false false false false false true h0 h1 h2 h3 h4 h5 h6 = rw ((bytes_eq-Decides name (codes "STORE")).0 h6) (tells_store operands)
+named_on name operands false false false false false false false h0 h1 h2 h3 h4 h5 h6 =
+    record { name = name; operands = operands; split = refl; unknown = never (name ∷ []) Unknown (λ rest. rw (h0, h1, h2, h3, h4, h5, h6) refl) }
 
 tells : (words : List (List ℕ)) → Tells words (command_by words)
 tells [] = refl
-tells (name ∷ operands) = named_on name operands (bytes_eq name (codes "LOGON")) (bytes_eq name (codes "BEGIN")) (bytes_eq name (codes "EXTERNAL")) (bytes_eq name (codes "DISPLAY")) (bytes_eq name (codes "STORE")) refl refl refl refl refl
+tells (name ∷ operands) = named_on name operands (bytes_eq name (codes "LOGON")) (bytes_eq name (codes "LOGOFF")) (bytes_eq name (codes "BEGIN")) (bytes_eq name (codes "SYSTEM")) (bytes_eq name (codes "EXTERNAL")) (bytes_eq name (codes "DISPLAY")) (bytes_eq name (codes "STORE")) refl refl refl refl refl refl refl
 
 pub reads : ReadsGrammar
 reads text = (tells (words_of text), again (words_of text))

@@ -8,7 +8,7 @@ use Rattle.cp_console.specs.declared.commands.Place.{Place}
 use Rattle.cp_console.specs.declared.commands.Place.TheVariants as places
 use Rattle.cp_console.specs.declared.commands.Change.TheVariants as changes
 use Rattle.cp_console.specs.declared.commands.Command.{Command}
-use Rattle.cp_console.specs.declared.commands.Command.TheVariants.{Nothing, Logon, Begin, External, Display, Store}
+use Rattle.cp_console.specs.declared.commands.Command.TheVariants.{Nothing, Logon, Logoff, Begin, SystemReset, External, Display, Store}
 use Rattle.cp_console.specs.declared.commands.CommandError.{CommandError}
 use Rattle.cp_console.specs.declared.commands.CommandError.TheVariants.{Unknown, Operand}
 
@@ -44,6 +44,18 @@ place_of word = if bytes_eq word (codes "PSW") then Some places.Psw else numbere
 abbrev pub logon_of : List (List ℕ) → Result Command CommandError
 logon_of words = ended 1 Logon words
 
+-- `LOGOFF`
+abbrev pub logoff_of : List (List ℕ) → Result Command CommandError
+logoff_of words = ended 1 Logoff words
+
+-- this word and no other
+abbrev pub keyword : List ℕ → List ℕ → Option (List ℕ)
+keyword wanted word = if bytes_eq word wanted then Some word else None
+
+-- `SYSTEM RESET`
+abbrev pub system_of : List (List ℕ) → Result Command CommandError
+system_of words = operand 1 (keyword (codes "RESET")) words (λ word. ended 2 SystemReset)
+
 -- `BEGIN`, which may name an address
 abbrev pub begin_of : List (List ℕ) → Result Command CommandError
 begin_of [] = Ok (Begin None)
@@ -74,7 +86,9 @@ store_of words = operand 1 place_of words change_of
 abbrev pub command_named : List ℕ → List (List ℕ) → Result Command CommandError
 command_named name operands =
     if bytes_eq name (codes "LOGON") then logon_of operands
+    else if bytes_eq name (codes "LOGOFF") then logoff_of operands
     else if bytes_eq name (codes "BEGIN") then begin_of operands
+    else if bytes_eq name (codes "SYSTEM") then system_of operands
     else if bytes_eq name (codes "EXTERNAL") then external_of operands
     else if bytes_eq name (codes "DISPLAY") then display_of operands
     else if bytes_eq name (codes "STORE") then store_of operands

@@ -7,7 +7,7 @@ use Rattle.cp_console.specs.declared.commands.Place.{Place}
 use Rattle.cp_console.specs.declared.commands.Place.TheVariants as places
 use Rattle.cp_console.specs.declared.commands.Change.TheVariants as changes
 use Rattle.cp_console.specs.declared.commands.Command.{Command}
-use Rattle.cp_console.specs.declared.commands.Command.TheVariants.{Nothing, Logon, Begin, External, Display, Store}
+use Rattle.cp_console.specs.declared.commands.Command.TheVariants.{Nothing, Logon, Logoff, Begin, SystemReset, External, Display, Store}
 use Rattle.cp_console.specs.declared.commands.CommandError.{CommandError}
 use Rattle.cp_console.specs.declared.commands.CommandError.TheVariants.{Memory, Unknown, Operand}
 
@@ -48,8 +48,10 @@ pub record SpellsStore {A : Type 0} (rule : List ℕ → Option A) (words : List
 abbrev pub Spells : List (List ℕ) → Command → Type 0
 Spells words Nothing = words ≡ []
 Spells words Logon = words ≡ codes "LOGON" ∷ []
+Spells words Logoff = words ≡ codes "LOGOFF" ∷ []
 Spells words (Begin None) = words ≡ codes "BEGIN" ∷ []
 Spells words (Begin (Some address)) = SpellsBegin words address
+Spells words SystemReset = words ≡ codes "SYSTEM" ∷ codes "RESET" ∷ []
 Spells words External = words ≡ codes "EXTERNAL" ∷ []
 Spells words (Display place) = SpellsDisplay words place
 Spells words (Store (changes.Psw psw)) = SpellsPsw words psw

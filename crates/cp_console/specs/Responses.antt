@@ -3,7 +3,7 @@ use Rattle.std.specs.Prelude.{ℕ, ◌+◌, ◌*◌, ◌/◌, ◌%◌, ◌^◌, 
 use Rattle.std.specs.Int.{w32, from_be_bytes}
 use Rattle.s370_num.specs.Address.{address_text, two_digits, word_text}
 use Rattle.cp_console.specs.declared.responses.Response.{Response}
-use Rattle.cp_console.specs.declared.responses.Response.TheVariants.{LogonOk, AlreadyLoggedOn, NotLoggedOn, Psw, General, Control, Key, Storage, Stored, AddressPastStorage, UnknownCommand, BadOperand, NoConsole, StoppedDisabledWait, StoppedEcMode}
+use Rattle.cp_console.specs.declared.responses.Response.TheVariants.{LogonOk, LogoffOk, AlreadyLoggedOn, NotLoggedOn, SystemReset, Psw, General, Control, Key, Storage, Stored, AddressPastStorage, UnknownCommand, BadOperand, NoConsole, StoppedDisabledWait, StoppedEcMode}
 
 -- the word that four bytes are, from this one on
 abbrev pub word_at : List ℕ → ℕ → ℕ
@@ -39,8 +39,10 @@ operand_text place = codes "BAD OPERAND " ++ decimal place
 -- what a response says
 abbrev pub text_of : Response → List ℕ
 text_of LogonOk = codes "LOGON OK"
+text_of LogoffOk = codes "LOGOFF OK"
 text_of AlreadyLoggedOn = codes "ALREADY LOGGED ON"
 text_of NotLoggedOn = codes "NOT LOGGED ON"
+text_of SystemReset = codes "SYSTEM RESET"
 text_of (Psw psw) = psw_text psw
 text_of (General register contents) = general_text register contents
 text_of (Control register contents) = control_text register contents
@@ -54,11 +56,13 @@ text_of NoConsole = codes "NO CONSOLE"
 text_of StoppedDisabledWait = codes "STOPPED DISABLED WAIT"
 text_of StoppedEcMode = codes "STOPPED EC MODE"
 
--- a console keeps displays, answers about storage and notices, and not what was said about the command or the user
+-- a console keeps displays, answers about storage and resets, and notices, and not what was said about the command or the user
 abbrev pub is_panel : Response → Bool
 is_panel LogonOk = false
+is_panel LogoffOk = false
 is_panel AlreadyLoggedOn = false
 is_panel NotLoggedOn = false
+is_panel SystemReset = true
 is_panel (Psw psw) = true
 is_panel (General register contents) = true
 is_panel (Control register contents) = true

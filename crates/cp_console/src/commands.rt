@@ -1,6 +1,6 @@
 //! The commands, and how their texts are read.
 ghost use Rattle.std.specs.Prelude.{◌≡◌, [], ◌∷◌, MatchResult};
-ghost use Rattle.cp_console.specs.Commands.{begin_of, change_of, command_named, command_of, display_of, ended, external_of, logon_of, numbered_place, place_of, store_of};
+ghost use Rattle.cp_console.specs.Commands.{begin_of, change_of, command_named, command_of, display_of, ended, external_of, logon_of, numbered_place, place_of, store_of, system_of};
 ghost use Rattle.cp_console.specs.Grammar.{ReadsGrammar};
 ghost use Rattle.cp_text.specs.Words.{words_of};
 
@@ -42,8 +42,12 @@ pub enum Command {
     Nothing,
     /// `LOGON`.
     Logon,
+    /// `LOGOFF`.
+    Logoff,
     /// `BEGIN`: the machine runs, at an address where one is given.
     Begin(Option<Addr24>),
+    /// `SYSTEM RESET`.
+    SystemReset,
     /// `EXTERNAL`: the interrupt key is pressed.
     External,
     /// `DISPLAY`.
@@ -88,8 +92,12 @@ fn read_named(name: &[u8], operands: &[u8]) -> Result<Command, CommandError>
 {
     if name == b"LOGON".as_slice() {
         ended(1, Command::Logon, operands)
+    } else if name == b"LOGOFF".as_slice() {
+        ended(1, Command::Logoff, operands)
     } else if name == b"BEGIN".as_slice() {
         read_begin(operands)
+    } else if name == b"SYSTEM".as_slice() {
+        read_system(operands)
     } else if name == b"EXTERNAL".as_slice() {
         ended(1, Command::External, operands)
     } else if name == b"DISPLAY".as_slice() {
@@ -127,6 +135,17 @@ fn read_begin(operands: &[u8]) -> Result<Command, CommandError>
     };
     let address = address_of(word).ok_or(CommandError::Operand(1))?;
     ended(2, Command::Begin(Some(address)), rest)
+}
+
+/// `SYSTEM RESET`.
+fn read_system(operands: &[u8]) -> Result<Command, CommandError>
+    ensures { result ≡ system_of (words_of operands.now) }
+{
+    let (word, rest) = operand(1, operands)?;
+    if word != b"RESET".as_slice() {
+        return Err(CommandError::Operand(1));
+    }
+    ended(2, Command::SystemReset, rest)
 }
 
 /// `DISPLAY` and a place.

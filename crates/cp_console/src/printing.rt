@@ -20,8 +20,10 @@ fn response_text(alloc: Global, response: &Response) -> Result<String, AllocErro
 {
     match response {
         Response::LogonOk => "LOGON OK".to_string(alloc),
+        Response::LogoffOk => "LOGOFF OK".to_string(alloc),
         Response::AlreadyLoggedOn => "ALREADY LOGGED ON".to_string(alloc),
         Response::NotLoggedOn => "NOT LOGGED ON".to_string(alloc),
+        Response::SystemReset => "SYSTEM RESET".to_string(alloc),
         Response::Psw(psw) => psw_text(alloc, *psw),
         Response::General(register, contents) => general_text(alloc, *register, *contents),
         Response::Control(register, contents) => control_text(alloc, *register, *contents),

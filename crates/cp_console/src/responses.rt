@@ -9,10 +9,14 @@ use s370_num::{Addr24, Register, StorageKey, Word};
 pub enum Response {
     /// The user is logged on from now on.
     LogonOk,
+    /// The user is logged off from now on.
+    LogoffOk,
     /// The user was logged on already.
     AlreadyLoggedOn,
     /// A line of a user who is not logged on.
     NotLoggedOn,
+    /// The machine was reset.
+    SystemReset,
     /// The 64 bits of the PSW.
     Psw(u64),
     /// The contents of a general register.
@@ -45,7 +49,8 @@ impl Response {
         ensures { result ≡ is_panel self.now }
     {
         match self {
-            Response::Psw(_)
+            Response::SystemReset
+            | Response::Psw(_)
             | Response::General(_, _)
             | Response::Control(_, _)
             | Response::Key(_, _)
@@ -55,6 +60,7 @@ impl Response {
             | Response::StoppedDisabledWait
             | Response::StoppedEcMode => true,
             Response::LogonOk
+            | Response::LogoffOk
             | Response::AlreadyLoggedOn
             | Response::NotLoggedOn
             | Response::UnknownCommand

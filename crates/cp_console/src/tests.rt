@@ -36,6 +36,8 @@ fn reads_commands(rt: HostRuntime) {
         (b"".as_slice(), Command::Nothing),
         (b"   ".as_slice(), Command::Nothing),
         (b" LOGON ".as_slice(), Command::Logon),
+        (b"LOGOFF".as_slice(), Command::Logoff),
+        (b"SYSTEM  RESET".as_slice(), Command::SystemReset),
         (b"BEGIN".as_slice(), Command::Begin(None)),
         (b"BEGIN 1000".as_slice(), Command::Begin(Some(page_one))),
         (b"BEGIN 001000".as_slice(), Command::Begin(Some(page_one))),
@@ -116,6 +118,10 @@ fn refuses_what_is_no_command(rt: HostRuntime) {
     }
     let faults = [
         (b"LOGON X".as_slice(), 1),
+        (b"LOGOFF X".as_slice(), 1),
+        (b"SYSTEM".as_slice(), 1),
+        (b"SYSTEM RESETS".as_slice(), 1),
+        (b"SYSTEM RESET X".as_slice(), 2),
         (b"BEGIN XYZ 5".as_slice(), 1),
         (b"BEGIN 1000000".as_slice(), 1),
         (b"BEGIN 100 5".as_slice(), 2),
@@ -157,6 +163,8 @@ fn prints_responses(rt: HostRuntime) -> Result<(), Fail> {
     let bytes = [0, 0, 0, 7, 0x40, 0, 0x10, 2, 0, 0, 0, 0, 0, 0, 0, 0];
     let responses = [
         (Response::LogonOk, "LOGON OK", false),
+        (Response::LogoffOk, "LOGOFF OK", false),
+        (Response::SystemReset, "SYSTEM RESET", true),
         (Response::AlreadyLoggedOn, "ALREADY LOGGED ON", false),
         (Response::NotLoggedOn, "NOT LOGGED ON", false),
         (Response::Psw(0x200), "PSW 00000000 00000200", true),

@@ -1,4 +1,4 @@
--- What a line keeps of the frames, whether it switches the machine on or not.
+-- What a line keeps of the frames, whether it switches the machine or not.
 use Rattle.std.proofs.Common.{◌≡◌, Bool, true, false, refl}
 
 pub either : (b : Bool) (X : Type 0) → (b ≡ true → X) → (b ≡ false → X) → X

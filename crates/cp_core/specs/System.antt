@@ -11,7 +11,7 @@ use Rattle.cp_frames.specs.Layout.{cleared_of, is_there}
 use Rattle.cp_frames.specs.Supplied.{IsFilled}
 use Rattle.cp_panel.specs.Machine.{Machine, unused}
 use Rattle.cp_panel.specs.Run.{MachineRun, TellsRun}
-use Rattle.cp_panel.specs.Panel.{Answer, line, line_needs, switches_on}
+use Rattle.cp_panel.specs.Panel.{Answer, line, line_needs, switches}
 use Rattle.cp_panel.specs.Tick.{TickNeeds, ticked}
 use Rattle.cp_panel.specs.Life.{Event as Local, Units, Line as Typed, Tick as Ticked, life}
 use Rattle.cp_core.specs.UserMachines.{UserParts, machine_of, IsShort}
@@ -141,10 +141,10 @@ EventNeeds old (Run user asked) reply page = RunAsks (machine_at old user) reply
 EventNeeds old (Line user typed) reply page = Touches (line_needs typed.now (machine_at old user)) page
 EventNeeds old (Tick user) reply page = TickNeeds (machine_at old user) page
 
--- whether an event switches a machine on, which gives back all the user's pages
+-- whether an event switches a machine on or off, which gives back all the user's pages
 abbrev pub gives_back : SystemView → Event → Bool
 gives_back old (Run user asked) = false
-gives_back old (Line user typed) = switches_on typed.now (machine_at old user)
+gives_back old (Line user typed) = switches typed.now (machine_at old user)
 gives_back old (Tick user) = false
 
 -- pages that an event needs were put into frames that were free, and no page has left its frame
@@ -157,7 +157,7 @@ pub record IsGivenBack (old : SystemView) (user : ℕ) (new : SystemView) : Type
   pub owners : new.owners ≡ cleared_of user old.owners
   pub gone : (page : ℕ) → is_there new.owners user page ≡ false
 
--- what an event does to the frames: none is pinned or let go; where the user's machine is switched on, all his pages are
+-- what an event does to the frames: none is pinned or let go; where the user's machine is switched on or off, all his pages are
 -- given back, and else only pages that the event needs are brought
 pub record IsSupplied (old : SystemView) (event : Event) (reply : Reply) (new : SystemView) : Type 0 where
   pub pins : new.pins ≡ old.pins

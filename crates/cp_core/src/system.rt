@@ -5,7 +5,7 @@ ghost use Rattle.s370_intr.specs.Run.{AllNeeded, IsLacking, RunNeeds};
 ghost use Rattle.cp_frames.specs.Supplied.{IsFilled};
 ghost use Rattle.cp_panel.specs.declared.line.LineError.TheVariants as errors;
 ghost use Rattle.cp_panel.specs.Run.{TellsRun};
-ghost use Rattle.cp_panel.specs.Panel.{line, line_needs, line_room, switches_on};
+ghost use Rattle.cp_panel.specs.Panel.{line, line_needs, line_room, switches};
 ghost use Rattle.cp_panel.specs.Tick.{TickNeeds, ticked};
 ghost use Rattle.cp_core.specs.Events.{MayTakeMemory, user_of};
 ghost use Rattle.cp_core.specs.UserMachines.{IsShort};
@@ -128,8 +128,8 @@ impl System {
         ensures ok { IfOk result (λ reply. line typed.now (machine_at self.old user) ≡ record { machine = machine_at self.new user; reply = reply }) }
         ensures err { OnErr result (machine_at self.new user ≡ machine_at self.old user) }
         ensures frames { result ≡ Err errors.FramesOut → IsLacking (Touches (line_needs typed.now (machine_at self.old user))) (length (machine_at self.old user).core.processor.bytes) (IsShort self.new.owners user) }
-        ensures cleared { switches_on typed.now (machine_at self.old user) ≡ true → IsGivenBack self.old user self.new }
-        ensures supply { switches_on typed.now (machine_at self.old user) ≡ false → ((pages : List ℕ) × IsFilled user self.old.owners pages self.new.owners × AllNeeded (Touches (line_needs typed.now (machine_at self.old user))) pages) }
+        ensures cleared { switches typed.now (machine_at self.old user) ≡ true → IsGivenBack self.old user self.new }
+        ensures supply { switches typed.now (machine_at self.old user) ≡ false → ((pages : List ℕ) × IsFilled user self.old.owners pages self.new.owners × AllNeeded (Touches (line_needs typed.now (machine_at self.old user))) pages) }
         ensures machines { self.new.machines ≡ slice_set self.old.machines user (machine_at self.new user) }
         ensures pins { self.new.pins ≡ self.old.pins }
         ensures users { self.new.users ≡ self.old.users }

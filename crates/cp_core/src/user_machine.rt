@@ -7,7 +7,7 @@ ghost use Rattle.cp_frames.specs.Supplied.{IsFilled};
 ghost use Rattle.cp_panel.specs.declared.line.LineError.TheVariants as errors;
 ghost use Rattle.cp_panel.specs.Machine.{machine_of as parts_with, unused};
 ghost use Rattle.cp_panel.specs.Run.{TellsRun};
-ghost use Rattle.cp_panel.specs.Panel.{line, line_needs, line_room, switches_on};
+ghost use Rattle.cp_panel.specs.Panel.{line, line_needs, line_room, switches};
 ghost use Rattle.cp_panel.specs.Tick.{TickNeeds, ticked};
 ghost use Rattle.cp_core.specs.UserMachines.{Fits, IsShort, machine_of};
 
@@ -99,9 +99,9 @@ impl UserMachine {
         ensures frames { let before = machine_of self.old (bytes_of frames.old user) in
             result ≡ Err errors.FramesOut → IsLacking (Touches (line_needs typed.now before)) (length before.core.processor.bytes) (IsShort frames.new.owners user) }
         ensures cleared { let before = machine_of self.old (bytes_of frames.old user) in
-            switches_on typed.now before ≡ true → ((frames.new.owners ≡ cleared_of user frames.old.owners) × ((page : ℕ) → is_there frames.new.owners user page ≡ false)) }
+            switches typed.now before ≡ true → ((frames.new.owners ≡ cleared_of user frames.old.owners) × ((page : ℕ) → is_there frames.new.owners user page ≡ false)) }
         ensures supply { let before = machine_of self.old (bytes_of frames.old user) in
-            switches_on typed.now before ≡ false → ((pages : List ℕ) × IsFilled user frames.old.owners pages frames.new.owners × AllNeeded (Touches (line_needs typed.now before)) pages) }
+            switches typed.now before ≡ false → ((pages : List ℕ) × IsFilled user frames.old.owners pages frames.new.owners × AllNeeded (Touches (line_needs typed.now before)) pages) }
         ensures pins { frames.new.pins ≡ frames.old.pins }
         ensures others { frames.new.storages ≡ slice_set frames.old.storages user (bytes_of frames.new user) }
         ensures fits { Fits self.new (bytes_of frames.new user) }
@@ -180,9 +180,9 @@ fn line_over(
     ensures frames { let before = parts_with machine.old (bytes_of frames.old user) keys.old in
         result ≡ Err errors.FramesOut → IsLacking (Touches (line_needs typed.now before)) (length (bytes_of frames.old user)) (IsShort frames.new.owners user) }
     ensures cleared { let before = parts_with machine.old (bytes_of frames.old user) keys.old in
-        switches_on typed.now before ≡ true → ((frames.new.owners ≡ cleared_of user frames.old.owners) × ((page : ℕ) → is_there frames.new.owners user page ≡ false)) }
+        switches typed.now before ≡ true → ((frames.new.owners ≡ cleared_of user frames.old.owners) × ((page : ℕ) → is_there frames.new.owners user page ≡ false)) }
     ensures supply { let before = parts_with machine.old (bytes_of frames.old user) keys.old in
-        switches_on typed.now before ≡ false → ((pages : List ℕ) × IsFilled user frames.old.owners pages frames.new.owners × AllNeeded (Touches (line_needs typed.now before)) pages) }
+        switches typed.now before ≡ false → ((pages : List ℕ) × IsFilled user frames.old.owners pages frames.new.owners × AllNeeded (Touches (line_needs typed.now before)) pages) }
     ensures pins { frames.new.pins ≡ frames.old.pins }
     ensures others { frames.new.storages ≡ slice_set frames.old.storages user (bytes_of frames.new user) }
     ensures size { length (bytes_of frames.new user) ≡ length (bytes_of frames.old user) }

@@ -45,11 +45,15 @@ zeroed s = record {
 abbrev pub cleared : Machine → Machine
 cleared m = let r = reset m in record r { core = record r.core { processor = zeroed r.core.processor } }
 
+-- LOGOFF: a cleared machine that is off
+abbrev pub switched_off : Machine → Machine
+switched_off m = record (cleared m) { mode = Off }
+
 -- a machine that was never switched on, with a storage of this size: a cleared one that is off, and has printed nothing
 abbrev pub unused : List ℕ → List ℕ → Machine
 unused bytes keys =
     let new : Machine = record { core = core_of (state_of (reset_cpu (replicate 16 0)) bytes keys) nothing_pending; mode = Off; output = [] } in
-    record (cleared new) { mode = Off }
+    switched_off new
 
 -- a line more on the console
 abbrev pub printed : Machine → List ℕ → Machine

@@ -5,7 +5,7 @@ use Rattle.cp_console.specs.Asked.{Asked, Stop, Command as ToControlProgram, Pla
 use Rattle.cp_console.specs.Commands.{command_of}
 use Rattle.cp_console.specs.Responses.{text_of, is_panel}
 use Rattle.cp_console.specs.declared.commands.Command.{Command}
-use Rattle.cp_console.specs.declared.commands.Command.TheVariants.{Nothing, Logon, Begin, External, Display, Store}
+use Rattle.cp_console.specs.declared.commands.Command.TheVariants.{Nothing, Logon, Logoff, Begin, SystemReset, External, Display, Store}
 use Rattle.cp_console.specs.declared.commands.CommandError.{CommandError}
 use Rattle.cp_console.specs.declared.commands.CommandError.TheVariants.{Memory, Unknown, Operand}
 use Rattle.cp_console.specs.declared.responses.Response.{Response}
@@ -16,7 +16,7 @@ use Rattle.s370_intr.specs.Units.{Core}
 use Rattle.cp_panel.specs.DisplayStore.{displayed, shown, stored, changed, touched}
 use Rattle.cp_panel.specs.declared.machine.Mode.{Mode}
 use Rattle.cp_panel.specs.declared.machine.Mode.TheVariants.{Off, Stopped, Running}
-use Rattle.cp_panel.specs.Machine.{Machine, cleared, printed}
+use Rattle.cp_panel.specs.Machine.{Machine, cleared, printed, reset, switched_off}
 
 -- the machine after a line, and the reply, if there is one
 pub record Answer : Type 0 where
@@ -47,7 +47,9 @@ with_key_pressed c = record c { pending = record c.pending { key = true } }
 abbrev pub obeyed : Command → Machine → Answer
 obeyed Nothing m = silent m
 obeyed Logon m = answered responses.AlreadyLoggedOn m
+obeyed Logoff m = answered responses.LogoffOk (switched_off m)
 obeyed (Begin address) m = silent (record m { core = record m.core { processor = at_address address m.core.processor }; mode = Running })
+obeyed SystemReset m = answered responses.SystemReset (reset m)
 obeyed External m = silent (record m { core = with_key_pressed m.core })
 obeyed (Display place) m = answered (displayed place m.core.processor) m
 obeyed (Store change) m =
@@ -95,6 +97,8 @@ command_needs (Ok (Display place)) = shown place
 command_needs (Ok (Store change)) = touched change
 command_needs (Ok Nothing) = []
 command_needs (Ok Logon) = []
+command_needs (Ok Logoff) = []
+command_needs (Ok SystemReset) = []
 command_needs (Ok (Begin address)) = []
 command_needs (Ok External) = []
 command_needs (Err fault) = []
@@ -123,8 +127,10 @@ abbrev pub command_room : Result Command CommandError → ℕ
 command_room (Ok (Display place)) = 2
 command_room (Ok (Store change)) = 2
 command_room (Ok (Begin address)) = 1
+command_room (Ok SystemReset) = 1
 command_room (Ok Nothing) = 0
 command_room (Ok Logon) = 0
+command_room (Ok Logoff) = 0
 command_room (Ok External) = 0
 command_room (Err fault) = 0
 
@@ -147,16 +153,31 @@ room_in Running text = asked_room Running (asked_of text)
 abbrev pub line_room : List ℕ → Machine → ℕ
 line_room typed m = room_in m.mode (cleaned typed)
 
--- whether a command's text switches the machine on
+-- whether a command's text is LOGON
 abbrev pub is_logon : Result Command CommandError → Bool
 is_logon (Ok Logon) = true
 is_logon other = false
 
-abbrev pub switches_on_in : Mode → List ℕ → Bool
-switches_on_in Off text = is_logon (command_of text)
-switches_on_in Stopped text = false
-switches_on_in Running text = false
+-- whether a command's text is LOGOFF
+abbrev pub is_logoff : Result Command CommandError → Bool
+is_logoff (Ok Logoff) = true
+is_logoff other = false
 
--- whether a line switches the machine on, which gives back all its pages
-abbrev pub switches_on : List ℕ → Machine → Bool
-switches_on typed m = switches_on_in m.mode (cleaned typed)
+abbrev pub plain_switches : Mode → List ℕ → Bool
+plain_switches Stopped text = is_logoff (command_of text)
+plain_switches Running text = false
+plain_switches Off text = false
+
+abbrev pub asked_switches : Mode → Asked → Bool
+asked_switches mode Stop = false
+asked_switches mode (ToControlProgram text) = is_logoff (command_of text)
+asked_switches mode (Plain text) = plain_switches mode text
+
+abbrev pub switches_in : Mode → List ℕ → Bool
+switches_in Off text = is_logon (command_of text)
+switches_in Stopped text = asked_switches Stopped (asked_of text)
+switches_in Running text = asked_switches Running (asked_of text)
+
+-- whether a line switches the machine on, or off: either gives back all its pages
+abbrev pub switches : List ℕ → Machine → Bool
+switches typed m = switches_in m.mode (cleaned typed)

@@ -1,5 +1,5 @@
 //! The commands of the panel that change or show a machine.
-ghost use Rattle.std.specs.Prelude.{◌≡◌, ◌<◌, ℕ, List, None, IfOk, OnErr, OnOk, Result, length, true};
+ghost use Rattle.std.specs.Prelude.{◌≡◌, ◌<◌, ℕ, List, None, Some, IfOk, OnErr, OnOk, Result, length, true};
 ghost use Rattle.s370_rows.specs.State.{state_of};
 ghost use Rattle.s370_store.specs.Access.{Touches};
 ghost use Rattle.s370_intr.specs.Run.{AllNeeded, IsLacking};
@@ -8,12 +8,14 @@ ghost use Rattle.cp_panel.specs.DisplayStore.{changed, displayed, shown, stored,
 ghost use Rattle.cp_panel.specs.Machine.{machine_of};
 ghost use Rattle.cp_panel.specs.Panel.{obeyed};
 ghost use Rattle.cp_console.specs.declared.commands.Command.TheVariants as commands;
+ghost use Rattle.cp_console.specs.declared.responses.Response.TheVariants.{SystemReset};
 
 use crate::display_store::{change, display};
 use crate::line::LineError;
-use crate::machine::{Machine, Mode};
+use crate::machine::{Machine, Mode, reset_cpu};
 use cp_console::commands::{Change, Place};
 use cp_console::responses::Response;
+use s370_intr::Pending;
 use s370_num::Addr24;
 use s370_rows::Cpu;
 use s370_store::{FramesOut, Supply};
@@ -32,6 +34,21 @@ impl Machine {
             None => {}
         }
         self.mode = Mode::Running;
+        Ok(())
+    }
+
+    /// SYSTEM RESET: general registers, storage, keys and what was printed stay.
+    pub(crate) fn system_reset(&mut self) -> Result<(), AllocError>
+        ensures ok { (bytes keys : List ℕ) → OnOk result (obeyed commands.SystemReset (machine_of self.old bytes keys) ≡ record { machine = machine_of self.new bytes keys; reply = Some SystemReset }) }
+        ensures err { (bytes keys : List ℕ) → OnErr result (machine_of self.new bytes keys ≡ machine_of self.old bytes keys) }
+        ensures memory { OnErr result (self.old.room < 1) }
+    {
+        let answer = 1;
+        self.output.make_room(answer)?;
+        self.cpu = reset_cpu(self.cpu.general);
+        self.pending = Pending::NOTHING;
+        self.mode = Mode::Stopped;
+        self.output.print(&Response::SystemReset);
         Ok(())
     }
 

@@ -5,7 +5,7 @@ ghost use Rattle.s370_intr.specs.Run.{AllNeeded, IsLacking};
 ghost use Rattle.cp_console.specs.Asked.{asked_of};
 ghost use Rattle.cp_console.specs.Commands.{command_of};
 ghost use Rattle.cp_panel.specs.Machine.{machine_of};
-ghost use Rattle.cp_panel.specs.Panel.{asked_needs, asked_room, commanded, command_needs, command_room, is_logon, line, line_needs, line_room, off_line, on_line, switches_on};
+ghost use Rattle.cp_panel.specs.Panel.{asked_needs, asked_room, asked_switches, commanded, command_needs, command_room, is_logoff, is_logon, line, line_needs, line_room, off_line, on_line, switches};
 
 use crate::machine::{Machine, Mode};
 use cp_console::commands::{Command, CommandError, read_command};
@@ -43,9 +43,9 @@ impl Machine {
         ensures frames { let before = machine_of self.old (S.Storage.bytes storage.old) (S.Storage.keys storage.old) in
             result ≡ Err LineError.FramesOut → IsLacking (Touches (line_needs typed.now before)) (length (S.Storage.bytes storage.old)) (S.IsShort storage.new) }
         ensures cleared { let before = machine_of self.old (S.Storage.bytes storage.old) (S.Storage.keys storage.old) in
-            switches_on typed.now before ≡ true → S.Cleared storage.old storage.new }
+            switches typed.now before ≡ true → S.Cleared storage.old storage.new }
         ensures supply { let before = machine_of self.old (S.Storage.bytes storage.old) (S.Storage.keys storage.old) in
-            switches_on typed.now before ≡ false → ((pages : List ℕ) × S.Brought storage.old pages storage.new × AllNeeded (Touches (line_needs typed.now before)) pages) }
+            switches typed.now before ≡ false → ((pages : List ℕ) × S.Brought storage.old pages storage.new × AllNeeded (Touches (line_needs typed.now before)) pages) }
         ensures size { length (S.Storage.bytes storage.new) ≡ length (S.Storage.bytes storage.old) }
     {
         let text = ConsoleText::new(typed);
@@ -89,7 +89,8 @@ impl Machine {
             OnErr result (after ≡ before) }
         ensures memory { result ≡ Err LineError.Memory → self.old.room < asked_room mode (asked_of text.now) }
         ensures frames { result ≡ Err LineError.FramesOut → IsLacking (Touches (asked_needs mode (asked_of text.now))) (length (S.Storage.bytes storage.old)) (S.IsShort storage.new) }
-        ensures supply { (pages : List ℕ) × S.Brought storage.old pages storage.new × AllNeeded (Touches (asked_needs mode (asked_of text.now))) pages }
+        ensures cleared { asked_switches mode (asked_of text.now) ≡ true → S.Cleared storage.old storage.new }
+        ensures supply { asked_switches mode (asked_of text.now) ≡ false → ((pages : List ℕ) × S.Brought storage.old pages storage.new × AllNeeded (Touches (asked_needs mode (asked_of text.now))) pages) }
         ensures size { length (S.Storage.bytes storage.new) ≡ length (S.Storage.bytes storage.old) }
     {
         match asked_of(text) {
@@ -120,14 +121,23 @@ impl Machine {
             OnErr result (after ≡ before) }
         ensures memory { result ≡ Err LineError.Memory → self.old.room < command_room (command_of text.now) }
         ensures frames { result ≡ Err LineError.FramesOut → IsLacking (Touches (command_needs (command_of text.now))) (length (S.Storage.bytes storage.old)) (S.IsShort storage.new) }
-        ensures supply { (pages : List ℕ) × S.Brought storage.old pages storage.new × AllNeeded (Touches (command_needs (command_of text.now))) pages }
+        ensures cleared { is_logoff (command_of text.now) ≡ true → S.Cleared storage.old storage.new }
+        ensures supply { is_logoff (command_of text.now) ≡ false → ((pages : List ℕ) × S.Brought storage.old pages storage.new × AllNeeded (Touches (command_needs (command_of text.now))) pages) }
         ensures size { length (S.Storage.bytes storage.new) ≡ length (S.Storage.bytes storage.old) }
     {
         match read_command(text) {
             Ok(Command::Nothing) => Ok(None),
             Ok(Command::Logon) => Ok(Some(Response::AlreadyLoggedOn)),
+            Ok(Command::Logoff) => {
+                self.switch_off(storage);
+                Ok(Some(Response::LogoffOk))
+            }
             Ok(Command::Begin(address)) => match self.begin(address) {
                 Ok(()) => Ok(None),
+                Err(_) => Err(LineError::Memory),
+            },
+            Ok(Command::SystemReset) => match self.system_reset() {
+                Ok(()) => Ok(Some(Response::SystemReset)),
                 Err(_) => Err(LineError::Memory),
             },
             Ok(Command::External) => {

@@ -2,7 +2,7 @@
 ghost use Rattle.std.specs.Prelude.{◌≡◌, ◌≤◌, [], List, ℕ, length, replicate, slice_get};
 ghost use Rattle.std.specs.Option.{option_map};
 ghost use Rattle.cp_console.specs.Responses.{text_of};
-ghost use Rattle.cp_panel.specs.Machine.{cleared, machine_of, reset_cpu, unused};
+ghost use Rattle.cp_panel.specs.Machine.{cleared, machine_of, reset_cpu, switched_off, unused};
 
 use cp_console::output::ConsoleOutput;
 use cp_console::responses::Response;
@@ -48,7 +48,7 @@ impl Model for Machine {
 }
 
 /// The registers and the PSW after a reset, which leaves the general registers.
-fn reset_cpu(general: [u32; 16]) -> Cpu
+pub(crate) fn reset_cpu(general: [u32; 16]) -> Cpu
     ensures { result ≡ reset_cpu general }
 {
     let mut control = [0; 16];
@@ -84,6 +84,17 @@ impl Machine {
         self.pending = Pending::NOTHING;
         self.mode = Mode::Stopped;
         storage.clear();
+    }
+
+    /// LOGOFF: as after LOGON, but off.
+    pub(crate) fn switch_off<S: Supply>(&mut self, storage: &mut S)
+        ensures machine { machine_of self.new (S.Storage.bytes storage.new) (S.Storage.keys storage.new) ≡ switched_off (machine_of self.old (S.Storage.bytes storage.old) (S.Storage.keys storage.old)) }
+        ensures cleared { S.Cleared storage.old storage.new }
+        ensures size { length (S.Storage.bytes storage.new) ≡ length (S.Storage.bytes storage.old) }
+        ensures keys { length (S.Storage.keys storage.new) ≡ length (S.Storage.keys storage.old) }
+    {
+        self.clear(storage);
+        self.mode = Mode::Off;
     }
 
     /// The registers and the PSW.

@@ -5,7 +5,7 @@ use Rattle.s370_intr.specs.Run.{AllNeeded, IsLacking}
 use Rattle.cp_frames.specs.Layout.{cleared_of, is_there}
 use Rattle.cp_frames.specs.Supplied.{IsFilled}
 use Rattle.cp_panel.specs.Machine.{Machine}
-use Rattle.cp_panel.specs.Panel.{line, line_needs, switches_on}
+use Rattle.cp_panel.specs.Panel.{line, line_needs, switches}
 use Rattle.cp_panel.specs.declared.line.LineError.TheVariants as errors
 use Rattle.cp_core.specs.UserMachines.{IsShort}
 use Rattle.cp_core.specs.System.{SystemView}
@@ -52,14 +52,14 @@ returns-clause-cleared c =
     let changed = change c.self.inside.machines.items c.self.inside.frames.storages c.line.new.frames.storages c.self.inside.directory c.args.self.now.machines c.args.user c.index_mut-machine.result.now c.line.new.self c.self.invariant (ap (λ (s : SystemView). s.machines) c.self.view_is) c.requires (c.index_mut-machine.ensures.value) (rw c.new.ensures at c.line.ensures.others) in
     let o : c.self.inside.frames.owners ≡ c.args.self.now.owners = ap (λ (s : SystemView). s.owners) c.self.view_is in
     λ on. (
-    let given : (c.line.new.frames.owners ≡ cleared_of c.args.user c.self.inside.frames.owners) × ((page : ℕ) → is_there c.line.new.frames.owners c.args.user page ≡ false) = transported (λ old new. switches_on c.args.typed.now old ≡ true → ((c.line.new.frames.owners ≡ cleared_of c.args.user c.self.inside.frames.owners) × ((page : ℕ) → is_there c.line.new.frames.owners c.args.user page ≡ false))) _ _ _ _ changed.old changed.new (rw c.new.ensures at c.line.ensures.cleared) on in
+    let given : (c.line.new.frames.owners ≡ cleared_of c.args.user c.self.inside.frames.owners) × ((page : ℕ) → is_there c.line.new.frames.owners c.args.user page ≡ false) = transported (λ old new. switches c.args.typed.now old ≡ true → ((c.line.new.frames.owners ≡ cleared_of c.args.user c.self.inside.frames.owners) × ((page : ℕ) → is_there c.line.new.frames.owners c.args.user page ≡ false))) _ _ _ _ changed.old changed.new (rw c.new.ensures at c.line.ensures.cleared) on in
     record { owners = rw (← o) given.0; gone = given.1 })
 
 pub returns-clause-supply : goal.returns-clause-supply
 returns-clause-supply c =
     let changed = change c.self.inside.machines.items c.self.inside.frames.storages c.line.new.frames.storages c.self.inside.directory c.args.self.now.machines c.args.user c.index_mut-machine.result.now c.line.new.self c.self.invariant (ap (λ (s : SystemView). s.machines) c.self.view_is) c.requires (c.index_mut-machine.ensures.value) (rw c.new.ensures at c.line.ensures.others) in
     let o : c.self.inside.frames.owners ≡ c.args.self.now.owners = ap (λ (s : SystemView). s.owners) c.self.view_is in
-    rw (← o) (transported (λ old new. switches_on c.args.typed.now old ≡ false → ((pages : List ℕ) × IsFilled c.args.user c.self.inside.frames.owners pages c.line.new.frames.owners × AllNeeded (Touches (line_needs c.args.typed.now old)) pages)) _ _ _ _ changed.old changed.new (rw c.new.ensures at c.line.ensures.supply))
+    rw (← o) (transported (λ old new. switches c.args.typed.now old ≡ false → ((pages : List ℕ) × IsFilled c.args.user c.self.inside.frames.owners pages c.line.new.frames.owners × AllNeeded (Touches (line_needs c.args.typed.now old)) pages)) _ _ _ _ changed.old changed.new (rw c.new.ensures at c.line.ensures.supply))
 
 pub returns-clause-machines : goal.returns-clause-machines
 returns-clause-machines c =

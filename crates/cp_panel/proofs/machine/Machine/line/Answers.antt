@@ -19,7 +19,7 @@ returns-in_default g c =
       err = c.on_line.ensures.err;
       memory = subst (λ (n : ℕ). c.on_line.result ≡ Err Memory → c.args.self.now.room < n) (sym on.room) c.on_line.ensures.memory;
       frames = subst (λ (ts : List Test). c.on_line.result ≡ Err FramesOut → IsLacking (Touches ts) (length (g.S.Storage.bytes c.args.storage.now)) (g.S.Supply.IsShort c.on_line.new.storage)) (sym on.needs) c.on_line.ensures.frames;
-      cleared = λ e. absurd (false≢true (sym on.stays_on ∙ e));
-      supply = λ e. subst (λ (ts : List Test). (pages : List ℕ) × g.S.Supply.Brought c.args.storage.now pages c.on_line.new.storage × AllNeeded (Touches ts) pages) (sym on.needs) c.on_line.ensures.supply;
+      cleared = λ e. c.on_line.ensures.cleared (sym on.switched ∙ e);
+      supply = λ e. subst (λ (ts : List Test). (pages : List ℕ) × g.S.Supply.Brought c.args.storage.now pages c.on_line.new.storage × AllNeeded (Touches ts) pages) (sym on.needs) (c.on_line.ensures.supply (sym on.switched ∙ e));
       size = c.on_line.ensures.size;
     }
