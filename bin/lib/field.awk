@@ -16,6 +16,8 @@ BEGIN {
     ignored = " CSECT PRINT TITLE EJECT SPACE "
     absent = " USING DROP LTORG DSECT COPY MACRO MEND "
     translate(ARGV[1])
+    # without this the assembler fills the end with instructions that do nothing
+    print ".balign 8,0"
     exit failed
 }
 
