@@ -153,11 +153,12 @@ build() {
     mv -f -- "$log" "$mark"
 }
 
-# builds the program of the current folder, by a run on the words that lie beside its sources
+# builds the program of the current folder, by a run on the words that lie beside its sources; files that they name are in data
 run_once() {
     set --
     if [ -f args ]; then
-        while IFS= read -r word; do
+        while IFS= read -r word || [ -n "$word" ]; do
+            [ ! -e "data/$word" ] || word=data/$word
             set -- "$@" "$word"
         done < args
     fi
