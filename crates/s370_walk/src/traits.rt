@@ -51,11 +51,21 @@ pub trait Device {
     /// Gives as many bytes as there is room for: those that it would give one by one.
     fn give_bytes(&mut self, into: &mut [u8])
         ensures bytes { into.new ≡ given machine self.old (length into.old) }
-        ensures after { self.new ≡ after_giving machine self.old (length into.old) };
+        ensures after { self.new ≡ after_giving machine self.old (length into.old) }
+    {
+        'bytes: for slot in into.iter_mut() {
+            *slot = self.give();
+        }
+    }
 
     /// Takes bytes, as it would take them one by one.
     fn take_bytes(&mut self, from: &[u8])
-        ensures { self.new ≡ after_taking machine self.old from.now };
+        ensures { self.new ≡ after_taking machine self.old from.now }
+    {
+        'bytes: for byte in from {
+            self.take(*byte);
+        }
+    }
 }
 
 /// How the words of a program are written.
@@ -69,7 +79,12 @@ pub trait WordForm {
 
     /// Where the block of this number begins of the area of a word, or None where that cannot be found out: block 0 is
     /// where the area begins, the others are blocks of 2048 bytes.
-    fn block<S: Storage>(&self, storage: &S, position: &Position, number: u32) -> Result<Option<u32>, Page>
+    fn block<S: Storage>(
+        &self,
+        storage: &S,
+        position: &Position,
+        number: u32,
+    ) -> Result<Option<u32>, Page>
         requires { number ≤ 32 }
         ensures { FetchTells (length (S.bytes storage.now)) (S.present storage.now) ((written self.now).block_asks position.now number) ((written self.now).block (memory_of (S.bytes storage.now) (S.keys storage.now)) position.now number) result };
 }
