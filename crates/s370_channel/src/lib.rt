@@ -1,0 +1,6 @@
+//! Channel words.
+#![tactic(auto)]
+
+mod words;
+
+pub use words::{Caw, Ccw, Csw};
