@@ -5,10 +5,10 @@
 //! page (GA22-7000, "Execution of Input/Output Operations").
 //!
 //! ```
-//! let Some(start) = check_start(&Guest, &storage, caw)? else { return Ok(refused) };
+//! let Some(start) = check_start(&Guest, &storage, caw)? else { return Ok(None) };
 //! let limits = Limits { key: start.key, commands: MOST_COMMANDS, prefix: 0 };
-//! let ending = run(&Guest, &mut storage, start.address.get(), limits, &mut device)?;
-//! let csw = ending_word(start.key, ending);
+//! let ending = run(&Guest, &mut storage, start.address.get(), &limits, &mut device)?;
+//! let csw = Csw::of_ending(start.key, ending);
 //! ```
 #![tactic(auto)]
 

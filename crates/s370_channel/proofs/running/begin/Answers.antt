@@ -13,7 +13,7 @@ returns-in-Err-obey-clause-stuck g c =
     let m = memory_of (g.S.Storage.bytes c.args.storage.now) (g.S.Storage.keys c.args.storage.now) in
     let e = next_command (live (g.F.WordForm.written c.args.program.now)) h c.args.spot.now c.args.word m c.args.device.now c.requires.text c.requires.good c.requires.role in
     elim c.match-answer.branch [
-      in-Input w ↦ stuck_next c.in-Err-obey.ensures.stuck (e ∙ rw (← c.in-Ok.ensures.answer, w.in-Input.is, c.position.ensures, w.wanted-is, c.in-Ok.ensures.after) refl)
-    | in-Output w ↦ stuck_next c.in-Err-obey.ensures.stuck (e ∙ rw (← c.in-Ok.ensures.answer, w.in-Output.is, c.position.ensures, w.wanted-is, c.in-Ok.ensures.after) refl)
-    | in-OutputUpTo w ↦ stuck_next c.in-Err-obey.ensures.stuck (e ∙ rw (← c.in-Ok.ensures.answer, w.in-OutputUpTo.is, c.position.ensures, w.wanted-is, c.in-Ok.ensures.after) refl)
+      | in-Input w ↦ stuck_next c.in-Err-obey.ensures.stuck (e ∙ rw (← c.in-Ok.ensures.answer, w.in-Input.is, c.position.ensures, w.wanted-is, c.in-Ok.ensures.after) refl)
+      | in-Output w ↦ stuck_next c.in-Err-obey.ensures.stuck (e ∙ rw (← c.in-Ok.ensures.answer, w.in-Output.is, c.position.ensures, w.wanted-is, c.in-Ok.ensures.after) refl)
+      | in-OutputUpTo w ↦ stuck_next c.in-Err-obey.ensures.stuck (e ∙ rw (← c.in-Ok.ensures.answer, w.in-OutputUpTo.is, c.position.ensures, w.wanted-is, c.in-Ok.ensures.after) refl)
     ]
