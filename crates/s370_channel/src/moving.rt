@@ -106,14 +106,11 @@ fn give_byte<F: WordForm, S: Storage, D: Device>(
     let Some(address) = place(program, storage, p)? else {
         return Ok(Moved::Stopped(stop(device, p.at, ChannelStatus::PROGRAM_CHECK, p.count)));
     };
-    match storage.check(
-        Range {
-            start: address,
-            count: 1,
-        },
-        Access::Store,
-        limits.key,
-    ) {
+    let one_byte = Range {
+        start: address,
+        count: 1,
+    };
+    match storage.check(one_byte, Access::Store, limits.key) {
         Ok(()) => {
             let byte = device.give();
             store_byte(storage, address, byte);
@@ -155,14 +152,11 @@ fn take_byte<F: WordForm, S: Storage, D: Device>(
     let Some(address) = place(program, storage, p)? else {
         return Ok(Moved::Stopped(stop(device, p.at, ChannelStatus::PROGRAM_CHECK, p.count)));
     };
-    match storage.check(
-        Range {
-            start: address,
-            count: 1,
-        },
-        Access::Fetch,
-        limits.key,
-    ) {
+    let one_byte = Range {
+        start: address,
+        count: 1,
+    };
+    match storage.check(one_byte, Access::Fetch, limits.key) {
         Ok(()) => {
             let byte = load_byte(storage, address);
             device.take(byte);
