@@ -3,4 +3,3 @@ pub mod Output
 pub mod Punch
 pub mod Printer
 pub mod Reader
-pub mod Console

@@ -14,7 +14,7 @@ pub record FileValue : Type 0 where
 
 -- The entries of the open file, the closed files in order, and for how many more entries there is room.
 pub record OutputValue : Type 0 where
-  pub open : List EntryValue
+  pub entries : List EntryValue
   pub closed : List FileValue
   pub room : ℕ
 

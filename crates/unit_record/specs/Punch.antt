@@ -11,7 +11,7 @@ use Rattle.unit_record.specs.Output.{EntryValue, FileValue, closed_with}
 -- State
 pub record PunchState : Type 0 where
   -- the cards of the open file, and the files that were closed
-  pub open : List EntryValue
+  pub entries : List EntryValue
   pub closed : List FileValue
   pub sense : ℕ
   -- whether a card is being punched, and the bytes that it has
@@ -46,7 +46,7 @@ whole_card bytes = record { code = 0x01; bytes = bytes ++ replicate (80 - length
 
 abbrev pub punch_finished : PunchState → PunchState
 punch_finished p =
-    if p.is_punching then record p { open = p.open ++ whole_card p.card ∷ []; is_punching = false; card = [] } else p
+    if p.is_punching then record p { entries = p.entries ++ whole_card p.card ∷ []; is_punching = false; card = [] } else p
 
 abbrev pub punch_machine : Machine PunchState
 punch_machine =
@@ -63,10 +63,10 @@ punch_machine =
 
 -- From outside: a reset, and the close of the open file. Both find no command under way, or end it.
 abbrev pub punch_new : PunchState
-punch_new = record { open = []; closed = []; sense = 0; is_punching = false; card = [] }
+punch_new = record { entries = []; closed = []; sense = 0; is_punching = false; card = [] }
 
 abbrev pub punch_reset : PunchState → PunchState
 punch_reset p = record p { sense = 0; is_punching = false; card = [] }
 
 abbrev pub punch_closed : PunchState → Target → PunchState
-punch_closed p target = record p { open = []; closed = closed_with p.closed target p.open; is_punching = false; card = [] }
+punch_closed p target = record p { entries = []; closed = closed_with p.closed target p.entries; is_punching = false; card = [] }

@@ -9,6 +9,8 @@ pub const COMMAND_REJECT: u8 = 0x80;
 /// The sense byte after a read without a deck.
 pub const INTERVENTION_REQUIRED: u8 = 0x40;
 
+/// The command that does nothing.
+pub(crate) const NO_OPERATION: u8 = 0x03;
 /// The command that tells the sense byte.
 const SENSE: u8 = 0x04;
 /// Chain data and chain command.

@@ -7,7 +7,7 @@ use std::marker::Model;
 /// The bytes of a record that are still to be given.
 #[derive(Drop)]
 pub struct Outgoing {
-    record: Record,
+    bytes: Record,
     given: usize,
 }
 
@@ -16,9 +16,9 @@ impl Model for Outgoing {
 
     ghost Value = { List ℕ };
 
-    ghost view = { λ o. drop o.given o.record };
+    ghost view = { λ o. drop o.given o.bytes };
 
-    ghost invariant = { λ o. o.given ≤ length o.record };
+    ghost invariant = { λ o. o.given ≤ length o.bytes };
 }
 
 impl Outgoing {
@@ -27,23 +27,23 @@ impl Outgoing {
         ensures { result ≡ [] }
     {
         Outgoing {
-            record: Record::new(),
+            bytes: Record::new(),
             given: 0,
         }
     }
 
     /// A whole record.
-    pub fn of(record: Record) -> Outgoing
-        ensures { result ≡ record }
+    pub fn of(bytes: Record) -> Outgoing
+        ensures { result ≡ bytes }
     {
-        Outgoing { record, given: 0 }
+        Outgoing { bytes, given: 0 }
     }
 
     /// How many bytes are left.
     pub fn len(&self) -> usize
         ensures { result ≡ length self.now }
     {
-        self.record.len() - self.given
+        self.bytes.len() - self.given
     }
 
     /// Gives the next byte, or zero where none is left.
@@ -51,8 +51,8 @@ impl Outgoing {
         ensures byte { result ≡ slice_index self.old 0 }
         ensures after { self.new ≡ drop 1 self.old }
     {
-        let byte = self.record.byte(self.given);
-        if self.given < self.record.len() {
+        let byte = self.bytes.byte(self.given);
+        if self.given < self.bytes.len() {
             self.given += 1;
         }
         byte

@@ -88,7 +88,7 @@ impl File {
 /// An open file, and the closed ones.
 #[derive(Drop)]
 pub(crate) struct Output {
-    open: Vec<Entry>,
+    entries: Vec<Entry>,
     closed: Vec<File>,
 }
 
@@ -98,7 +98,7 @@ impl Model for Output {
 
     ghost Value = { OutputValue };
 
-    ghost view = { λ o. record { open = o.open.items; closed = o.closed.items; room = vec_capacity o.open - vec_len o.open } };
+    ghost view = { λ o. record { entries = o.entries.items; closed = o.closed.items; room = vec_capacity o.entries - vec_len o.entries } };
 }
 
 impl Output {
@@ -106,56 +106,57 @@ impl Output {
 
     /// Nothing was made.
     pub fn new(alloc: Global) -> Output
-        ensures open { result.open ≡ [] }
+        ensures entries { result.entries ≡ [] }
         ensures closed { result.closed ≡ [] }
     {
         Output {
-            open: Vec::new(alloc),
+            entries: Vec::new(alloc),
             closed: Vec::new(alloc),
         }
     }
 
     /// Makes room for one more entry.
     pub fn reserve(&mut self) -> Result<(), AllocError>
-        ensures open { self.new.open ≡ self.old.open }
+        ensures entries { self.new.entries ≡ self.old.entries }
         ensures closed { self.new.closed ≡ self.old.closed }
         ensures room { OnOk result (0 < self.new.room) }
         ensures kept { self.old.room ≤ self.new.room }
     {
-        self.open.reserve(1)
+        self.entries.reserve(1)
     }
 
     /// Adds an entry to the open file. This takes no memory.
     pub fn add(&mut self, entry: Entry)
         requires { 0 < self.old.room }
-        ensures open { self.new.open ≡ self.old.open ++ entry ∷ [] }
+        ensures entries { self.new.entries ≡ self.old.entries ++ entry ∷ [] }
         ensures closed { self.new.closed ≡ self.old.closed }
     {
-        self.open.push_reserved(entry);
+        self.entries.push_reserved(entry);
     }
 
     /// Closes the open file, and tells whether there was any.
     pub fn close(&mut self, alloc: Global, target: Target) -> Result<bool, AllocError>
-        ensures any { IfOk result (λ any. any ≡ not (length self.old.open == 0)) }
-        ensures open { OnOk result (self.new.open ≡ []) }
-        ensures closed { OnOk result (self.new.closed ≡ closed_with self.old.closed target self.old.open) }
-        ensures as_was_open { OnErr result (self.new.open ≡ self.old.open) }
+        ensures any { IfOk result (λ any. any ≡ not (length self.old.entries == 0)) }
+        ensures entries { OnOk result (self.new.entries ≡ []) }
+        ensures closed { OnOk result (self.new.closed ≡ closed_with self.old.closed target self.old.entries) }
+        ensures as_was_entries { OnErr result (self.new.entries ≡ self.old.entries) }
         ensures as_was_closed { OnErr result (self.new.closed ≡ self.old.closed) }
+        ensures as_was_room { OnErr result (self.old.room ≤ self.new.room) }
     {
-        if self.open.is_empty() {
+        if self.entries.is_empty() {
             return Ok(false);
         }
         self.closed.reserve(1)?;
-        let entries = mem::replace(&mut self.open, Vec::new(alloc));
+        let entries = mem::replace(&mut self.entries, Vec::new(alloc));
         self.closed.push_reserved(File { target, entries });
         Ok(true)
     }
 
     /// The entries of the open file, in order.
-    pub fn open(&self) -> &[Entry]
-        ensures { result.now ≡ self.now.open }
+    pub fn entries(&self) -> &[Entry]
+        ensures { result.now ≡ self.now.entries }
     {
-        self.open.as_slice()
+        self.entries.as_slice()
     }
 
     /// The closed files, in order.

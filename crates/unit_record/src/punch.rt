@@ -2,7 +2,7 @@
 ghost use Rattle.std.specs.Prelude.{◌≡◌, ◌==◌, length, not, IfOk, OnOk, OnErr};
 ghost use Rattle.unit_record.specs.Punch.{punch_new, punch_reset, punch_closed};
 
-use crate::front::{COMMAND_REJECT, is_sense};
+use crate::front::{COMMAND_REJECT, NO_OPERATION, is_sense};
 use crate::output::{Entry, File, Output, Target};
 use crate::record::Record;
 use s370_walk::{Answer, Device, Order, UnitStatus};
@@ -32,7 +32,7 @@ impl Model for Punch {
 
     ghost Value = { PunchState };
 
-    ghost view = { λ p. record { open = p.output.open; closed = p.output.closed; sense = p.sense; is_punching = p.is_punching; card = p.card } };
+    ghost view = { λ p. record { entries = p.output.entries; closed = p.output.closed; sense = p.sense; is_punching = p.is_punching; card = p.card } };
 
     // A card that is being punched has its room.
     ghost invariant = { λ p. p.is_punching ≡ true → 0 < p.output.room };
@@ -51,7 +51,7 @@ impl Device for Punch {
                 self.card = Record::new();
                 Ok(Answer::Output(80))
             }
-            0x03 => Ok(Answer::Immediate),
+            NO_OPERATION => Ok(Answer::Immediate),
             _ if is_sense(order) => Ok(Answer::Input(1)),
             _ => {
                 self.sense = COMMAND_REJECT;
@@ -109,7 +109,7 @@ impl Punch {
 
     /// Closes the open file, for this target, and tells whether there was any: it is then the last of the closed files.
     pub fn close(&mut self, alloc: Global, target: Target) -> Result<bool, AllocError>
-        ensures any { IfOk result (λ any. any ≡ not (length self.old.open == 0)) }
+        ensures any { IfOk result (λ any. any ≡ not (length self.old.entries == 0)) }
         ensures closed { OnOk result (self.new ≡ punch_closed self.old target) }
         ensures err { OnErr result (self.new ≡ self.old) }
     {
@@ -120,10 +120,10 @@ impl Punch {
     }
 
     /// The cards of the open file, in order.
-    pub fn open(&self) -> &[Entry]
-        ensures { result.now ≡ self.now.open }
+    pub fn entries(&self) -> &[Entry]
+        ensures { result.now ≡ self.now.entries }
     {
-        self.output.open()
+        self.output.entries()
     }
 
     /// The closed files, in order.

@@ -38,11 +38,11 @@ impl Record {
         requires { length bytes.now ≤ RECORD_LENGTH }
         ensures { result ≡ bytes.now }
     {
-        let mut record = Record::new();
+        let mut made = Record::new();
         for byte in bytes {
-            record.push(*byte);
+            made.push(*byte);
         }
-        record
+        made
     }
 
     /// How many bytes it has.
@@ -73,7 +73,8 @@ impl Record {
         requires { wanted ≤ RECORD_LENGTH }
         ensures { self.new ≡ self.old ++ replicate (wanted - length self.old) byte }
     {
-        for _place in self.len()..wanted {
+        let missing = wanted.saturating_sub(self.len());
+        for _added in 0..missing {
             self.push(byte);
         }
     }
