@@ -3,3 +3,5 @@ pub mod Output
 pub mod Punch
 pub mod Printer
 pub mod Reader
+pub mod Console
+pub mod ConsoleRoom

@@ -16,7 +16,7 @@
 //! ```
 #![tactic(auto)]
 
-//mod console;
+mod console;
 mod front;
 mod outgoing;
 mod output;
@@ -25,7 +25,7 @@ mod punch;
 mod reader;
 mod record;
 
-//pub use console::{Arrival, Console};
+pub use console::{Arrival, Console};
 pub use front::{COMMAND_REJECT, INTERVENTION_REQUIRED};
 pub use output::{Entry, File, Target};
 pub use printer::Printer;

@@ -1,6 +1,6 @@
 //! The card reader.
 ghost use Rattle.std.specs.Prelude.{◌≡◌, ◌++◌, ◌∷◌, [], is_some, IfOk, OnOk, OnErr};
-ghost use Rattle.unit_record.specs.Reader.{reader_new, reader_reset, with_deck, with_deck_back, queued_at, purged};
+ghost use Rattle.unit_record.specs.Reader.{reader_new, reader_reset, currents, with_deck, with_deck_back, queued_at, purged};
 
 use crate::front::{COMMAND_REJECT, INTERVENTION_REQUIRED, NO_OPERATION, is_sense};
 use crate::outgoing::Outgoing;
@@ -172,17 +172,27 @@ impl Reader {
 
     /// Where the first queued deck of this label stands among all decks.
     fn queued_at(&self, label: u64) -> Option<usize>
-        ensures place { result ≡ queued_at self.now label }
+        ensures { result ≡ queued_at self.now label }
     {
-        let queued = if self.place.is_some() { 1 } else { 0 };
-        for index in queued..self.decks.len() {
-            if let Some(deck) = self.decks.get(index)
-                && deck.label == label
-            {
+        for index in self.currents()..self.decks.len() {
+            let Some(deck) = self.decks.get(index) else {
+                return None;
+            };
+            if deck.label() == label {
                 return Some(index);
             }
         }
         None
+    }
+
+    /// How many decks stand before the queue.
+    fn currents(&self) -> usize
+        ensures { result ≡ currents self.now.place }
+    {
+        match self.place {
+            None => 0,
+            Some(_) => 1,
+        }
     }
 
     /// A system reset: the decks stay, and so does the place in the current one.
