@@ -46,6 +46,7 @@ pub struct Console {
 }
 
 impl Model for Console {
+    ghost use Rattle.std.specs.Prelude.{length, vec_len, vec_capacity};
     ghost use Rattle.unit_record.specs.Console.{ConsoleState};
 
     ghost Value = { ConsoleState };
@@ -55,7 +56,7 @@ impl Model for Console {
     ghost view = { λ c. record { lines = c.lines.items; unfinished = c.unfinished; waiting = c.waiting.items; sense = c.sense; wanted = c.wanted; ends_line = c.ends_line; giving = c.giving } };
 
     // What is being written has its room.
-    ghost invariant = { λ c. HasRoom c.lines c.unfinished c.wanted c.ends_line };
+    ghost invariant = { λ c. HasRoom (vec_len c.lines) (vec_capacity c.lines) (length c.unfinished) c.wanted c.ends_line };
 }
 
 impl Device for Console {
