@@ -1,1 +1,3 @@
-pub mod Searches
+pub mod Takes
+pub mod DeckReads
+pub mod Commands

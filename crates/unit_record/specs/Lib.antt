@@ -5,3 +5,4 @@ pub mod Printer
 pub mod Reader
 pub mod Console
 pub mod ConsoleRoom
+pub mod Laws

@@ -90,6 +90,10 @@ impl Device for Console {
         false
     }
 
+    fn ready(&self) -> u32 {
+        u32::MAX
+    }
+
     fn give(&mut self) -> u8 {
         self.giving.give()
     }

@@ -63,6 +63,10 @@ impl Device for Printer {
         false
     }
 
+    fn ready(&self) -> u32 {
+        u32::MAX
+    }
+
     fn give(&mut self) -> u8 {
         self.sense
     }

@@ -64,6 +64,10 @@ impl Device for Punch {
         false
     }
 
+    fn ready(&self) -> u32 {
+        u32::MAX
+    }
+
     fn give(&mut self) -> u8 {
         self.sense
     }

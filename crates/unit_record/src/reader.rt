@@ -96,6 +96,10 @@ impl Device for Reader {
         false
     }
 
+    fn ready(&self) -> u32 {
+        u32::MAX
+    }
+
     fn give(&mut self) -> u8 {
         self.giving.give()
     }
