@@ -25,7 +25,7 @@ at_place deck decks sense place giving = record { decks = deck ∷ decks; place 
 module _ (deck : DeckValue) (decks : List DeckValue) (sense : ℕ) (first : Bool) (flags : Flags) where
   reads : (place : Option ℕ) (giving : List ℕ) → place_of place < length deck.cards
       → reader_started (at_place deck decks sense place giving) (asked 2 first flags)
-        ≡ at_place deck decks sense (Some (suc (place_of place))) (slice_index_or deck.cards (place_of place) [])
+      ≡ at_place deck decks sense (Some (suc (place_of place))) (slice_index_or deck.cards (place_of place) [])
   reads place giving lt = rw (there deck.cards (place_of place) lt, add-one)
 
   gives : (place : Option ℕ) (giving : List ℕ) → place_of place < length deck.cards
@@ -38,13 +38,13 @@ module _ (deck : DeckValue) (decks : List DeckValue) (sense : ℕ) (first : Bool
 
   ends : (place : Option ℕ) (giving : List ℕ) → place_of place ≡ length deck.cards
       → reader_started (at_place deck decks sense place giving) (asked 2 first flags)
-        ≡ record { decks = decks; place = None; sense = sense; giving = giving }
+      ≡ record { decks = decks; place = None; sense = sense; giving = giving }
   ends place giving e = rw (past deck.cards (place_of place) e)
 
   -- after one read and k more
   pub place_after : (giving : List ℕ) (k : ℕ) → k < length deck.cards
       → after_reads (before_deck deck decks sense giving) (asked 2 first flags) (suc k)
-        ≡ at_place deck decks sense (Some (suc k)) (slice_index_or deck.cards k [])
+      ≡ at_place deck decks sense (Some (suc k)) (slice_index_or deck.cards k [])
   place_after giving zero lt = reads None giving (omega arith)
   place_after giving (suc k) lt =
       ap (λ q. reader_started q (asked 2 first flags)) (place_after giving k (omega arith))

@@ -71,7 +71,7 @@ console_took_after_full c b full wants = rw (below 0 c.wanted wants, equal (leng
 -- where so many characters fit, and there are more
 pub console_took_over : (fitting : ℕ) (c : ConsoleState) (bytes : List ℕ) → fitting + length c.unfinished ≡ 132 → length bytes ≤ 132 → fitting < length bytes → length bytes ≤ c.wanted
     → after_taking console_machine c bytes
-      ≡ record c { lines = c.lines ++ (c.unfinished ++ printed (take fitting bytes)) ∷ []; unfinished = printed (drop fitting bytes); wanted = c.wanted - length bytes }
+    ≡ record c { lines = c.lines ++ (c.unfinished ++ printed (take fitting bytes)) ∷ []; unfinished = printed (drop fitting bytes); wanted = c.wanted - length bytes }
 console_took_over fitting c [] fits few over wants = absurd (omega arith)
 console_took_over zero c (b ∷ bs) fits few over wants =
     let with : List ℕ → ℕ → ConsoleState = λ l w. record c { lines = c.lines ++ l ∷ []; unfinished = printed (b ∷ bs); wanted = w } in

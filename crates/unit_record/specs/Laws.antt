@@ -78,7 +78,7 @@ abbrev pub WritesTwoLines : Type 0
 WritesTwoLines =
     (c : ConsoleState) (first : Bool) (flags : Flags) (bytes : List ℕ) → length c.unfinished ≤ 132 → length bytes ≤ 132 → 132 < length c.unfinished + length bytes
     → (carried_out console_machine c (asked 0x09 first flags) bytes).lines
-      ≡ c.lines ++ (c.unfinished ++ printed (take (space_left c) bytes)) ∷ printed (drop (space_left c) bytes) ∷ []
+    ≡ c.lines ++ (c.unfinished ++ printed (take (space_left c) bytes)) ∷ printed (drop (space_left c) bytes) ∷ []
 
 -- A write that does not end the line leaves its characters there, or those that did not fit.
 abbrev pub WritesOn : Type 0

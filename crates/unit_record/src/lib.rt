@@ -25,10 +25,14 @@ mod printer;
 mod punch;
 mod reader;
 mod record;
+#[cfg(test)]
+mod tests;
 
 pub use console::{Arrival, Console};
 pub use front::{COMMAND_REJECT, INTERVENTION_REQUIRED};
-pub use laws::{a_punch_adds_one_card, a_write_adds_one_entry, decks_are_read_in_order, written_text_is_kept};
+pub use laws::{
+    a_punch_adds_one_card, a_write_adds_one_entry, decks_are_read_in_order, written_text_is_kept,
+};
 pub use output::{Entry, File, Target};
 pub use printer::Printer;
 pub use punch::Punch;
