@@ -1,0 +1,249 @@
+//! The typewriter console.
+ghost use Rattle.std.specs.Prelude.{◌≡◌, ◌≤◌, ◌==◌, length, IfOk, OnOk, OnErr, map, slice_get, if◌then◌else◌};
+ghost use Rattle.std.specs.Option.{option_copied};
+ghost use Rattle.unit_record.specs.declared.console.Arrival.TheVariants.{Kept, Lost};
+ghost use Rattle.unit_record.specs.Console.{console_new, console_reset, is_write, has_room, typed_byte, with_typed, wants_attention};
+
+use crate::front::{COMMAND_REJECT, NO_OPERATION, is_sense};
+use crate::outgoing::Outgoing;
+use crate::record::{RECORD_LENGTH, Record};
+use s370_num::ebcdic::{ebcdic_of, printable};
+use s370_walk::{Answer, Device, Order, UnitStatus};
+use std::alloc::{AllocError, Global};
+use std::collections::VecDeque;
+use std::marker::Model;
+use std::mem;
+
+/// The most lines that wait.
+pub const WAITING_LINES: usize = 16;
+
+/// The command that writes and ends the line.
+const WRITE_LINE: u8 = 0x09;
+/// The command that reads a waiting line.
+const READ: u8 = 0x0A;
+/// What stands for a character that has no byte.
+const BLANK: u8 = 0x40;
+
+/// What became of a line that was typed.
+#[derive(Clone, Copy, Debug, PartialEq, Eq)]
+pub enum Arrival {
+    /// It waits to be read.
+    Kept,
+    /// It was dropped, since too many wait.
+    Lost,
+}
+
+/// A typewriter console: the lines that were written, and those that wait to be read.
+#[derive(Drop)]
+pub struct Console {
+    lines: Vec<Record>,
+    unfinished: Record,
+    waiting: VecDeque<Record>,
+    sense: u8,
+    wanted: usize,
+    ends_line: bool,
+    giving: Outgoing,
+}
+
+impl Model for Console {
+    ghost use Rattle.std.specs.Prelude.{length, vec_len, vec_capacity};
+    ghost use Rattle.unit_record.specs.Console.{ConsoleState};
+
+    ghost Value = { ConsoleState };
+
+    ghost use Rattle.unit_record.specs.ConsoleRoom.{HasRoom};
+
+    ghost view = { λ c. record { lines = c.lines.items; unfinished = c.unfinished; waiting = c.waiting.items; sense = c.sense; wanted = c.wanted; ends_line = c.ends_line; giving = c.giving } };
+
+    // What is being written has its room.
+    ghost invariant = { λ c. HasRoom (vec_len c.lines) (vec_capacity c.lines) (length c.unfinished) c.wanted c.ends_line };
+}
+
+impl Device for Console {
+    ghost use Rattle.unit_record.specs.Console.{console_machine};
+
+    ghost machine = { console_machine };
+
+    fn command(&mut self, order: Order) -> Result<Answer, AllocError> {
+        match order.command.code {
+            code if is_write(code) => {
+                // A write finishes two lines at most: one that its characters fill, and the one that it ends.
+                self.lines.reserve(2)?;
+                self.wanted = RECORD_LENGTH;
+                self.ends_line = code == WRITE_LINE;
+                Ok(Answer::OutputUpTo(132))
+            }
+            READ => Ok(self.read()),
+            NO_OPERATION => Ok(Answer::Immediate),
+            _ if is_sense(order) => {
+                self.giving = Outgoing::of(Record::of(&[self.sense]));
+                Ok(Answer::Input(1))
+            }
+            _ => {
+                self.sense = COMMAND_REJECT;
+                Ok(Answer::Refused(UnitStatus::UNIT_CHECK))
+            }
+        }
+    }
+
+    fn is_done(&self) -> bool {
+        false
+    }
+
+    fn ready(&self) -> u32 {
+        u32::MAX
+    }
+
+    fn give(&mut self) -> u8 {
+        self.giving.give()
+    }
+
+    fn take(&mut self, byte: u8) {
+        if self.wanted == 0 {
+            return;
+        }
+        if self.unfinished.len() == RECORD_LENGTH {
+            let line = mem::replace(&mut self.unfinished, Record::new());
+            self.lines.push_reserved(line);
+        }
+        self.unfinished.push(printable(byte));
+        self.wanted -= 1;
+    }
+
+    fn finish(&mut self) -> UnitStatus {
+        if self.ends_line {
+            let line = mem::replace(&mut self.unfinished, Record::new());
+            self.lines.push_reserved(line);
+            self.ends_line = false;
+        }
+        self.wanted = 0;
+        UnitStatus::NONE
+    }
+}
+
+impl Console {
+    ghost use Rattle.unit_record.specs.Console.{read_answer, read_started};
+
+    /// A console on which nothing was written or typed.
+    pub fn new(alloc: Global) -> Console
+        ensures { result ≡ console_new }
+    {
+        Console {
+            lines: Vec::new(alloc),
+            unfinished: Record::new(),
+            waiting: VecDeque::new(alloc),
+            sense: 0,
+            wanted: 0,
+            ends_line: false,
+            giving: Outgoing::new(),
+        }
+    }
+
+    /// A read of the first waiting line.
+    fn read(&mut self) -> Answer
+        ensures answer { result ≡ read_answer self.old.waiting }
+        ensures after { self.new ≡ read_started self.old self.old.waiting }
+    {
+        match self.waiting.pop_front() {
+            None => Answer::Refused(UnitStatus::UNIT_EXCEPTION),
+            Some(line) => {
+                let bytes = line.len();
+                self.giving = Outgoing::of(line);
+                Answer::Input(bytes as u32)
+            }
+        }
+    }
+
+    /// A line is typed. Where memory is refused the console stays as it was.
+    pub fn line(&mut self, text: &[u8]) -> Result<Arrival, AllocError>
+        requires { length text.now ≤ RECORD_LENGTH }
+        ensures arrival { IfOk result (λ arrival. arrival ≡ (if has_room self.old then Kept else Lost)) }
+        ensures kept { OnOk result (self.new ≡ with_typed self.old text.now) }
+        ensures err { OnErr result (self.new ≡ self.old) }
+    {
+        if self.waiting.len() >= WAITING_LINES {
+            return Ok(Arrival::Lost);
+        }
+        self.waiting.push_back(typed(text))?;
+        Ok(Arrival::Kept)
+    }
+
+    /// Whether attention is wanted: a line waits.
+    pub fn attention(&self) -> bool
+        ensures { result ≡ wants_attention self.now }
+    {
+        self.waiting.len() > 0
+    }
+
+    /// A system reset: no line waits any more; what was written stays.
+    pub fn reset(&mut self)
+        ensures { self.new ≡ console_reset self.old }
+    {
+        self.waiting.clear();
+        self.sense = 0;
+        self.wanted = 0;
+        self.ends_line = false;
+        self.giving = Outgoing::new();
+    }
+
+    /// The lines that are finished, in characters.
+    pub fn lines(&self) -> &[Record]
+        ensures { result.now ≡ self.now.lines }
+    {
+        self.lines.as_slice()
+    }
+
+    /// The characters of the line that is not finished.
+    pub fn unfinished(&self) -> &[u8]
+        ensures { result.now ≡ self.now.unfinished }
+    {
+        self.unfinished.as_slice()
+    }
+
+    /// How many lines wait to be read.
+    pub fn waiting(&self) -> usize
+        ensures { result ≡ length self.now.waiting }
+    {
+        self.waiting.len()
+    }
+
+    /// A line that waits, as the bytes that a read would give.
+    pub fn waiting_line(&self, index: usize) -> Option<&Record>
+        ensures { option_copied result ≡ slice_get self.now.waiting index }
+    {
+        self.waiting.get(index)
+    }
+
+    /// The sense byte of the last unit check.
+    pub fn sense(&self) -> u8
+        ensures { result ≡ self.now.sense }
+    {
+        self.sense
+    }
+}
+
+/// Whether the command writes.
+fn is_write(code: u8) -> bool
+    ensures { result ≡ is_write code }
+{
+    matches!(code, 0x01 | 0x09)
+}
+
+/// A typed line as bytes.
+fn typed(text: &[u8]) -> Record
+    requires { length text.now ≤ RECORD_LENGTH }
+    ensures { result ≡ map typed_byte text.now }
+{
+    let mut bytes = Record::new();
+    for character in text {
+        bytes.push(typed_byte(*character));
+    }
+    bytes
+}
+
+/// The byte of a character, or a blank.
+fn typed_byte(character: u8) -> u8
+    ensures { result ≡ typed_byte character }
+{
+    ebcdic_of(character).unwrap_or(BLANK)
+}

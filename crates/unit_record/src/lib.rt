@@ -1,0 +1,40 @@
+//! The unit record devices and the console: a card reader, a card punch, a line printer and a typewriter console.
+//!
+//! Their one theorem: each is a [`Device`](s370_walk::Device) whose machine is the one that `specs/` defines, one small file a
+//! device (docs/MACHINE.md, "Unit record devices and console"): no record that a program wrote is lost or changed, and none
+//! is read twice. What a device keeps between programs is changed from outside only by the calls named here.
+//!
+//! A command that keeps a record takes the memory for it when it begins. So want of memory is told by
+//! `Device::command`, and nothing has happened then.
+//!
+//! ```
+//! let mut punch = Punch::new(alloc);
+//! punch.command(order)?;
+//! punch.take(0xC1);
+//! punch.finish();
+//! assert!(punch.close(Target::System)?);
+//! ```
+#![tactic(auto)]
+
+mod console;
+mod front;
+mod laws;
+mod outgoing;
+mod output;
+mod printer;
+mod punch;
+mod reader;
+mod record;
+#[cfg(test)]
+mod tests;
+
+pub use console::{Arrival, Console};
+pub use front::{COMMAND_REJECT, INTERVENTION_REQUIRED};
+pub use laws::{
+    a_punch_adds_one_card, a_write_adds_one_entry, decks_are_read_in_order, written_text_is_kept,
+};
+pub use output::{Entry, File, Target};
+pub use printer::Printer;
+pub use punch::Punch;
+pub use reader::{Card, Deck, Reader};
+pub use record::{RECORD_LENGTH, Record};

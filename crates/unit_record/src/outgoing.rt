@@ -1,0 +1,60 @@
+//! Bytes that a device gives.
+ghost use Rattle.std.specs.Prelude.{◌≡◌, ◌∷◌, [], drop, slice_index, length};
+
+use crate::record::Record;
+use std::marker::Model;
+
+/// The bytes of a record that are still to be given.
+#[derive(Drop)]
+pub struct Outgoing {
+    bytes: Record,
+    given: usize,
+}
+
+impl Model for Outgoing {
+    ghost use Rattle.std.specs.Prelude.{ℕ, List, drop, length, ◌≤◌};
+
+    ghost Value = { List ℕ };
+
+    ghost view = { λ o. drop o.given o.bytes };
+
+    ghost invariant = { λ o. o.given ≤ length o.bytes };
+}
+
+impl Outgoing {
+    /// Nothing to be given.
+    pub fn new() -> Outgoing
+        ensures { result ≡ [] }
+    {
+        Outgoing {
+            bytes: Record::new(),
+            given: 0,
+        }
+    }
+
+    /// A whole record.
+    pub fn of(bytes: Record) -> Outgoing
+        ensures { result ≡ bytes }
+    {
+        Outgoing { bytes, given: 0 }
+    }
+
+    /// How many bytes are left.
+    pub fn len(&self) -> usize
+        ensures { result ≡ length self.now }
+    {
+        self.bytes.len() - self.given
+    }
+
+    /// Gives the next byte, or zero where none is left.
+    pub fn give(&mut self) -> u8
+        ensures byte { result ≡ slice_index self.old 0 }
+        ensures after { self.new ≡ drop 1 self.old }
+    {
+        let byte = self.bytes.byte(self.given);
+        if self.given < self.bytes.len() {
+            self.given += 1;
+        }
+        byte
+    }
+}

@@ -1,0 +1,158 @@
+//! The line printer.
+ghost use Rattle.std.specs.Prelude.{◌≡◌, ◌==◌, length, not, IfOk, OnOk, OnErr};
+ghost use Rattle.unit_record.specs.Printer.{printer_new, printer_reset, printer_closed, is_write, is_space};
+
+use crate::front::{COMMAND_REJECT, NO_OPERATION, is_sense};
+use crate::output::{Entry, File, Output, Target};
+use crate::record::{RECORD_LENGTH, Record};
+use s370_walk::{Answer, Device, Order, UnitStatus};
+use std::alloc::{AllocError, Global};
+use std::marker::Model;
+use std::mem;
+
+/// A line printer: the entries of its open file, and its closed files.
+#[derive(Drop)]
+pub struct Printer {
+    output: Output,
+    sense: u8,
+    printing: Option<u8>,
+    line: Record,
+}
+
+impl Model for Printer {
+    ghost use Rattle.std.specs.Prelude.{◌≡◌, ◌<◌, true, is_some};
+    ghost use Rattle.unit_record.specs.Printer.{PrinterState};
+
+    ghost Value = { PrinterState };
+
+    ghost view = { λ p. record { entries = p.output.entries; closed = p.output.closed; sense = p.sense; printing = p.printing; line = p.line } };
+
+    // A line that is being printed has its room.
+    ghost invariant = { λ p. is_some p.printing ≡ true → 0 < p.output.room };
+}
+
+impl Device for Printer {
+    ghost use Rattle.unit_record.specs.Printer.{printer_machine};
+
+    ghost machine = { printer_machine };
+
+    fn command(&mut self, order: Order) -> Result<Answer, AllocError> {
+        match order.command.code {
+            code if is_write(code) => {
+                self.output.reserve()?;
+                self.printing = Some(code);
+                self.line = Record::new();
+                Ok(Answer::OutputUpTo(132))
+            }
+            code if is_space(code) => {
+                self.output.reserve()?;
+                self.output.add(Entry::new(code, Record::new()));
+                self.printing = None;
+                Ok(Answer::Immediate)
+            }
+            NO_OPERATION => Ok(Answer::Immediate),
+            _ if is_sense(order) => Ok(Answer::Input(1)),
+            _ => {
+                self.sense = COMMAND_REJECT;
+                Ok(Answer::Refused(UnitStatus::UNIT_CHECK))
+            }
+        }
+    }
+
+    fn is_done(&self) -> bool {
+        false
+    }
+
+    fn ready(&self) -> u32 {
+        u32::MAX
+    }
+
+    fn give(&mut self) -> u8 {
+        self.sense
+    }
+
+    fn take(&mut self, byte: u8) {
+        if self.line.len() < RECORD_LENGTH {
+            self.line.push(byte);
+        }
+    }
+
+    fn finish(&mut self) -> UnitStatus {
+        if let Some(code) = self.printing {
+            let line = mem::replace(&mut self.line, Record::new());
+            self.output.add(Entry::new(code, line));
+            self.printing = None;
+        }
+        UnitStatus::NONE
+    }
+}
+
+impl Printer {
+    /// A printer that has printed nothing.
+    pub fn new(alloc: Global) -> Printer
+        ensures { result ≡ printer_new }
+    {
+        Printer {
+            output: Output::new(alloc),
+            sense: 0,
+            printing: None,
+            line: Record::new(),
+        }
+    }
+
+    /// A system reset: the open file stays.
+    pub fn reset(&mut self)
+        ensures { self.new ≡ printer_reset self.old }
+    {
+        self.sense = 0;
+        self.printing = None;
+        self.line = Record::new();
+    }
+
+    /// Closes the open file, for this target, and tells whether there was any: it is then the last of the closed files.
+    pub fn close(&mut self, alloc: Global, target: Target) -> Result<bool, AllocError>
+        ensures any { IfOk result (λ any. any ≡ not (length self.old.entries == 0)) }
+        ensures closed { OnOk result (self.new ≡ printer_closed self.old target) }
+        ensures err { OnErr result (self.new ≡ self.old) }
+    {
+        let any = self.output.close(alloc, target)?;
+        self.printing = None;
+        self.line = Record::new();
+        Ok(any)
+    }
+
+    /// The entries of the open file, in order.
+    pub fn entries(&self) -> &[Entry]
+        ensures { result.now ≡ self.now.entries }
+    {
+        self.output.entries()
+    }
+
+    /// The closed files, in order.
+    pub fn closed(&self) -> &[File]
+        ensures { result.now ≡ self.now.closed }
+    {
+        self.output.closed()
+    }
+
+    /// The sense byte of the last unit check.
+    pub fn sense(&self) -> u8
+        ensures { result ≡ self.now.sense }
+    {
+        self.sense
+    }
+}
+
+/// Whether the command prints a line.
+fn is_write(code: u8) -> bool
+    ensures { result ≡ is_write code }
+{
+    matches!(code, 0x01 | 0x09 | 0x11 | 0x19 | 0x89)
+}
+
+/// Whether the command moves the paper at once.
+fn is_space(code: u8) -> bool
+    ensures { result ≡ is_space code }
+{
+    matches!(code, 0x0B | 0x13 | 0x1B | 0x8B)
+}

@@ -1,0 +1,146 @@
+//! The card punch.
+ghost use Rattle.std.specs.Prelude.{◌≡◌, ◌==◌, length, not, IfOk, OnOk, OnErr};
+ghost use Rattle.unit_record.specs.Punch.{punch_new, punch_reset, punch_closed};
+
+use crate::front::{COMMAND_REJECT, NO_OPERATION, is_sense};
+use crate::output::{Entry, File, Output, Target};
+use crate::record::Record;
+use s370_walk::{Answer, Device, Order, UnitStatus};
+use std::alloc::{AllocError, Global};
+use std::marker::Model;
+use std::mem;
+
+/// Bytes of a card.
+const CARD_LENGTH: usize = 80;
+/// The command that punches a card.
+const PUNCH: u8 = 0x01;
+/// What stands in columns that nothing was punched into.
+const BLANK: u8 = 0x40;
+
+/// A card punch: the cards of its open file, and its closed files.
+#[derive(Drop)]
+pub struct Punch {
+    output: Output,
+    sense: u8,
+    is_punching: bool,
+    card: Record,
+}
+
+impl Model for Punch {
+    ghost use Rattle.std.specs.Prelude.{◌≡◌, ◌<◌, true};
+    ghost use Rattle.unit_record.specs.Punch.{PunchState};
+
+    ghost Value = { PunchState };
+
+    ghost view = { λ p. record { entries = p.output.entries; closed = p.output.closed; sense = p.sense; is_punching = p.is_punching; card = p.card } };
+
+    // A card that is being punched has its room.
+    ghost invariant = { λ p. p.is_punching ≡ true → 0 < p.output.room };
+}
+
+impl Device for Punch {
+    ghost use Rattle.unit_record.specs.Punch.{punch_machine};
+
+    ghost machine = { punch_machine };
+
+    fn command(&mut self, order: Order) -> Result<Answer, AllocError> {
+        match order.command.code {
+            PUNCH => {
+                self.output.reserve()?;
+                self.is_punching = true;
+                self.card = Record::new();
+                Ok(Answer::Output(80))
+            }
+            NO_OPERATION => Ok(Answer::Immediate),
+            _ if is_sense(order) => Ok(Answer::Input(1)),
+            _ => {
+                self.sense = COMMAND_REJECT;
+                Ok(Answer::Refused(UnitStatus::UNIT_CHECK))
+            }
+        }
+    }
+
+    fn is_done(&self) -> bool {
+        false
+    }
+
+    fn ready(&self) -> u32 {
+        u32::MAX
+    }
+
+    fn give(&mut self) -> u8 {
+        self.sense
+    }
+
+    fn take(&mut self, byte: u8) {
+        if self.card.len() < CARD_LENGTH {
+            self.card.push(byte);
+        }
+    }
+
+    fn finish(&mut self) -> UnitStatus {
+        if self.is_punching {
+            self.card.pad_to(CARD_LENGTH, BLANK);
+            let card = mem::replace(&mut self.card, Record::new());
+            self.output.add(Entry::new(PUNCH, card));
+            self.is_punching = false;
+        }
+        UnitStatus::NONE
+    }
+}
+
+impl Punch {
+    /// A punch that has punched nothing.
+    pub fn new(alloc: Global) -> Punch
+        ensures { result ≡ punch_new }
+    {
+        Punch {
+            output: Output::new(alloc),
+            sense: 0,
+            is_punching: false,
+            card: Record::new(),
+        }
+    }
+
+    /// A system reset: the open file stays.
+    pub fn reset(&mut self)
+        ensures { self.new ≡ punch_reset self.old }
+    {
+        self.sense = 0;
+        self.is_punching = false;
+        self.card = Record::new();
+    }
+
+    /// Closes the open file, for this target, and tells whether there was any: it is then the last of the closed files.
+    pub fn close(&mut self, alloc: Global, target: Target) -> Result<bool, AllocError>
+        ensures any { IfOk result (λ any. any ≡ not (length self.old.entries == 0)) }
+        ensures closed { OnOk result (self.new ≡ punch_closed self.old target) }
+        ensures err { OnErr result (self.new ≡ self.old) }
+    {
+        let any = self.output.close(alloc, target)?;
+        self.is_punching = false;
+        self.card = Record::new();
+        Ok(any)
+    }
+
+    /// The cards of the open file, in order.
+    pub fn entries(&self) -> &[Entry]
+        ensures { result.now ≡ self.now.entries }
+    {
+        self.output.entries()
+    }
+
+    /// The closed files, in order.
+    pub fn closed(&self) -> &[File]
+        ensures { result.now ≡ self.now.closed }
+    {
+        self.output.closed()
+    }
+
+    /// The sense byte of the last unit check.
+    pub fn sense(&self) -> u8
+        ensures { result ≡ self.now.sense }
+    {
+        self.sense
+    }
+}

@@ -1,0 +1,216 @@
+//! The card reader.
+ghost use Rattle.std.specs.Prelude.{◌≡◌, ◌++◌, ◌∷◌, [], is_some, IfOk, OnOk, OnErr};
+ghost use Rattle.unit_record.specs.Reader.{reader_new, reader_reset, currents, with_deck, with_deck_back, queued_at, purged};
+
+use crate::front::{COMMAND_REJECT, INTERVENTION_REQUIRED, NO_OPERATION, is_sense};
+use crate::outgoing::Outgoing;
+use crate::record::Record;
+use s370_walk::{Answer, Device, Order, UnitStatus};
+use std::alloc::{AllocError, Global};
+use std::collections::VecDeque;
+use std::marker::Model;
+
+/// A card.
+pub type Card = [u8; 80];
+
+/// The command that reads a card.
+const READ: u8 = 0x02;
+
+/// A deck of cards, with a label by which it is found again.
+#[derive(Drop)]
+pub struct Deck {
+    label: u64,
+    cards: Vec<Card>,
+}
+
+impl Model for Deck {
+    ghost use Rattle.unit_record.specs.Reader.{DeckValue};
+
+    ghost Value = { DeckValue };
+
+    ghost view = { λ d. record { label = d.label; cards = d.cards.items } };
+}
+
+impl Deck {
+    /// A deck of these cards.
+    pub fn new(label: u64, cards: Vec<Card>) -> Deck
+        ensures label { result.label ≡ label }
+        ensures cards { result.cards ≡ cards.items }
+    {
+        Deck { label, cards }
+    }
+
+    /// Its label.
+    pub fn label(&self) -> u64
+        ensures { result ≡ self.now.label }
+    {
+        self.label
+    }
+
+    /// Its cards, in order.
+    pub fn cards(&self) -> &[Card]
+        ensures { result.now ≡ self.now.cards }
+    {
+        self.cards.as_slice()
+    }
+}
+
+/// A card reader: its decks, of which the first may be being read.
+#[derive(Drop)]
+pub struct Reader {
+    decks: VecDeque<Deck>,
+    place: Option<usize>,
+    sense: u8,
+    giving: Outgoing,
+}
+
+impl Model for Reader {
+    ghost use Rattle.unit_record.specs.Reader.{ReaderState};
+
+    ghost Value = { ReaderState };
+
+    ghost view = { λ r. record { decks = r.decks.items; place = r.place; sense = r.sense; giving = r.giving } };
+}
+
+impl Device for Reader {
+    ghost use Rattle.unit_record.specs.Reader.{reader_machine};
+
+    ghost machine = { reader_machine };
+
+    fn command(&mut self, order: Order) -> Result<Answer, AllocError> {
+        Ok(match order.command.code {
+            READ => self.read(),
+            NO_OPERATION => Answer::Immediate,
+            _ if is_sense(order) => {
+                self.giving = Outgoing::of(Record::of(&[self.sense]));
+                Answer::Input(1)
+            }
+            _ => {
+                self.sense = COMMAND_REJECT;
+                Answer::Refused(UnitStatus::UNIT_CHECK)
+            }
+        })
+    }
+
+    fn is_done(&self) -> bool {
+        false
+    }
+
+    fn ready(&self) -> u32 {
+        u32::MAX
+    }
+
+    fn give(&mut self) -> u8 {
+        self.giving.give()
+    }
+
+    fn take(&mut self, _byte: u8) {}
+
+    fn finish(&mut self) -> UnitStatus {
+        UnitStatus::NONE
+    }
+}
+
+impl Reader {
+    ghost use Rattle.unit_record.specs.Reader.{next_card, read_answer, read_started};
+
+    /// A reader without decks.
+    pub fn new(alloc: Global) -> Reader
+        ensures { result ≡ reader_new }
+    {
+        Reader {
+            decks: VecDeque::new(alloc),
+            place: None,
+            sense: 0,
+            giving: Outgoing::new(),
+        }
+    }
+
+    /// A read.
+    fn read(&mut self) -> Answer
+        ensures answer { result ≡ read_answer (next_card self.old) }
+        ensures after { self.new ≡ read_started self.old (next_card self.old) }
+    {
+        let Some(deck) = self.decks.front() else {
+            self.sense = INTERVENTION_REQUIRED;
+            return Answer::Refused(UnitStatus::UNIT_CHECK);
+        };
+        let place = self.place.unwrap_or(0);
+        let Some(card) = deck.cards().get(place) else {
+            let _ended = self.decks.pop_front();
+            self.place = None;
+            return Answer::Refused(UnitStatus::UNIT_EXCEPTION);
+        };
+        self.giving = Outgoing::of(Record::of(card));
+        self.place = Some(place + 1);
+        Answer::Input(80)
+    }
+
+    /// A deck comes to the end of the queue. Where memory is refused the reader stays as it was.
+    pub fn deck(&mut self, deck: Deck) -> Result<(), AllocError>
+        ensures kept { OnOk result (self.new ≡ with_deck self.old deck) }
+        ensures err { OnErr result (self.new ≡ self.old) }
+    {
+        self.decks.push_back(deck)?;
+        Ok(())
+    }
+
+    /// The current deck, if there is one, goes back to the front of the queue, to be read from its first card.
+    pub fn put_back(&mut self)
+        ensures { self.new ≡ with_deck_back self.old }
+    {
+        self.place = None;
+    }
+
+    /// Takes the first queued deck of this label away, and tells whether there was any. The current deck is not queued.
+    pub fn purge(&mut self, label: u64) -> bool
+        ensures found { result ≡ is_some (queued_at self.old label) }
+        ensures after { self.new ≡ purged self.old (queued_at self.old label) }
+    {
+        let Some(index) = self.queued_at(label) else {
+            return false;
+        };
+        let _purged = self.decks.remove(index);
+        true
+    }
+
+    /// Where the first queued deck of this label stands among all decks.
+    fn queued_at(&self, label: u64) -> Option<usize>
+        ensures { result ≡ queued_at self.now label }
+    {
+        for index in self.currents()..self.decks.len() {
+            let Some(deck) = self.decks.get(index) else {
+                return None;
+            };
+            if deck.label() == label {
+                return Some(index);
+            }
+        }
+        None
+    }
+
+    /// How many decks stand before the queue.
+    fn currents(&self) -> usize
+        ensures { result ≡ currents self.now.place }
+    {
+        match self.place {
+            None => 0,
+            Some(_) => 1,
+        }
+    }
+
+    /// A system reset: the decks stay, and so does the place in the current one.
+    pub fn reset(&mut self)
+        ensures { self.new ≡ reader_reset self.old }
+    {
+        self.sense = 0;
+        self.giving = Outgoing::new();
+    }
+
+    /// The sense byte of the last unit check.
+    pub fn sense(&self) -> u8
+        ensures { result ≡ self.now.sense }
+    {
+        self.sense
+    }
+}

@@ -1,0 +1,99 @@
+//! A record: what one command gives or takes.
+ghost use Rattle.std.specs.Prelude.{◌≡◌, ◌+◌, ◌-◌, ◌<◌, ◌≤◌, ◌==◌, [], ◌∷◌, ◌++◌, length, replicate, slice_index};
+
+use arrayvec::ArrayVec;
+use std::marker::Model;
+
+/// The most bytes of a record.
+pub const RECORD_LENGTH: usize = 132;
+
+/// At most [`RECORD_LENGTH`] bytes: a card, or a line of a printer or a console.
+#[derive(Drop)]
+pub struct Record {
+    bytes: ArrayVec<u8, 132>,
+}
+
+impl Model for Record {
+    ghost use Rattle.std.specs.Prelude.{ℕ, List, ◌≤◌, length};
+
+    ghost Value = { List ℕ };
+
+    ghost view = { λ r. r.bytes.items };
+
+    ghost invariant = { λ r. length r.bytes.items ≤ 132 };
+}
+
+impl Record {
+    /// A record without a byte.
+    pub fn new() -> Record
+        ensures { result ≡ [] }
+    {
+        Record {
+            bytes: ArrayVec::new(),
+        }
+    }
+
+    /// A record of these bytes.
+    pub fn of(bytes: &[u8]) -> Record
+        requires { length bytes.now ≤ RECORD_LENGTH }
+        ensures { result ≡ bytes.now }
+    {
+        let mut made = Record::new();
+        for byte in bytes {
+            made.push(*byte);
+        }
+        made
+    }
+
+    /// How many bytes it has.
+    pub fn len(&self) -> usize
+        ensures value { result ≡ length self.now }
+        ensures bound { result ≤ RECORD_LENGTH }
+    {
+        self.bytes.len()
+    }
+
+    /// Whether it has no byte.
+    pub fn is_empty(&self) -> bool
+        ensures { result ≡ (length self.now == 0) }
+    {
+        self.bytes.is_empty()
+    }
+
+    /// Adds a byte.
+    pub fn push(&mut self, byte: u8)
+        requires { length self.old < RECORD_LENGTH }
+        ensures { self.new ≡ self.old ++ byte ∷ [] }
+    {
+        self.bytes.push(byte);
+    }
+
+    /// Adds so many of these bytes that it has this length, unless it has it already.
+    pub fn pad_to(&mut self, wanted: usize, byte: u8)
+        requires { wanted ≤ RECORD_LENGTH }
+        ensures { self.new ≡ self.old ++ replicate (wanted - length self.old) byte }
+    {
+        let missing = wanted.saturating_sub(self.len());
+        for _added in 0..missing {
+            self.push(byte);
+        }
+    }
+
+    /// A byte, or zero past the end.
+    pub fn byte(&self, index: usize) -> u8
+        ensures { result ≡ slice_index self.now index }
+    {
+        match self.bytes.as_slice().get(index) {
+            Some(byte) => *byte,
+            None => 0,
+        }
+    }
+
+    /// The bytes.
+    pub fn as_slice(&self) -> &[u8]
+        ensures value { result.now ≡ self.now }
+        ensures bound { length result.now ≤ RECORD_LENGTH }
+    {
+        self.bytes.as_slice()
+    }
+}

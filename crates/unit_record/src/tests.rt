@@ -1,0 +1,45 @@
+//! What no clause says: that calls succeed with ample memory. And values that were worked out by hand from the rules.
+mod consoles;
+mod files;
+mod readers;
+
+use s370_walk::{Answer, Command, Device, Flags, Order, UnitStatus};
+use std::alloc::AllocError;
+
+/// A command that is alone in its program.
+fn alone(code: u8) -> Order {
+    asked(code, true, 0)
+}
+
+/// A command, first in its program or not, and the flags of its word.
+fn asked(code: u8, first: bool, flags: u8) -> Order {
+    Order {
+        command: Command { code },
+        first,
+        flags: Flags { bits: flags },
+    }
+}
+
+/// A whole command that takes bytes.
+fn write<D: Device>(device: &mut D, code: u8, bytes: &[u8]) -> Result<Answer, AllocError> {
+    let answer = device.command(alone(code))?;
+    for byte in bytes {
+        device.take(*byte);
+    }
+    let _status = device.finish();
+    Ok(answer)
+}
+
+/// Whether these are the next bytes that it gives.
+fn gives<D: Device>(device: &mut D, bytes: &[u8]) -> bool {
+    let mut same = true;
+    for byte in bytes {
+        same = device.give() == *byte && same;
+    }
+    let _status = device.finish();
+    same
+}
+
+const REJECTED: Answer = Answer::Refused(UnitStatus { bits: 0x02 });
+
+const EXCEPTION: Answer = Answer::Refused(UnitStatus { bits: 0x01 });
