@@ -1,0 +1,6 @@
+pub mod Bits
+pub mod Blocks
+pub mod Hardware
+pub mod Walk
+pub mod Stuck
+pub mod Reaching
