@@ -178,6 +178,7 @@ pub fn replace_after(
     requires area { 13030 ≤ vec_capacity area.old }
     ensures laid { IsLaid entries.new.items area.new.items }
     ensures records { records_of entries.new.items area.new.items ≡ take i (records_of entries.old.items area.old.items) ++ (record { id = id; key = key.now; content = content.now }) ∷ [] }
+    ensures number { i < 97 }
     ensures more_entries { 97 ≤ vec_capacity entries.new }
     ensures more_text { 13030 ≤ vec_capacity area.new }
 {

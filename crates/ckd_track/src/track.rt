@@ -84,6 +84,7 @@ impl Track {
         ensures id { result.id ≡ (record_in self.now i).id }
         ensures key { result.key.now ≡ (record_in self.now i).key }
         ensures content { result.content.now ≡ (record_in self.now i).content }
+        ensures number { i < 97 }
         ensures short_key { length result.key.now ≤ 255 }
         ensures short { length result.key.now + length result.content.now ≤ 13030 }
     {
@@ -110,6 +111,7 @@ impl Track {
     ) -> Result<(), TrackFull>
         requires { i ≤ length self.old.records }
         ensures cases { is_ok result ≡ room.has_room self.old i (length key.now) (length content.now) }
+        ensures number { OnOk result (i < 97) }
         ensures ok { OnOk result (self.new ≡ with_last self.old i (record { id = id; key = key.now; content = content.now })) }
         ensures err { OnErr result (self.new ≡ self.old) }
     {

@@ -25,3 +25,6 @@ pub returns-clause-records : goal.returns-clause-records
 returns-clause-records c =
     rw (c.append.ensures.entries, c.append.ensures.area, c.truncate.ensures.items, c.truncate-2.ensures.items, c.start_of-start.ensures.sum, c.deref.ensures.value)
     (after_records c.args.entries.now.items c.args.area.now.items c.args.i (record { id = c.args.id; key = length c.args.key.now; content = length c.args.content.now }) c.args.key.now c.args.content.now c.requires.laid refl refl)
+
+pub returns-clause-number : goal.returns-clause-number
+returns-clause-number c = room_for_entry c.args.entries.now.items c.args.i (length c.args.key.now) (length c.args.content.now) c.requires.room c.requires.within
