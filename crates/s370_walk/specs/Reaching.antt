@@ -34,13 +34,12 @@ module _ {D : Type 0} (form : Form) (h : Setting D) where
       let split : k ≡ j + (k - j) = omega arith in
       ap (λ n. walk form h n s) split ∙ walk-more j (k - j) s ∙ ap (walk form h (k - j)) a ∙ walk-over (k - j) e m d
 
-
   -- The end that a walk comes to is the only one.
   pub one_end : (s : State D) (e f : Ending) (m n : Memory) (d g : D) → Reaches form h s (Over e m d) → Reaches form h s (Over f n g) → ◌≡◌ {A = State D} (Over e m d) (Over f n g)
   one_end s e f m n d g a b =
       elim (order a.steps b.steps) [
-        inl le ↦ sym (later_is_same s a.steps b.steps e m d a.comes le) ∙ b.comes
-      | inr le ↦ sym a.comes ∙ later_is_same s b.steps a.steps f n g b.comes le
+        | inl le ↦ sym (later_is_same s a.steps b.steps e m d a.comes le) ∙ b.comes
+        | inr le ↦ sym a.comes ∙ later_is_same s b.steps a.steps f n g b.comes le
       ]
     where
       order : (i j : ℕ) → (i ≤ j) ⊎ (j ≤ i)

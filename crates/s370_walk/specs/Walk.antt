@@ -212,7 +212,11 @@ fetched h spot (Some w) m d = obeyed h spot w (judged h.limit spot w) m d
 abbrev pub stepped : Position → Option ℕ → Position
 stepped p before =
     record {
-      at = p.at; started = p.started; word = p.word; count = p.count - 1; before = before;
+      at = p.at;
+      started = p.started;
+      word = p.word;
+      count = p.count - 1;
+      before = before;
       transfer = record { command = p.transfer.command; kind = p.transfer.kind; left = p.transfer.left - 1 };
     }
 

@@ -1,11 +1,12 @@
 //! Devices, and the forms in which channel programs are written.
-ghost use Rattle.std.specs.Prelude.{◌≡◌, ℕ, ◌<◌, ◌≤◌, ◌+◌, ◌-◌, ◌*◌, false, length, List, if◌then◌else◌};
+ghost use Rattle.std.specs.Prelude.{◌≡◌, ℕ, ◌<◌, ◌≤◌, ◌+◌, ◌-◌, ◌*◌, false, length, List, if◌then◌else◌, IfOk, OnOk, OnErr};
 ghost use Rattle.s370_walk.specs.Hardware.{Machine, FetchTells, memory_of, given, after_giving, after_taking};
 ghost use Rattle.s370_walk.specs.Walk.{Written};
 
 use crate::bits::UnitStatus;
 use crate::parts::{Answer, Order, Position, Word};
 use s370_store::{Page, Storage};
+use std::alloc::AllocError;
 
 /// A device, which answers a command, then gives or takes bytes, and then finishes.
 ///
@@ -16,9 +17,13 @@ pub trait Device {
     ghost machine: { Machine Self };
 
     /// Begins a command, or refuses it.
-    fn command(&mut self, order: Order) -> Answer
-        ensures answer { result ≡ machine.answer self.old order }
-        ensures after { self.new ≡ machine.started self.old order };
+    ///
+    /// A command that keeps a record takes the memory for it here, so that its bytes and its end need none. Where memory is
+    /// refused nothing has happened.
+    fn command(&mut self, order: Order) -> Result<Answer, AllocError>
+        ensures answer { IfOk result (λ answer. answer ≡ machine.answer self.old order) }
+        ensures after { OnOk result (self.new ≡ machine.started self.old order) }
+        ensures memory { OnErr result (self.new ≡ self.old) };
 
     /// Whether it wants no more bytes, though it has fewer than it said.
     fn is_done(&self) -> bool
@@ -51,11 +56,21 @@ pub trait Device {
     /// Gives as many bytes as there is room for: those that it would give one by one.
     fn give_bytes(&mut self, into: &mut [u8])
         ensures bytes { into.new ≡ given machine self.old (length into.old) }
-        ensures after { self.new ≡ after_giving machine self.old (length into.old) };
+        ensures after { self.new ≡ after_giving machine self.old (length into.old) }
+    {
+        'bytes: for slot in into.iter_mut() {
+            *slot = self.give();
+        }
+    }
 
     /// Takes bytes, as it would take them one by one.
     fn take_bytes(&mut self, from: &[u8])
-        ensures { self.new ≡ after_taking machine self.old from.now };
+        ensures { self.new ≡ after_taking machine self.old from.now }
+    {
+        'bytes: for byte in from {
+            self.take(*byte);
+        }
+    }
 }
 
 /// How the words of a program are written.
@@ -69,7 +84,12 @@ pub trait WordForm {
 
     /// Where the block of this number begins of the area of a word, or None where that cannot be found out: block 0 is
     /// where the area begins, the others are blocks of 2048 bytes.
-    fn block<S: Storage>(&self, storage: &S, position: &Position, number: u32) -> Result<Option<u32>, Page>
+    fn block<S: Storage>(
+        &self,
+        storage: &S,
+        position: &Position,
+        number: u32,
+    ) -> Result<Option<u32>, Page>
         requires { number ≤ 32 }
         ensures { FetchTells (length (S.bytes storage.now)) (S.present storage.now) ((written self.now).block_asks position.now number) ((written self.now).block (memory_of (S.bytes storage.now) (S.keys storage.now)) position.now number) result };
 }
