@@ -1,12 +1,12 @@
 -- Laws of how a track lies in memory.
-use Rattle.std.specs.Prelude.{◌==◌, ℕ, zero, suc, ◌+◌, ◌-◌, ◌*◌, ◌≡◌, ◌<◌, ◌≤◌, refl, List, [], ◌∷◌, ◌++◌, length, take, drop, slice_index_or, slice_set}
+use Rattle.std.specs.Prelude.{ℕ, zero, suc, ◌+◌, ◌-◌, ◌*◌, ◌≡◌, ◌<◌, ◌≤◌, refl, List, [], ◌∷◌, ◌++◌, length, take, drop, slice_index_or, slice_set}
 use Rattle.std.proofs.Common.{sym, ◌∙◌, ap, arith}
 use Rattle.std.proofs.lemmas.List.{length-append, length-drop, drop-drop, take-take, drop-take, take-append-le, drop-append-le, length-take-le, take_all}
 use Rattle.std.proofs.Math.Seq.{drop-append_seam, take-append_seam, take-length}
 use Rattle.std.proofs.lemmas.Slice.{take-put_mid_below, drop-put_mid}
 use borrow.Rule.Slice.PartMut.{put_mid}
 use Rattle.ckd_track.specs.declared.entry.Entry.{Entry}
-use Rattle.ckd_track.specs.Track.{Record, TrackFormat, cost, cost_of, record_cost, no_record, capacity}
+use Rattle.ckd_track.specs.Track.{Record, cost, record_cost, no_record, capacity}
 use Rattle.ckd_track.specs.Laid.{total, total_cost, record_of, records_of, IsLaid, no_entry, entry_at}
 
 -- what a record costs holds its bytes

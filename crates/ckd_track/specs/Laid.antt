@@ -1,7 +1,7 @@
 -- How a track lies in memory: an entry for each record, and the keys and data of all of them one after another.
-use Rattle.std.specs.Prelude.{ℕ, ◌+◌, ◌*◌, ◌≡◌, ◌<◌, ◌≤◌, List, [], ◌∷◌, ◌++◌, length, take, drop, slice_index_or}
+use Rattle.std.specs.Prelude.{ℕ, ◌+◌, ◌≡◌, ◌≤◌, List, [], ◌∷◌, length, take, drop, slice_index_or}
 use Rattle.ckd_track.specs.declared.entry.Entry.{Entry}
-use Rattle.ckd_track.specs.Track.{Record, TrackFormat, record_cost, capacity}
+use Rattle.ckd_track.specs.Track.{Record, record_cost, capacity}
 
 -- the bytes of all records
 abbrev pub total : List Entry → ℕ

@@ -1,6 +1,6 @@
 -- A track of a disk with count, key and data (GA26-3599, "Track Format"): a home address, and records one after another.
 -- What a record takes of the track, and what a track holds, are the project's own numbers (docs/MACHINE.md, "Disks").
-use Rattle.std.specs.Prelude.{Bool, ◌&&◌, nat_le, slice_set, slice_index_or, ℕ, ◌+◌, ◌*◌, ◌/◌, ◌%◌, ◌==◌, ◌≡◌, ◌<◌, ◌≤◌, List, [], ◌∷◌, ◌++◌, length, take, drop, if◌then◌else◌}
+use Rattle.std.specs.Prelude.{Bool, ◌&&◌, nat_le, slice_set, slice_index_or, ℕ, ◌+◌, ◌/◌, ◌%◌, ◌==◌, List, [], ◌∷◌, ◌++◌, length, take, if◌then◌else◌}
 
 -- a record: cylinder, head and number as five bytes, its key, and its data
 pub record Record : Type 0 where

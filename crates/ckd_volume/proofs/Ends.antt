@@ -1,5 +1,5 @@
 -- Laws of the ends of writes.
-use Rattle.std.specs.Prelude.{ℕ, ◌-◌, zero, suc, ◌+◌, ◌≡◌, ◌<◌, ◌≤◌, refl, List, [], ◌∷◌, ◌++◌, length, take, drop, replicate, slice_set, slice_index_or, min}
+use Rattle.std.specs.Prelude.{ℕ, ◌-◌, zero, suc, ◌≡◌, ◌<◌, ◌≤◌, refl, List, [], ◌∷◌, ◌++◌, length, take, replicate, slice_set, slice_index_or}
 use Rattle.std.proofs.Common.{sym, ◌∙◌, ap, arith, append_assoc}
 use Rattle.std.proofs.lemmas.List.{length-append, length-replicate, length-take}
 use Rattle.ckd_volume.specs.End.{padded, zeros_to}

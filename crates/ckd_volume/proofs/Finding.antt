@@ -1,12 +1,11 @@
 -- Laws of looks for records.
-use Rattle.std.specs.Prelude.{ℕ, ◌-◌, zero, suc, ◌+◌, ◌≡◌, ◌<◌, ◌≤◌, refl, Bool, true, false, List, [], ◌∷◌, length, drop, slice_index_or, Option, Some, None, nat_le, nat_lt, ◌==◌}
-use Rattle.std.proofs.Common.{sym, ◌∙◌, ap, arith, subst}
-use Rattle.std.proofs.lemmas.List.{drop_all, length-drop}
+use Rattle.std.specs.Prelude.{ℕ, ◌-◌, zero, suc, ◌+◌, ◌≡◌, ◌<◌, ◌≤◌, refl, Bool, true, false, List, [], ◌∷◌, length, drop, slice_index_or, Some, None}
+use Rattle.std.proofs.Common.{sym, ◌∙◌, ap, arith}
+use Rattle.std.proofs.lemmas.List.{drop_all}
 use Rattle.ckd_track.specs.Track.{Record, no_record}
-use Rattle.ckd_volume.specs.declared.parts.Found.{Found}
-use Rattle.ckd_volume.specs.declared.parts.Found.TheVariants.{There, Lost}
-use Rattle.ckd_volume.specs.Front.{Front, Cylinder, records_at, IsIn}
-use Rattle.ckd_volume.specs.Orientation.{first_of, first_from, switched, bars_switch, or_else, once_round, past_index, on_track, across, found, is_multitrack, file_protected, end_of_cylinder}
+use Rattle.ckd_volume.specs.declared.parts.Found.TheVariants.{Lost}
+use Rattle.ckd_volume.specs.Front.{Cylinder, records_at}
+use Rattle.ckd_volume.specs.Orientation.{first_of, first_from, switched, bars_switch, or_else}
 
 -- a record that is not looked for is passed
 pub skip : (w : Record → Bool) (rs : List Record) (i k : ℕ) → i < length rs → w (slice_index_or rs i no_record) ≡ false → first_of w k (drop i rs) ≡ first_of w (k + 1) (drop (i + 1) rs)

@@ -1,5 +1,5 @@
 -- Commands that move no data of records: Sense, Seek and Set File Mask.
-use Rattle.std.specs.Prelude.{ℕ, ◌+◌, ◌*◌, ◌==◌, Bool, nat_lt, nat_le, ◌&&◌, if◌then◌else◌, List, [], ◌∷◌, ◌++◌, length, replicate, slice_index, Option, None, Some, bit_and}
+use Rattle.std.specs.Prelude.{ℕ, ◌+◌, ◌*◌, ◌==◌, Bool, nat_lt, nat_le, ◌&&◌, if◌then◌else◌, List, [], ◌∷◌, length, replicate, slice_index, Option, None, Some, bit_and}
 use Rattle.s370_walk.specs.declared.parts.Order.{Order}
 use Rattle.ckd_volume.specs.declared.parts.Job.TheVariants as jobs
 use Rattle.ckd_volume.specs.declared.parts.Sense.{Sense}

@@ -1,6 +1,6 @@
 -- What a control unit for disks keeps beside the volume and the cylinder of its arm, and what stands at a place of a track.
 -- All rules of the unit are the project's own, in the terms of GA26-3599 (docs/MACHINE.md, "Disks").
-use Rattle.std.specs.Prelude.{ℕ, ◌+◌, ◌≡◌, ◌<◌, ◌==◌, Bool, nat_lt, true, List, [], length, slice_index, slice_index_or}
+use Rattle.std.specs.Prelude.{ℕ, ◌+◌, ◌<◌, ◌==◌, Bool, nat_lt, true, List, [], length, slice_index, slice_index_or}
 use Rattle.ckd_track.specs.Track.{Record, TrackFormat, no_record}
 use Rattle.ckd_volume.specs.declared.parts.Place.{Place}
 use Rattle.ckd_volume.specs.declared.parts.Place.TheVariants.{Index, Gap, Count, Key}

@@ -1,5 +1,5 @@
 -- Lent tracks: what is left behind the reference stands on the track, and all other tracks stay.
-use Rattle.std.specs.Prelude.{◌≡◌, ℕ, List, Option, slice_set, slice_index_or}
+use Rattle.std.specs.Prelude.{ℕ, List, Option, slice_set}
 use Rattle.std.specs.Borrow.{Lends, LendsIf, MutBor, Fml}
 use Rattle.ckd_track.specs.Track.{TrackFormat}
 use Rattle.ckd_track.specs.contracts.track.Track.{the_row as track_row}

@@ -1,5 +1,5 @@
 -- Lent cylinders and tracks of a volume: what is left behind the reference stands there, and all else stays.
-use Rattle.std.specs.Prelude.{◌≡◌, ℕ, List, [], Option, slice_set, slice_index_or}
+use Rattle.std.specs.Prelude.{ℕ, [], Option, slice_set, slice_index_or}
 use Rattle.std.specs.Borrow.{Lends, LendsIf, MutBor, Fml}
 use Rattle.ckd_track.specs.Track.{TrackFormat}
 use Rattle.ckd_track.specs.contracts.track.Track.{the_row as track_row}

@@ -1,5 +1,5 @@
 -- Reads: all bytes of a read are settled at its start.
-use Rattle.std.specs.Prelude.{ℕ, ◌+◌, ◌++◌, List, ◌==◌, Bool, if◌then◌else◌}
+use Rattle.std.specs.Prelude.{ℕ, ◌+◌, ◌++◌, List, if◌then◌else◌}
 use Rattle.s370_walk.specs.declared.parts.Order.{Order}
 use Rattle.ckd_track.specs.Track.{Record, count_bytes}
 use Rattle.ckd_volume.specs.declared.parts.Place.TheVariants.{Gap, Count}

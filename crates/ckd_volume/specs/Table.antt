@@ -1,5 +1,5 @@
 -- The table of commands: how each begins, and what it does at its end with the bytes that it took.
-use Rattle.std.specs.Prelude.{ℕ, ◌+◌, ◌==◌, Bool, ◌||◌, if◌then◌else◌, drop}
+use Rattle.std.specs.Prelude.{ℕ, ◌==◌, ◌||◌, if◌then◌else◌, drop}
 use Rattle.s370_walk.specs.declared.parts.Order.{Order}
 use Rattle.s370_walk.specs.declared.parts.Answer.TheVariants.{Immediate}
 use Rattle.ckd_volume.specs.declared.parts.Right.{Right}

@@ -58,8 +58,11 @@ put cylinders at cylinder head written = slice_set cylinders at (stands cylinder
 abbrev pub after : Disk → Ended → Disk
 after d e =
     record {
-      volser = d.volser; cylinders = put d.cylinders d.cylinder (under d) d.front.head e.written;
-      cylinder = d.cylinder; home = d.home; front = e.front;
+      volser = d.volser;
+      cylinders = put d.cylinders d.cylinder (under d) d.front.head e.written;
+      cylinder = d.cylinder;
+      home = d.home;
+      front = e.front;
     }
 
 -- A seek moves the arm to the index of the track that it names; a bad one is command reject, and the arm stays.
@@ -67,7 +70,10 @@ abbrev pub moved : Disk → Option Seek → Disk
 moved d None = keeps d (fails d.front 128 0).front
 moved d (Some s) =
     record {
-      volser = d.volser; cylinders = d.cylinders; cylinder = s.cylinder; home = d.home;
+      volser = d.volser;
+      cylinders = d.cylinders;
+      cylinder = s.cylinder;
+      home = d.home;
       front = resting (record (d.front) { head = s.head; place = Index; points = 0 });
     }
 
@@ -137,9 +143,20 @@ disk_machine =
 abbrev pub idle : VolumeFormat → Arm → Disk
 idle v arm =
     record {
-      volser = v.volser; cylinders = v.cylinders; cylinder = arm.cylinder; home = arm.home;
+      volser = v.volser;
+      cylinders = v.cylinders;
+      cylinder = arm.cylinder;
+      home = arm.home;
       front = record {
-        writable = arm.writable; head = arm.head; place = Index; mask = 0; points = 0; right = rights.Nothing;
-        sense = arm.sense; job = jobs.Nothing; bytes = []; given = 0;
+        writable = arm.writable;
+        head = arm.head;
+        place = Index;
+        mask = 0;
+        points = 0;
+        right = rights.Nothing;
+        sense = arm.sense;
+        job = jobs.Nothing;
+        bytes = [];
+        given = 0;
       };
     }

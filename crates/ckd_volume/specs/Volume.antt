@@ -1,6 +1,5 @@
 -- A volume: its serial number, and its cylinders, each of 19 tracks.
 use Rattle.std.specs.Prelude.{ℕ, zero, suc, ◌+◌, ◌/◌, ◌%◌, ◌<◌, ◌≤◌, List, [], ◌∷◌}
-use Rattle.ckd_track.specs.Track.{TrackFormat}
 use Rattle.ckd_volume.specs.Front.{Cylinder}
 
 pub record VolumeFormat : Type 0 where

@@ -14,6 +14,6 @@ mod volume;
 mod write;
 
 pub use cylinder::{Cylinder, HEADS};
-pub use volume::{MOST_CYLINDERS, Volume, VolumeError};
 pub use parts::Sense;
 pub use unit::{Arm, Unit};
+pub use volume::{MOST_CYLINDERS, Volume, VolumeError};

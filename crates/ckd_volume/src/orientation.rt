@@ -3,7 +3,6 @@ ghost use Rattle.std.specs.Prelude.{◌≡◌, ◌≤◌, ◌<◌, ◌+◌, Some
 ghost use Rattle.ckd_volume.specs.Front as front;
 ghost use Rattle.ckd_volume.specs.Front.{IsIn};
 ghost use Rattle.ckd_volume.specs.Orientation as orientation;
-
 ghost use Rattle.ckd_volume.specs.declared.parts.Wanted.TheVariants as wanted;
 
 use crate::cylinder::Cylinder;
@@ -13,7 +12,9 @@ use ckd_track::{Record, Track};
 
 /// Second sense byte of what is not found.
 const NO_RECORD_FOUND: u8 = 0x08;
+
 const FILE_PROTECTED: u8 = 0x04;
+
 const END_OF_CYLINDER: u8 = 0x20;
 
 /// The record that is next at a place, if the track has it.

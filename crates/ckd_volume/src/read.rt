@@ -29,7 +29,11 @@ fn lengths(there: Record<'_>) -> [u8; 3]
     ensures { result ≡ length there.entry.key.now ∷ length there.entry.content.now / 256 ∷ length there.entry.content.now % 256 ∷ [] }
 {
     let content = there.content.len();
-    [there.key.len() as u8, (content / 256) as u8, (content % 256) as u8]
+    [
+        there.key.len() as u8,
+        (content / 256) as u8,
+        (content % 256) as u8,
+    ]
 }
 
 impl Panel {

@@ -26,7 +26,12 @@ impl Panel {
     }
 
     /// 31, 51, 71, B1, D1, F1 Search Identifier.
-    pub(crate) fn id_searched(&mut self, comparison: Comparison, cylinder: &Cylinder, found: Found) -> Answer
+    pub(crate) fn id_searched(
+        &mut self,
+        comparison: Comparison,
+        cylinder: &Cylinder,
+        found: Found,
+    ) -> Answer
         requires { IsIn cylinder.now found }
         ensures answer { result ≡ (table.id_searched self.old comparison found).answer }
         ensures after { self.new ≡ (table.id_searched self.old comparison found).front }
@@ -66,7 +71,11 @@ impl Panel {
             return false;
         }
         let taken = self.bytes.as_slice();
-        let cut = if count < there.len() { &there[..count] } else { there };
+        let cut = if count < there.len() {
+            &there[..count]
+        } else {
+            there
+        };
         let order = cut.cmp(&taken);
         match comparison {
             Comparison::Equal => order.is_eq(),

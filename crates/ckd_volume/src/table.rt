@@ -7,7 +7,6 @@ ghost use Rattle.ckd_volume.specs.Orientation as orientation;
 ghost use Rattle.ckd_volume.specs.Table as table;
 ghost use Rattle.ckd_volume.specs.Unit as unit;
 ghost use Rattle.ckd_volume.specs.declared.parts.Wanted.TheVariants as wanted;
-
 ghost use Rattle.ckd_volume.specs.declared.parts.Job.TheVariants as jobs;
 
 use crate::cylinder::Cylinder;

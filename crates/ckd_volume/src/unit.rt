@@ -50,7 +50,7 @@ impl Model for Unit {
 }
 
 impl Unit {
-    ghost use Rattle.ckd_volume.specs.Unit.{idle, begins, aimed, started, ending, after, finished, status, seek_of, seek_status, moved, keeps};
+    ghost use Rattle.ckd_volume.specs.Unit.{idle, begins, aimed, started, ending, after, finished, status, seek_of, seek_status, moved, keeps, disk_machine};
 
     /// A unit whose arm stands over a volume; it has room for the longest command.
     pub fn new(alloc: Global, volume: Volume, arm: Arm) -> Result<Unit, AllocError>
@@ -115,6 +115,16 @@ impl Unit {
         }
     }
 
+    /// Begins a command, which takes no memory.
+    fn begin(&mut self, order: Order) -> Answer
+        ensures answer { result ≡ disk_machine.answer self.old order }
+        ensures after { self.new ≡ started self.old order }
+    {
+        self.aim(order.first && order.command.code == 0x02);
+        let cylinder = self.volume.cylinder(self.cylinder);
+        self.panel.begin(cylinder, order)
+    }
+
     /// 07 Seek, when its bytes are there.
     fn seek(&mut self) -> UnitStatus
         ensures status { result ≡ seek_status (seek_of self.old) }
@@ -135,10 +145,8 @@ impl Device for Unit {
 
     ghost machine = { disk_machine };
 
-    fn command(&mut self, order: Order) -> Answer {
-        self.aim(order.first && order.command.code == 0x02);
-        let cylinder = self.volume.cylinder(self.cylinder);
-        self.panel.begin(cylinder, order)
+    fn command(&mut self, order: Order) -> Result<Answer, AllocError> {
+        Ok(self.begin(order))
     }
 
     fn is_done(&self) -> bool {

@@ -5,7 +5,6 @@ ghost use Rattle.ckd_volume.specs.Front as front;
 ghost use Rattle.ckd_volume.specs.End as table_end;
 ghost use Rattle.ckd_volume.specs.End.{stands};
 ghost use Rattle.ckd_volume.specs.Write as table;
-
 ghost use Rattle.ckd_volume.specs.Begin as begin;
 ghost use Rattle.ckd_volume.specs.declared.parts.Place.TheVariants as places;
 ghost use Rattle.ckd_volume.specs.declared.parts.Right.TheVariants as rights;
@@ -52,12 +51,7 @@ impl Panel {
     }
 
     /// 05 Write Data begins.
-    pub(crate) fn begin_write_data(
-        &mut self,
-        right: Right,
-        cylinder: &Cylinder,
-        i: usize,
-    ) -> Answer
+    pub(crate) fn begin_write_data(&mut self, right: Right, cylinder: &Cylinder, i: usize) -> Answer
         ensures answer { result ≡ (table.if_writes self.old right 5 (table.data_written self.old cylinder.now i)).answer }
         ensures after { self.new ≡ (table.if_writes self.old right 5 (table.data_written self.old cylinder.now i)).front }
     {
@@ -81,12 +75,7 @@ impl Panel {
     }
 
     /// 0D Write Key and Data begins.
-    pub(crate) fn begin_write_both(
-        &mut self,
-        right: Right,
-        cylinder: &Cylinder,
-        i: usize,
-    ) -> Answer
+    pub(crate) fn begin_write_both(&mut self, right: Right, cylinder: &Cylinder, i: usize) -> Answer
         ensures answer { result ≡ (table.if_writes self.old right 13 (table.both_written self.old cylinder.now i)).answer }
         ensures after { self.new ≡ (table.if_writes self.old right 13 (table.both_written self.old cylinder.now i)).front }
     {
@@ -151,7 +140,9 @@ impl Panel {
         let there = cylinder.track(self.head).record(i);
         let status = exception(there.content);
         pad(&mut self.bytes, there.key.len() + there.content.len());
-        cylinder.track_mut(self.head).write_key_and_content(i, &self.bytes);
+        cylinder
+            .track_mut(self.head)
+            .write_key_and_content(i, &self.bytes);
         self.end(status)
     }
 
@@ -185,7 +176,10 @@ impl Panel {
         let mut id = [0; 5];
         id.copy_from_slice(&self.bytes[..5]);
         let (count_and_key, content) = self.bytes.split_at(8 + key);
-        match cylinder.track_mut(self.head).write_after(i, id, &count_and_key[8..], content) {
+        match cylinder
+            .track_mut(self.head)
+            .write_after(i, id, &count_and_key[8..], content)
+        {
             Ok(()) => self.end_written(i + 1),
             Err(_) => self.fail(0, 0x40),
         }
