@@ -1,0 +1,20 @@
+//! A track of a disk with count, key and data.
+//!
+//! Its one theorem: a [`Track`] is its home address and the list of its records. A call changes what it names and nothing
+//! else; a record is refused exactly where its key has more than 255 bytes or the track would cost more than it holds
+//! ([`Track::push`]); and no call takes memory after [`Track::blank`], which allots the track whole.
+//!
+//! ```
+//! let mut track = Track::blank(alloc, [0, 0, 0, 0, 0])?;
+//! track.push([0, 0, 0, 0, 1], &[], b"data")?;
+//! let record = track.record(0);
+//! ```
+#![tactic(auto)]
+
+mod entry;
+#[cfg(test)]
+mod tests;
+mod track;
+
+pub use entry::Record;
+pub use track::{Track, TrackFull};

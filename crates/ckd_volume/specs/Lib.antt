@@ -1,0 +1,13 @@
+pub mod Front
+pub mod Orientation
+pub mod Begin
+pub mod End
+pub mod Control
+pub mod Search
+pub mod Read
+pub mod Write
+pub mod Table
+pub mod Volume
+pub mod Lending
+pub mod Unit
+pub mod LendingVolume

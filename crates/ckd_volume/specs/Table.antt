@@ -1,0 +1,55 @@
+-- The table of commands: how each begins, and what it does at its end with the bytes that it took.
+use Rattle.std.specs.Prelude.{ℕ, ◌==◌, ◌||◌, if◌then◌else◌, drop}
+use Rattle.s370_walk.specs.declared.parts.Order.{Order}
+use Rattle.s370_walk.specs.declared.parts.Answer.TheVariants.{Immediate}
+use Rattle.ckd_volume.specs.declared.parts.Right.{Right}
+use Rattle.ckd_volume.specs.declared.parts.Right.TheVariants as rights
+use Rattle.ckd_volume.specs.declared.parts.Comparison.TheVariants as comparisons
+use Rattle.ckd_volume.specs.declared.parts.Wanted.TheVariants as wanted
+use Rattle.ckd_volume.specs.declared.parts.Job.{Job}
+use Rattle.ckd_volume.specs.declared.parts.Job.TheVariants as jobs
+use Rattle.ckd_volume.specs.Front.{Front, Cylinder, track_at, records_at, record_at, next_at, here_at, counted_at, wants}
+use Rattle.ckd_volume.specs.Orientation.{found, first_from, once_round, to_index}
+use Rattle.ckd_volume.specs.Begin.{Begun, takes, rejected, no_status}
+use Rattle.ckd_volume.specs.End.{Ended, ends, fails}
+use Rattle.ckd_volume.specs.Control.{begin_sense, begin_seek, mask_set}
+use Rattle.ckd_volume.specs.Search.{home_searched, id_searched, key_searched, satisfied, fits, id_right}
+use Rattle.ckd_volume.specs.Read.{home_read, count_read, data_read, both_read, whole_read, ipl_read}
+use Rattle.ckd_volume.specs.Write.{if_writes, data_written, both_written, whole_written, data_ended, both_ended, whole_ended}
+
+-- The right is what the command before gave. The order is that of docs/MACHINE.md, "Disks".
+abbrev pub begun : Front → Right → Cylinder → Order → Begun
+begun f right c order =
+    let code : ℕ = order.command.code in
+    if code == 3 then record { answer = Immediate; front = f }
+    else if code == 4 then begin_sense f order
+    else if code == 7 then begin_seek f
+    else if code == 31 then takes f 1 jobs.SetMask
+    else if code == 26 then home_read f c (to_index 26 f f.place)
+    else if code == 57 || code == 185 then home_searched f (to_index code f f.place)
+    else if code == 49 || code == 177 then id_searched f comparisons.Equal (found code (wants wanted.Any) c f (next_at f.place))
+    else if code == 81 || code == 209 then id_searched f comparisons.High (found code (wants wanted.Any) c f (next_at f.place))
+    else if code == 113 || code == 241 then id_searched f comparisons.EqualOrHigh (found code (wants wanted.Any) c f (next_at f.place))
+    else if code == 41 || code == 169 then key_searched f c (found code (wants wanted.Keyed) c f (counted_at f.place))
+    else if code == 18 then count_read f c (found 18 (wants wanted.Any) c f (next_at f.place))
+    else if code == 6 then data_read f c (found 6 (wants wanted.Any) c f (here_at f.place))
+    else if code == 14 then both_read f c (found 14 (wants wanted.Any) c f (counted_at f.place))
+    else if code == 30 then whole_read f c (found 30 (wants wanted.Any) c f (next_at f.place))
+    else if code == 2 then ipl_read f c order (once_round f.head 0 (first_from (wants wanted.First) (records_at c f.head) 0))
+    else if code == 5 then if_writes f right 5 (data_written f c (here_at f.place))
+    else if code == 13 then if_writes f right 13 (both_written f c (here_at f.place))
+    else if code == 29 then if_writes f right 29 (whole_written f (next_at f.place))
+    else rejected f
+
+-- What a command does with its bytes. A seek is the arm's (Unit).
+abbrev pub ended : Front → Cylinder → Job → Ended
+ended f c jobs.Nothing = ends f no_status
+ended f c (jobs.Give status) = ends f status
+ended f c jobs.SetMask = mask_set f f.bytes
+ended f c jobs.Seek = fails f 128 0
+ended f c jobs.SearchHome = satisfied f rights.Home (fits comparisons.Equal f.bytes (drop 1 (track_at c f.head).home))
+ended f c (jobs.SearchId comparison i) = satisfied f (id_right comparison) (fits comparison f.bytes (record_at c f.head i).id)
+ended f c (jobs.SearchKey i) = satisfied f rights.Key (fits comparisons.Equal f.bytes (record_at c f.head i).key)
+ended f c (jobs.WriteData i) = data_ended f (track_at c f.head) i (record_at c f.head i)
+ended f c (jobs.WriteBoth i) = both_ended f (track_at c f.head) i (record_at c f.head i)
+ended f c (jobs.WriteRecord i) = whole_ended f (track_at c f.head) i

@@ -1,0 +1,162 @@
+-- A disk unit: a volume, the cylinder of its arm, and the front of the unit.
+use Rattle.std.specs.Prelude.{ℕ, ◌+◌, ◌==◌, Bool, true, false, nat_lt, ◌&&◌, if◌then◌else◌, List, [], ◌∷◌, ◌++◌, length, slice_index, slice_index_or, slice_set, Option, None, Some}
+use Rattle.s370_walk.specs.declared.bits.UnitStatus.{UnitStatus}
+use Rattle.s370_walk.specs.declared.parts.Order.{Order}
+use Rattle.s370_walk.specs.Hardware.{Machine}
+use Rattle.ckd_track.specs.Track.{TrackFormat}
+use Rattle.ckd_volume.specs.declared.parts.Place.TheVariants.{Index}
+use Rattle.ckd_volume.specs.declared.parts.Job.{Job}
+use Rattle.ckd_volume.specs.declared.parts.Job.TheVariants as jobs
+use Rattle.ckd_volume.specs.declared.parts.Right.TheVariants as rights
+use Rattle.ckd_volume.specs.declared.unit.Arm.{Arm}
+use Rattle.ckd_volume.specs.Front.{Front, Cylinder}
+use Rattle.ckd_volume.specs.Volume.{VolumeFormat}
+use Rattle.ckd_volume.specs.Begin.{Begun, starting, no_status, unit_check}
+use Rattle.ckd_volume.specs.End.{Ended, resting, fails, stands}
+use Rattle.ckd_volume.specs.declared.control.Seek.{Seek}
+use Rattle.ckd_volume.specs.Control.{sought}
+use Rattle.ckd_volume.specs.Write.{is_whole, longest}
+use Rattle.ckd_volume.specs.Table.{begun, ended}
+
+pub record Disk : Type 0 where
+  pub volser : List ℕ
+  -- each cylinder has 19 tracks
+  pub cylinders : List Cylinder
+  -- where the arm stands
+  pub cylinder : ℕ
+  -- where it goes for Read IPL
+  pub home : ℕ
+  pub front : Front
+
+-- The cylinder under the arm.
+abbrev pub under : Disk → Cylinder
+under d = slice_index_or d.cylinders d.cylinder []
+
+-- Read IPL moves the arm to the first track before all else.
+abbrev pub is_ipl : Order → Bool
+is_ipl order = order.first && (order.command.code == 2)
+
+abbrev pub aimed : Disk → Bool → Disk
+aimed d true = record { volser = d.volser; cylinders = d.cylinders; cylinder = d.home; home = d.home; front = record (d.front) { head = 0 } }
+aimed d false = d
+
+-- A command begins over the cylinder under the arm.
+abbrev pub begins : Disk → Order → Begun
+begins d order = begun (starting d.front order.first) d.front.right (under d) order
+
+abbrev pub keeps : Disk → Front → Disk
+keeps d front = record { volser = d.volser; cylinders = d.cylinders; cylinder = d.cylinder; home = d.home; front = front }
+
+-- How the command ends, over the cylinder under the arm.
+abbrev pub ending : Disk → Ended
+ending d = ended d.front (under d) d.front.job
+
+-- What it wrote stands on the track under the arm.
+abbrev pub put : List Cylinder → ℕ → Cylinder → ℕ → Option TrackFormat → List Cylinder
+put cylinders at cylinder head written = slice_set cylinders at (stands cylinder head written)
+
+abbrev pub after : Disk → Ended → Disk
+after d e =
+    record {
+      volser = d.volser;
+      cylinders = put d.cylinders d.cylinder (under d) d.front.head e.written;
+      cylinder = d.cylinder;
+      home = d.home;
+      front = e.front;
+    }
+
+-- A seek moves the arm to the index of the track that it names; a bad one is command reject, and the arm stays.
+abbrev pub moved : Disk → Option Seek → Disk
+moved d None = keeps d (fails d.front 128 0).front
+moved d (Some s) =
+    record {
+      volser = d.volser;
+      cylinders = d.cylinders;
+      cylinder = s.cylinder;
+      home = d.home;
+      front = resting (record (d.front) { head = s.head; place = Index; points = 0 });
+    }
+
+abbrev pub seek_of : Disk → Option Seek
+seek_of d = sought (length d.cylinders) d.front.bytes
+
+abbrev pub seek_status : Option Seek → UnitStatus
+seek_status None = unit_check
+seek_status (Some s) = no_status
+
+abbrev pub is_seeking : Job → Bool
+is_seeking jobs.Seek = true
+is_seeking jobs.Nothing = false
+is_seeking (jobs.Give status) = false
+is_seeking jobs.SetMask = false
+is_seeking jobs.SearchHome = false
+is_seeking (jobs.SearchId comparison i) = false
+is_seeking (jobs.SearchKey i) = false
+is_seeking (jobs.WriteData i) = false
+is_seeking (jobs.WriteBoth i) = false
+is_seeking (jobs.WriteRecord i) = false
+
+-- A byte further, given or taken.
+abbrev pub gave : Front → Front
+gave f = if nat_lt f.given (length f.bytes) then record f { given = f.given + 1 } else f
+
+abbrev pub took : Front → ℕ → Front
+took f byte = if nat_lt (length f.bytes) longest then record f { bytes = f.bytes ++ byte ∷ [] } else f
+
+-- A Write CKD wants as many bytes as its first eight say.
+abbrev pub is_done : Front → Job → Bool
+is_done f (jobs.WriteRecord i) = is_whole f.bytes
+is_done f jobs.Nothing = false
+is_done f (jobs.Give status) = false
+is_done f jobs.SetMask = false
+is_done f jobs.Seek = false
+is_done f jobs.SearchHome = false
+is_done f (jobs.SearchId comparison i) = false
+is_done f (jobs.SearchKey i) = false
+is_done f (jobs.WriteData i) = false
+is_done f (jobs.WriteBoth i) = false
+
+abbrev pub finished : Disk → Disk
+finished d = if is_seeking d.front.job then moved d (seek_of d) else after d (ending d)
+
+abbrev pub status : Disk → UnitStatus
+status d = if is_seeking d.front.job then seek_status (seek_of d) else (ending d).status
+
+abbrev pub started : Disk → Order → Disk
+started d order = keeps (aimed d (is_ipl order)) (begins (aimed d (is_ipl order)) order).front
+
+-- The unit as a device.
+abbrev pub disk_machine : Machine Disk
+disk_machine =
+    record {
+      answer = λ d order. (begins (aimed d (is_ipl order)) order).answer;
+      started = started;
+      done = λ d. is_done d.front d.front.job;
+      gives = λ d. slice_index d.front.bytes d.front.given;
+      gave = λ d. keeps d (gave d.front);
+      took = λ d byte. keeps d (took d.front byte);
+      status = status;
+      finished = finished;
+    }
+
+-- A unit at the start: its arm stands at the index of a track, and no command is being carried out.
+abbrev pub idle : VolumeFormat → Arm → Disk
+idle v arm =
+    record {
+      volser = v.volser;
+      cylinders = v.cylinders;
+      cylinder = arm.cylinder;
+      home = arm.home;
+      front = record {
+        writable = arm.writable;
+        head = arm.head;
+        place = Index;
+        mask = 0;
+        points = 0;
+        right = rights.Nothing;
+        sense = arm.sense;
+        job = jobs.Nothing;
+        bytes = [];
+        given = 0;
+      };
+    }

@@ -1,0 +1,112 @@
+//! Commands that move no data of records: Sense, Seek and Set File Mask.
+ghost use Rattle.std.specs.Prelude.{◌≡◌, ◌<◌, ◌≤◌, ◌+◌, [], length, Some, None};
+ghost use Rattle.ckd_volume.specs.Begin as begin;
+ghost use Rattle.ckd_volume.specs.Control as table;
+ghost use Rattle.ckd_volume.specs.End as table_end;
+ghost use Rattle.ckd_volume.specs.Unit as unit;
+ghost use Rattle.ckd_volume.specs.declared.parts.Place.TheVariants as places;
+
+use crate::cylinder::HEADS;
+use crate::panel::Panel;
+use crate::parts::{Job, Place};
+use s370_walk::{Answer, Order, UnitStatus};
+
+/// A track, as a seek names it.
+#[derive(Clone, Copy, Debug, PartialEq, Eq)]
+pub(crate) struct Seek {
+    pub(crate) cylinder: usize,
+    pub(crate) head: usize,
+}
+
+/// Two bytes as one number.
+fn halfword(bytes: &[u8], k: usize) -> usize
+    requires { k + 1 < length bytes.now }
+    ensures { result ≡ table.halfword bytes.now k }
+{
+    256 * usize::from(bytes[k]) + usize::from(bytes[k + 1])
+}
+
+impl Panel {
+    /// 04 Sense: only as first command of a program, and with no chaining.
+    pub(crate) fn begin_sense(&mut self, order: Order) -> Answer
+        requires empty { self.old.bytes ≡ [] }
+        ensures answer { result ≡ (table.begin_sense self.old order).answer }
+        ensures after { self.new ≡ (table.begin_sense self.old order).front }
+    {
+        if order.first && order.flags.bits & 0xC0 == 0 {
+            let mut bytes = [0; 24];
+            bytes[0] = self.sense.first;
+            bytes[1] = self.sense.second;
+            self.hold(&bytes);
+            self.give_held(UnitStatus::NONE)
+        } else {
+            self.reject()
+        }
+    }
+
+    /// 07 Seek: file protected where mask bits 3-4 are not 00.
+    pub(crate) fn begin_seek(&mut self) -> Answer
+        ensures answer { result ≡ (table.begin_seek self.old).answer }
+        ensures after { self.new ≡ (table.begin_seek self.old).front }
+    {
+        if self.mask & 0x18 == 0 {
+            self.take_for(6, Job::Seek)
+        } else {
+            self.refuse(0, 0x04)
+        }
+    }
+
+    /// 1F Set File Mask, when its byte is there.
+    pub(crate) fn set_mask(&mut self) -> UnitStatus
+        ensures status { result ≡ (table.mask_set self.old self.old.bytes).status }
+        ensures after { self.new ≡ (table.mask_set self.old self.old.bytes).front }
+    {
+        if self.bytes.is_empty() || self.bytes[0] & 0x27 != 0 {
+            return self.fail(0x80, 0);
+        }
+        self.mask = self.bytes[0];
+        self.end(UnitStatus::NONE)
+    }
+
+    /// The track that a seek names by its bytes, if a disk of so many cylinders has it.
+    pub(crate) fn sought(&self, cylinders: usize) -> Option<Seek>
+        ensures { result ≡ table.sought cylinders self.now.bytes }
+    {
+        if self.bytes.len() < 6 || halfword(&self.bytes, 0) != 0 {
+            return None;
+        }
+        let cylinder = halfword(&self.bytes, 2);
+        let head = halfword(&self.bytes, 4);
+        if cylinder < cylinders && head < HEADS {
+            return Some(Seek { cylinder, head });
+        }
+        None
+    }
+
+    /// Whether a seek is being carried out.
+    pub(crate) fn is_seeking(&self) -> bool
+        ensures { result ≡ unit.is_seeking self.now.job }
+    {
+        match self.job {
+            Job::Seek => true,
+            _ => false,
+        }
+    }
+
+    /// A seek ends at the index of the track under this head.
+    pub(crate) fn end_seek(&mut self, head: usize) -> UnitStatus
+        requires { head < 19 }
+        ensures status { result ≡ begin.no_status }
+        ensures after { self.new ≡ table_end.resting (record (self.old) { head = head; place = places.Index; points = 0 }) }
+    {
+        self.go(head, 0, Place::Index);
+        self.end(UnitStatus::NONE)
+    }
+
+    /// The arm's first head is chosen.
+    pub(crate) fn choose_first_head(&mut self)
+        ensures { self.new ≡ record (self.old) { head = 0 } }
+    {
+        self.head = 0;
+    }
+}

@@ -1,0 +1,78 @@
+//! A cylinder: the tracks that the heads of the arm reach without a seek.
+ghost use Rattle.std.specs.Prelude.{◌≡◌, ◌<◌, ◌/◌, ◌%◌, [], ◌∷◌, length, Option, Some, None, IfOk, IsSome, ◌↔◌};
+ghost use Rattle.ckd_volume.specs.Volume.{blank_tracks, home_of};
+ghost use Rattle.ckd_volume.specs.Front.{track_at};
+
+use ckd_track::Track;
+use std::alloc::{AllocError, Global};
+use std::marker::Model;
+
+/// How many heads an arm has, and so how many tracks a cylinder.
+pub const HEADS: usize = 19;
+
+/// The tracks of one cylinder, by head.
+#[derive(Drop)]
+pub struct Cylinder {
+    tracks: Vec<Track>,
+}
+
+impl Model for Cylinder {
+    ghost use Rattle.std.specs.Prelude.{◌≡◌, List, length};
+    ghost use Rattle.ckd_track.specs.Track.{TrackFormat};
+
+    ghost Value = { List TrackFormat };
+
+    ghost view = { λ c. c.tracks.items };
+
+    ghost invariant = { λ c. length c.tracks.items ≡ 19 };
+}
+
+/// The home address of a track: flag, cylinder and head.
+pub fn home_address(cylinder: u16, head: u8) -> [u8; 5]
+    ensures { result ≡ home_of cylinder head }
+{
+    [0, (cylinder / 256) as u8, (cylinder % 256) as u8, 0, head]
+}
+
+impl Cylinder {
+    ghost use Rattle.std.specs.Borrow.{sem};
+    ghost use Rattle.ckd_volume.specs.Lending.{LendsTrack, LendsHead};
+
+    /// A cylinder of this number whose tracks have no record.
+    #[tactic(auto, using(crate::proofs::Blanks::tracks_on))]
+    pub fn blank(alloc: Global, number: u16) -> Result<Cylinder, AllocError>
+        ensures { IfOk result (λ c. c ≡ blank_tracks number 0 19) }
+    {
+        let mut tracks = Vec::with_capacity(alloc, HEADS)?;
+        for head in 0..19u8 {
+            let track = Track::blank(alloc, home_address(number, head))?;
+            tracks.push(track)?;
+        }
+        Ok(Cylinder { tracks })
+    }
+
+    /// The track under this head.
+    pub fn track(&self, head: usize) -> &Track
+        requires { head < 19 }
+        ensures { result.now ≡ track_at self.now head }
+    {
+        &self.tracks[head]
+    }
+
+    /// The track under this head, to be written.
+    pub(crate) fn track_mut(&mut self, head: usize) -> &mut Track
+        requires { head < 19 }
+        ensures* writes_back { sem 𝓛 (LendsTrack self.entry head result) }
+        ensures value { result.now ≡ track_at self.old head }
+    {
+        &mut self.tracks[head]
+    }
+
+    /// The track under a head, to be written, if there is such a head.
+    pub(crate) fn head_mut(&mut self, head: usize) -> Option<&mut Track>
+        ensures* writes_back { sem 𝓛 (LendsHead self.entry head result) }
+        ensures some { IsSome result ↔ (head < 19) }
+    {
+        self.tracks.get_mut(head)
+    }
+}

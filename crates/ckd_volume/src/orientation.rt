@@ -1,0 +1,172 @@
+//! Orientation: which record is next, past index points and over the heads of a cylinder.
+ghost use Rattle.std.specs.Prelude.{◌≡◌, ◌≤◌, ◌<◌, ◌+◌, Some, None, length, IfSome};
+ghost use Rattle.ckd_volume.specs.Front as front;
+ghost use Rattle.ckd_volume.specs.Front.{IsIn};
+ghost use Rattle.ckd_volume.specs.Orientation as orientation;
+ghost use Rattle.ckd_volume.specs.declared.parts.Wanted.TheVariants as wanted;
+
+use crate::cylinder::Cylinder;
+use crate::panel::Panel;
+use crate::parts::{Found, Place, Wanted};
+use ckd_track::{Record, Track};
+
+/// Second sense byte of what is not found.
+const NO_RECORD_FOUND: u8 = 0x08;
+
+const FILE_PROTECTED: u8 = 0x04;
+
+const END_OF_CYLINDER: u8 = 0x20;
+
+/// The record that is next at a place, if the track has it.
+pub(crate) fn next_at(place: Place) -> usize
+    requires { front.next_at place ≤ 97 }
+    ensures { result ≡ front.next_at place }
+{
+    match place {
+        Place::Index => 0,
+        Place::Gap(i) => i,
+        Place::Count(i) => i + 1,
+        Place::Key(i) => i + 1,
+    }
+}
+
+/// The record whose count or key was just passed, else the next.
+pub(crate) fn here_at(place: Place) -> usize
+    ensures { result ≡ front.here_at place }
+{
+    match place {
+        Place::Index => 0,
+        Place::Gap(i) => i,
+        Place::Count(i) => i,
+        Place::Key(i) => i,
+    }
+}
+
+/// The record whose count was just passed, else the next.
+pub(crate) fn counted_at(place: Place) -> usize
+    requires { front.next_at place ≤ 97 }
+    ensures { result ≡ front.counted_at place }
+{
+    match place {
+        Place::Index => 0,
+        Place::Gap(i) => i,
+        Place::Count(i) => i,
+        Place::Key(i) => i + 1,
+    }
+}
+
+/// Whether a record is looked for.
+fn is_wanted(wanted: Wanted, there: Record<'_>) -> bool
+    requires { length there.id ≡ 5 }
+    ensures { result ≡ front.wants wanted (record { id = there.entry.id; key = there.entry.key.now; content = there.entry.content.now }) }
+{
+    match wanted {
+        Wanted::Any => true,
+        Wanted::Keyed => !there.key.is_empty(),
+        Wanted::First => there.id[4] == 1,
+    }
+}
+
+/// The first record from this one on that is looked for.
+fn first_from(wanted: Wanted, track: &Track, start: usize) -> Option<usize>
+    ensures found { result ≡ orientation.first_from (front.wants wanted) track.now.records start }
+    ensures there { IfSome result (λ i. i < length track.now.records) }
+{
+    for i in start..track.len() {
+        if is_wanted(wanted, track.record(i)) {
+            return Some(i);
+        }
+    }
+    None
+}
+
+/// The record that a command finds on one track, from this one on: a second index point is no record found.
+fn on_track(wanted: Wanted, cylinder: &Cylinder, head: usize, points: u8, start: usize) -> Found
+    requires { head < 19 }
+    ensures found { result ≡ orientation.on_track (front.wants wanted) (front.records_at cylinder.now head) head points (orientation.first_from (front.wants wanted) (front.records_at cylinder.now head) start) }
+    ensures there { IsIn cylinder.now result }
+{
+    let track = cylinder.track(head);
+    match first_from(wanted, track, start) {
+        Some(i) => Found::There(head, i, points),
+        None => {
+            if points >= 1 {
+                return Found::Lost(head, NO_RECORD_FOUND);
+            }
+            match first_from(wanted, track, 0) {
+                Some(i) => Found::There(head, i, points + 1),
+                None => Found::Lost(head, NO_RECORD_FOUND),
+            }
+        }
+    }
+}
+
+/// The record that a multitrack search finds on the heads after this one, of which there are so many.
+#[tactic(auto, using(crate::proofs::Finding::switched_last, crate::proofs::Finding::switched_on))]
+fn over_heads(wanted: Wanted, cylinder: &Cylinder, mask: u8, head: usize, more: usize) -> Found
+    requires { head + more ≡ 18 }
+    ensures found { result ≡ orientation.switched (front.wants wanted) cylinder.now mask head more }
+    ensures there { IsIn cylinder.now result }
+{
+    if mask & 24 == 24 {
+        return Found::Lost(head, FILE_PROTECTED);
+    }
+    if more == 0 {
+        return Found::Lost(head, END_OF_CYLINDER);
+    }
+    match first_from(wanted, cylinder.track(head + 1), 0) {
+        Some(i) => Found::There(head + 1, i, 0),
+        None => over_heads(wanted, cylinder, mask, head + 1, more - 1),
+    }
+}
+
+/// The first record with the number 1 on the track under this head.
+pub(crate) fn first_numbered_one(cylinder: &Cylinder, head: usize) -> Found
+    requires { head < 19 }
+    ensures found { result ≡ orientation.once_round head 0 (orientation.first_from (front.wants wanted.First) (front.records_at cylinder.now head) 0) }
+    ensures there { IsIn cylinder.now result }
+{
+    match first_from(Wanted::First, cylinder.track(head), 0) {
+        Some(i) => Found::There(head, i, 0),
+        None => Found::Lost(head, NO_RECORD_FOUND),
+    }
+}
+
+impl Panel {
+    /// The record that a command finds, from this one on: a search whose code has bit 0 one goes over the heads.
+    pub(crate) fn found(&self, code: u8, wanted: Wanted, cylinder: &Cylinder, i: usize) -> Found
+        ensures found { result ≡ orientation.found code (front.wants wanted) cylinder.now self.now i }
+        ensures there { IsIn cylinder.now result }
+    {
+        if code < 128 {
+            return on_track(wanted, cylinder, self.head, self.points, i);
+        }
+        match first_from(wanted, cylinder.track(self.head), i) {
+            Some(i) => Found::There(self.head, i, self.points),
+            None => over_heads(wanted, cylinder, self.mask, self.head, 18 - self.head),
+        }
+    }
+
+    /// The index: a pass unless the head stands there, or a switch of heads.
+    pub(crate) fn to_index(&self, code: u8) -> Found
+        ensures found { result ≡ orientation.to_index code self.now self.now.place }
+        ensures head { front.head_of result < 19 }
+    {
+        if self.place == Place::Index {
+            return Found::There(self.head, 0, self.points);
+        }
+        if code < 128 {
+            if self.points >= 1 {
+                return Found::Lost(self.head, NO_RECORD_FOUND);
+            }
+            return Found::There(self.head, 0, self.points + 1);
+        }
+        if self.mask & 24 == 24 {
+            return Found::Lost(self.head, FILE_PROTECTED);
+        }
+        if self.head >= 18 {
+            return Found::Lost(self.head, END_OF_CYLINDER);
+        }
+        Found::There(self.head + 1, 0, 0)
+    }
+}

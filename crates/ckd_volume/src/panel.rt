@@ -1,0 +1,211 @@
+//! What a control unit keeps beside the volume: where its head stands, its mask, its sense, and the bytes of the command.
+ghost use Rattle.std.specs.Prelude.{◌≡◌, ◌≤◌, ◌<◌, ◌+◌, ◌++◌, ◌∷◌, [], length, slice_index, IfOk};
+ghost use Rattle.s370_walk.specs.declared.parts.Answer.TheVariants as answers;
+ghost use Rattle.ckd_volume.specs.declared.parts.Job.TheVariants as jobs;
+ghost use Rattle.ckd_volume.specs.declared.parts.Place.TheVariants as places;
+ghost use Rattle.ckd_volume.specs.declared.parts.Right.TheVariants as rights;
+ghost use Rattle.ckd_volume.specs.Front as front;
+ghost use Rattle.ckd_volume.specs.Begin as table;
+ghost use Rattle.ckd_volume.specs.End as table_end;
+ghost use Rattle.ckd_volume.specs.Unit as unit;
+
+use crate::parts::{Job, Place, Right, Sense};
+use s370_walk::{Answer, UnitStatus};
+use std::alloc::{AllocError, Global};
+use std::marker::Model;
+
+/// The most bytes of a command: a count, a key and data.
+pub(crate) const LONGEST: usize = 65798;
+
+/// All that a unit keeps but the volume and the cylinder of its arm.
+#[derive(Drop)]
+pub struct Panel {
+    pub(crate) writable: bool,
+    pub(crate) head: usize,
+    pub(crate) place: Place,
+    pub(crate) mask: u8,
+    pub(crate) points: u8,
+    pub(crate) right: Right,
+    pub(crate) sense: Sense,
+    pub(crate) job: Job,
+    pub(crate) bytes: Vec<u8>,
+    pub(crate) given: usize,
+}
+
+impl Model for Panel {
+    ghost use Rattle.std.specs.Prelude.{◌≤◌, ◌<◌, length};
+    ghost use Rattle.std.specs.Vec.{vec_capacity};
+    ghost use Rattle.ckd_volume.specs.Front.{Front, next_at};
+
+    ghost Value = { Front };
+
+    ghost view = { λ p. record { writable = p.writable; head = p.head; place = p.place; mask = p.mask; points = p.points; right = p.right; sense = p.sense; job = p.job; bytes = p.bytes.items; given = p.given } };
+
+    ghost invariant = { λ p. (65798 ≤ vec_capacity p.bytes) × (length p.bytes.items ≤ 65798) × (p.head < 19) × (next_at p.place ≤ 97) };
+}
+
+impl Panel {
+    /// A panel whose head stands at the index of a track, with room for the longest command.
+    pub(crate) fn new(
+        alloc: Global,
+        writable: bool,
+        head: usize,
+        sense: Sense,
+    ) -> Result<Panel, AllocError>
+        requires { head < 19 }
+        ensures { IfOk result (λ p. p ≡ record { writable = writable; head = head; place = places.Index; mask = 0; points = 0; right = rights.Nothing; sense = sense; job = jobs.Nothing; bytes = []; given = 0 }) }
+    {
+        let bytes = Vec::with_capacity(alloc, LONGEST)?;
+        Ok(Panel {
+            writable,
+            head,
+            place: Place::Index,
+            mask: 0,
+            points: 0,
+            right: Right::Nothing,
+            sense,
+            job: Job::Nothing,
+            bytes,
+            given: 0,
+        })
+    }
+
+    /// A command starts; a program starts at the index.
+    pub(crate) fn start(&mut self, first: bool)
+        ensures { self.new ≡ table.starting self.old first }
+    {
+        if first {
+            self.place = Place::Index;
+            self.mask = 0;
+            self.points = 0;
+        }
+        self.right = Right::Nothing;
+        self.job = Job::Nothing;
+        self.bytes.clear();
+        self.given = 0;
+    }
+
+    /// A refusal, with its sense.
+    pub(crate) fn refuse(&mut self, first: u8, second: u8) -> Answer
+        ensures answer { result ≡ (table.refused self.old first second).answer }
+        ensures after { self.new ≡ (table.refused self.old first second).front }
+    {
+        self.sense = Sense { first, second };
+        Answer::Refused(UnitStatus::UNIT_CHECK)
+    }
+
+    /// Command reject.
+    pub(crate) fn reject(&mut self) -> Answer
+        ensures answer { result ≡ (table.rejected self.old).answer }
+        ensures after { self.new ≡ (table.rejected self.old).front }
+    {
+        self.refuse(0x80, 0)
+    }
+
+    /// The record was not found.
+    pub(crate) fn lose(&mut self, head: usize, second: u8) -> Answer
+        requires { head < 19 }
+        ensures answer { result ≡ (table.lost self.old head second).answer }
+        ensures after { self.new ≡ (table.lost self.old head second).front }
+    {
+        self.head = head;
+        self.refuse(0, second)
+    }
+
+    /// The arm has this head, and stands at this place.
+    pub(crate) fn go(&mut self, head: usize, points: u8, place: Place)
+        requires head { head < 19 }
+        requires place { front.next_at place ≤ 97 }
+        ensures { self.new ≡ table.at self.old head points place }
+    {
+        self.head = head;
+        self.place = place;
+        self.points = points;
+    }
+
+    /// So many bytes are taken.
+    pub(crate) fn take_for(&mut self, count: u32, job: Job) -> Answer
+        ensures answer { result ≡ (table.takes self.old count job).answer }
+        ensures after { self.new ≡ (table.takes self.old count job).front }
+    {
+        self.job = job;
+        Answer::Output(count)
+    }
+
+    /// These bytes are given, behind those that are held already.
+    pub(crate) fn hold(&mut self, bytes: &[u8])
+        requires { length self.old.bytes + length bytes.now ≤ 65798 }
+        ensures { self.new ≡ record (self.old) { bytes = self.old.bytes ++ bytes.now } }
+    {
+        match self.bytes.extend_from_slice(bytes) {
+            Ok(()) => {}
+            Err(_) => unreachable!(),
+        }
+    }
+
+    /// The bytes that are held are given.
+    pub(crate) fn give_held(&mut self, status: UnitStatus) -> Answer
+        ensures answer { result ≡ (table.gives self.old status self.old.bytes).answer }
+        ensures after { self.new ≡ (table.gives self.old status self.old.bytes).front }
+    {
+        self.job = Job::Give(status);
+        Answer::Input(self.bytes.len() as u32)
+    }
+
+    /// The bytes that are held are given, or there is a refusal where there are none.
+    pub(crate) fn give_data_held(&mut self, status: UnitStatus) -> Answer
+        ensures answer { result ≡ (table.gives_data self.old status self.old.bytes).answer }
+        ensures after { self.new ≡ (table.gives_data self.old status self.old.bytes).front }
+    {
+        if self.bytes.is_empty() {
+            return Answer::Refused(status);
+        }
+        self.give_held(status)
+    }
+
+    /// A byte further.
+    pub(crate) fn give(&mut self) -> u8
+        ensures byte { result ≡ slice_index self.old.bytes self.old.given }
+        ensures after { self.new ≡ unit.gave self.old }
+    {
+        if self.given < self.bytes.len() {
+            let byte = self.bytes[self.given];
+            self.given += 1;
+            byte
+        } else {
+            0
+        }
+    }
+
+    /// A byte more is taken.
+    pub(crate) fn take(&mut self, byte: u8)
+        ensures { self.new ≡ unit.took self.old byte }
+    {
+        if self.bytes.len() < LONGEST {
+            match self.bytes.push(byte) {
+                Ok(()) => {}
+                Err(_) => unreachable!(),
+            }
+        }
+    }
+
+    /// The command ends.
+    pub(crate) fn end(&mut self, status: UnitStatus) -> UnitStatus
+        ensures status { result ≡ status }
+        ensures after { self.new ≡ table_end.resting self.old }
+    {
+        self.job = Job::Nothing;
+        self.bytes.clear();
+        self.given = 0;
+        status
+    }
+
+    /// The command ends with unit check and this sense.
+    pub(crate) fn fail(&mut self, first: u8, second: u8) -> UnitStatus
+        ensures status { result ≡ (table_end.fails self.old first second).status }
+        ensures after { self.new ≡ (table_end.fails self.old first second).front }
+    {
+        self.sense = Sense { first, second };
+        self.end(UnitStatus::UNIT_CHECK)
+    }
+}

@@ -1,0 +1,152 @@
+//! Reads: all bytes of a read are held at its start.
+ghost use Rattle.std.specs.Prelude.{◌≡◌, ◌<◌, ◌≤◌, ◌+◌, ◌++◌, ◌∷◌, ◌/◌, ◌%◌, [], length};
+ghost use Rattle.ckd_volume.specs.Front as front;
+ghost use Rattle.ckd_volume.specs.Front.{IsIn};
+ghost use Rattle.ckd_volume.specs.Begin as begin;
+ghost use Rattle.ckd_volume.specs.Read as table;
+
+use crate::cylinder::Cylinder;
+use crate::panel::Panel;
+use crate::parts::{Found, Place};
+use ckd_track::Record;
+use s370_walk::{Answer, Order, UnitStatus};
+
+/// A record without data is a unit exception.
+pub(crate) fn exception(content: &[u8]) -> UnitStatus
+    ensures { result ≡ begin.exception_of content.now }
+{
+    if content.is_empty() {
+        UnitStatus::UNIT_EXCEPTION
+    } else {
+        UnitStatus::NONE
+    }
+}
+
+/// What a count tells of a record beside its id: how long its key and its data are.
+fn lengths(there: Record<'_>) -> [u8; 3]
+    requires key { length there.key.now ≤ 255 }
+    requires content { length there.content.now ≤ 65535 }
+    ensures { result ≡ length there.entry.key.now ∷ length there.entry.content.now / 256 ∷ length there.entry.content.now % 256 ∷ [] }
+{
+    let content = there.content.len();
+    [
+        there.key.len() as u8,
+        (content / 256) as u8,
+        (content % 256) as u8,
+    ]
+}
+
+impl Panel {
+    /// 1A Read Home Address.
+    pub(crate) fn home_read(&mut self, cylinder: &Cylinder, found: Found) -> Answer
+        requires empty { self.old.bytes ≡ [] }
+        requires head { front.head_of found < 19 }
+        ensures answer { result ≡ (table.home_read self.old cylinder.now found).answer }
+        ensures after { self.new ≡ (table.home_read self.old cylinder.now found).front }
+    {
+        match found {
+            Found::Lost(head, second) => self.lose(head, second),
+            Found::There(head, _, _) => {
+                let home = cylinder.track(head).home();
+                self.go(head, 0, Place::Gap(0));
+                self.hold(&home);
+                self.give_held(UnitStatus::NONE)
+            }
+        }
+    }
+
+    /// 12 Read Count.
+    pub(crate) fn count_read(&mut self, cylinder: &Cylinder, found: Found) -> Answer
+        requires empty { self.old.bytes ≡ [] }
+        requires there { IsIn cylinder.now found }
+        ensures answer { result ≡ (table.count_read self.old cylinder.now found).answer }
+        ensures after { self.new ≡ (table.count_read self.old cylinder.now found).front }
+    {
+        match found {
+            Found::Lost(head, second) => self.lose(head, second),
+            Found::There(head, i, _) => {
+                let there = cylinder.track(head).record(i);
+                let id = there.id;
+                let lengths = lengths(there);
+                self.go(head, 0, Place::Count(i));
+                self.hold(&id);
+                self.hold(&lengths);
+                self.give_held(UnitStatus::NONE)
+            }
+        }
+    }
+
+    /// 06 Read Data.
+    pub(crate) fn data_read(&mut self, cylinder: &Cylinder, found: Found) -> Answer
+        requires empty { self.old.bytes ≡ [] }
+        requires there { IsIn cylinder.now found }
+        ensures answer { result ≡ (table.data_read self.old cylinder.now found).answer }
+        ensures after { self.new ≡ (table.data_read self.old cylinder.now found).front }
+    {
+        match found {
+            Found::Lost(head, second) => self.lose(head, second),
+            Found::There(head, i, _) => {
+                let content = cylinder.track(head).record(i).content;
+                self.go(head, 0, Place::Gap(i + 1));
+                self.hold(content);
+                self.give_data_held(exception(content))
+            }
+        }
+    }
+
+    /// 0E Read Key and Data.
+    pub(crate) fn both_read(&mut self, cylinder: &Cylinder, found: Found) -> Answer
+        requires empty { self.old.bytes ≡ [] }
+        requires there { IsIn cylinder.now found }
+        ensures answer { result ≡ (table.both_read self.old cylinder.now found).answer }
+        ensures after { self.new ≡ (table.both_read self.old cylinder.now found).front }
+    {
+        match found {
+            Found::Lost(head, second) => self.lose(head, second),
+            Found::There(head, i, _) => {
+                let there = cylinder.track(head).record(i);
+                self.go(head, 0, Place::Gap(i + 1));
+                self.hold(there.key);
+                self.hold(there.content);
+                self.give_data_held(exception(there.content))
+            }
+        }
+    }
+
+    /// 1E Read Count, Key and Data.
+    #[tactic(auto, using(crate::proofs::Ends::append_all))]
+    pub(crate) fn whole_read(&mut self, cylinder: &Cylinder, found: Found) -> Answer
+        requires empty { self.old.bytes ≡ [] }
+        requires there { IsIn cylinder.now found }
+        ensures answer { result ≡ (table.whole_read self.old cylinder.now found).answer }
+        ensures after { self.new ≡ (table.whole_read self.old cylinder.now found).front }
+    {
+        match found {
+            Found::Lost(head, second) => self.lose(head, second),
+            Found::There(head, i, _) => {
+                let there = cylinder.track(head).record(i);
+                let id = there.id;
+                let lengths = lengths(there);
+                self.go(head, 0, Place::Gap(i + 1));
+                self.hold(&id);
+                self.hold(&lengths);
+                self.hold(there.key);
+                self.hold(there.content);
+                self.give_held(exception(there.content))
+            }
+        }
+    }
+
+    /// 02 Read IPL: only as first command; the arm stands on its first track then.
+    pub(crate) fn ipl_read(&mut self, cylinder: &Cylinder, order: Order, found: Found) -> Answer
+        requires empty { self.old.bytes ≡ [] }
+        requires there { IsIn cylinder.now found }
+        ensures answer { result ≡ (table.ipl_read self.old cylinder.now order found).answer }
+        ensures after { self.new ≡ (table.ipl_read self.old cylinder.now order found).front }
+    {
+        if order.first {
+            return self.data_read(cylinder, found);
+        }
+        self.reject()
+    }
+}

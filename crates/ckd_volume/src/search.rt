@@ -1,0 +1,109 @@
+//! Searches: what they look for, and when they are satisfied.
+ghost use Rattle.std.specs.Prelude.{◌≡◌, ◌<◌, ◌≤◌, length};
+ghost use Rattle.ckd_volume.specs.Front as front;
+ghost use Rattle.ckd_volume.specs.Front.{IsIn};
+ghost use Rattle.ckd_volume.specs.Search as table;
+
+use crate::cylinder::Cylinder;
+use crate::panel::Panel;
+use crate::parts::{Comparison, Found, Job, Place, Right};
+use s370_walk::{Answer, UnitStatus};
+
+impl Panel {
+    /// 39, B9 Search Home Address Equal.
+    pub(crate) fn home_searched(&mut self, found: Found) -> Answer
+        requires { front.head_of found < 19 }
+        ensures answer { result ≡ (table.home_searched self.old found).answer }
+        ensures after { self.new ≡ (table.home_searched self.old found).front }
+    {
+        match found {
+            Found::Lost(head, second) => self.lose(head, second),
+            Found::There(head, _, points) => {
+                self.go(head, points, Place::Gap(0));
+                self.take_for(4, Job::SearchHome)
+            }
+        }
+    }
+
+    /// 31, 51, 71, B1, D1, F1 Search Identifier.
+    pub(crate) fn id_searched(
+        &mut self,
+        comparison: Comparison,
+        cylinder: &Cylinder,
+        found: Found,
+    ) -> Answer
+        requires { IsIn cylinder.now found }
+        ensures answer { result ≡ (table.id_searched self.old comparison found).answer }
+        ensures after { self.new ≡ (table.id_searched self.old comparison found).front }
+    {
+        match found {
+            Found::Lost(head, second) => self.lose(head, second),
+            Found::There(head, i, points) => {
+                let _few = cylinder.track(head).len();
+                self.go(head, points, Place::Count(i));
+                self.take_for(5, Job::SearchId(comparison, i))
+            }
+        }
+    }
+
+    /// 29, A9 Search Key Equal.
+    pub(crate) fn key_searched(&mut self, cylinder: &Cylinder, found: Found) -> Answer
+        requires { IsIn cylinder.now found }
+        ensures answer { result ≡ (table.key_searched self.old cylinder.now found).answer }
+        ensures after { self.new ≡ (table.key_searched self.old cylinder.now found).front }
+    {
+        match found {
+            Found::Lost(head, second) => self.lose(head, second),
+            Found::There(head, i, points) => {
+                let key = cylinder.track(head).record(i).key;
+                self.go(head, points, Place::Key(i));
+                self.take_for(key.len() as u32, Job::SearchKey(i))
+            }
+        }
+    }
+
+    /// Whether what stands there is as a search wants it, by the bytes that it took.
+    pub(crate) fn fits(&self, comparison: Comparison, there: &[u8]) -> bool
+        ensures { result ≡ table.fits comparison self.now.bytes there.now }
+    {
+        let count = self.bytes.len();
+        if count == 0 {
+            return false;
+        }
+        let taken = self.bytes.as_slice();
+        let cut = if count < there.len() {
+            &there[..count]
+        } else {
+            there
+        };
+        let order = cut.cmp(&taken);
+        match comparison {
+            Comparison::Equal => order.is_eq(),
+            Comparison::High => order.is_gt(),
+            Comparison::EqualOrHigh => order.is_ge(),
+        }
+    }
+
+    /// Ends a search.
+    pub(crate) fn end_search(&mut self, right: Right, is_satisfied: bool) -> UnitStatus
+        ensures status { result ≡ (table.satisfied self.old right is_satisfied).status }
+        ensures after { self.new ≡ (table.satisfied self.old right is_satisfied).front }
+    {
+        if is_satisfied {
+            self.right = right;
+            return self.end(UnitStatus::STATUS_MODIFIER);
+        }
+        self.end(UnitStatus::NONE)
+    }
+}
+
+/// What a satisfied search for an id gives the right to: only one for an equal id does.
+pub(crate) fn id_right(comparison: Comparison) -> Right
+    ensures { result ≡ table.id_right comparison }
+{
+    match comparison {
+        Comparison::Equal => Right::Id,
+        Comparison::High => Right::Nothing,
+        Comparison::EqualOrHigh => Right::Nothing,
+    }
+}

@@ -1,0 +1,171 @@
+//! The unit: a volume under an arm, as a device of a channel.
+ghost use Rattle.std.specs.Prelude.{◌≡◌, ◌≤◌, ◌<◌, [], length, ◌+◌, ◌*◌, ◌==◌, Some, None, slice_index, slice_index_or, IfOk};
+ghost use Rattle.ckd_volume.specs.Front as front;
+ghost use Rattle.ckd_volume.specs.Control.{halfword, sought};
+ghost use Rattle.ckd_volume.specs.declared.parts.Place.TheVariants as places;
+ghost use Rattle.ckd_volume.specs.declared.parts.Right.TheVariants as rights;
+ghost use Rattle.ckd_volume.specs.declared.parts.Job.TheVariants as jobs;
+
+use crate::cylinder::HEADS;
+use crate::panel::Panel;
+use crate::parts::{Job, Place, Sense};
+use crate::volume::Volume;
+use s370_walk::{Answer, Device, Order, UnitStatus};
+use std::alloc::{AllocError, Global};
+use std::marker::Model;
+
+/// What outlasts a channel program beside the volume.
+#[derive(Clone, Copy, Debug, PartialEq, Eq)]
+pub struct Arm {
+    /// The cylinder under the arm.
+    pub cylinder: usize,
+    /// The head that is chosen.
+    pub head: usize,
+    /// The cylinder to which Read IPL moves the arm.
+    pub home: usize,
+    /// Whether the disk may be written.
+    pub writable: bool,
+    /// What a Sense command tells.
+    pub sense: Sense,
+}
+
+/// A disk: a volume, the arm over it, and the control unit.
+#[derive(Drop)]
+pub struct Unit {
+    volume: Volume,
+    cylinder: usize,
+    home: usize,
+    panel: Panel,
+}
+
+impl Model for Unit {
+    ghost use Rattle.std.specs.Prelude.{◌<◌, ◌≤◌, length};
+    ghost use Rattle.ckd_volume.specs.Unit.{Disk};
+
+    ghost Value = { Disk };
+
+    ghost view = { λ u. record { volser = u.volume.volser; cylinders = u.volume.cylinders; cylinder = u.cylinder; home = u.home; front = u.panel } };
+
+    ghost invariant = { λ u. (u.cylinder < length u.volume.cylinders) × (u.home < length u.volume.cylinders) };
+}
+
+impl Unit {
+    ghost use Rattle.ckd_volume.specs.Unit.{idle, begins, aimed, started, ending, after, finished, status, seek_of, seek_status, moved, keeps, disk_machine};
+
+    /// A unit whose arm stands over a volume; it has room for the longest command.
+    pub fn new(alloc: Global, volume: Volume, arm: Arm) -> Result<Unit, AllocError>
+        requires cylinder { arm.cylinder < length volume.cylinders }
+        requires home { arm.home < length volume.cylinders }
+        requires head { arm.head < 19 }
+        ensures { IfOk result (λ unit. unit ≡ idle volume arm) }
+    {
+        let panel = Panel::new(alloc, arm.writable, arm.head, arm.sense)?;
+        Ok(Unit {
+            volume,
+            cylinder: arm.cylinder,
+            home: arm.home,
+            panel,
+        })
+    }
+
+    /// The volume under the arm.
+    pub fn volume(&self) -> &Volume
+        ensures volser { result.now.volser ≡ self.now.volser }
+        ensures cylinders { result.now.cylinders ≡ self.now.cylinders }
+    {
+        &self.volume
+    }
+
+    /// The volume, which is taken off.
+    pub fn into_volume(self) -> Volume
+        ensures volser { result.volser ≡ self.volser }
+        ensures cylinders { result.cylinders ≡ self.cylinders }
+    {
+        self.volume
+    }
+
+    /// Where the arm stands, and what else outlasts a channel program.
+    pub fn arm(&self) -> Arm
+        ensures cylinder { result.cylinder ≡ self.now.cylinder }
+        ensures head { result.head ≡ self.now.front.head }
+        ensures home { result.home ≡ self.now.home }
+        ensures writable { result.writable ≡ self.now.front.writable }
+        ensures sense { result.sense ≡ self.now.front.sense }
+        ensures inside { result.cylinder < length self.now.cylinders }
+        ensures home_inside { result.home < length self.now.cylinders }
+        ensures heads { result.head < 19 }
+    {
+        let panel = &self.panel;
+        Arm {
+            cylinder: self.cylinder,
+            head: panel.head,
+            home: self.home,
+            writable: panel.writable,
+            sense: panel.sense,
+        }
+    }
+
+    /// Read IPL moves the arm to the first track before all else.
+    fn aim(&mut self, is_ipl: bool)
+        ensures { self.new ≡ aimed self.old is_ipl }
+    {
+        if is_ipl {
+            self.cylinder = self.home;
+            self.panel.choose_first_head();
+        }
+    }
+
+    /// Begins a command, which takes no memory.
+    fn begin(&mut self, order: Order) -> Answer
+        ensures answer { result ≡ disk_machine.answer self.old order }
+        ensures after { self.new ≡ started self.old order }
+    {
+        self.aim(order.first && order.command.code == 0x02);
+        let cylinder = self.volume.cylinder(self.cylinder);
+        self.panel.begin(cylinder, order)
+    }
+
+    /// 07 Seek, when its bytes are there.
+    fn seek(&mut self) -> UnitStatus
+        ensures status { result ≡ seek_status (seek_of self.old) }
+        ensures after { self.new ≡ moved self.old (seek_of self.old) }
+    {
+        match self.panel.sought(self.volume.count()) {
+            Some(seek) => {
+                self.cylinder = seek.cylinder;
+                self.panel.end_seek(seek.head)
+            }
+            None => self.panel.fail(0x80, 0),
+        }
+    }
+}
+
+impl Device for Unit {
+    ghost use Rattle.ckd_volume.specs.Unit.{disk_machine};
+
+    ghost machine = { disk_machine };
+
+    fn command(&mut self, order: Order) -> Result<Answer, AllocError> {
+        Ok(self.begin(order))
+    }
+
+    fn is_done(&self) -> bool {
+        self.panel.is_done()
+    }
+
+    fn give(&mut self) -> u8 {
+        self.panel.give()
+    }
+
+    fn take(&mut self, byte: u8) {
+        self.panel.take(byte);
+    }
+
+    fn finish(&mut self) -> UnitStatus {
+        if self.panel.is_seeking() {
+            return self.seek();
+        }
+        let cylinder = self.volume.cylinder_mut(self.cylinder);
+        self.panel.finish(cylinder)
+    }
+}

@@ -1,0 +1,119 @@
+//! A volume: its serial number, and its cylinders.
+ghost use Rattle.std.specs.Prelude.{◌≡◌, ◌<◌, ◌≤◌, ◌+◌, ◌↔◌, Err, [], length, slice_index_or, IfOk, OnErr, IsSome};
+ghost use Rattle.ckd_volume.specs.Volume.{blank_cylinders, IsCount};
+ghost use Rattle.ckd_volume.specs.declared.volume.VolumeError.TheVariants as errors;
+
+use crate::cylinder::Cylinder;
+use ckd_track::Track;
+use std::alloc::{AllocError, Global};
+use std::marker::Model;
+use thiserror::Error;
+
+/// The most cylinders of a volume.
+pub const MOST_CYLINDERS: u16 = 808;
+
+/// Why no volume is made.
+#[derive(Clone, Copy, Debug, PartialEq, Eq, Drop, Error)]
+pub enum VolumeError {
+    /// The allocator refused a growth.
+    #[error("no memory is left for the volume")]
+    Memory,
+    /// A volume has 1 to 808 cylinders.
+    #[error("a volume has 1 to 808 cylinders")]
+    Cylinders,
+}
+
+/// A volume, whose tracks are all allotted: what is written later takes no memory.
+#[derive(Drop)]
+pub struct Volume {
+    pub(crate) volser: [u8; 6],
+    pub(crate) cylinders: Vec<Cylinder>,
+}
+
+impl Model for Volume {
+    ghost use Rattle.std.specs.Prelude.{◌<◌, ◌≤◌, length};
+    ghost use Rattle.ckd_volume.specs.Volume.{VolumeFormat};
+
+    ghost Value = { VolumeFormat };
+
+    ghost view = { λ v. record { volser = v.volser; cylinders = v.cylinders.items } };
+
+    ghost invariant = { λ v. (0 < length v.cylinders.items) × (length v.cylinders.items ≤ 808) };
+}
+
+/// So many cylinders without records.
+#[tactic(auto, using(crate::proofs::Blanks::cylinders_on))]
+fn blank_cylinders_of(alloc: Global, count: u16) -> Result<Vec<Cylinder>, AllocError>
+    ensures cylinders { IfOk result (λ made. made.items ≡ blank_cylinders 0 count) }
+    ensures count { IfOk result (λ made. length made.items ≡ count) }
+{
+    let mut cylinders = Vec::with_capacity(alloc, usize::from(count))?;
+    for number in 0..count {
+        let cylinder = Cylinder::blank(alloc, number)?;
+        cylinders.push(cylinder)?;
+    }
+    Ok(cylinders)
+}
+
+impl Volume {
+    ghost use Rattle.std.specs.Borrow.{sem};
+    ghost use Rattle.ckd_volume.specs.LendingVolume.{LendsTrackOf, LendsCylinder};
+
+    /// A volume with so many cylinders, whose tracks have no record; their home addresses are 00, cylinder and head.
+    pub fn blank(alloc: Global, volser: [u8; 6], cylinders: u16) -> Result<Volume, VolumeError>
+        ensures volume { IfOk result (λ made. made ≡ record { volser = volser; cylinders = blank_cylinders 0 cylinders }) }
+        ensures ok { IfOk result (λ made. IsCount cylinders) }
+        ensures cylinders { OnErr result (IsCount cylinders → result ≡ Err errors.Memory) }
+        ensures refused { (IsCount cylinders → ⊥) → result ≡ Err errors.Cylinders }
+    {
+        if cylinders == 0 || cylinders > MOST_CYLINDERS {
+            return Err(VolumeError::Cylinders);
+        }
+        match blank_cylinders_of(alloc, cylinders) {
+            Ok(cylinders) => Ok(Volume { volser, cylinders }),
+            Err(_) => Err(VolumeError::Memory),
+        }
+    }
+
+    /// The serial number, in ASCII, with blanks behind it.
+    pub fn volser(&self) -> [u8; 6]
+        ensures { result ≡ self.now.volser }
+    {
+        self.volser
+    }
+
+    /// How many cylinders it has.
+    pub fn count(&self) -> usize
+        ensures count { result ≡ length self.now.cylinders }
+        ensures some { 0 < result }
+        ensures few { result ≤ 808 }
+    {
+        self.cylinders.len()
+    }
+
+    /// A cylinder.
+    pub fn cylinder(&self, number: usize) -> &Cylinder
+        requires { number < length self.now.cylinders }
+        ensures { result.now ≡ slice_index_or self.now.cylinders number [] }
+    {
+        &self.cylinders[number]
+    }
+
+    /// A cylinder, to be written.
+    pub(crate) fn cylinder_mut(&mut self, number: usize) -> &mut Cylinder
+        requires { number < length self.old.cylinders }
+        ensures* writes_back { sem 𝓛 (LendsCylinder self.entry number result) }
+        ensures value { result.now ≡ slice_index_or self.old.cylinders number [] }
+    {
+        &mut self.cylinders[number]
+    }
+
+    /// A track, to be written, if the volume has it; the others stay.
+    pub fn track_mut(&mut self, cylinder: usize, head: usize) -> Option<&mut Track>
+        ensures* writes_back { sem 𝓛 (LendsTrackOf self.entry cylinder head result) }
+        ensures some { IsSome result ↔ ((cylinder < length self.old.cylinders) × (head < 19)) }
+    {
+        let there = self.cylinders.get_mut(cylinder)?;
+        there.head_mut(head)
+    }
+}
