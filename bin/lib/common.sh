@@ -82,6 +82,14 @@ kit() {
     fi
 }
 
+# the lines of crates.txt for these folders of crates
+listed() {
+    awk -v wanted=" $1 " '
+        { sub(/#.*/, ""); split($0, halves, ":"); split(halves[1], words, " ") }
+        words[1] != "" && index(wanted, " crates/" words[1] " ")
+    ' crates.txt
+}
+
 # one number for the names and the contents of all that a program is made of
 sources() {
     (
@@ -92,7 +100,7 @@ sources() {
             set -- "$@" "crates/$crate"
         done
         {
-            grep -v '^#' crates.txt
+            listed "$*"
             find "$@" \( -name out -o -name data -o -name must-fail \) -prune -o \
                 -type f \( -name '*.rt' -o -name '*.antt' \) -exec cksum {} +
         } | LC_ALL=C sort | cksum
