@@ -82,6 +82,14 @@ kit() {
     fi
 }
 
+# the lines of crates.txt for these folders of crates
+listed() {
+    awk -v wanted=" $1 " '
+        { sub(/#.*/, ""); split($0, halves, ":"); split(halves[1], words, " ") }
+        words[1] != "" && index(wanted, " crates/" words[1] " ")
+    ' crates.txt
+}
+
 # one number for the names and the contents of all that a program is made of
 sources() {
     (
@@ -92,7 +100,7 @@ sources() {
             set -- "$@" "crates/$crate"
         done
         {
-            grep -v '^#' crates.txt
+            listed "$*"
             find "$@" \( -name out -o -name data -o -name must-fail \) -prune -o \
                 -type f \( -name '*.rt' -o -name '*.antt' \) -exec cksum {} +
         } | LC_ALL=C sort | cksum
@@ -127,11 +135,13 @@ build() {
     [ -n "$now_kit" ] || fail "$no_kit" "the program is not built, and the Rattle kit is not there: no rt in PATH"
     mkdir -p -- "$folder/out" 2> /dev/null && log=$(mktemp -- "$folder/out/build.XXXXXX" 2> /dev/null) ||
         fail "$not_writable" "the program is not built, and $folder/out cannot be written"
+    # logs of builds that failed or were broken off
+    find "$folder/out" -name 'build.??????' -mtime +6 -exec rm -f -- {} +
     crates=$(crates_of "$program_crate")
     # shellcheck disable=SC2086
     count=$(printf '%s\n' $crates | wc -l | tr -d ' ')
-    say "proving and building $program_crate, $count crates: the first time some 20 minutes on four cores," \
-        "after an edit mostly seconds"
+    say "proving and building $program_crate, $count crates: the first time this takes 20 to 60 minutes by the host," \
+        "after an edit mostly less than one"
     say "the log is $log"
     number=0
     for crate in $crates; do
@@ -149,8 +159,9 @@ build() {
         }
     done
     # of what the sources were when it began: an edit that was made meanwhile is seen the next time
-    printf '%s\n%s\n' "$now_sources" "$now_kit" > "$log"
-    mv -f -- "$log" "$mark"
+    printf '%s\n%s\n' "$now_sources" "$now_kit" > "$mark.$$"
+    mv -f -- "$mark.$$" "$mark"
+    rm -f -- "$log"
 }
 
 # builds the program of the current folder, by a run on the words that lie beside its sources; files that they name are in data

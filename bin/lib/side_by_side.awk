@@ -1,5 +1,5 @@
 # A marked script beside its marked transcript, which comes first. ended is the status of the program; where it is not 0, the
-# transcript may end before the script does, and so does what is printed.
+# transcript may end before the script does, and so does what is printed. What is told after the last event stands at the end.
 
 FNR == NR {
     if ($0 == marker ": NOT LOGGED ON") done++
@@ -11,7 +11,7 @@ $0 == "LINE " marker {
     beside(held)
     held = ""
     event++
-    if (ended != 0 && event > done) exit
+    if (ended != 0 && event > done) { stopped = 1; exit }
     next
 }
 
@@ -21,9 +21,15 @@ $0 == "LINE " marker {
     if ($0 == "" || /^\*/) { print held; held = "" }
 }
 
+END {
+    if (stopped) exit
+    if (held != "") print held
+    beside("")
+}
+
 # what came of an event, beside its line where that is short
 function beside(text,   i) {
-    if (of[event + 0] + 0 == 0) { print text; return }
+    if (of[event + 0] + 0 == 0) { if (text != "") print text; return }
     if (length(text) > width + 8) { print text; text = "" }
     for (i = 0; i < of[event + 0]; i++) {
         printf "%-" (width + 8) "s | %s\n", text, lines[event + 0, i]
