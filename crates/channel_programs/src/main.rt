@@ -48,7 +48,7 @@ fn set(alloc: Global, storage: &mut PlainStorage, item: &Item<'_>) -> Result<()>
         Place::Storage(address) => store(alloc, storage, address, item.digits),
         Place::Key(address) => {
             let bits = hexadecimal_of(2, 2, item.digits.as_bytes()).context("a key has 2 digits")?;
-            if bits % 8 != 0 || address / 2048 >= BLOCKS {
+            if bits % 8 != 0 || address >= storage.size() {
                 bail!("no such key or block");
             }
             storage.set_key(address / 2048, StorageKey::new((bits / 8) as u8));

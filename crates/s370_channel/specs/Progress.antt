@@ -64,6 +64,30 @@ pub record HasStepped (old new : Position) : Type 0 where
   pub count : new.count + 1 ≡ old.count
   pub left : new.transfer.left + 1 ≡ old.transfer.left
 
+-- so many bytes further in the same word
+abbrev pub onward : Position → ℕ → Option ℕ → Position
+onward p n before =
+    record {
+      at = p.at;
+      started = p.started;
+      word = p.word;
+      count = p.count - n;
+      before = before;
+      transfer = record { command = p.transfer.command; kind = p.transfer.kind; left = p.transfer.left - n };
+    }
+
+-- at least one byte further in the same word
+pub record HasMoved (old new : Position) : Type 0 where
+  pub started : new.started ≡ old.started
+  pub word : new.word ≡ old.word
+  pub count : new.count < old.count
+  pub step : new.count + old.transfer.left ≡ old.count + new.transfer.left
+  pub less : new.transfer.left ≤ old.transfer.left
+
+abbrev pub IsFurther : Position → Moved → Type 0
+IsFurther old (Done new) = HasMoved old new
+IsFurther old (Stopped e) = Unit {0}
+
 -- a byte was moved, or a check has stopped the transfer
 abbrev pub IsOneOn : Position → Moved → Type 0
 IsOneOn old (Done new) = HasStepped old new

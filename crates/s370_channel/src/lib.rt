@@ -17,6 +17,7 @@ mod guest;
 mod judging;
 mod limits;
 mod moving;
+mod pieces;
 mod running;
 mod starting;
 mod words;

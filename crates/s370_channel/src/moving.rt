@@ -6,10 +6,11 @@ ghost use Rattle.s370_walk.specs.Walk.{Moving, next, Reaches, live, rest, steppe
 ghost use Rattle.s370_walk.specs.Stuck.{IsStuck, place_asks};
 ghost use Rattle.s370_walk.specs.declared.parts.Kind.TheVariants.{Gives};
 ghost use Rattle.s370_channel.specs.declared.moving.Moved.TheVariants.{Done};
-ghost use Rattle.s370_channel.specs.Progress.{setting, moved_state, IsOut, IsOneOn};
+ghost use Rattle.s370_channel.specs.Progress.{setting, moved_state, IsOut, IsOneOn, IsFurther};
 
 use crate::endings::{left_of, stop};
 use crate::limits::Limits;
+use crate::pieces::move_many;
 use s370_store::{Access, Fault, Page, Range, Storage, load_byte, store_byte};
 use s370_walk::{ChannelStatus, Device, Ending, Flags, Kind, Position, Transfer, WordForm};
 
@@ -42,7 +43,7 @@ fn one_further(before: Option<u32>) -> Option<u32>
 }
 
 /// Where the next byte lies, or None where that cannot be found out.
-fn place<F: WordForm, S: Storage>(
+pub(crate) fn place<F: WordForm, S: Storage>(
     program: &F,
     storage: &S,
     p: &Position,
@@ -204,8 +205,34 @@ fn move_byte<F: WordForm, S: Storage, D: Device>(
     }
 }
 
+/// Moves as many bytes as can move in one piece, or one.
+#[tactic(auto, using(s370_walk::specs::Reaching::reach_next))]
+fn move_on<F: WordForm, S: Storage, D: Device>(
+    program: &F,
+    storage: &mut S,
+    device: &mut D,
+    limits: &Limits,
+    p: &Position,
+) -> Result<Moved, Page>
+    requires count { 0 < p.now.count }
+    requires left { 0 < rest D.machine p.now device.old }
+    requires within { p.now.count ≤ p.now.word.count }
+    ensures reaches { IfOk result (λ r. Reaches (live (F.written program.now)) (setting D.machine limits.now) (Moving p.now (memory_of (S.bytes storage.old) (S.keys storage.old)) device.old) (moved_state r (memory_of (S.bytes storage.new) (S.keys storage.new)) device.new)) }
+    ensures on { IfOk result (IsFurther p.now) }
+    ensures present { S.present storage.new ≡ S.present storage.old }
+    ensures keys { S.keys storage.new ≡ S.keys storage.old }
+    ensures size { length (S.bytes storage.new) ≡ length (S.bytes storage.old) }
+    ensures rest { S.Keeps storage.old storage.new }
+    ensures stuck { IfErr result (λ page. IsStuck (F.written program.now) (setting D.machine limits.now) (S.present storage.old) (Moving p.now (memory_of (S.bytes storage.old) (S.keys storage.old)) device.old) page.0) }
+{
+    match move_many(program, storage, device, limits, p) {
+        Some(then) => Ok(Moved::Done(then)),
+        None => move_byte(program, storage, device, limits, p),
+    }
+}
+
 /// Moves bytes until the count or the device has run out, or to a check.
-#[tactic(auto, using(s370_walk::specs::Reaching::reach_then, crate::proofs::Stuck::stuck_later))]
+#[tactic(auto, using(s370_walk::specs::Reaching::reach_on, crate::proofs::Stuck::stuck_later))]
 pub(crate) fn transfer<F: WordForm, S: Storage, D: Device>(
     program: &F,
     storage: &mut S,
@@ -224,7 +251,7 @@ pub(crate) fn transfer<F: WordForm, S: Storage, D: Device>(
 {
     let mut p = position;
     'bytes: while p.count > 0 && left_of(device, &p) > 0 {
-        match move_byte(program, storage, device, limits, &p)? {
+        match move_on(program, storage, device, limits, &p)? {
             Moved::Done(then) => p = then,
             Moved::Stopped(ending) => return Ok(Moved::Stopped(ending)),
         }

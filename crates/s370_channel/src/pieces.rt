@@ -1,0 +1,182 @@
+//! Bytes that move in one piece, as they would move one by one.
+ghost use Rattle.std.specs.Prelude.{◌≡◌, ◌≢◌, ℕ, ◌+◌, ◌%◌, ◌<◌, ◌≤◌, List, Some, false, length, IfSome, IfNone};
+ghost use Rattle.std.specs.List.{slice_range};
+ghost use Rattle.s370_store.specs.Access.{IsGranted, put};
+ghost use Rattle.s370_walk.specs.Hardware.{memory_of, given, after_giving, after_taking};
+ghost use Rattle.s370_walk.specs.Walk.{Moving, Reaches, Written, live, place_in, rest};
+ghost use Rattle.s370_walk.specs.declared.parts.Kind.TheVariants.{Gives};
+ghost use Rattle.s370_channel.specs.Progress.{setting, onward, HasMoved};
+
+use crate::limits::Limits;
+use crate::moving::place;
+use s370_store::{Access, Range, Storage};
+use s370_walk::{Device, Flags, Kind, Position, Transfer, WordForm};
+
+/// How many bytes from an address on can move in one piece: of the same block, counted, and wanted or had by the device.
+fn piece<D: Device>(device: &D, p: &Position, address: u32) -> u32
+    requires going { D.machine.done device.now ≡ false }
+    ensures short { result ≤ 256 }
+    ensures count { result ≤ p.now.count }
+    ensures left { result ≤ p.now.transfer.left }
+    ensures block { address % 2048 + result ≤ 2048 }
+    ensures giving { (n : ℕ) → n < result → D.machine.done (after_giving D.machine device.now n) ≡ false }
+    ensures taking { (bytes : List ℕ) → length bytes < result → D.machine.done (after_taking D.machine device.now bytes) ≡ false }
+{
+    let counted = least(p.count as u32, p.transfer.left);
+    let inside = least(2048 - address % 2048, 256);
+    least(least(counted, inside), device.ready())
+}
+
+/// The smaller of two numbers.
+fn least(one: u32, other: u32) -> u32
+    ensures one { result ≤ one }
+    ensures other { result ≤ other }
+{
+    if one < other { one } else { other }
+}
+
+/// So many bytes further, of which the last lies at an address.
+fn many_on(p: &Position, n: u32, last: u32) -> Position
+    requires count { n ≤ p.now.count }
+    requires left { n ≤ p.now.transfer.left }
+    ensures { result ≡ onward p.now n (Some last) }
+{
+    Position {
+        at: p.at,
+        started: p.started,
+        word: p.word,
+        count: p.count - n as u16,
+        before: Some(last),
+        transfer: Transfer {
+            command: p.transfer.command,
+            kind: p.transfer.kind,
+            left: p.transfer.left - n,
+        },
+    }
+}
+
+/// Takes bytes from the device, and stores them from an address on.
+fn give_piece<S: Storage, D: Device>(storage: &mut S, device: &mut D, address: u32, n: u32)
+    requires granted { IsGranted (length (S.bytes storage.old)) (S.present storage.old) address n }
+    requires short { n ≤ 256 }
+    ensures bytes { S.bytes storage.new ≡ put (S.bytes storage.old) address (given D.machine device.old n) }
+    ensures device { device.new ≡ after_giving D.machine device.old n }
+    ensures present { S.present storage.new ≡ S.present storage.old }
+    ensures keys { S.keys storage.new ≡ S.keys storage.old }
+    ensures size { length (S.bytes storage.new) ≡ length (S.bytes storage.old) }
+    ensures rest { S.Keeps storage.old storage.new }
+{
+    let mut buffer = [0u8; 256];
+    let bytes = &mut buffer[..n as usize];
+    device.give_bytes(bytes);
+    storage.store(address, bytes);
+}
+
+/// Loads bytes from an address on, and hands them to the device.
+fn take_piece<S: Storage, D: Device>(storage: &S, device: &mut D, address: u32, n: u32)
+    requires granted { IsGranted (length (S.bytes storage.now)) (S.present storage.now) address n }
+    requires short { n ≤ 256 }
+    ensures { device.new ≡ after_taking D.machine device.old (slice_range (S.bytes storage.now) address (address + n)) }
+{
+    let mut buffer = [0u8; 256];
+    let bytes = &mut buffer[..n as usize];
+    storage.load(address, bytes);
+    device.take_bytes(bytes);
+}
+
+/// Takes several bytes from the device and stores them, where all may be stored; or does nothing.
+fn give_many<S: Storage, D: Device>(
+    storage: &mut S,
+    device: &mut D,
+    limits: &Limits,
+    p: &Position,
+    address: u32,
+) -> Option<Position>
+    requires going { D.machine.done device.old ≡ false }
+    requires gives { p.now.transfer.kind ≡ Gives }
+    ensures reaches { IfSome result (λ then. (w : Written) → place_in w (memory_of (S.bytes storage.old) (S.keys storage.old)) p.now ≡ Some address → Reaches (live w) (setting D.machine limits.now) (Moving p.now (memory_of (S.bytes storage.old) (S.keys storage.old)) device.old) (Moving then (memory_of (S.bytes storage.new) (S.keys storage.new)) device.new)) }
+    ensures on { IfSome result (HasMoved p.now) }
+    ensures none { IfNone result (S.bytes storage.new ≡ S.bytes storage.old) }
+    ensures idle { IfNone result (device.new ≡ device.old) }
+    ensures present { S.present storage.new ≡ S.present storage.old }
+    ensures keys { S.keys storage.new ≡ S.keys storage.old }
+    ensures size { length (S.bytes storage.new) ≡ length (S.bytes storage.old) }
+    ensures rest { S.Keeps storage.old storage.new }
+{
+    if p.word.flags.has(Flags::SKIP) {
+        return None;
+    }
+    let n = piece(device, p, address);
+    if n < 2 {
+        return None;
+    }
+    let end = address.checked_add(n)?;
+    let range = Range {
+        start: address,
+        count: n,
+    };
+    let Ok(()) = storage.check(range, Access::Store, limits.key) else {
+        return None;
+    };
+    give_piece(storage, device, address, n);
+    Some(many_on(p, n, end - 1))
+}
+
+/// Loads several bytes and hands them to the device, where all may be fetched; or does nothing.
+fn take_many<S: Storage, D: Device>(
+    storage: &S,
+    device: &mut D,
+    limits: &Limits,
+    p: &Position,
+    address: u32,
+) -> Option<Position>
+    requires going { D.machine.done device.old ≡ false }
+    requires takes { p.now.transfer.kind ≢ Gives }
+    ensures reaches { IfSome result (λ then. (w : Written) → place_in w (memory_of (S.bytes storage.now) (S.keys storage.now)) p.now ≡ Some address → Reaches (live w) (setting D.machine limits.now) (Moving p.now (memory_of (S.bytes storage.now) (S.keys storage.now)) device.old) (Moving then (memory_of (S.bytes storage.now) (S.keys storage.now)) device.new)) }
+    ensures on { IfSome result (HasMoved p.now) }
+    ensures idle { IfNone result (device.new ≡ device.old) }
+{
+    let n = piece(device, p, address);
+    if n < 2 {
+        return None;
+    }
+    let end = address.checked_add(n)?;
+    let range = Range {
+        start: address,
+        count: n,
+    };
+    let Ok(()) = storage.check(range, Access::Fetch, limits.key) else {
+        return None;
+    };
+    take_piece(storage, device, address, n);
+    Some(many_on(p, n, end - 1))
+}
+
+/// Moves several bytes in one piece, where that can be done; or does nothing.
+pub(crate) fn move_many<F: WordForm, S: Storage, D: Device>(
+    program: &F,
+    storage: &mut S,
+    device: &mut D,
+    limits: &Limits,
+    p: &Position,
+) -> Option<Position>
+    requires going { D.machine.done device.old ≡ false }
+    requires within { p.now.count ≤ p.now.word.count }
+    ensures reaches { IfSome result (λ then. Reaches (live (F.written program.now)) (setting D.machine limits.now) (Moving p.now (memory_of (S.bytes storage.old) (S.keys storage.old)) device.old) (Moving then (memory_of (S.bytes storage.new) (S.keys storage.new)) device.new)) }
+    ensures on { IfSome result (HasMoved p.now) }
+    ensures none { IfNone result (S.bytes storage.new ≡ S.bytes storage.old) }
+    ensures idle { IfNone result (device.new ≡ device.old) }
+    ensures present { S.present storage.new ≡ S.present storage.old }
+    ensures keys { S.keys storage.new ≡ S.keys storage.old }
+    ensures size { length (S.bytes storage.new) ≡ length (S.bytes storage.old) }
+    ensures rest { S.Keeps storage.old storage.new }
+{
+    let Ok(Some(address)) = place(program, storage, p) else {
+        return None;
+    };
+    match p.transfer.kind {
+        Kind::Gives => give_many(storage, device, limits, p, address),
+        Kind::Takes => take_many(storage, device, limits, p, address),
+        Kind::TakesUpTo => take_many(storage, device, limits, p, address),
+    }
+}
