@@ -2,6 +2,7 @@
 use crate::loops::Loop;
 use anyhow::{Result, bail};
 use bare_machine::Bare;
+use cp_console::responses::Response;
 use cp_core::{Ended, Event, Sizes, System};
 use cp_directory::read_directory;
 use cp_users::UserNo;
@@ -65,13 +66,28 @@ fn users_guest(alloc: Global, directory: &str, users: u8, guest: Loop) -> Result
     let mut system = System::boot(alloc, directory, sizes)?;
     for user in 0..users.min(USERS) {
         let user = UserNo::new(user);
-        system.apply(Event::Line(user, b"LOGON"))?;
+        let _said = said(&mut system, user, b"LOGON")?;
         for line in guest.typed() {
-            system.apply(Event::Line(user, line.as_bytes()))?;
+            let _said = said(&mut system, user, line.as_bytes())?;
         }
-        system.apply(Event::Line(user, b"BEGIN 200"))?;
+        let _said = said(&mut system, user, b"BEGIN 200")?;
     }
     Ok(system)
+}
+
+/// A user types a line, and this is said.
+fn said(system: &mut System, user: UserNo, typed: &[u8]) -> Result<Option<Response>> {
+    let reply = system.apply(Event::Line(user, typed))?;
+    Ok(reply.said)
+}
+
+/// Lets a user run: how many units were done, and what was said.
+fn ran(system: &mut System, user: UserNo, units: u32) -> Result<(u32, Option<Response>)> {
+    let reply = system.apply(Event::Run(user, units))?;
+    match reply.ended {
+        Ended::Ran(ran) => Ok((ran.units, reply.said)),
+        Ended::Done | Ended::FramesOut => Ok((0, reply.said)),
+    }
 }
 
 /// Units of a bare machine: how many were done.
@@ -81,11 +97,8 @@ fn on_bare(machine: &mut Bare, units: u32) -> u64 {
 
 /// Units of a user: how many were done.
 fn of_user(system: &mut System, user: UserNo, units: u32) -> Result<u64> {
-    let reply = system.apply(Event::Run(user, units))?;
-    match reply.ended {
-        Ended::Ran(ran) => Ok(u64::from(ran.units)),
-        Ended::Done | Ended::FramesOut => Ok(0),
-    }
+    let (done, _said) = ran(system, user, units)?;
+    Ok(u64::from(done))
 }
 
 /// Units of all users in turns: how many were done together.

@@ -15,7 +15,7 @@ use guests::{Guests, PLACES, Place};
 use loops::{LOOPS, Loop};
 use std::env;
 use std::process::ExitCode;
-use std::rt::{Env, Print};
+use std::rt::Env;
 use std::time::{CpuClock, Duration};
 
 /// How often each run is timed.
@@ -51,7 +51,7 @@ impl Asked {
 }
 
 /// The words of the command line: thousands of units, a loop and a place, each of which may be missing.
-fn asked(rt: &(impl Env + AllocGlobal)) -> Result<Asked> {
+fn words_of(rt: &(impl Env + AllocGlobal)) -> Result<Asked> {
     let mut words = env::args(rt)?.skip(1);
     let thousands = match words.next() {
         Some(word) => match decimal_of(6, word.as_bytes()) {
@@ -86,7 +86,7 @@ fn best_of(
 
 /// Times one loop in one place.
 fn measure(
-    rt: &(impl AllocGlobal + CpuClock + Print),
+    rt: &(impl AllocGlobal + CpuClock + Print + Eprint),
     guest: Loop,
     place: Place,
     thousands: u32,
@@ -110,7 +110,7 @@ fn measure(
 }
 
 fn main(rt: HostRuntime) -> Result<ExitCode> {
-    let asked = asked(&rt)?;
+    let asked = words_of(&rt)?;
     for guest in &LOOPS {
         for place in &PLACES {
             if asked.has_loop(*guest) && asked.has_place(*place) {
