@@ -18,6 +18,7 @@ no_assembler=73
 refused_source=74
 no_marker=75
 not_copied=76
+no_emulator=77
 
 say() {
     printf '%s: %s\n' "$name" "$*" >&2

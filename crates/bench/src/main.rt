@@ -1,168 +1,122 @@
-//! Measures how many units a second a bare machine does, or a user of the control program, and claims nothing.
+//! Measures how many units a second machines do that run a guest loop, and claims nothing.
 //!
-//! `bench 100` lets a machine of 8 KiB run for 100 million units: five times a load and a store of one word, and then a
-//! load of the PSW that begins anew. `bench 100 frames` does the same by a user of a system of 16 frames. What it did
-//! goes to standard output, and the rate to standard error.
+//! `bench` runs each loop on a bare machine, as one user of the control program, and as eight users in turns of 100 units:
+//! 8,000 units each time. `bench 20000` does 20 million units each time, `bench 20000 mvc` does one loop, and `bench 20000
+//! mvc one` one of them in one place. Each is done five times. What was done goes to standard output, and the best rate, by
+//! processor time, to standard error.
 #![tactic(auto)]
 
+mod guests;
+mod loops;
+
 use anyhow::{Result, bail};
-use bare_machine::Bare;
-use cp_console::responses::Response;
-use cp_core::{Ended, Event, Sizes, System};
-use cp_directory::read_directory;
 use cp_text::numbers::decimal_of;
-use cp_users::UserNo;
-use s370_num::Word;
-use s370_store::PlainStorage;
-use std::alloc::Global;
+use guests::{Guests, PLACES, Place};
+use loops::{LOOPS, Loop};
 use std::env;
 use std::process::ExitCode;
-use std::rt::{Clock, Env};
-use std::time::{Duration, Instant};
+use std::rt::Env;
+use std::time::{CpuClock, Duration};
 
-/// What is typed: a loop at 200 of `L 1,300` and `ST 1,304`, which `LPSW 310` closes.
-const TYPED: [&str; 7] = [
-    "LOGON",
-    "STORE 200 58100300501003045810030050100304",
-    "STORE 210 58100300501003045810030050100304",
-    "STORE 220 581003005010030482000310",
-    "STORE 300 00000005",
-    "STORE 310 0000000000000200",
-    "BEGIN 200",
-];
+/// How often each run is timed.
+const TIMES: u32 = 5;
 
-/// The machine, running at the loop.
-fn guest(alloc: Global) -> Result<Bare> {
-    let mut machine = Bare::new(alloc, PlainStorage::new(alloc, 4)?);
-    for line in TYPED {
-        machine.line(line.as_bytes())?;
-    }
-    Ok(machine)
-}
-
-/// The user of the control program.
-fn user() -> UserNo {
-    UserNo::new(0)
-}
-
-/// The user types a line, and this is said.
-fn said(system: &mut System, typed: &[u8]) -> Result<Option<Response>> {
-    let reply = system.apply(Event::Line(user(), typed))?;
-    Ok(reply.said)
-}
-
-/// Lets the user run: how many units were done, and what was said.
-fn ran(system: &mut System, units: u32) -> Result<(u32, Option<Response>)> {
-    let reply = system.apply(Event::Run(user(), units))?;
-    match reply.ended {
-        Ended::Ran(told) => Ok((told.units, reply.said)),
-        Ended::Done | Ended::FramesOut => Ok((0, reply.said)),
-    }
-}
-
-/// The system of one user, whose machine is running at the loop.
-fn system(alloc: Global, sizes: Sizes) -> Result<System> {
-    let directory = read_directory(alloc, b"USER A PW 8K")?;
-    let mut system = System::boot(alloc, directory, sizes)?;
-    for line in TYPED {
-        let _said = said(&mut system, line.as_bytes())?;
-    }
-    Ok(system)
-}
-
-/// Which machine does the units.
-enum Machine {
-    Bare,
-    Frames,
-}
-
-/// What the command line asks for: how many million units, by one number of at most six digits, and on which machine. One
-/// million of a bare machine where it is empty.
-fn asked(rt: &(impl Env + AllocGlobal)) -> Result<Option<(u32, Machine)>> {
-    let mut words = env::args(rt)?.skip(1);
-    let Some(word) = words.next() else {
-        return Ok(Some((1, Machine::Bare)));
-    };
-    let Some(millions) = decimal_of(6, word.as_bytes()) else {
-        return Ok(None);
-    };
-    let Some(word) = words.next() else {
-        return Ok(Some((millions, Machine::Bare)));
-    };
-    if words.next().is_some() || word.as_str() != "frames" {
-        return Ok(None);
-    }
-    Ok(Some((millions, Machine::Frames)))
-}
-
-/// Units that were done, the register that they loaded, and how long they took.
+/// What the command line asks for.
 #[derive(Drop)]
-struct Done {
-    units: u64,
-    register: u32,
-    time: Duration,
+struct Asked {
+    /// Thousands of units.
+    thousands: u32,
+    /// The loop that is named, or all of them.
+    guest: Option<String>,
+    /// The place that is named, or all of them.
+    place: Option<String>,
 }
 
-/// How many units are asked for at a time.
-const MILLION: u32 = 1_000_000;
-
-/// So many million units of a bare machine.
-fn on_bare(rt: &(impl AllocGlobal + Clock), millions: u32) -> Result<Done> {
-    let mut machine = guest(rt.alloc())?;
-    let mut units = 0u64;
-    let start = Instant::now(rt)?;
-    for _ in 0..millions {
-        let told = machine.units(MILLION);
-        units = units.wrapping_add(u64::from(told.ran.units));
+impl Asked {
+    /// Whether a loop is asked for.
+    fn has_loop(&self, guest: Loop) -> bool {
+        match &self.guest {
+            Some(name) => name.as_str() == guest.name(),
+            None => true,
+        }
     }
-    Ok(Done {
-        units,
-        register: machine.general()[1],
-        time: start.elapsed(rt)?,
-    })
+
+    /// Whether a place is asked for.
+    fn has_place(&self, place: Place) -> bool {
+        match &self.place {
+            Some(name) => name.as_str() == place.name(),
+            None => true,
+        }
+    }
 }
 
-/// So many million units of a user on 16 frames.
-fn on_frames(rt: &(impl AllocGlobal + Clock), millions: u32) -> Result<Done> {
-    let Some(sizes) = Sizes::new(16, 0) else {
-        bail!("sizes");
+/// The words of the command line: thousands of units, a loop and a place, each of which may be missing.
+fn words_of(rt: &(impl Env + AllocGlobal)) -> Result<Asked> {
+    let mut words = env::args(rt)?.skip(1);
+    let thousands = match words.next() {
+        Some(word) => match decimal_of(6, word.as_bytes()) {
+            Some(thousands) => thousands,
+            None => bail!("usage: bench [THOUSANDS [LOOP [PLACE]]]"),
+        },
+        None => 8,
     };
-    let mut system = system(rt.alloc(), sizes)?;
-    let mut units = 0u64;
-    let start = Instant::now(rt)?;
-    for _ in 0..millions {
-        let (done, _) = ran(&mut system, MILLION)?;
-        units = units.wrapping_add(u64::from(done));
-    }
-    let time = start.elapsed(rt)?;
-    let general = system.registers(user()).unwrap_or([0; 16]);
-    Ok(Done {
-        units,
-        register: general[1],
-        time,
+    Ok(Asked {
+        thousands,
+        guest: words.next(),
+        place: words.next(),
     })
 }
 
-/// Millions of units a second.
-fn rate(units: u64, time: Duration) -> u128 {
-    u128::from(units) / time.as_micros().max(1)
+/// The fastest of some runs of so many units, and how many units all of them did.
+fn best_of(
+    rt: &impl CpuClock,
+    guests: &mut Guests,
+    units: u32,
+) -> Result<(Duration, u64)> {
+    let mut best = Duration::MAX;
+    let mut done = 0u64;
+    for _ in 0..TIMES {
+        let start = rt.process_cpu_time()?;
+        done = done.wrapping_add(guests.run(units)?);
+        let end = rt.process_cpu_time()?;
+        best = best.min(end.checked_sub(start).unwrap_or(Duration::MAX));
+    }
+    Ok((best, done))
+}
+
+/// Times one loop in one place.
+fn measure(
+    rt: &(impl AllocGlobal + CpuClock + Print + Eprint),
+    guest: Loop,
+    place: Place,
+    thousands: u32,
+) -> Result<()> {
+    let mut guests = Guests::new(rt.alloc(), place, guest)?;
+    let units = thousands.wrapping_mul(1000);
+    let (time, done) = best_of(rt, &mut guests, units)?;
+    let (name, place) = (guest.name(), place.name());
+    println!(rt; "{name} {place}: {done} units")?;
+    let micros = time.as_micros().max(1);
+    let rate = u128::from(units) * 10 / micros;
+    let (whole, tenth) = (rate / 10, rate % 10);
+    match guest.bytes_moved(u64::from(units)) {
+        Some(bytes) => {
+            let moved = bytes / micros;
+            eprintln!(rt; "{name} {place} {whole}.{tenth} million units a second, {moved} MB a second")?;
+        }
+        None => eprintln!(rt; "{name} {place} {whole}.{tenth} million units a second")?,
+    }
+    Ok(())
 }
 
 fn main(rt: HostRuntime) -> Result<ExitCode> {
-    let Some((millions, machine)) = asked(&rt)? else {
-        eprintln!(rt;
-            "usage: bench [MILLIONS [frames]]: how many million units, at most six digits"
-        )?;
-        return Ok(ExitCode::from(2));
-    };
-    let done = match machine {
-        Machine::Bare => on_bare(&rt, millions)?,
-        Machine::Frames => on_frames(&rt, millions)?,
-    };
-    let units = done.units;
-    let rate = rate(units, done.time);
-    let register = Word::from_unsigned(done.register);
-    println!(rt; "{units} units, GPR 1 = {register}")?;
-    eprintln!(rt; "{rate} million units a second")?;
+    let asked = words_of(&rt)?;
+    for guest in &LOOPS {
+        for place in &PLACES {
+            if asked.has_loop(*guest) && asked.has_place(*place) {
+                measure(&rt, *guest, *place, asked.thousands)?;
+            }
+        }
+    }
     Ok(ExitCode::SUCCESS)
 }

@@ -228,6 +228,11 @@ impl<'a> Storage for Dat<'a> {
         self.frames.store(self.user, start, from);
     }
 
+    #[inline(always)]
+    fn copy(&mut self, from: u32, to: u32, count: u32) {
+        self.frames.copy(self.user, from, to, count);
+    }
+
     ghost keeps_same = { keeps_rest_same };
 
     ghost keeps_on = { keeps_rest_on };

@@ -3,7 +3,7 @@ ghost use Rattle.std.specs.Prelude.{◌≡◌, ℕ, ◌+◌, ◌-◌, ◌*◌, �
 ghost use Rattle.s370_store.specs.Access.{put, IsGranted};
 ghost use Rattle.cp_frames.specs.Layout.{frame_of, number_of, is_there, IsBrought, IsZeroPage, cleared_of, free_count};
 
-use crate::frame::{blank_frames, clear, copy_in, copy_out};
+use crate::frame::{blank_frames, clear, copy_in, copy_out, copy_over};
 use crate::owners::{first_free, free_frames, give_back, no_pins};
 use crate::table::{NOWHERE, SLOTS, empty_table, forget, slot_of};
 use crate::{FRAME_SIZE, FrameNo, UserPage};
@@ -345,6 +345,76 @@ impl Frames {
     {
         let frame = self.table[slot_of(user, start / PAGE_SIZE)] as usize;
         copy_in(&mut self.frames[frame], (start % PAGE_SIZE) as usize, from);
+    }
+
+    /// Copies bytes of one page into one page.
+    #[inline(always)]
+    fn copy_part(&mut self, user: UserNo, from: u32, to: u32, count: u32)
+        requires source { from + count ≤ length (bytes_of self.old user) }
+        requires target { to + count ≤ length (bytes_of self.old user) }
+        requires some { 0 < count }
+        requires short { count ≤ 256 }
+        requires page_of_source { from % 4096 + count ≤ 4096 }
+        requires page_of_target { to % 4096 + count ≤ 4096 }
+        requires source_present { IsSome (frame_of self.old.owners user (from / 4096)) }
+        requires target_present { IsSome (frame_of self.old.owners user (to / 4096)) }
+        ensures bytes { bytes_of self.new user ≡ put (bytes_of self.old user) to (slice_range (bytes_of self.old user) from (from + count)) }
+        ensures size { length (bytes_of self.new user) ≡ length (bytes_of self.old user) }
+        ensures others { self.new.storages ≡ slice_set self.old.storages user (bytes_of self.new user) }
+        ensures owners { self.new.owners ≡ self.old.owners }
+        ensures pins { self.new.pins ≡ self.old.pins }
+    {
+        let source = self.table[slot_of(user, from / PAGE_SIZE)] as usize;
+        let target = self.table[slot_of(user, to / PAGE_SIZE)] as usize;
+        copy_over(
+            &mut self.frames,
+            source,
+            (from % PAGE_SIZE) as usize,
+            target,
+            (to % PAGE_SIZE) as usize,
+            count as usize,
+        );
+    }
+
+    /// Copies bytes that may lie in two pages, through a buffer.
+    #[inline(never)]
+    fn copy_across(&mut self, user: UserNo, from: u32, to: u32, count: u32)
+        requires source { IsGranted (length (bytes_of self.old user)) (is_there self.old.owners user) from count }
+        requires target { IsGranted (length (bytes_of self.old user)) (is_there self.old.owners user) to count }
+        requires short { count ≤ 256 }
+        ensures bytes { bytes_of self.new user ≡ put (bytes_of self.old user) to (slice_range (bytes_of self.old user) from (from + count)) }
+        ensures size { length (bytes_of self.new user) ≡ length (bytes_of self.old user) }
+        ensures others { self.new.storages ≡ slice_set self.old.storages user (bytes_of self.new user) }
+        ensures owners { self.new.owners ≡ self.old.owners }
+        ensures pins { self.new.pins ≡ self.old.pins }
+    {
+        let mut buffer = [0u8; LONGEST];
+        let part = &mut buffer[..count as usize];
+        self.load(user, from, part);
+        self.store(user, to, part);
+    }
+
+    /// Copies bytes of a user, whose pages stand in frames, from one place to another, as if all were read before any is
+    /// written. No other byte of any user changes.
+    #[inline(always)]
+    pub fn copy(&mut self, user: UserNo, from: u32, to: u32, count: u32)
+        requires source { IsGranted (length (bytes_of self.old user)) (is_there self.old.owners user) from count }
+        requires target { IsGranted (length (bytes_of self.old user)) (is_there self.old.owners user) to count }
+        requires short { count ≤ 256 }
+        ensures bytes { bytes_of self.new user ≡ put (bytes_of self.old user) to (slice_range (bytes_of self.old user) from (from + count)) }
+        ensures size { length (bytes_of self.new user) ≡ length (bytes_of self.old user) }
+        ensures others { self.new.storages ≡ slice_set self.old.storages user (bytes_of self.new user) }
+        ensures owners { self.new.owners ≡ self.old.owners }
+        ensures pins { self.new.pins ≡ self.old.pins }
+    {
+        if count == 0
+            || from % PAGE_SIZE + count > PAGE_SIZE
+            || to % PAGE_SIZE + count > PAGE_SIZE
+        {
+            self.copy_across(user, from, to, count);
+        } else {
+            self.copy_part(user, from, to, count);
+        }
     }
 
     /// Copies bytes in that may lie in two pages.

@@ -189,7 +189,7 @@ pub fn combine_row<S: Storage>(
 
 /// Moves a range through a buffer of its length.
 #[inline(always)]
-fn move_at<S: Storage>(storage: &mut S, to: u32, from: u32, bytes: &mut [u8])
+fn move_through<S: Storage>(storage: &mut S, to: u32, from: u32, bytes: &mut [u8])
     requires some { 0 < length bytes.old }
     requires short { length bytes.old ≤ 256 }
     requires target { IsGranted (length (S.bytes storage.old)) (S.present storage.old) to (length bytes.old) }
@@ -206,9 +206,46 @@ fn move_at<S: Storage>(storage: &mut S, to: u32, from: u32, bytes: &mut [u8])
     storage.store(to, bytes);
 }
 
+/// Moves a range that is read where it was written.
+#[inline(never)]
+fn move_near<S: Storage>(storage: &mut S, to: u32, from: u32, count: u32)
+    requires some { 0 < count }
+    requires short { count ≤ 256 }
+    requires target { IsGranted (length (S.bytes storage.old)) (S.present storage.old) to count }
+    requires source { IsGranted (length (S.bytes storage.old)) (S.present storage.old) from count }
+    ensures bytes { S.bytes storage.new ≡ put (S.bytes storage.old) to (made_of Combine.Move (S.bytes storage.old) to from count) }
+    ensures size { length (S.bytes storage.new) ≡ length (S.bytes storage.old) }
+    ensures keys { S.keys storage.new ≡ S.keys storage.old }
+    ensures present { S.present storage.new ≡ S.present storage.old }
+    ensures rest { S.Keeps storage.old storage.new }
+{
+    let mut bytes = [0u8; 256];
+    move_through(storage, to, from, &mut bytes[..count as usize]);
+}
+
+/// Moves a range: at once, but where a byte is read after it was written.
+#[inline(always)]
+fn move_at<S: Storage>(storage: &mut S, to: u32, from: u32, count: u32)
+    requires some { 0 < count }
+    requires short { count ≤ 256 }
+    requires target { IsGranted (length (S.bytes storage.old)) (S.present storage.old) to count }
+    requires source { IsGranted (length (S.bytes storage.old)) (S.present storage.old) from count }
+    ensures bytes { S.bytes storage.new ≡ put (S.bytes storage.old) to (made_of Combine.Move (S.bytes storage.old) to from count) }
+    ensures size { length (S.bytes storage.new) ≡ length (S.bytes storage.old) }
+    ensures keys { S.keys storage.new ≡ S.keys storage.old }
+    ensures present { S.present storage.new ≡ S.present storage.old }
+    ensures rest { S.Keeps storage.old storage.new }
+{
+    if lag_of(to, from, count) < count {
+        move_near(storage, to, from, count);
+    } else {
+        storage.copy(from, to, count);
+    }
+}
+
 /// D2 MVC: move characters; left to right.
 ///
-/// It is [`combine_row`] of [`Combine::Move`] by one load and one store.
+/// It is [`combine_row`] of [`Combine::Move`], mostly by one copy.
 pub fn move_row<S: Storage>(
     cpu: &mut Cpu,
     storage: &mut S,
@@ -227,7 +264,6 @@ pub fn move_row<S: Storage>(
     let target = Range { start: to, count };
     let source = Range { start: from, count };
     grant_two(cpu, storage, target, Access::Store, source, Access::Fetch)?;
-    let mut bytes = [0u8; 256];
-    move_at(storage, to, from, &mut bytes[..count as usize]);
+    move_at(storage, to, from, count);
     Ok(Ending::Done)
 }

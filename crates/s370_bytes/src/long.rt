@@ -109,7 +109,7 @@ fn load_padded<S: Storage>(storage: &S, from: u32, pad: u8, into: &mut [u8], cou
 
 /// Moves a range and then pads, through a buffer.
 #[inline(always)]
-fn move_padded<S: Storage>(
+fn move_through<S: Storage>(
     storage: &mut S,
     to: u32,
     from: u32,
@@ -129,6 +129,58 @@ fn move_padded<S: Storage>(
 {
     load_padded(storage, from, pad, made, count);
     storage.store(to, made);
+}
+
+/// As [`move_padded`], where there are pads.
+#[inline(never)]
+fn move_pads<S: Storage>(
+    storage: &mut S,
+    to: u32,
+    from: u32,
+    pad: u8,
+    count: u32,
+    moved: u32,
+)
+    requires within { moved ≤ count }
+    requires short { count ≤ 256 }
+    requires target { IsGranted (length (S.bytes storage.old)) (S.present storage.old) to count }
+    requires source { 0 < moved → IsGranted (length (S.bytes storage.old)) (S.present storage.old) from moved }
+    ensures bytes { S.bytes storage.new ≡ put (S.bytes storage.old) to (padded (slice_range (S.bytes storage.old) from (from + moved)) pad count) }
+    ensures size { length (S.bytes storage.new) ≡ length (S.bytes storage.old) }
+    ensures keys { S.keys storage.new ≡ S.keys storage.old }
+    ensures present { S.present storage.new ≡ S.present storage.old }
+    ensures rest { S.Keeps storage.old storage.new }
+{
+    let mut made = [0u8; 256];
+    move_through(storage, to, from, pad, &mut made[..count as usize], moved);
+}
+
+/// Moves a range, and then pads up to a count.
+#[inline(always)]
+fn move_padded<S: Storage>(
+    storage: &mut S,
+    to: u32,
+    from: u32,
+    pad: u8,
+    count: u32,
+    moved: u32,
+)
+    requires some { 0 < count }
+    requires within { moved ≤ count }
+    requires short { count ≤ 256 }
+    requires target { IsGranted (length (S.bytes storage.old)) (S.present storage.old) to count }
+    requires source { 0 < moved → IsGranted (length (S.bytes storage.old)) (S.present storage.old) from moved }
+    ensures bytes { S.bytes storage.new ≡ put (S.bytes storage.old) to (padded (slice_range (S.bytes storage.old) from (from + moved)) pad count) }
+    ensures size { length (S.bytes storage.new) ≡ length (S.bytes storage.old) }
+    ensures keys { S.keys storage.new ≡ S.keys storage.old }
+    ensures present { S.present storage.new ≡ S.present storage.old }
+    ensures rest { S.Keeps storage.old storage.new }
+{
+    if moved < count {
+        move_pads(storage, to, from, pad, count, moved);
+    } else {
+        storage.copy(from, to, count);
+    }
 }
 
 /// One part of the long move.
@@ -160,15 +212,7 @@ fn move_part<S: Storage>(
         count: count_2,
     };
     grant_two(cpu, storage, target, Access::Store, source, Access::Fetch)?;
-    let mut made = [0u8; 256];
-    move_padded(
-        storage,
-        to,
-        from,
-        second.pad,
-        &mut made[..count as usize],
-        count_2,
-    );
+    move_padded(storage, to, from, second.pad, count, count_2);
     first.past(count).set(cpu, r1);
     second.past(count_2).set(cpu, r2);
     if first.count == count {

@@ -32,9 +32,13 @@ pub enum Stop {
 pub fn conclude(cpu: &mut Cpu, place: Place, outcome: Result<Ending, Refusal>) -> Stop
     ensures { stopped outcome place cpu.old ≡ record { stop = result; cpu = cpu.new } }
 {
-    // Nearly every instruction ends so: a test of its own is cheaper than one jump more.
+    // Nearly every instruction ends in one of these two: a test of its own is cheaper than one jump more.
     if let Ok(Ending::Done) = outcome {
         cpu.psw.set_address(place.next);
+        return Stop::Done;
+    }
+    if let Ok(Ending::Branch(address)) = outcome {
+        cpu.psw.set_address(Addr24::wrapping(address));
         return Stop::Done;
     }
     match outcome {

@@ -52,7 +52,7 @@ fn fetched_byte<S: Storage>(cpu: &Cpu, storage: &S, address: Addr24) -> Result<u
 
 /// 54 N, 55 CL, 56 O, 57 X, 58 L, 59 C, 5A A, 5B S, 5E AL, 5F SL: an operation on a register and a word of storage.
 #[inline(always)]
-fn word_row<S: Storage>(
+pub fn word_row<S: Storage>(
     operation: Arithmetic,
     cpu: &mut Cpu,
     storage: &S,
@@ -145,7 +145,7 @@ fn insert_character<S: Storage>(
 
 /// 91 TM, 95 CLI: a test of a byte of storage by the immediate one.
 #[inline(always)]
-fn test_byte_row<S: Storage>(
+pub fn test_byte_row<S: Storage>(
     test: ByteTest,
     cpu: &mut Cpu,
     storage: &S,

@@ -1,15 +1,17 @@
 //! The rows that access no storage.
-ghost use Rattle.std.specs.Prelude.{◌≡◌, ℕ, ◌<◌, Ok};
-ghost use Rattle.s370_rows.specs.Formats.{r1_of, r2_of};
+ghost use Rattle.std.specs.Prelude.{◌≡◌, ℕ, ◌<◌, Ok, slice_index, true};
+ghost use Rattle.s370_rows.specs.Formats.{indexed_address, r1_of, r2_of};
+ghost use Rattle.s370_rows.specs.Load.{address_loaded};
 ghost use Rattle.s370_rows.specs.Product.{multiplied, quotient_left};
 ghost use Rattle.s370_rows.specs.Shift.{pair_shifted};
+ghost use Rattle.s370_rows.specs.Registers.{arithmetic};
 ghost use Rattle.s370_rows.specs.Results.{MeetsEnded};
 ghost use Rattle.s370_cpu.specs.RegisterRows.{branched, register_row, shift_count, with_even};
 
 use crate::opcodes::{Branching, RegisterRow};
 use s370_psw::ProgramCode;
 use s370_rows::{
-    Cpu, Ending, Instruction, Place, Shift, arithmetic_row, branch_and_link, branch_on_condition,
+    Arithmetic, Cpu, Ending, Instruction, Place, Shift, arithmetic_row, branch_and_link, branch_on_condition,
     branch_on_count, branch_on_index, divide_row, load_address_row, multiply_row,
     set_program_mask_row, shift_pair_row, shift_row,
 };
@@ -76,6 +78,33 @@ fn shift_pair(shift: Shift, cpu: &mut Cpu, i: Instruction) -> Result<Ending, Pro
     Ok(shift_pair_row(shift, cpu, i.r1(), count))
 }
 
+/// 45 BAL, 46 BCT, 47 BC: a branch to the second operand's address.
+#[inline(always)]
+pub fn branch_to(kind: Branching, cpu: &mut Cpu, place: Place, i: Instruction) -> Ending
+    ensures { branched kind cpu.old place i true (indexed_address cpu.old (r2_of i) i.second_half) ≡ record { ending = result; cpu = cpu.new } }
+{
+    let target = cpu.indexed(i.r2(), i.second_half).get();
+    branch_row(kind, cpu, place, i, true, target)
+}
+
+/// An operation on two registers.
+#[inline(always)]
+pub fn register_operation(operation: Arithmetic, cpu: &mut Cpu, i: Instruction) -> Ending
+    ensures { arithmetic operation cpu.old (r1_of i) (slice_index cpu.old.general (r2_of i)) ≡ record { ending = result; cpu = cpu.new } }
+{
+    let second = cpu.general[i.r2().index()];
+    arithmetic_row(operation, cpu, i.r1(), second)
+}
+
+/// 41 LA: the second operand's address goes to a register.
+#[inline(always)]
+pub fn load_address(cpu: &mut Cpu, i: Instruction) -> Ending
+    ensures { address_loaded cpu.old (r1_of i) (indexed_address cpu.old (r2_of i) i.second_half) ≡ record { ending = result; cpu = cpu.new } }
+{
+    let address = cpu.indexed(i.r2(), i.second_half);
+    load_address_row(cpu, i.r1(), address)
+}
+
 /// Carries out a row that accesses no storage, but for the address.
 #[inline(always)]
 pub fn register_row(
@@ -92,10 +121,7 @@ pub fn register_row(
         RegisterRow::Register(operation) => Ok(arithmetic_row(operation, cpu, i.r1(), second)),
         RegisterRow::Multiply => multiply(cpu, i, second),
         RegisterRow::Divide => divide(cpu, i, second),
-        RegisterRow::LoadAddress => {
-            let address = cpu.indexed(i.r2(), i.second_half);
-            Ok(load_address_row(cpu, i.r1(), address))
-        }
+        RegisterRow::LoadAddress => Ok(load_address(cpu, i)),
         RegisterRow::ShiftWord(shift) => {
             let count = shift_count(cpu, i);
             Ok(shift_row(shift, cpu, i.r1(), count))
@@ -104,10 +130,7 @@ pub fn register_row(
         RegisterRow::BranchRegister(kind) => {
             Ok(branch_row(kind, cpu, place, i, i.r2().number() != 0, second))
         }
-        RegisterRow::BranchTo(kind) => {
-            let target = cpu.indexed(i.r2(), i.second_half).get();
-            Ok(branch_row(kind, cpu, place, i, true, target))
-        }
+        RegisterRow::BranchTo(kind) => Ok(branch_to(kind, cpu, place, i)),
         RegisterRow::BranchOnIndex(kind) => {
             let target = cpu.based(i.second_half).get();
             Ok(branch_on_index(kind, cpu, i.r1(), i.r2(), target))

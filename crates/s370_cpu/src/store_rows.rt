@@ -21,7 +21,11 @@ use s370_store::{
 
 /// 50 ST: the store of a register.
 #[inline(always)]
-fn store_word_row<S: Storage>(cpu: &Cpu, storage: &mut S, i: Instruction) -> Result<Ending, Refusal>
+pub fn store_word_row<S: Storage>(
+    cpu: &Cpu,
+    storage: &mut S,
+    i: Instruction,
+) -> Result<Ending, Refusal>
     ensures row { let before = state_of cpu.now (S.bytes storage.old) (S.keys storage.old) in
         let after = state_of cpu.now (S.bytes storage.new) (S.keys storage.new) in
         MeetsRow (word_stored before i) (S.present storage.old) before result after }

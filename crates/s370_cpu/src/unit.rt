@@ -8,12 +8,13 @@ ghost use Rattle.s370_cpu.specs.Table.{MeetsStep, is_supervised, row_of};
 use crate::conclude::{Stop, conclude};
 use crate::execute::execute;
 use crate::fetch::{fetch, length_of};
-use crate::fetch_rows::fetch_row;
-use crate::opcodes::{Opcode, opcode_of};
-use crate::register_rows::register_row;
-use crate::store_rows::store_row;
+use crate::fetch_rows::{fetch_row, test_byte_row, word_row};
+use crate::opcodes::{Branching, Opcode, opcode_of};
+use crate::register_rows::{branch_to, load_address, register_operation, register_row};
+use crate::store_rows::{store_row, store_word_row};
+use s370_bytes::move_row;
 use s370_psw::{Ilc, ProgramCode};
-use s370_rows::{Cpu, Ending, Instruction, Place, Refusal};
+use s370_rows::{Arithmetic, ByteTest, Cpu, Ending, Instruction, Place, Refusal};
 use s370_store::Storage;
 
 /// Carries out an instruction of any state that was fetched, but for its address.
@@ -32,6 +33,19 @@ fn perform<S: Storage>(
     ensures present { S.present storage.new ≡ S.present storage.old }
     ensures rest { S.Keeps storage.old storage.new }
 {
+    // The most frequent instructions have one jump of their own, without a look at the table.
+    match i.opcode {
+        0x18 => return Ok(register_operation(Arithmetic::Load, cpu, i)),
+        0x41 => return Ok(load_address(cpu, i)),
+        0x46 => return Ok(branch_to(Branching::Count, cpu, place, i)),
+        0x47 => return Ok(branch_to(Branching::Condition, cpu, place, i)),
+        0x50 => return store_word_row(cpu, storage, i),
+        0x58 => return word_row(Arithmetic::Load, cpu, storage, i),
+        0x5A => return word_row(Arithmetic::Add, cpu, storage, i),
+        0x95 => return test_byte_row(ByteTest::CompareLogical, cpu, storage, i),
+        0xD2 => return move_row(cpu, storage, i),
+        _ => {}
+    }
     match opcode_of(i.opcode) {
         Opcode::Invalid => Err(Refusal::Program(ProgramCode::Operation)),
         Opcode::Supervised(_) => unreachable!(),

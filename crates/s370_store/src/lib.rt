@@ -25,7 +25,7 @@ ghost use Rattle.std.specs.Prelude.{◌≡◌, ℕ, ◌+◌, ◌*◌, ◌<◌, �
 ghost use Rattle.s370_store.specs.Access.{tested, IsVerdict, IsGranted, put};
 
 pub use paged::PagedStorage;
-pub use place::put_at;
+pub use place::{copy_at, put_at};
 pub use plain::PlainStorage;
 pub use protection::{Keyring, Listed, Open, test_range};
 use s370_num::{AccessKey, StorageKey};
@@ -141,6 +141,24 @@ pub trait Storage {
         ensures keys { keys self.new ≡ keys self.old }
         ensures present { present self.new ≡ present self.old }
         ensures rest { Keeps self.old self.new };
+
+    /// Copies at most 256 bytes from one place to another, which `check` has granted, as if all were read before any is
+    /// written.
+    fn copy(&mut self, from: u32, to: u32, count: u32)
+        requires source { IsGranted (length (bytes self.old)) (present self.old) from count }
+        requires target { IsGranted (length (bytes self.old)) (present self.old) to count }
+        requires short { count ≤ 256 }
+        ensures bytes { bytes self.new ≡ put (bytes self.old) to (slice_range (bytes self.old) from (from + count)) }
+        ensures size { length (bytes self.new) ≡ length (bytes self.old) }
+        ensures keys { keys self.new ≡ keys self.old }
+        ensures present { present self.new ≡ present self.old }
+        ensures rest { Keeps self.old self.new }
+    {
+        let mut buffer = [0u8; 256];
+        let part = &mut buffer[..count as usize];
+        self.load(from, part);
+        self.store(to, part);
+    }
 
     /// All is kept where nothing changes.
     ghost keeps_same: { (s : Self) → Keeps s s };

@@ -1,7 +1,7 @@
 //! A storage that is all there: what a bare machine has.
 ghost use Rattle.std.specs.Prelude.{◌≡◌, ◌*◌, ◌≤◌, true, length, replicate, IfOk};
 
-use crate::place::put_at;
+use crate::place::{copy_at, put_at};
 use crate::protection::{Listed, test_range};
 use crate::{Access, Fault, Keyed, Range, Storage};
 use s370_num::{AccessKey, StorageKey};
@@ -91,6 +91,16 @@ impl Storage for PlainStorage {
     #[inline(always)]
     fn store(&mut self, start: u32, from: &[u8]) {
         put_at(&mut self.bytes, start as usize, from);
+    }
+
+    #[inline(always)]
+    fn copy(&mut self, from: u32, to: u32, count: u32) {
+        copy_at(
+            &mut self.bytes,
+            from as usize,
+            to as usize,
+            count as usize,
+        );
     }
 
     ghost keeps_same = { λ s. tt };

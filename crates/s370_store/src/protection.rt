@@ -74,7 +74,7 @@ fn block_passes<K: Keyring>(keys: &K, block: u32, access: Access, key: AccessKey
 /// The test of an access to one range by size and keys, as if every page were present.
 ///
 /// A body's own `check` makes it first, and then looks for the pages. At most 256 bytes lie in one block or in two that
-/// follow one another, so the keys of the first byte and of the last decide.
+/// follow one another, so the key of the first byte decides, or those of the first and the last.
 #[inline(always)]
 pub fn test_range<K: Keyring>(
     size: u32,
@@ -99,6 +99,9 @@ pub fn test_range<K: Keyring>(
     }
     if !block_passes(keys, start / 2048, access, key) {
         return Err(Fault::Protection);
+    }
+    if start % 2048 + count <= 2048 {
+        return Ok(());
     }
     if !block_passes(keys, (start + (count - 1)) / 2048, access, key) {
         return Err(Fault::Protection);

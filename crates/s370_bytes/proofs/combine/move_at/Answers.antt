@@ -1,16 +1,18 @@
-use Rattle.std.proofs.Common.{rules, arith, ◌≡◌, ◌∙◌, ℕ, ◌+◌, List, length, slice_range, ap}
+use Rattle.std.proofs.Common.{arith, refl, sym, ◌≡◌, ◌∙◌, ℕ, ◌+◌, List, length, slice_range, ap}
 use Rattle.s370_store.specs.Access.{put}
+use Rattle.s370_bytes.specs.Combine.{lag_of}
 use Rattle.s370_bytes.specs.declared.combine.Combine.TheVariants.{Move}
 use Rattle.s370_bytes.proofs.Places.{length-range}
-use Rattle.s370_bytes.proofs.Changes.{made_is}
+use Rattle.s370_bytes.proofs.Changes.{made_is, lagged_source}
 use Rattle.s370_bytes.proofs.combine.move_at.Goals as goal
 
-pub returns-clause-bytes : goal.returns-clause-bytes
-returns-clause-bytes g c =
+pub returns-else-lag_of-count-clause-bytes : goal.returns-else-lag_of-count-clause-bytes
+returns-else-lag_of-count-clause-bytes g c =
     let before = g.S.Storage.bytes c.args.storage.now in
-    let n = length c.args.bytes.now in
-    let l : length c.load.new.into ≡ n = ap length c.load.ensures ∙ length-range before c.args.from n c.requires.source.inside in
-    c.store.ensures.bytes ∙ ap (λ (xs : List ℕ). put before c.args.to xs)
-    (made_is Move before (slice_range before c.args.to (c.args.to + n)) c.load.new.into c.repeat.new.bytes c.args.to c.args.from n c.lag_of-lag.result
-    c.requires.target.inside (c.repeat.ensures.size ∙ l) (search rules) c.load.ensures (search rules)
-    (λ j s. c.repeat.ensures.each j (omega arith)))
+    let n = c.args.count in
+    let source : List ℕ = slice_range before c.args.from (c.args.from + n) in
+    let all : n ≡ c.lag_of.result = omega (arith, c.lag_of.ensures.within, c.if-lag_of-count.false) in
+    c.copy.ensures.bytes ∙ ap (λ (xs : List ℕ). put before c.args.to xs)
+    (made_is Move before (slice_range before c.args.to (c.args.to + n)) source source c.args.to c.args.from n n
+    c.requires.target.inside (length-range before c.args.from n c.requires.source.inside) refl refl (all ∙ c.lag_of.ensures.value)
+    (λ j s. sym (lagged_source source source n j s)))

@@ -1,0 +1,141 @@
+//! Where the guest programs run: on a bare machine, or as users of the control program.
+use crate::loops::Loop;
+use anyhow::{Result, bail};
+use bare_machine::Bare;
+use cp_console::responses::Response;
+use cp_core::{Ended, Event, Sizes, System};
+use cp_directory::read_directory;
+use cp_users::UserNo;
+use s370_store::PlainStorage;
+use std::alloc::Global;
+
+/// Where a guest program runs.
+#[derive(Clone, Copy, Debug, PartialEq, Eq)]
+pub enum Place {
+    /// A bare machine.
+    Bare,
+    /// One user on frames.
+    One,
+    /// Eight users on frames, in turns.
+    Eight,
+}
+
+/// All of them, in the order of the table.
+pub static PLACES: [Place; 3] = [Place::Bare, Place::One, Place::Eight];
+
+impl Place {
+    /// The word that names it.
+    pub fn name(self) -> &'static str {
+        match self {
+            Place::Bare => "bare",
+            Place::One => "one",
+            Place::Eight => "eight",
+        }
+    }
+}
+
+/// Users of 256 KiB each.
+const ONE: &str = "USER A PW 256K";
+
+const EIGHT: &str =
+    "USER A PW 256K\nUSER B PW 256K\nUSER C PW 256K\nUSER D PW 256K\nUSER E PW 256K\nUSER F PW 256K\nUSER G PW 256K\nUSER H PW 256K";
+
+/// How many users there are in turns.
+const USERS: u8 = 8;
+
+/// How many units a turn has, where users have turns.
+const TURN: u32 = 100;
+
+/// A machine that runs the loop.
+fn bare_guest(alloc: Global, guest: Loop) -> Result<Bare> {
+    let mut machine = Bare::new(alloc, PlainStorage::new(alloc, 128)?);
+    machine.line(b"LOGON")?;
+    for line in guest.typed() {
+        machine.line(line.as_bytes())?;
+    }
+    machine.line(b"BEGIN 200")?;
+    Ok(machine)
+}
+
+/// A system of this directory, of which so many users run the loop.
+fn users_guest(alloc: Global, directory: &str, users: u8, guest: Loop) -> Result<System> {
+    let directory = read_directory(alloc, directory.as_bytes())?;
+    let Some(sizes) = Sizes::new(512, 0) else {
+        bail!("sizes");
+    };
+    let mut system = System::boot(alloc, directory, sizes)?;
+    for user in 0..users.min(USERS) {
+        let user = UserNo::new(user);
+        let _said = said(&mut system, user, b"LOGON")?;
+        for line in guest.typed() {
+            let _said = said(&mut system, user, line.as_bytes())?;
+        }
+        let _said = said(&mut system, user, b"BEGIN 200")?;
+    }
+    Ok(system)
+}
+
+/// A user types a line, and this is said.
+fn said(system: &mut System, user: UserNo, typed: &[u8]) -> Result<Option<Response>> {
+    let reply = system.apply(Event::Line(user, typed))?;
+    Ok(reply.said)
+}
+
+/// Lets a user run: how many units were done, and what was said.
+fn ran(system: &mut System, user: UserNo, units: u32) -> Result<(u32, Option<Response>)> {
+    let reply = system.apply(Event::Run(user, units))?;
+    match reply.ended {
+        Ended::Ran(ran) => Ok((ran.units, reply.said)),
+        Ended::Done | Ended::FramesOut => Ok((0, reply.said)),
+    }
+}
+
+/// Units of a bare machine: how many were done.
+fn on_bare(machine: &mut Bare, units: u32) -> u64 {
+    u64::from(machine.units(units).ran.units)
+}
+
+/// Units of a user: how many were done.
+fn of_user(system: &mut System, user: UserNo, units: u32) -> Result<u64> {
+    let (done, _said) = ran(system, user, units)?;
+    Ok(u64::from(done))
+}
+
+/// Units of all users in turns: how many were done together.
+fn in_turns(system: &mut System, units: u32) -> Result<u64> {
+    let mut done = 0u64;
+    for _ in 0..units / (TURN * u32::from(USERS)) {
+        for user in 0..USERS {
+            done = done.wrapping_add(of_user(system, UserNo::new(user), TURN)?);
+        }
+    }
+    Ok(done)
+}
+
+/// Machines that run a guest program.
+#[derive(Drop)]
+pub enum Guests {
+    Bare(Bare),
+    One(System),
+    Eight(System),
+}
+
+impl Guests {
+    /// The machines of a place, all running the program.
+    pub fn new(alloc: Global, place: Place, guest: Loop) -> Result<Guests> {
+        Ok(match place {
+            Place::Bare => Guests::Bare(bare_guest(alloc, guest)?),
+            Place::One => Guests::One(users_guest(alloc, ONE, 1, guest)?),
+            Place::Eight => Guests::Eight(users_guest(alloc, EIGHT, USERS, guest)?),
+        })
+    }
+
+    /// Lets them run for so many units together, and says how many were done.
+    pub fn run(&mut self, units: u32) -> Result<u64> {
+        match self {
+            Guests::Bare(machine) => Ok(on_bare(machine, units)),
+            Guests::One(system) => of_user(system, UserNo::new(0), units),
+            Guests::Eight(system) => in_turns(system, units),
+        }
+    }
+}
