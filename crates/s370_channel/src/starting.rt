@@ -1,0 +1,46 @@
+//! The test that SIO makes of a channel program (GA22-7000, "Start I/O").
+ghost use Rattle.std.specs.Prelude.{◌≡◌, ℕ, ◌%◌, ◌^◌, IfOk, IfErr, length};
+ghost use Rattle.s370_store.specs.Access.{IsAway, Touches};
+ghost use Rattle.s370_walk.specs.Hardware.{memory_of};
+ghost use Rattle.s370_channel.specs.Words.{caw_of};
+ghost use Rattle.s370_channel.specs.Start.{start_of};
+
+use crate::judging::{Verdict, judge};
+use crate::words::Caw;
+use s370_store::{Page, Storage};
+use s370_walk::{Spot, WordForm};
+
+/// How many commands one program may start: the start of one more is a program check.
+pub const MOST_COMMANDS: u32 = 65535;
+
+/// The start that the channel address word asks for, or None where that word or the first command word is bad. An error
+/// is a page of the first word that is not present.
+///
+/// `check_start(&Guest, &storage, load_word(&storage, 72))` is what SIO tests.
+pub fn check_start<F: WordForm, S: Storage>(
+    program: &F,
+    storage: &S,
+    caw: u32,
+) -> Result<Option<Caw>, Page>
+    ensures start { IfOk result (λ start. start ≡ start_of ((F.written program.now).text (memory_of (S.bytes storage.now) (S.keys storage.now))) (caw_of caw)) }
+    ensures absent { IfErr result (λ page. IsAway (length (S.bytes storage.now)) (S.present storage.now) page.0 × Touches ((F.written program.now).word_asks (caw % 2 ^ 24)) page.0) }
+{
+    let Some(start) = Caw::from_word(caw) else {
+        return Ok(None);
+    };
+    let at = start.address.get();
+    let Some(word) = program.fetch(storage, at)? else {
+        return Ok(None);
+    };
+    let spot = Spot {
+        at,
+        role: None,
+        jumped: true,
+        started: 0,
+    };
+    match judge(MOST_COMMANDS, &spot, &word) {
+        Verdict::Good => Ok(Some(start)),
+        Verdict::Jump => Ok(None),
+        Verdict::Bad => Ok(None),
+    }
+}

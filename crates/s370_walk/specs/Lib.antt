@@ -1,0 +1,7 @@
+pub mod Bits
+pub mod Blocks
+pub mod Hardware
+pub mod Walk
+pub mod Stuck
+pub mod Moved
+pub mod Reaching

@@ -1,0 +1,17 @@
+//! The walk of a channel program, one step at a time, and what it goes over: devices and forms of words.
+//!
+//! Its one theorem: a walk comes to one end. What each step does is `next` in `specs/Walk.antt`, which is to be read beside
+//! docs/MACHINE.md, "Channel"; the run of a program in `s370_channel` is that walk, for each [`Device`], each [`WordForm`]
+//! and each storage.
+//!
+//! A device is what implements [`Device`]: `device.command(order)` begins a command, `device.give()` and `device.take(byte)`
+//! move its bytes, and `device.finish()` tells how it went.
+#![tactic(auto)]
+
+mod bits;
+mod parts;
+mod traits;
+
+pub use bits::{ChannelStatus, Command, Flags, UnitStatus};
+pub use parts::{Answer, Ending, Kind, Order, Position, Progress, Spot, Transfer, Word};
+pub use traits::{Device, WordForm};

@@ -1,0 +1,90 @@
+//! Devices, and the forms in which channel programs are written.
+ghost use Rattle.std.specs.Prelude.{◌≡◌, ℕ, ◌<◌, ◌≤◌, ◌+◌, ◌-◌, ◌*◌, false, length, List, if◌then◌else◌};
+ghost use Rattle.s370_walk.specs.Hardware.{Machine, FetchTells, memory_of, given, after_giving, after_taking};
+ghost use Rattle.s370_walk.specs.Walk.{Written};
+
+use crate::bits::UnitStatus;
+use crate::parts::{Answer, Order, Position, Word};
+use s370_store::{Page, Storage};
+
+/// A device, which answers a command, then gives or takes bytes, and then finishes.
+///
+/// Whoever writes one says what it is by total functions on its state ([`Machine`](../specs/Hardware.antt)), and shows
+/// that its code is those functions: there is no other law.
+pub trait Device {
+    /// The device as total functions on its state.
+    ghost machine: { Machine Self };
+
+    /// Begins a command, or refuses it.
+    fn command(&mut self, order: Order) -> Answer
+        ensures answer { result ≡ machine.answer self.old order }
+        ensures after { self.new ≡ machine.started self.old order };
+
+    /// Whether it wants no more bytes, though it has fewer than it said.
+    fn is_done(&self) -> bool
+        ensures { result ≡ machine.done self.now };
+
+    /// Gives its next byte.
+    fn give(&mut self) -> u8
+        ensures byte { result ≡ machine.gives self.old }
+        ensures after { self.new ≡ machine.gave self.old };
+
+    /// Takes a byte.
+    fn take(&mut self, byte: u8)
+        ensures { self.new ≡ machine.took self.old byte };
+
+    /// Ends the command that it began and did not refuse, and says how it went.
+    fn finish(&mut self) -> UnitStatus
+        ensures status { result ≡ machine.status self.old }
+        ensures after { self.new ≡ machine.finished self.old };
+
+    /// How many bytes at least it will give or take before it is done. Without a body of its own, one byte at a time is
+    /// moved.
+    fn ready(&self) -> u32
+        requires { machine.done self.now ≡ false }
+        ensures giving { (n : ℕ) → n < result → machine.done (after_giving machine self.now n) ≡ false }
+        ensures taking { (bytes : List ℕ) → length bytes < result → machine.done (after_taking machine self.now bytes) ≡ false }
+    {
+        1
+    }
+
+    /// Gives as many bytes as there is room for: those that it would give one by one.
+    fn give_bytes(&mut self, into: &mut [u8])
+        ensures bytes { into.new ≡ given machine self.old (length into.old) }
+        ensures after { self.new ≡ after_giving machine self.old (length into.old) }
+    {
+        'bytes: for slot in into.iter_mut() {
+            *slot = self.give();
+        }
+    }
+
+    /// Takes bytes, as it would take them one by one.
+    fn take_bytes(&mut self, from: &[u8])
+        ensures { self.new ≡ after_taking machine self.old from.now }
+    {
+        'bytes: for byte in from {
+            self.take(*byte);
+        }
+    }
+}
+
+/// How the words of a program are written.
+pub trait WordForm {
+    /// The form as functions on storage.
+    ghost written: { Self → Written };
+
+    /// The word at an address, or None where none lies there. An error is a page that is not present.
+    fn fetch<S: Storage>(&self, storage: &S, at: u32) -> Result<Option<Word>, Page>
+        ensures { FetchTells (length (S.bytes storage.now)) (S.present storage.now) ((written self.now).word_asks at) ((written self.now).text (memory_of (S.bytes storage.now) (S.keys storage.now)) at) result };
+
+    /// Where the block of this number begins of the area of a word, or None where that cannot be found out: block 0 is
+    /// where the area begins, the others are blocks of 2048 bytes.
+    fn block<S: Storage>(
+        &self,
+        storage: &S,
+        position: &Position,
+        number: u32,
+    ) -> Result<Option<u32>, Page>
+        requires { number ≤ 32 }
+        ensures { FetchTells (length (S.bytes storage.now)) (S.present storage.now) ((written self.now).block_asks position.now number) ((written self.now).block (memory_of (S.bytes storage.now) (S.keys storage.now)) position.now number) result };
+}
