@@ -4,13 +4,20 @@ use cp_console::printing;
 use cp_console::responses::Response;
 use s370_num::{AccessKey, StorageKey};
 use s370_store::{Access, Keyed, PlainStorage, Range, Storage};
+use s370_subchannels::Subchannels;
 use std::alloc::Global;
 use std::process::Abort;
 use std::test::Fail;
 
+/// A machine of 8 KiB without devices that is off.
+fn machine_off(alloc: Global) -> Result<Bare, Fail> {
+    let storage = PlainStorage::new(alloc, 4)?;
+    Ok(Bare::new(alloc, storage, Subchannels::new(alloc)))
+}
+
 /// A machine of 8 KiB that is on, with all zero.
 fn machine(alloc: Global) -> Result<Bare, Fail> {
-    let mut machine = Bare::new(alloc, PlainStorage::new(alloc, 4)?);
+    let mut machine = machine_off(alloc)?;
     machine.line(b"LOGON")?;
     Ok(machine)
 }
@@ -324,7 +331,7 @@ fn a_timer_interrupts(rt: HostRuntime) -> Result<(), Fail> {
 #[test]
 fn timers_of_machines(rt: HostRuntime) -> Result<(), Fail> {
     // a machine that is off, and one that is stopped
-    let mut machine = Bare::new(rt.alloc(), PlainStorage::new(rt.alloc(), 4)?);
+    let mut machine = machine_off(rt.alloc())?;
     machine.tick();
     assert_eq!(rt; machine.storage().get(80), Some(&0));
     session(&rt, &mut machine, &[("LOGON", "LOGON OK")])?;
@@ -377,7 +384,7 @@ fn control_registers_and_keys_are_shown(rt: HostRuntime) -> Result<(), Fail> {
     let mut storage = PlainStorage::new(rt.alloc(), 4)?;
     assert_eq!(rt; storage.keys().len(), 4);
     storage.set_key(1, StorageKey::new(0x1F));
-    let mut machine = Bare::new(rt.alloc(), storage);
+    let mut machine = Bare::new(rt.alloc(), storage, Subchannels::new(rt.alloc()));
     let lines = [
         ("LOGON", "LOGON OK"),
         ("DISPLAY X0", "CR 0 = 000000E0"),
@@ -402,7 +409,7 @@ fn control_registers_and_keys_are_shown(rt: HostRuntime) -> Result<(), Fail> {
 
 #[test]
 fn lines_to_a_machine_that_is_off(rt: HostRuntime) -> Result<(), Fail> {
-    let mut machine = Bare::new(rt.alloc(), PlainStorage::new(rt.alloc(), 4)?);
+    let mut machine = machine_off(rt.alloc())?;
     for line in ["", "#CP", "#CP LOGON", "BEGIN", "FOO", "LOGON X", "logon"] {
         session(&rt, &mut machine, &[(line, "NOT LOGGED ON")])?;
         assert_eq!(rt; machine.mode(), Mode::Off);
@@ -484,7 +491,7 @@ fn a_machine_begins_with_nothing_in_it(rt: HostRuntime) -> Result<(), Fail> {
     storage.store(9, &[7]);
     assert_eq!(rt; storage.keys().len(), 4);
     storage.set_key(3, StorageKey::new(0x1F));
-    let mut machine = Bare::new(rt.alloc(), storage);
+    let mut machine = Bare::new(rt.alloc(), storage, Subchannels::new(rt.alloc()));
     assert_eq!(rt; machine.mode(), Mode::Off);
     nothing_is_in(&rt, &machine)?;
     session(&rt, &mut machine, &[("LOGON", "LOGON OK")])?;
@@ -562,7 +569,11 @@ fn eight_pages(
     rt: &(impl Abort + AllocGlobal),
     second_operand: &'static str,
 ) -> Result<Bare, Fail> {
-    let mut machine = Bare::new(rt.alloc(), PlainStorage::new(rt.alloc(), 16)?);
+    let mut machine = Bare::new(
+        rt.alloc(),
+        PlainStorage::new(rt.alloc(), 16)?,
+        Subchannels::new(rt.alloc()),
+    );
     let lines = [
         ("LOGON", "LOGON OK"),
         ("STORE FFE 44009000", "STORED"),

@@ -17,6 +17,7 @@ use s370_store::PlainStorage;
 use std::alloc::Global;
 use std::env;
 use std::process::ExitCode;
+use s370_subchannels::Subchannels;
 use std::rt::{Clock, Env};
 use std::time::{Duration, Instant};
 
@@ -33,7 +34,7 @@ const TYPED: [&str; 7] = [
 
 /// The machine, running at the loop.
 fn guest(alloc: Global) -> Result<Bare> {
-    let mut machine = Bare::new(alloc, PlainStorage::new(alloc, 4)?);
+    let mut machine = Bare::new(alloc, PlainStorage::new(alloc, 4)?, Subchannels::new(alloc));
     for line in TYPED {
         machine.line(line.as_bytes())?;
     }

@@ -1,5 +1,5 @@
 //! What the instructions that ask a device are answered.
-ghost use Rattle.std.specs.Prelude.{◌≡◌, ◌≤◌, length, IfErr, IfOk, OnOk};
+ghost use Rattle.std.specs.Prelude.{◌≡◌, ◌≤◌, true, length, IfErr, IfOk, OnOk};
 ghost use Rattle.std.specs.Int.{w64, to_be_bytes};
 ghost use Rattle.s370_rows.specs.declared.ending.IoOperation.TheVariants as operations;
 ghost use Rattle.s370_store.specs.Access.{IsAway, IsGranted, put};
@@ -204,6 +204,7 @@ fn test_channel(devices: &Subchannels, channel: u8) -> ConditionCode
 pub fn store_csw<S: Storage>(storage: &mut S, csw: u64) -> Result<(), Page>
     requires { 8192 ≤ length (S.bytes storage.old) }
     ensures stored { OnOk result (S.bytes storage.new ≡ put (S.bytes storage.old) 64 (to_be_bytes w64 csw)) }
+    ensures here { OnOk result (S.present storage.new 0 ≡ true) }
     ensures absent { IfErr result (λ page. (S.bytes storage.new ≡ S.bytes storage.old) × IsAway (length (S.bytes storage.old)) (S.present storage.old) page.0 × (page.0 ≡ 0)) }
     ensures keys { S.keys storage.new ≡ S.keys storage.old }
     ensures size { length (S.bytes storage.new) ≡ length (S.bytes storage.old) }

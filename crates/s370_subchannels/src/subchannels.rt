@@ -1,5 +1,6 @@
 //! The subchannels of a machine.
 ghost use Rattle.std.specs.Prelude.{◌≡◌, ◌++◌, ◌∷◌, [], map, true, IfOk, OnErr};
+ghost use Rattle.std.specs.Option.{option_map};
 ghost use Rattle.std.specs.List.{list_all, list_any, position};
 ghost use Rattle.s370_subchannels.specs.Subchannels.{AreAscending, can_add, first_status, found, is_at, is_below, is_on, new_device, pending_masks, pends_on, reset, reset_one, with_state};
 
@@ -92,6 +93,16 @@ impl Subchannels {
     {
         match self.place_of(device) {
             Some(place) => Some(self.list[place]),
+            None => None,
+        }
+    }
+
+    /// The state of a device, if there is such a device.
+    pub fn state_of(&self, device: u16) -> Option<DeviceState>
+        ensures { result ≡ option_map (λ s. s.state) (found device self.now) }
+    {
+        match self.get(device) {
+            Some(s) => Some(s.state),
             None => None,
         }
     }
