@@ -14,10 +14,10 @@ use cp_text::numbers::decimal_of;
 use cp_users::UserNo;
 use s370_num::Word;
 use s370_store::PlainStorage;
+use s370_subchannels::Subchannels;
 use std::alloc::Global;
 use std::env;
 use std::process::ExitCode;
-use s370_subchannels::Subchannels;
 use std::rt::{Clock, Env};
 use std::time::{Duration, Instant};
 

@@ -70,7 +70,10 @@ fn set_present(rt: &impl Abort, storage: &mut PagedStorage, page: u32, present: 
 }
 
 fn unit(
-    rt: &(impl Abort + AllocGlobal), cpu: &mut Cpu, storage: &mut PagedStorage) -> Result<(), Page> {
+    rt: &(impl Abort + AllocGlobal),
+    cpu: &mut Cpu,
+    storage: &mut PagedStorage,
+) -> Result<(), Page> {
     assert!(rt; storage.size() >= 8192);
     let mut devices = Subchannels::new(rt.alloc());
     instruct::<VirtualCpu, PagedStorage>(cpu, &mut devices, storage)
@@ -158,7 +161,13 @@ fn ran(
     let mut pending = Pending::NOTHING;
     let mut devices = Subchannels::new(rt.alloc());
     assert!(rt; storage.size() >= 8192);
-    let ran = run_units::<VirtualCpu, PlainStorage>(cpu, &mut pending, &mut devices, storage, count);
+    let ran = run_units::<VirtualCpu, PlainStorage>(
+        cpu,
+        &mut pending,
+        &mut devices,
+        storage,
+        count,
+    );
     let all = Ran {
         units: count,
         reason: Reason::Count,

@@ -207,7 +207,13 @@ fn interrupted(
         &mut storage,
         1,
     );
-    assert_eq!(rt; ran, Ran { units: 1, reason: Reason::Count });
+    assert_eq!(rt;
+        ran,
+        Ran {
+            units: 1,
+            reason: Reason::Count
+        }
+    );
     Ok((devices, storage))
 }
 
@@ -215,8 +221,20 @@ fn interrupted(
 fn statuses_of_devices_are_accepted(rt: HostRuntime) -> Result<(), Fail> {
     let cases = [
         // (PSW that waits, pending; the device that is taken; the old PSW, and where it stands)
-        (0x60020000_00000104, Pending::NOTHING, 0x190, 0x60020190_00000104, 56),
-        (0x20020000_00000104, Pending::NOTHING, 0x290, 0x20020290_00000104, 56),
+        (
+            0x60020000_00000104,
+            Pending::NOTHING,
+            0x190,
+            0x60020190_00000104,
+            56,
+        ),
+        (
+            0x20020000_00000104,
+            Pending::NOTHING,
+            0x290,
+            0x20020290_00000104,
+            56,
+        ),
         (0x40020000_00000104, BOTH, 0x190, 0x40020190_00000104, 56),
         // external conditions come first
         (0x61020000_00000104, TIMER, 0, 0x61020080_00000104, 24),
@@ -224,7 +242,11 @@ fn statuses_of_devices_are_accepted(rt: HostRuntime) -> Result<(), Fail> {
     for (psw, pending, taken, old, at) in cases {
         let (devices, storage) = interrupted(&rt, psw, pending)?;
         assert_eq!(rt; doubleword_at(&storage, at)?, old, "of {psw:X}");
-        assert_eq!(rt; doubleword_at(&storage, 64)?, u64::from(taken), "of {psw:X}");
+        assert_eq!(rt;
+            doubleword_at(&storage, 64)?,
+            u64::from(taken),
+            "of {psw:X}"
+        );
         for address in [0x190u16, 0x290] {
             let wanted = if address == taken {
                 DeviceState::Idle
@@ -243,9 +265,23 @@ fn a_start_is_undone(rt: HostRuntime) -> Result<(), Fail> {
     let mut storage = PagedStorage::new(rt.alloc(), 2)?;
     assert!(rt; storage.size() >= 8192);
     storage.set_present(Page(0), true);
-    storage.check(Range { start: 72, count: 8 }, Access::Store, AccessKey::ZERO)?;
+    storage.check(
+        Range {
+            start: 72,
+            count: 8,
+        },
+        Access::Store,
+        AccessKey::ZERO,
+    )?;
     store_doubleword(&mut storage, 72, 0x00001000_00000000);
-    storage.check(Range { start: 256, count: 8 }, Access::Store, AccessKey::ZERO)?;
+    storage.check(
+        Range {
+            start: 256,
+            count: 8,
+        },
+        Access::Store,
+        AccessKey::ZERO,
+    )?;
     store_doubleword(&mut storage, 256, 0x9C000191_00000000);
     let mut devices = Subchannels::new(rt.alloc());
     let device = DevAddr::new(0x191);

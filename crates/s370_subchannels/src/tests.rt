@@ -10,14 +10,13 @@ use std::process::Abort;
 use std::test::Fail;
 
 const IDLE: DeviceState = DeviceState::Idle;
+
 const WORKING: DeviceState = DeviceState::Working(0x800);
+
 const PENDING: DeviceState = DeviceState::Pending(0x00000818_0C000064);
 
 /// Idle devices at these addresses.
-fn devices_at(
-    rt: &(impl Abort + AllocGlobal),
-    addresses: &[u16],
-) -> Result<Subchannels, Fail> {
+fn devices_at(rt: &(impl Abort + AllocGlobal), addresses: &[u16]) -> Result<Subchannels, Fail> {
     let mut devices = Subchannels::new(rt.alloc());
     for address in addresses {
         let device = DevAddr::new(*address);
@@ -30,7 +29,12 @@ fn devices_at(
 #[test]
 fn devices_are_added_in_order(rt: HostRuntime) -> Result<(), Fail> {
     let devices = devices_at(&rt, &[0x009, 0x191, 0x5FE])?;
-    for (address, can) in [(0x009, false), (0x5FE, false), (0x5FF, true), (0x600, false)] {
+    for (address, can) in [
+        (0x009, false),
+        (0x5FE, false),
+        (0x5FF, true),
+        (0x600, false),
+    ] {
         let told = devices.can_add(DevAddr::new(address));
         assert_eq!(rt; told, can, "at {address:X}");
     }
@@ -87,10 +91,28 @@ fn each_state_has_its_answers(rt: HostRuntime) -> Result<(), Fail> {
         place(&mut storage, 0x810, 0x08000800_00000001)?;
         assert!(rt; storage.size() >= 8192);
         let told = answer(&mut devices, &mut storage, operation, device);
-        assert_eq!(rt; told, Ok(ConditionCode::new(code)), "{before:?} {operation:?}");
-        storage.check(Range { start: 64, count: 8 }, Access::Fetch, AccessKey::ZERO)?;
-        assert_eq!(rt; load_doubleword(&storage, 64), csw, "{before:?} {operation:?}");
-        assert!(rt; devices.state_of(0x191) == Some(after), "{before:?} {operation:?}");
+        assert_eq!(rt;
+            told,
+            Ok(ConditionCode::new(code)),
+            "{before:?} {operation:?}"
+        );
+        storage.check(
+            Range {
+                start: 64,
+                count: 8,
+            },
+            Access::Fetch,
+            AccessKey::ZERO,
+        )?;
+        assert_eq!(rt;
+            load_doubleword(&storage, 64),
+            csw,
+            "{before:?} {operation:?}"
+        );
+        assert!(rt;
+            devices.state_of(0x191) == Some(after),
+            "{before:?} {operation:?}"
+        );
         assert!(rt; devices.state_of(0x190) == Some(IDLE));
     }
     Ok(())
@@ -137,7 +159,10 @@ fn the_lowest_device_of_an_enabled_channel_interrupts(rt: HostRuntime) -> Result
         assert_eq!(rt; status, wanted, "with {masks:X}");
     }
     devices.reset();
-    assert_eq!(rt; devices.first_status(&Psw::from_word(0xFF00_0000_0000_0000)), None);
+    assert_eq!(rt;
+        devices.first_status(&Psw::from_word(0xFF00_0000_0000_0000)),
+        None
+    );
     assert!(rt; devices.state_of(0x190) == Some(IDLE));
     Ok(())
 }

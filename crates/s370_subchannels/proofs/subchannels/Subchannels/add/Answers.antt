@@ -8,8 +8,7 @@ pub invariant_of-self-2 : goal.invariant_of-self-2
 invariant_of-self-2 c =
     let old = c.self.inside.list.items in
     let can = can_add_says c.args.device old (ap (λ (ss : List Subchannel). can_add c.args.device ss) c.self.view_is ∙ c.requires) in
-    let made : c.push.new.self.items ≡ old ++ new_device c.args.device ∷ [] = search rules in
-    (
+    let made : c.push.new.self.items ≡ old ++ new_device c.args.device ∷ [] = search rules in (
       c.pending_masks-self-inside.ensures ∙ ap pending_masks c.as_slice.ensures.value,
       subst AreAscending (sym made) (ascending_added c.args.device old c.self.invariant.1 can.1),
       (let n : length c.push.new.self.items ≡ length old + 1 = ap length made ∙ length-append old (new_device c.args.device ∷ []) in omega (arith, n, can.0)),

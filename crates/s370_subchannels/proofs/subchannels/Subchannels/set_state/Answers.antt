@@ -11,8 +11,7 @@ invariant_of-self c =
     let x = c.index_mut.result.now in
     let e : old ≡ c.args.self.now = c.self.view_is in
     let at : position (is_at c.args.device) old ≡ Some c.in-Some.place = ap (position (is_at c.args.device)) e ∙ (sym c.place_of.ensures ∙ c.in-Some.is) in
-    let p = a_place c.args.device c.args.state old c.in-Some.place x at c.index_mut.ensures.value in
-    (
+    let p = a_place c.args.device c.args.state old c.in-Some.place x at c.index_mut.ensures.value in (
       c.pending_masks-self-inside.ensures ∙ ap pending_masks c.as_slice.ensures.value,
       ascending_set old c.in-Some.place (record x { state = c.args.state }) x c.self.invariant.1 p.2 (ap (λ (y : Subchannel). y.address) c.index_mut.ensures.value),
       omega (arith, c.self.invariant.2, length-set old c.in-Some.place (record x { state = c.args.state })),
