@@ -14,12 +14,13 @@ use s370_intr::{Pending, RealCpu};
 use s370_num::StorageKey;
 use s370_psw::Psw;
 use s370_store::{PlainStorage, Supply};
+use s370_subchannels::{Subchannel, Subchannels};
 use std::alloc::{AllocError, Global};
 use std::marker::Model;
 
 /// One System/370 with its panel and its own storage.
 ///
-/// `let mut machine = Bare::new(alloc, PlainStorage::new(alloc, 4)?);` is a machine of 8 KiB that is off;
+/// `let mut machine = Bare::new(alloc, PlainStorage::new(alloc, 4)?, Subchannels::new(alloc));` is a machine of 8 KiB that is off;
 /// `machine.line(b"LOGON")?` switches it on.
 #[derive(Drop)]
 pub struct Bare {
@@ -40,14 +41,14 @@ impl Model for Bare {
 }
 
 impl Bare {
-    /// A machine that is off, with this storage of at least 8 KiB, which is cleared.
-    pub fn new(alloc: Global, mut storage: PlainStorage) -> Bare
+    /// A machine that is off, with this storage of at least 8 KiB, which is cleared, and these devices, which are reset.
+    pub fn new(alloc: Global, mut storage: PlainStorage, devices: Subchannels) -> Bare
         requires { 8192 ≤ length (plain_bytes storage) }
-        ensures { result ≡ unused (plain_bytes storage) (plain_keys storage) }
+        ensures { result ≡ unused (plain_bytes storage) (plain_keys storage) devices }
     {
         Supply::clear(&mut storage);
         Bare {
-            machine: Machine::new(alloc),
+            machine: Machine::new(alloc, devices),
             storage,
         }
     }
@@ -119,6 +120,13 @@ impl Bare {
         ensures { result ≡ slice_get self.now.core.processor.keys block }
     {
         self.storage.keys().get(block as usize).copied()
+    }
+
+    /// The subchannels of the devices, in the order of their addresses.
+    pub fn subchannels(&self) -> &[Subchannel]
+        ensures { result.now ≡ self.now.core.subchannels }
+    {
+        self.machine.subchannels()
     }
 
     /// The external conditions that are pending.

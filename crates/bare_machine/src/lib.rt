@@ -8,7 +8,7 @@
 //! It is given a storage, which it clears, and leaves nothing behind but its own state.
 //!
 //! ```
-//! let mut machine = Bare::new(alloc, PlainStorage::new(alloc, 4)?);
+//! let mut machine = Bare::new(alloc, PlainStorage::new(alloc, 4)?, Subchannels::new(alloc));
 //! machine.line(b"LOGON")?;
 //! machine.line(b"STORE 200 0A07")?;
 //! machine.line(b"BEGIN 200")?;

@@ -2,15 +2,22 @@
 use super::{Bare, MachineRan, Mode, Pending, Ran, Reason};
 use cp_console::printing;
 use cp_console::responses::Response;
-use s370_num::{AccessKey, StorageKey};
+use s370_num::{AccessKey, DevAddr, StorageKey};
 use s370_store::{Access, Keyed, PlainStorage, Range, Storage};
+use s370_subchannels::{DeviceState, Subchannels};
 use std::alloc::Global;
 use std::process::Abort;
 use std::test::Fail;
 
+/// A machine of 8 KiB without devices that is off.
+fn machine_off(alloc: Global) -> Result<Bare, Fail> {
+    let storage = PlainStorage::new(alloc, 4)?;
+    Ok(Bare::new(alloc, storage, Subchannels::new(alloc)))
+}
+
 /// A machine of 8 KiB that is on, with all zero.
 fn machine(alloc: Global) -> Result<Bare, Fail> {
-    let mut machine = Bare::new(alloc, PlainStorage::new(alloc, 4)?);
+    let mut machine = machine_off(alloc)?;
     machine.line(b"LOGON")?;
     Ok(machine)
 }
@@ -324,7 +331,7 @@ fn a_timer_interrupts(rt: HostRuntime) -> Result<(), Fail> {
 #[test]
 fn timers_of_machines(rt: HostRuntime) -> Result<(), Fail> {
     // a machine that is off, and one that is stopped
-    let mut machine = Bare::new(rt.alloc(), PlainStorage::new(rt.alloc(), 4)?);
+    let mut machine = machine_off(rt.alloc())?;
     machine.tick();
     assert_eq!(rt; machine.storage().get(80), Some(&0));
     session(&rt, &mut machine, &[("LOGON", "LOGON OK")])?;
@@ -377,7 +384,7 @@ fn control_registers_and_keys_are_shown(rt: HostRuntime) -> Result<(), Fail> {
     let mut storage = PlainStorage::new(rt.alloc(), 4)?;
     assert_eq!(rt; storage.keys().len(), 4);
     storage.set_key(1, StorageKey::new(0x1F));
-    let mut machine = Bare::new(rt.alloc(), storage);
+    let mut machine = Bare::new(rt.alloc(), storage, Subchannels::new(rt.alloc()));
     let lines = [
         ("LOGON", "LOGON OK"),
         ("DISPLAY X0", "CR 0 = 000000E0"),
@@ -402,7 +409,7 @@ fn control_registers_and_keys_are_shown(rt: HostRuntime) -> Result<(), Fail> {
 
 #[test]
 fn lines_to_a_machine_that_is_off(rt: HostRuntime) -> Result<(), Fail> {
-    let mut machine = Bare::new(rt.alloc(), PlainStorage::new(rt.alloc(), 4)?);
+    let mut machine = machine_off(rt.alloc())?;
     for line in ["", "#CP", "#CP LOGON", "BEGIN", "FOO", "LOGON X", "logon"] {
         session(&rt, &mut machine, &[(line, "NOT LOGGED ON")])?;
         assert_eq!(rt; machine.mode(), Mode::Off);
@@ -484,7 +491,7 @@ fn a_machine_begins_with_nothing_in_it(rt: HostRuntime) -> Result<(), Fail> {
     storage.store(9, &[7]);
     assert_eq!(rt; storage.keys().len(), 4);
     storage.set_key(3, StorageKey::new(0x1F));
-    let mut machine = Bare::new(rt.alloc(), storage);
+    let mut machine = Bare::new(rt.alloc(), storage, Subchannels::new(rt.alloc()));
     assert_eq!(rt; machine.mode(), Mode::Off);
     nothing_is_in(&rt, &machine)?;
     session(&rt, &mut machine, &[("LOGON", "LOGON OK")])?;
@@ -562,7 +569,11 @@ fn eight_pages(
     rt: &(impl Abort + AllocGlobal),
     second_operand: &'static str,
 ) -> Result<Bare, Fail> {
-    let mut machine = Bare::new(rt.alloc(), PlainStorage::new(rt.alloc(), 16)?);
+    let mut machine = Bare::new(
+        rt.alloc(),
+        PlainStorage::new(rt.alloc(), 16)?,
+        Subchannels::new(rt.alloc()),
+    );
     let lines = [
         ("LOGON", "LOGON OK"),
         ("STORE FFE 44009000", "STORED"),
@@ -597,4 +608,75 @@ fn an_instruction_that_lies_in_eight_pages(rt: HostRuntime) -> Result<(), Fail> 
         ("PSW", "PSW 00000000 00000500"),
     ];
     displays(&rt, &mut machine, &refused)
+}
+
+/// A machine of 8 KiB with a device at 191, which runs after these lines.
+fn with_a_device(rt: &(impl Abort + AllocGlobal), lines: &[(&str, &str)]) -> Result<Bare, Fail> {
+    let mut devices = Subchannels::new(rt.alloc());
+    let device = DevAddr::new(0x191);
+    assert!(rt; devices.can_add(device));
+    devices.add(device)?;
+    let storage = PlainStorage::new(rt.alloc(), 4)?;
+    let mut machine = Bare::new(rt.alloc(), storage, devices);
+    session(rt, &mut machine, &[("LOGON", "LOGON OK")])?;
+    session(rt, &mut machine, lines)?;
+    session(rt, &mut machine, &[("BEGIN 100", "")])?;
+    Ok(machine)
+}
+
+#[test]
+fn a_start_with_a_bad_address_word(rt: HostRuntime) -> Result<(), Fail> {
+    let lines = [
+        ("STORE 100 9C000191", "STORED"),
+        ("STORE 40 FFFFFFFFFFFFFFFF", "STORED"),
+        ("STORE 48 48000801", "STORED"),
+    ];
+    let mut machine = with_a_device(&rt, &lines)?;
+    assert_eq!(rt; machine.units(1), ran(1, Reason::Count));
+    let left = [
+        ("40", "000040 FFFFFFFF 0020FFFF 48000801 00000000"),
+        ("PSW", "PSW 00000000 10000104"),
+    ];
+    displays(&rt, &mut machine, &left)
+}
+
+// SIO, TIO, SIO, HIO and TIO of 191, TCH of channels 1 and 2, and SIO of 190: each with the condition code in the PSW.
+#[test]
+fn a_device_is_asked(rt: HostRuntime) -> Result<(), Fail> {
+    let lines = [
+        ("STORE 100 9C0001919D0001919C000191", "STORED"),
+        ("STORE 10C 9E0001919D0001919F000100", "STORED"),
+        ("STORE 118 9F0002009C000190", "STORED"),
+        ("STORE 48 00000800", "STORED"),
+        ("STORE 800 0900084000000005", "STORED"),
+    ];
+    let mut machine = with_a_device(&rt, &lines)?;
+    for psw in [
+        "PSW 00000000 00000104",
+        "PSW 00000000 20000108",
+        "PSW 00000000 2000010C",
+        "PSW 00000000 10000110",
+        "PSW 00000000 00000114",
+        "PSW 00000000 00000118",
+        "PSW 00000000 3000011C",
+        "PSW 00000000 30000120",
+    ] {
+        assert_eq!(rt; machine.units(1), ran(1, Reason::Count));
+        displays(&rt, &mut machine, &[("PSW", psw)])?;
+    }
+    Ok(())
+}
+
+#[test]
+fn a_started_program_is_kept(rt: HostRuntime) -> Result<(), Fail> {
+    let lines = [
+        ("STORE 100 9C000191", "STORED"),
+        ("STORE 48 00000800", "STORED"),
+        ("STORE 800 0900084000000005", "STORED"),
+    ];
+    let mut machine = with_a_device(&rt, &lines)?;
+    assert_eq!(rt; machine.units(1), ran(1, Reason::Count));
+    assert!(rt; machine.subchannels().len() == 1);
+    assert!(rt; machine.subchannels()[0].state == DeviceState::Working(0x800));
+    Ok(())
 }

@@ -7,6 +7,7 @@ use cp_core::{Ended, Event, Sizes, System};
 use cp_directory::read_directory;
 use cp_users::UserNo;
 use s370_store::PlainStorage;
+use s370_subchannels::Subchannels;
 use std::alloc::Global;
 
 /// Where a guest program runs.
@@ -48,7 +49,7 @@ const TURN: u32 = 100;
 
 /// A machine that runs the loop.
 fn bare_guest(alloc: Global, guest: Loop) -> Result<Bare> {
-    let mut machine = Bare::new(alloc, PlainStorage::new(alloc, 128)?);
+    let mut machine = Bare::new(alloc, PlainStorage::new(alloc, 128)?, Subchannels::new(alloc));
     machine.line(b"LOGON")?;
     for line in guest.typed() {
         machine.line(line.as_bytes())?;

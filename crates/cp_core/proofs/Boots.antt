@@ -52,7 +52,7 @@ pub whole_new : (seats : List UserParts) (users : List DirectoryUser) → AreNew
 whole_new seats users h few = record { seated = length_new seats users h; stored = length_blank users; few = few; fits = all_fit seats users h }
 
 -- a user's machine at boot, by what it is with any storage of zeros
-pub off_new : (u : UserParts) (user : DirectoryUser) → u.keys ≡ replicate (user.pages * 2) 0 → ((bytes keys : List ℕ) → parts_with u.parts (replicate (length bytes) 0) (replicate (length keys) 0) ≡ unused bytes keys) → machine_of u (replicate (user.pages * 4096) 0) ≡ new_machine user
+pub off_new : (u : UserParts) (user : DirectoryUser) → u.keys ≡ replicate (user.pages * 2) 0 → ((bytes keys : List ℕ) → parts_with u.parts (replicate (length bytes) 0) (replicate (length keys) 0) ≡ unused bytes keys []) → machine_of u (replicate (user.pages * 4096) 0) ≡ new_machine user
 off_new u user k h =
     let bytes : List ℕ = replicate (user.pages * 4096) 0 in
     let keys : List ℕ = replicate (user.pages * 2) 0 in

@@ -39,7 +39,7 @@ machines_of (u ∷ us) (bytes ∷ storages) = machine_of u bytes ∷ machines_of
 
 -- the machine of nobody
 abbrev pub nobody : Machine
-nobody = unused [] []
+nobody = unused [] [] []
 
 -- a user's machine
 abbrev pub machine_at : SystemView → ℕ → Machine
@@ -49,7 +49,7 @@ machine_at s user = slice_index_or s.machines user nobody
 
 -- a user's machine at boot: off, with storage and keys all zero
 abbrev pub new_machine : DirectoryUser → Machine
-new_machine user = unused (replicate (user.pages * 4096) 0) (replicate (user.pages * 2) 0)
+new_machine user = unused (replicate (user.pages * 4096) 0) (replicate (user.pages * 2) 0) []
 
 -- the system at boot: no page stands in a frame, and no frame is pinned
 abbrev pub booted : List DirectoryUser → ℕ → SystemView

@@ -9,7 +9,7 @@ use Rattle.cp_core.specs.System.{new_machine}
 -- the machine of nobody, but for its storage
 abbrev pub no_machine : UserParts
 no_machine = record {
-  parts = record { cpu = reset_cpu (replicate 16 0); pending = nothing_pending; mode = Off; output = []; room = 0 };
+  parts = record { cpu = reset_cpu (replicate 16 0); pending = nothing_pending; subchannels = []; mode = Off; output = []; room = 0 };
   keys = [];
 }
 

@@ -1,5 +1,5 @@
 //! A user's machine, of which the storage stands in frames.
-ghost use Rattle.std.specs.Prelude.{◌≡◌, ◌<◌, ◌≤◌, ◌*◌, ℕ, List, Err, IfOk, OnErr, OnOk, length, replicate, slice_set, true, false};
+ghost use Rattle.std.specs.Prelude.{◌≡◌, ◌<◌, ◌≤◌, ◌*◌, ℕ, List, [], Err, IfOk, OnErr, OnOk, length, replicate, slice_set, true, false};
 ghost use Rattle.s370_store.specs.Access.{Touches};
 ghost use Rattle.s370_intr.specs.Run.{AllNeeded, IsLacking, RunNeeds};
 ghost use Rattle.cp_frames.specs.Layout.{bytes_of, cleared_of, is_there};
@@ -18,6 +18,7 @@ use cp_trap::VirtualCpu;
 use cp_users::UserNo;
 use s370_num::StorageKey;
 use s370_store::FramesOut;
+use s370_subchannels::Subchannels;
 use std::alloc::{AllocError, Global};
 use std::marker::Model;
 
@@ -37,15 +38,15 @@ impl Model for UserMachine {
 }
 
 impl UserMachine {
-    /// A machine that is off, with zero keys for this many pages of 4096 bytes.
+    /// A machine without devices that is off, with zero keys for this many pages of 4096 bytes.
     pub fn new(alloc: Global, pages: u32) -> Result<UserMachine, AllocError>
         requires { pages ≤ 1024 }
         ensures keys { IfOk result (λ user. user.keys ≡ replicate (pages * 2) 0) }
-        ensures parts { IfOk result (λ user. (bytes keys : List ℕ) → parts_with user.parts (replicate (length bytes) 0) (replicate (length keys) 0) ≡ unused bytes keys) }
+        ensures parts { IfOk result (λ user. (bytes keys : List ℕ) → parts_with user.parts (replicate (length bytes) 0) (replicate (length keys) 0) ≡ unused bytes keys []) }
     {
         let keys = vec![in alloc; StorageKey::ZERO; pages as usize * 2]?;
         Ok(UserMachine {
-            machine: Machine::new(alloc),
+            machine: Machine::new(alloc, Subchannels::new(alloc)),
             keys,
         })
     }

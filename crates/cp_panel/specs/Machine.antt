@@ -4,12 +4,14 @@ use Rattle.s370_psw.specs.Fields.{fields_of}
 use Rattle.s370_rows.specs.declared.cpu.Cpu.{Cpu}
 use Rattle.s370_rows.specs.State.{State, state_of}
 use Rattle.s370_intr.specs.declared.pending.Pending.{Pending}
+use Rattle.s370_subchannels.specs.declared.subchannel.Subchannel.{Subchannel}
+use Rattle.s370_subchannels.specs.Subchannels.{reset as reset_devices}
 use Rattle.s370_intr.specs.Units.{Core, core_of}
 use Rattle.cp_panel.specs.declared.machine.Mode.{Mode}
 use Rattle.cp_panel.specs.declared.machine.Mode.TheVariants.{Off, Stopped, Running}
 
--- the processor with its storage and the external conditions that are pending, whether it is on and runs, and the lines
--- that its console has printed
+-- the processor with its storage, the external conditions that are pending and the subchannels of its devices, whether it is
+-- on and runs, and the lines that its console has printed
 pub record Machine : Type 0 where
   pub core : Core
   pub mode : Mode
@@ -26,10 +28,10 @@ reset_control = 0xE0 ∷ replicate 15 0
 abbrev pub reset_cpu : List ℕ → Cpu
 reset_cpu general = record { general = general; control = reset_control; psw = fields_of 0 }
 
--- SYSTEM RESET: general registers, storage, keys and what was printed stay
+-- SYSTEM RESET: general registers, storage, keys and what was printed stay; no device works or has a status pending
 abbrev pub reset : Machine → Machine
 reset m = record m {
-  core = core_of (record m.core.processor { cpu = reset_cpu m.core.processor.cpu.general }) nothing_pending;
+  core = core_of (record m.core.processor { cpu = reset_cpu m.core.processor.cpu.general }) nothing_pending (reset_devices m.core.subchannels);
   mode = Stopped;
 }
 
@@ -49,10 +51,11 @@ cleared m = let r = reset m in record r { core = record r.core { processor = zer
 abbrev pub switched_off : Machine → Machine
 switched_off m = record (cleared m) { mode = Off }
 
--- a machine that was never switched on, with a storage of this size: a cleared one that is off, and has printed nothing
-abbrev pub unused : List ℕ → List ℕ → Machine
-unused bytes keys =
-    let new : Machine = record { core = core_of (state_of (reset_cpu (replicate 16 0)) bytes keys) nothing_pending; mode = Off; output = [] } in
+-- a machine that was never switched on, with a storage of this size and these devices: a cleared one that is off, and has
+-- printed nothing
+abbrev pub unused : List ℕ → List ℕ → List Subchannel → Machine
+unused bytes keys devices =
+    let new : Machine = record { core = core_of (state_of (reset_cpu (replicate 16 0)) bytes keys) nothing_pending devices; mode = Off; output = [] } in
     switched_off new
 
 -- a line more on the console
@@ -65,10 +68,11 @@ printed m text = record m { output = m.output ++ text ∷ [] }
 pub record Parts : Type 0 where
   pub cpu : Cpu
   pub pending : Pending
+  pub subchannels : List Subchannel
   pub mode : Mode
   pub output : List (List ℕ)
   pub room : ℕ
 
 -- the machine that it is with this storage and these keys
 abbrev pub machine_of : Parts → List ℕ → List ℕ → Machine
-machine_of p bytes keys = record { core = core_of (state_of p.cpu bytes keys) p.pending; mode = p.mode; output = p.output }
+machine_of p bytes keys = record { core = core_of (state_of p.cpu bytes keys) p.pending p.subchannels; mode = p.mode; output = p.output }

@@ -47,6 +47,7 @@ impl Machine {
         self.output.make_room(answer)?;
         self.cpu = reset_cpu(self.cpu.general);
         self.pending = Pending::NOTHING;
+        self.subchannels.reset();
         self.mode = Mode::Stopped;
         self.output.print(&Response::SystemReset);
         Ok(())

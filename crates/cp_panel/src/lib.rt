@@ -7,7 +7,7 @@
 //! there is no room for one, a run stands after the units that it tells, and a line or a tick has done nothing.
 //!
 //! ```
-//! let mut machine = Machine::new(alloc);
+//! let mut machine = Machine::new(alloc, Subchannels::new(alloc));
 //! machine.line(&mut storage, b"LOGON")?;
 //! machine.line(&mut storage, b"BEGIN 100")?;
 //! let told = machine.run::<RealCpu, _>(&mut storage, 100);

@@ -10,6 +10,7 @@ use s370_intr::Pending;
 use s370_psw::Psw;
 use s370_rows::Cpu;
 use s370_store::Supply;
+use s370_subchannels::{Subchannel, Subchannels};
 use std::alloc::Global;
 use std::marker::Model;
 
@@ -31,6 +32,7 @@ pub enum Mode {
 pub struct Machine {
     pub(crate) cpu: Cpu,
     pub(crate) pending: Pending,
+    pub(crate) subchannels: Subchannels,
     pub(crate) mode: Mode,
     pub(crate) output: ConsoleOutput,
 }
@@ -42,7 +44,7 @@ impl Model for Machine {
 
     ghost Value = { Parts };
 
-    ghost view = { λ m. record { cpu = m.cpu; pending = m.pending; mode = m.mode; output = m.output.lines; room = m.output.room } };
+    ghost view = { λ m. record { cpu = m.cpu; pending = m.pending; subchannels = m.subchannels; mode = m.mode; output = m.output.lines; room = m.output.room } };
 
     ghost invariant = { λ m. m.mode ≡ Running → 1 ≤ m.output.room };
 }
@@ -61,13 +63,15 @@ pub(crate) fn reset_cpu(general: [u32; 16]) -> Cpu
 }
 
 impl Machine {
-    /// A machine that is off and was never on.
-    pub fn new(alloc: Global) -> Machine
-        ensures machine { (bytes keys : List ℕ) → machine_of result (replicate (length bytes) 0) (replicate (length keys) 0) ≡ unused bytes keys }
+    /// A machine with these devices that is off and was never on.
+    pub fn new(alloc: Global, mut subchannels: Subchannels) -> Machine
+        ensures machine { (bytes keys : List ℕ) → machine_of result (replicate (length bytes) 0) (replicate (length keys) 0) ≡ unused bytes keys subchannels }
     {
+        subchannels.reset();
         Machine {
             cpu: reset_cpu([0; 16]),
             pending: Pending::NOTHING,
+            subchannels,
             mode: Mode::Off,
             output: ConsoleOutput::new(alloc),
         }
@@ -82,6 +86,7 @@ impl Machine {
     {
         self.cpu = reset_cpu([0; 16]);
         self.pending = Pending::NOTHING;
+        self.subchannels.reset();
         self.mode = Mode::Stopped;
         storage.clear();
     }
@@ -109,6 +114,13 @@ impl Machine {
         ensures { result ≡ self.now.pending }
     {
         self.pending
+    }
+
+    /// The subchannels of the devices, in the order of their addresses.
+    pub fn subchannels(&self) -> &[Subchannel]
+        ensures { result.now ≡ self.now.subchannels }
+    {
+        self.subchannels.list()
     }
 
     /// Whether the machine is on, and whether it runs.

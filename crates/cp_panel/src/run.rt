@@ -59,6 +59,7 @@ impl Machine {
         let Ran { units, reason } = run_units::<P, S>(
             &mut self.cpu,
             &mut self.pending,
+            &mut self.subchannels,
             storage,
             count,
         );

@@ -10,7 +10,7 @@
 //! storage.
 //!
 //! ```
-//! let ran = run_units::<VirtualCpu, _>(&mut cpu, &mut pending, &mut dat, 100);
+//! let ran = run_units::<VirtualCpu, _>(&mut cpu, &mut pending, &mut devices, &mut dat, 100);
 //! ```
 #![tactic(auto)]
 

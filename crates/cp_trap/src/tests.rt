@@ -8,6 +8,7 @@ use s370_store::{
     Access, Fault, Page, PagedStorage, PlainStorage, Range, Storage, load_doubleword,
     store_doubleword,
 };
+use s370_subchannels::Subchannels;
 use std::process::Abort;
 use std::test::Fail;
 
@@ -68,9 +69,14 @@ fn set_present(rt: &impl Abort, storage: &mut PagedStorage, page: u32, present: 
     storage.set_present(Page(page), present);
 }
 
-fn unit(rt: &impl Abort, cpu: &mut Cpu, storage: &mut PagedStorage) -> Result<(), Page> {
+fn unit(
+    rt: &(impl Abort + AllocGlobal),
+    cpu: &mut Cpu,
+    storage: &mut PagedStorage,
+) -> Result<(), Page> {
     assert!(rt; storage.size() >= 8192);
-    instruct::<VirtualCpu, PagedStorage>(cpu, storage)
+    let mut devices = Subchannels::new(rt.alloc());
+    instruct::<VirtualCpu, PagedStorage>(cpu, &mut devices, storage)
 }
 
 #[test]
@@ -124,8 +130,15 @@ fn a_guest_runs(rt: HostRuntime) -> Result<(), Fail> {
     place(&mut storage, 1024, MASK)?;
     let mut cpu = guest(0x1000);
     let mut pending = Pending::NOTHING;
+    let mut devices = Subchannels::new(rt.alloc());
     assert!(rt; storage.size() >= 8192);
-    let ran = run_units::<VirtualCpu, PlainStorage>(&mut cpu, &mut pending, &mut storage, 2);
+    let ran = run_units::<VirtualCpu, PlainStorage>(
+        &mut cpu,
+        &mut pending,
+        &mut devices,
+        &mut storage,
+        2,
+    );
     let two = Ran {
         units: 2,
         reason: Reason::Count,
@@ -138,7 +151,7 @@ fn a_guest_runs(rt: HostRuntime) -> Result<(), Fail> {
 
 /// Runs so many units of a guest whose program, of one doubleword, stands at address 256.
 fn ran(
-    rt: &impl Abort,
+    rt: &(impl Abort + AllocGlobal),
     cpu: &mut Cpu,
     storage: &mut PlainStorage,
     program: u64,
@@ -146,8 +159,15 @@ fn ran(
 ) -> Result<(), Fail> {
     place(storage, 256, program)?;
     let mut pending = Pending::NOTHING;
+    let mut devices = Subchannels::new(rt.alloc());
     assert!(rt; storage.size() >= 8192);
-    let ran = run_units::<VirtualCpu, PlainStorage>(cpu, &mut pending, storage, count);
+    let ran = run_units::<VirtualCpu, PlainStorage>(
+        cpu,
+        &mut pending,
+        &mut devices,
+        storage,
+        count,
+    );
     let all = Ran {
         units: count,
         reason: Reason::Count,

@@ -1,5 +1,5 @@
 -- From what a fetch and a row answer to what the unit answers, whatever the table has.
-use Rattle.std.proofs.Common.{◌≡◌, ℕ, Bool, length, List, [], ◌∷◌, ◌++◌, Result, Ok, Err, refl, sym, subst, inl, inr}
+use Rattle.std.proofs.Common.{◌≡◌, ℕ, Bool, false, length, List, [], ◌∷◌, ◌++◌, Result, Ok, Err, refl, sym, subst, inl, inr}
 use Rattle.s370_psw.specs.declared.ProgramCode.{ProgramCode}
 use Rattle.s370_store.specs.Access.{Test, IsAway}
 use Rattle.s370_store.specs.declared.Page.{Page}
@@ -22,7 +22,9 @@ use Rattle.s370_cpu.specs.declared.opcodes.Opcode.{Opcode}
 use Rattle.s370_cpu.specs.declared.opcodes.Opcode.TheVariants.{Supervised}
 use Rattle.s370_cpu.specs.Control.{control_row}
 use Rattle.s370_cpu.specs.Opcodes.{opcode_at}
-use Rattle.s370_cpu.specs.Table.{MeetsStep, row_named, row_of, supervised, unit}
+use Rattle.s370_rows.specs.declared.ending.IoOperation.{IoOperation}
+use Rattle.s370_cpu.proofs.Asking.{never_asks}
+use Rattle.s370_cpu.specs.Table.{MeetsStep, is_supervised, row_named, row_of, supervised, unit}
 
 pub asks_left : (m : State) (ss ts : List (List Test)) (page : ℕ) → Asks m ss page → Asks m (ss ++ ts) page
 asks_left m [] ts page h = absurd h
@@ -103,29 +105,38 @@ target_refused rows m first ilc present refusal e1 e2 h =
 
 -- ---- what `step` answers
 
+-- a row asks no device
+abbrev NoneAsked : Result Ending Refusal → Type 0
+NoneAsked outcome = (operation : IoOperation) (device : ℕ) → outcome ≡ Ok (InputOutput operation device) → ⊥
+
 -- what is concluded is never handed back
-concluded_step : (outcome : Result Ending Refusal) (place : Place) (cpu : Cpu) (present : ℕ → Bool) (m m' : State) → (let s = stopped outcome place cpu in MeetsUnit (unit m) present m s.stop m' → MeetsStep present m s.stop m')
-concluded_step (Ok Done) place cpu present m m' h = h
-concluded_step (Ok (Branch a)) place cpu present m m' h = h
-concluded_step (Ok Again) place cpu present m m' h = h
-concluded_step (Ok (Interrupted code)) place cpu present m m' h = h
-concluded_step (Ok (SupervisorCall n)) place cpu present m m' h = h
-concluded_step (Ok (InputOutput operation device)) place cpu present m m' h = h
-concluded_step (Err (Suppressed code)) place cpu present m m' h = h
-concluded_step (Err (Missing page)) place cpu present m m' h = h
+concluded_step : (outcome : Result Ending Refusal) (place : Place) (cpu : Cpu) (present : ℕ → Bool) (m m' : State) → NoneAsked outcome → (let s = stopped outcome place cpu in MeetsUnit (unit m) present m s.stop m' → MeetsStep present m s.stop m')
+concluded_step (Ok Done) place cpu present m m' none h = h
+concluded_step (Ok (Branch a)) place cpu present m m' none h = h
+concluded_step (Ok Again) place cpu present m m' none h = h
+concluded_step (Ok (Interrupted code)) place cpu present m m' none h = h
+concluded_step (Ok (SupervisorCall n)) place cpu present m m' none h = h
+concluded_step (Ok (InputOutput operation device)) place cpu present m m' none h = absurd (none operation device refl)
+concluded_step (Err (Suppressed code)) place cpu present m m' none h = h
+concluded_step (Err (Missing page)) place cpu present m m' none h = h
+
+row_asks_none : (m : State) (place : Place) (i : Instruction) (present : ℕ → Bool) (outcome : Result Ending Refusal) (m' : State) → is_supervised (opcode_at i.opcode) ≡ false → MeetsRow (row_of m place i) present m outcome m' → NoneAsked outcome
+row_asks_none m place i present outcome m' plain h = λ operation device e. (
+    never_asks m m' place i operation device plain (subst (λ (o : Result Ending Refusal). MeetsRow (row_of m place i) present m o m') e h))
 
 -- a unit whose row was carried out
-pub row_steps : (m : State) (ilc : ℕ) (i : Instruction) (stop : Stop) (cpu' : Cpu) (present : ℕ → Bool) (outcome : Result Ending Refusal) (m' : State) → Carries m ilc i → MeetsRow (row_of m (place_at m ilc) i) present m outcome m' → stopped outcome (place_at m ilc) m'.cpu ≡ record { stop = stop; cpu = cpu' } → MeetsStep present m stop (record m' { cpu = cpu' })
-row_steps m ilc i stop cpu' present outcome m' c h e =
+pub row_steps : (m : State) (ilc : ℕ) (i : Instruction) (stop : Stop) (cpu' : Cpu) (present : ℕ → Bool) (outcome : Result Ending Refusal) (m' : State) → is_supervised (opcode_at i.opcode) ≡ false → Carries m ilc i → MeetsRow (row_of m (place_at m ilc) i) present m outcome m' → stopped outcome (place_at m ilc) m'.cpu ≡ record { stop = stop; cpu = cpu' } → MeetsStep present m stop (record m' { cpu = cpu' })
+row_steps m ilc i stop cpu' present outcome m' plain c h e =
+    let none = row_asks_none m (place_at m ilc) i present outcome m' plain h in
     let s = stopped outcome (place_at m ilc) m'.cpu in
     let u : MeetsUnit (unit m) present m s.stop (record m' { cpu = s.cpu }) = whole_meets row_of m ilc i s.stop (record m' { cpu = s.cpu }) present c (carried_meets row_of present m (place_at m ilc) i outcome m' h) in
-    subst (λ (t : Stopped). MeetsStep present m t.stop (record m' { cpu = t.cpu })) e (concluded_step outcome (place_at m ilc) m'.cpu present m (record m' { cpu = s.cpu }) u)
+    subst (λ (t : Stopped). MeetsStep present m t.stop (record m' { cpu = t.cpu })) e (concluded_step outcome (place_at m ilc) m'.cpu present m (record m' { cpu = s.cpu }) none u)
 
 -- a unit that can't fetch the target of EX
 pub target_steps : (m : State) (first : Instruction) (ilc : ℕ) (stop : Stop) (cpu' : Cpu) (present : ℕ → Bool) (refusal : Refusal) → (fetched m m.cpu.psw.address).result ≡ Ok first → ilc ≡ halfwords_of first.opcode → MeetsFetch (executed m first) m present (Err refusal) → stopped (Err refusal) (place_at m ilc) m.cpu ≡ record { stop = stop; cpu = cpu' } → MeetsStep present m stop (record m { cpu = cpu' })
 target_steps m first ilc stop cpu' present refusal e1 e2 h e =
     let s = stopped (Err refusal) (place_at m ilc) m.cpu in
-    subst (λ (t : Stopped). MeetsStep present m t.stop (record m { cpu = t.cpu })) e (concluded_step (Err refusal) (place_at m ilc) m.cpu present m (record m { cpu = s.cpu }) (target_refused row_of m first ilc present refusal e1 e2 h))
+    subst (λ (t : Stopped). MeetsStep present m t.stop (record m { cpu = t.cpu })) e (concluded_step (Err refusal) (place_at m ilc) m.cpu present m (record m { cpu = s.cpu }) (λ operation device x. cc) (target_refused row_of m first ilc present refusal e1 e2 h))
 
 -- the rest of a unit whose instruction was handed back
 pub supervised_meets : (m : State) (ilc : ℕ) (i : Instruction) (control : Control) (stop : Stop) (cpu' : Cpu) (present : ℕ → Bool) (outcome : Result Ending Refusal) (m' : State) → opcode_at i.opcode ≡ Supervised control → MeetsRow (control_row control m i) present m outcome m' → stopped outcome (place_at m ilc) m'.cpu ≡ record { stop = stop; cpu = cpu' } → MeetsUnit (supervised m i ilc) present m stop (record m' { cpu = cpu' })

@@ -10,7 +10,7 @@ use Rattle.s370_rows.specs.Registers.{Ended}
 use Rattle.s370_rows.specs.Results.{over_result}
 use Rattle.s370_rows.specs.Rows.{Row, unchecked, suppressed, unchanged}
 use Rattle.s370_cpu.specs.declared.conclude.Stop.{Stop}
-use Rattle.s370_cpu.specs.declared.conclude.Stop.TheVariants.{Privileged}
+use Rattle.s370_cpu.specs.declared.conclude.Stop.TheVariants.{InputOutput, Privileged}
 use Rattle.s370_cpu.specs.declared.opcodes.Opcode.{Opcode}
 use Rattle.s370_cpu.specs.declared.opcodes.Opcode.TheVariants.{Invalid, Supervised, SupervisorCall, Execute, Computes, Fetches, Stores}
 use Rattle.s370_cpu.specs.Opcodes.{opcode_at}
@@ -47,11 +47,12 @@ abbrev pub is_supervised : Opcode → Bool
 is_supervised (Supervised c) = true
 is_supervised _ = false
 
--- what `step` may answer: an instruction for the supervisor state is handed back after its fetch, with nothing changed;
--- every other instruction is the unit
+-- what `step` may answer: an instruction for the supervisor state is handed back after its fetch, with nothing changed, so
+-- that no device is asked; every other instruction is the unit
 abbrev pub MeetsStep : (ℕ → Bool) → State → Stop → State → Type 0
 MeetsStep present old (Privileged i ilc) new =
     (new ≡ old) × (is_supervised (opcode_at i.opcode) ≡ true) × Carries old ilc i
+MeetsStep present old (InputOutput operation device) new = ⊥
 MeetsStep present old stop new = MeetsUnit (unit old) present old stop new
 
 -- the rest of a unit whose instruction was handed back, with its length code

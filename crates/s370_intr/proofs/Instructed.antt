@@ -1,59 +1,82 @@
--- An instruction with what its stop is followed by: what it does, and what is undone where page 0 is missing.
-use Rattle.std.proofs.Common.{◌≡◌, ℕ, Bool, true, false, length, Err, refl, ap, subst, sym, ◌∙◌, inl, inr}
+-- An instruction with what its stop is followed by: what it does, and what is undone where a page is missing.
+use Rattle.std.proofs.Common.{◌≡◌, ℕ, Bool, true, false, length, List, Err, refl, ap, subst, sym, ◌∙◌, inl, inr}
 use Rattle.s370_store.specs.Access.{IsAway}
 use Rattle.s370_store.specs.declared.Page.{Page}
+use Rattle.s370_rows.specs.declared.cpu.Cpu.{Cpu}
 use Rattle.s370_rows.specs.State.{State}
+use Rattle.s370_subchannels.specs.declared.subchannel.Subchannel.{Subchannel}
 use Rattle.s370_cpu.specs.declared.conclude.Stop.{Stop}
 use Rattle.s370_cpu.specs.declared.conclude.Stop.TheVariants.{Done, Program, Svc, InputOutput, Privileged, Absent}
 use Rattle.s370_cpu.specs.Unit.{MeetsUnit, Ran}
-use Rattle.s370_cpu.specs.Table.{unit}
+use Rattle.s370_cpu.specs.Table.{MeetsStep, unit}
 use Rattle.s370_cpu.proofs.Still.{StaysStill, unit_still}
-use Rattle.s370_intr.specs.Units.{Interrupts, MeetsInstruction, MeetsFollowed, instructed, followed}
+use Rattle.s370_intr.specs.InputOutput.{Configuration, configuration_of}
+use Rattle.s370_intr.specs.Units.{FollowNeeds, IsSaved, MeetsInstruction, MeetsFollowed, instructed, followed}
 
 -- an instruction that is not missing a page, and what its stop is followed by, make the whole
-pub whole : (m m1 m2 : State) (present : ℕ → Bool) (stop : Stop) → MeetsUnit (unit m) present m stop m1 → ((page : Page) → stop ≡ Absent page → ⊥) → m2 ≡ followed stop m1 → m2 ≡ instructed m
-whole m m1 m2 present Done u n e = e ∙ sym (ap (λ (r : Ran). followed r.stop r.state) u)
-whole m m1 m2 present (Program code ilc) u n e = e ∙ sym (ap (λ (r : Ran). followed r.stop r.state) u)
-whole m m1 m2 present (Svc k ilc) u n e = e ∙ sym (ap (λ (r : Ran). followed r.stop r.state) u)
-whole m m1 m2 present (InputOutput operation device) u n e = e ∙ sym (ap (λ (r : Ran). followed r.stop r.state) u)
-whole m m1 m2 present (Privileged i ilc) u n e = e ∙ sym (ap (λ (r : Ran). followed r.stop r.state) u)
-whole m m1 m2 present (Absent page) u n e = absurd (n page refl)
+pub whole : (m m1 : State) (devices : List Subchannel) (c2 : Configuration) (present : ℕ → Bool) (stop : Stop) → MeetsUnit (unit m) present m stop m1 → ((page : Page) → stop ≡ Absent page → ⊥) → c2 ≡ followed stop (configuration_of m1 devices) → c2 ≡ instructed (configuration_of m devices)
+whole m m1 devices c2 present Done u n e = e ∙ sym (ap (λ (r : Ran). followed r.stop (configuration_of r.state devices)) u)
+whole m m1 devices c2 present (Program code ilc) u n e = e ∙ sym (ap (λ (r : Ran). followed r.stop (configuration_of r.state devices)) u)
+whole m m1 devices c2 present (Svc k ilc) u n e = e ∙ sym (ap (λ (r : Ran). followed r.stop (configuration_of r.state devices)) u)
+whole m m1 devices c2 present (InputOutput operation device) u n e = e ∙ sym (ap (λ (r : Ran). followed r.stop (configuration_of r.state devices)) u)
+whole m m1 devices c2 present (Privileged i ilc) u n e = e ∙ sym (ap (λ (r : Ran). followed r.stop (configuration_of r.state devices)) u)
+whole m m1 devices c2 present (Absent page) u n e = absurd (n page refl)
 
 -- an instruction that misses a page
-pub instruction_misses : (m m1 : State) (present : ℕ → Bool) (page : Page) → MeetsUnit (unit m) present m (Absent page) m1 → MeetsInstruction present m (Err page) m1
-instruction_misses m m1 present page h = (h.0, h.1, inl h.2)
+pub instruction_misses : (m m1 : State) (devices : List Subchannel) (present : ℕ → Bool) (page : Page) → MeetsUnit (unit m) present m (Absent page) m1 → MeetsInstruction present (configuration_of m devices) (Err page) (configuration_of m1 devices)
+instruction_misses m m1 devices present page h = (ap (λ (x : State). configuration_of x devices) h.0, h.1, inl h.2)
 
--- what interrupts has changed registers alone
-put_back : (m m1 m2 : State) → m1.bytes ≡ m.bytes → m1.keys ≡ m.keys → m2 ≡ m1 → record m2 { cpu = m.cpu } ≡ m
-put_back m m1 m2 b k e = (rw e (rw (b, k) refl))
+-- what interrupts or asks a device has changed registers alone
+put_back : (m m1 : State) (devices : List Subchannel) (c2 : Configuration) → m1.bytes ≡ m.bytes → m1.keys ≡ m.keys → c2 ≡ configuration_of m1 devices → record c2 { processor = record c2.processor { cpu = m.cpu } } ≡ configuration_of m devices
+put_back m m1 devices c2 b k e = rw e (rw (b, k) refl)
 
-missed : (m m1 m2 : State) (present present1 : ℕ → Bool) (stop : Stop) (page : Page) → (unit m).ran ≡ record { stop = stop; state = m1 } → m1.bytes ≡ m.bytes → m1.keys ≡ m.keys → present1 ≡ present → (m2 ≡ m1) × IsAway (length m1.bytes) present1 page.0 × Interrupts stop page.0 → MeetsInstruction present m (Err page) (record m2 { cpu = m.cpu })
-missed m m1 m2 present present1 stop page e b k same h =
+missed : (m m1 : State) (devices : List Subchannel) (c2 : Configuration) (present present1 : ℕ → Bool) (stop : Stop) (page : Page) → (unit m).ran ≡ record { stop = stop; state = m1 } → m1.bytes ≡ m.bytes → m1.keys ≡ m.keys → present1 ≡ present → (c2 ≡ configuration_of m1 devices) × IsAway (length m1.bytes) present1 page.0 × FollowNeeds stop (configuration_of m1 devices) page.0 → MeetsInstruction present (configuration_of m devices) (Err page) (record c2 { processor = record c2.processor { cpu = m.cpu } })
+missed m m1 devices c2 present present1 stop page e b k same h =
     let away : IsAway (length m.bytes) present page.0 = subst (λ (p : ℕ → Bool). IsAway (length m.bytes) p page.0) same (subst (λ (n : ℕ). IsAway n present1 page.0) (ap length b) h.1) in
-    let needed : Interrupts (unit m).ran.stop page.0 = subst (λ (r : Ran). Interrupts r.stop page.0) (sym e) h.2 in
-    (put_back m m1 m2 b k h.0, away, inr needed)
+    let needed : FollowNeeds (unit m).ran.stop (configuration_of (unit m).ran.state devices) page.0 = subst (λ (r : Ran). FollowNeeds r.stop (configuration_of r.state devices) page.0) (sym e) h.2 in
+    (put_back m m1 devices c2 b k h.0, away, inr needed)
 
--- an interruption that misses page 0, after which the registers are put back
-pub interruption_misses : (m m1 m2 : State) (present present1 : ℕ → Bool) (stop : Stop) (page : Page) → MeetsUnit (unit m) present m stop m1 → present1 ≡ present → MeetsFollowed stop present1 m1 (Err page) m2 → MeetsInstruction present m (Err page) (record m2 { cpu = m.cpu })
-interruption_misses m m1 m2 present present1 Done page e same h = absurd h.2
-interruption_misses m m1 m2 present present1 (Program code ilc) page e same h =
+-- what follows an instruction misses a page, after which the registers are put back
+pub following_misses : (m m1 : State) (devices : List Subchannel) (c2 : Configuration) (present present1 : ℕ → Bool) (stop : Stop) (page : Page) → MeetsUnit (unit m) present m stop m1 → present1 ≡ present → MeetsFollowed stop present1 (configuration_of m1 devices) (Err page) c2 → MeetsInstruction present (configuration_of m devices) (Err page) (record c2 { processor = record c2.processor { cpu = m.cpu } })
+following_misses m m1 devices c2 present present1 Done page e same h = absurd h.2
+following_misses m m1 devices c2 present present1 (Program code ilc) page e same h =
     let s = subst (λ (r : Ran). StaysStill m r) e (unit_still m) in
-    missed m m1 m2 present present1 (Program code ilc) page e s.0 s.1 same h
-interruption_misses m m1 m2 present present1 (Svc n ilc) page e same h =
+    missed m m1 devices c2 present present1 (Program code ilc) page e s.0 s.1 same h
+following_misses m m1 devices c2 present present1 (Svc n ilc) page e same h =
     let s = subst (λ (r : Ran). StaysStill m r) e (unit_still m) in
-    missed m m1 m2 present present1 (Svc n ilc) page e s.0 s.1 same h
-interruption_misses m m1 m2 present present1 (InputOutput operation device) page e same h = absurd h.2
-interruption_misses m m1 m2 present present1 (Privileged i ilc) page e same h = absurd h.2
-interruption_misses m m1 m2 present present1 (Absent other) page e same h = absurd h.2
+    missed m m1 devices c2 present present1 (Svc n ilc) page e s.0 s.1 same h
+following_misses m m1 devices c2 present present1 (InputOutput operation device) page e same h =
+    let s = subst (λ (r : Ran). StaysStill m r) e (unit_still m) in
+    missed m m1 devices c2 present present1 (InputOutput operation device) page e s.0 s.1 same h
+following_misses m m1 devices c2 present present1 (Privileged i ilc) page e same h = absurd h.2
+following_misses m m1 devices c2 present present1 (Absent other) page e same h = absurd h.2
 
-away_0 : (present : ℕ → Bool) (n : ℕ) → present 0 ≡ true → present n ≡ false → n ≡ 0 → ⊥
+pub away_0 : (present : ℕ → Bool) (n : ℕ) → present 0 ≡ true → present n ≡ false → n ≡ 0 → ⊥
 away_0 present n here away is = let there : present n ≡ true = rw is here in cc
 
--- where page 0 is present no interruption misses a page
-pub misses_none : (m1 m2 : State) (present : ℕ → Bool) (stop : Stop) (page : Page) → present 0 ≡ true → MeetsFollowed stop present m1 (Err page) m2 → ⊥
-misses_none m1 m2 present Done page here h = h.2
-misses_none m1 m2 present (Program code ilc) page here h = away_0 present page.0 here h.1.away h.2
-misses_none m1 m2 present (Svc n ilc) page here h = away_0 present page.0 here h.1.away h.2
-misses_none m1 m2 present (InputOutput operation device) page here h = h.2
-misses_none m1 m2 present (Privileged i ilc) page here h = h.2
-misses_none m1 m2 present (Absent other) page here h = h.2
+-- where page 0 is present, only an answer misses a page, and the registers were copied
+pub saved : (c1 c2 : Configuration) (present : ℕ → Bool) (stop : Stop) (page : Page) (old spare : Cpu) → present 0 ≡ true → IsSaved stop old spare → MeetsFollowed stop present c1 (Err page) c2 → spare ≡ old
+saved c1 c2 present Done page old spare here is h = absurd h.2
+saved c1 c2 present (Program code ilc) page old spare here is h = absurd (away_0 present page.0 here h.1.away h.2)
+saved c1 c2 present (Svc n ilc) page old spare here is h = absurd (away_0 present page.0 here h.1.away h.2)
+saved c1 c2 present (InputOutput operation device) page old spare here is h = is
+saved c1 c2 present (Privileged i ilc) page old spare here is h = absurd h.2
+saved c1 c2 present (Absent other) page old spare here is h = absurd h.2
+
+-- what is not handed back asks no device
+pub not_asked : (present : ℕ → Bool) (m m1 : State) (stop : Stop) (old spare : Cpu) → ((i : Rattle.s370_rows.specs.declared.instruction.Instruction.Instruction) (ilc : ℕ) → stop ≡ Privileged i ilc → ⊥) → MeetsStep present m stop m1 → IsSaved stop old spare
+not_asked present m m1 Done old spare n h = tt
+not_asked present m m1 (Program code ilc) old spare n h = tt
+not_asked present m m1 (Svc k ilc) old spare n h = tt
+not_asked present m m1 (InputOutput operation device) old spare n h = absurd h
+not_asked present m m1 (Privileged i ilc) old spare n h = absurd (n i ilc refl)
+not_asked present m m1 (Absent page) old spare n h = tt
+
+-- a copy of the registers that was made before a step that handed back is one of the registers before it
+pub saved_by : (stop : Stop) (old spare : Cpu) → spare ≡ old → IsSaved stop old spare
+saved_by Done old spare e = tt
+saved_by (Program code ilc) old spare e = tt
+saved_by (Svc k ilc) old spare e = tt
+saved_by (InputOutput operation device) old spare e = e
+saved_by (Privileged i ilc) old spare e = tt
+saved_by (Absent page) old spare e = tt

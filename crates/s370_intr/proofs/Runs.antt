@@ -1,12 +1,15 @@
 -- A run of units done, and what comes after it.
-use Rattle.std.proofs.Common.{◌≡◌, ℕ, ◌+◌, ◌-◌, ◌<◌, ◌≤◌, zero, suc, Bool, true, false, length, List, [], ◌∷◌, ◌++◌, refl, sym, ◌∙◌, ap, arith, subst, add-one, inl, inr, ◌⊎◌}
+use Rattle.std.proofs.Common.{◌≡◌, ℕ, ◌+◌, ◌-◌, ◌<◌, ◌≤◌, zero, suc, Bool, true, false, Option, None, Some, length, List, [], ◌∷◌, ◌++◌, refl, sym, ◌∙◌, ap, arith, subst, add-one, inl, inr, ◌⊎◌}
 use Rattle.std.specs.Prelude.{if◌then◌else◌, ◌==◌}
 use Rattle.s370_intr.specs.declared.pending.Pending.{Pending}
 use Rattle.s370_intr.specs.declared.next.Next.{Next}
-use Rattle.s370_intr.specs.declared.next.Next.TheVariants.{Stops, Accepts, Instructs}
+use Rattle.s370_intr.specs.declared.next.Next.TheVariants.{Stops, Accepts, AcceptsStatus, Instructs}
 use Rattle.s370_intr.specs.declared.next.Reason.{Reason}
 use Rattle.s370_intr.specs.declared.next.Reason.TheVariants.{Stopped, Count, EcMode, Wait, DisabledWait, FramesOut}
-use Rattle.s370_intr.specs.Units.{Core, look, unit_at, enabled_of, is_any, Needs, NeedsAt}
+use Rattle.s370_psw.specs.Fields.{Fields}
+use Rattle.s370_subchannels.specs.declared.subchannel.Status.{Status}
+use Rattle.s370_subchannels.specs.Subchannels.{first_status}
+use Rattle.s370_intr.specs.Units.{Core, look, offered, unit_at, enabled_of, is_any, Needs, NeedsAt}
 use Rattle.s370_intr.specs.Run.{Run, run, looked, one_more, AllNeeded, RunNeeds, IsLacking, IsCut, TellsRun}
 
 abbrev pub all_done : ℕ → Core → Run
@@ -16,6 +19,7 @@ all_done k c = record { core = c; units = k; reason = Count }
 abbrev pub Goes : Next → Type 0
 Goes (Stops reason) = ⊥
 Goes (Accepts taken) = Unit {0}
+Goes (AcceptsStatus status) = Unit {0}
 Goes Instructs = Unit {0}
 
 same_run : (c c' : Core) (units units' : ℕ) (reason reason' : Reason) → c ≡ c' → units ≡ units' → reason ≡ reason' → (let r : Run = record { core = c; units = units; reason = reason } in r ≡ record { core = c'; units = units'; reason = reason' })
@@ -30,11 +34,13 @@ one_less c' k rest e =
 rest_done : (l : Next) (c c' : Core) (k : ℕ) (rest : Run) → looked l c rest ≡ all_done (suc k) c' → Goes l × (rest ≡ all_done k c')
 rest_done (Stops reason) c c' k rest e = absurd (omega (arith, ap (λ (r : Run). r.units) e))
 rest_done (Accepts taken) c c' k rest e = (tt, one_less c' k rest e)
+rest_done (AcceptsStatus status) c c' k rest e = (tt, one_less c' k rest e)
 rest_done Instructs c c' k rest e = (tt, one_less c' k rest e)
 
 goes_on : (l : Next) (c : Core) (rest : Run) → Goes l → looked l c rest ≡ one_more rest
 goes_on (Stops reason) c rest h = absurd h
 goes_on (Accepts taken) c rest h = refl
+goes_on (AcceptsStatus status) c rest h = refl
 goes_on Instructs c rest h = refl
 
 -- one unit more
@@ -93,6 +99,7 @@ next_needs old c k n reason xs e l a =
 pub not_stopped : (l : Next) → ((reason : Reason) → l ≡ Stops reason → ⊥) → Goes l
 not_stopped (Stops reason) f = absurd (f reason refl)
 not_stopped (Accepts taken) f = tt
+not_stopped (AcceptsStatus status) f = tt
 not_stopped Instructs f = tt
 
 waits_for_frames : (wait : Bool) (disabled : Bool) → (if wait then (if disabled then Stops DisabledWait else Stops Wait) else Instructs) ≡ Stops FramesOut → ⊥
@@ -100,11 +107,15 @@ waits_for_frames true true e = cc
 waits_for_frames true false e = cc
 waits_for_frames false disabled e = cc
 
+offered_for_frames : (o : Option Status) (psw : Fields) → offered o psw ≡ Stops FramesOut → ⊥
+offered_for_frames None psw e = waits_for_frames psw.wait (psw.system_mask == 0) e
+offered_for_frames (Some status) psw e = cc
+
 -- no look stops for want of frames
-looks_for_frames : (extended any wait disabled : Bool) (taken : Pending) → (if extended then Stops EcMode else (if any then Accepts taken else (if wait then (if disabled then Stops DisabledWait else Stops Wait) else Instructs))) ≡ Stops FramesOut → ⊥
-looks_for_frames true any wait disabled taken e = cc
-looks_for_frames false true wait disabled taken e = cc
-looks_for_frames false false wait disabled taken e = waits_for_frames wait disabled e
+looks_for_frames : (extended any : Bool) (taken : Pending) (other : Next) → (other ≡ Stops FramesOut → ⊥) → (if extended then Stops EcMode else (if any then Accepts taken else other)) ≡ Stops FramesOut → ⊥
+looks_for_frames true any taken other n e = cc
+looks_for_frames false true taken other n e = cc
+looks_for_frames false false taken other n e = n e
 
 -- a run that stops by itself
 pub tells_stop : (k n : ℕ) (c c' : Core) (reason : Reason) (is_short : ℕ → Type 0) → run k c ≡ all_done k c' → k < n → look c' ≡ Stops reason → TellsRun n c (record { core = c'; units = k; reason = reason }) is_short
@@ -116,7 +127,7 @@ tells_stop k n c c' DisabledWait is_short e l h = does_no_more k n c c' Disabled
 tells_stop k n c c' FramesOut is_short e l h =
     let psw = c'.processor.cpu.psw in
     let enabled = enabled_of c'.processor.cpu c'.pending in
-    absurd (looks_for_frames psw.extended (is_any enabled) psw.wait (psw.system_mask == 0) enabled h)
+    absurd (looks_for_frames psw.extended (is_any enabled) enabled (offered (first_status psw c'.subchannels) psw) (offered_for_frames (first_status psw c'.subchannels) psw) h)
 
 -- a run that lacks a page
 pub tells_cut : (k n : ℕ) (first c new : Core) (l : Next) (is_short : ℕ → Type 0) → run k first ≡ all_done k c → k < n → l ≡ look c → new ≡ c → IsLacking (NeedsAt l c) (length c.processor.bytes) is_short → TellsRun n first (record { core = new; units = k; reason = FramesOut }) is_short

@@ -3,7 +3,7 @@
 use Rattle.std.specs.Prelude.{◌≡◌, ℕ, ◌+◌, ◌*◌, ◌<◌, ◌⊎◌, zero, suc, List, [], ◌∷◌, length, Result, Ok, Err, ⊤}
 use Rattle.s370_store.specs.declared.supply.FramesOut.{FramesOut as Lack}
 use Rattle.s370_intr.specs.declared.next.Next.{Next}
-use Rattle.s370_intr.specs.declared.next.Next.TheVariants.{Stops, Accepts, Instructs}
+use Rattle.s370_intr.specs.declared.next.Next.TheVariants.{Stops, Accepts, AcceptsStatus, Instructs}
 use Rattle.s370_intr.specs.declared.next.Reason.{Reason}
 use Rattle.s370_intr.specs.declared.next.Reason.TheVariants.{Stopped, Count, EcMode, Wait, DisabledWait, FramesOut}
 use Rattle.s370_intr.specs.Units.{Core, look, unit_at, Needs, NeedsAt}
@@ -22,6 +22,7 @@ one_more r = record r { units = 1 + r.units }
 abbrev pub looked : Next → Core → Run → Run
 looked (Stops reason) c rest = record { core = c; units = 0; reason = reason }
 looked (Accepts taken) c rest = one_more rest
+looked (AcceptsStatus status) c rest = one_more rest
 looked Instructs c rest = one_more rest
 
 -- at most n units of a running processor

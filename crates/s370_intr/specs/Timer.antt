@@ -41,7 +41,7 @@ tick t =
 abbrev pub ticked : Core → Core
 ticked c =
     let t = tick (timed c.processor.bytes c.pending) in
-    record { processor = record c.processor { bytes = t.bytes }; pending = t.pending }
+    record c { processor = record c.processor { bytes = t.bytes }; pending = t.pending }
 
 -- what the code may answer, and leave: the tick; or that page 0 is not present, with nothing changed
 abbrev pub MeetsTick : (ℕ → Bool) → Timed → Result ⊤ Page → Timed → Type 0

@@ -1,15 +1,36 @@
 //! What input/output instructions are answered.
-ghost use Rattle.std.specs.Prelude.{◌≡◌, ℕ, List};
-ghost use Rattle.s370_rows.specs.Registers.{with_condition};
-ghost use Rattle.s370_intr.specs.InputOutput.{condition_of};
+ghost use Rattle.std.specs.Prelude.{◌≡◌, ◌≤◌, length};
+ghost use Rattle.s370_rows.specs.State.{state_of};
+ghost use Rattle.s370_intr.specs.InputOutput.{AskNeeds, answered, configuration_of};
+ghost use Rattle.s370_intr.specs.Units.{Meets};
 
-use s370_num::ConditionCode;
 use s370_rows::{Cpu, IoOperation};
+use s370_store::{Page, Storage};
+use s370_subchannels::{Subchannels, answer};
 
-/// Answers an input/output instruction by its condition code: no machine has a device yet, so that none is operational.
-#[inline]
-pub fn answer(cpu: &mut Cpu, _operation: IoOperation, _device: u16)
-    ensures { cpu.new ≡ with_condition cpu.old (condition_of _operation _device) }
+/// Answers an input/output instruction, which asks the device of this address. Where a page is not present that is needed,
+/// it is the error, and nothing is changed.
+#[inline(never)]
+pub fn answer_asked<S: Storage>(
+    cpu: &mut Cpu,
+    subchannels: &mut Subchannels,
+    storage: &mut S,
+    operation: IoOperation,
+    device: u16,
+) -> Result<(), Page>
+    requires { 8192 ≤ length (S.bytes storage.old) }
+    ensures answer { let before = configuration_of (state_of cpu.old (S.bytes storage.old) (S.keys storage.old)) subchannels.old in
+        let after = configuration_of (state_of cpu.new (S.bytes storage.new) (S.keys storage.new)) subchannels.new in
+        Meets (answered operation device before) (AskNeeds operation device before) (S.present storage.old) before result after }
+    ensures size { length (S.bytes storage.new) ≡ length (S.bytes storage.old) }
+    ensures present { S.present storage.new ≡ S.present storage.old }
+    ensures rest { S.Keeps storage.old storage.new }
 {
-    cpu.psw.set_condition(ConditionCode::THREE);
+    match answer(subchannels, storage, operation, device) {
+        Ok(condition) => {
+            cpu.psw.set_condition(condition);
+            Ok(())
+        }
+        Err(page) => Err(page),
+    }
 }

@@ -8,7 +8,7 @@
 //! brought.
 //!
 //! ```
-//! let ran = run_units::<RealCpu, _>(&mut cpu, &mut pending, &mut storage, 100);
+//! let ran = run_units::<RealCpu, _>(&mut cpu, &mut pending, &mut subchannels, &mut storage, 100);
 //! ```
 #![tactic(auto)]
 
@@ -29,4 +29,4 @@ pub use pending::Pending;
 pub use psw_swap::swap;
 pub use run::{Ran, run_units};
 pub use timer::tick;
-pub use unit::{Processor, RealCpu, accept, instruct};
+pub use unit::{Processor, RealCpu, accept, accept_status, instruct};

@@ -1,11 +1,12 @@
 //! What a running processor does next.
 ghost use Rattle.std.specs.Prelude.{◌≡◌, ℕ, List};
 ghost use Rattle.s370_rows.specs.State.{state_of};
-ghost use Rattle.s370_intr.specs.Units.{core_of, look, waits};
+ghost use Rattle.s370_intr.specs.Units.{core_of, look, offered, waits};
 
 use crate::pending::Pending;
 use s370_psw::Psw;
 use s370_rows::Cpu;
+use s370_subchannels::{Status, Subchannels};
 
 /// Why a run did no further unit.
 #[derive(Clone, Copy, Debug, PartialEq, Eq)]
@@ -31,14 +32,16 @@ pub enum Next {
     Stops(Reason),
     /// It accepts these external conditions together.
     Accepts(Pending),
+    /// It accepts this status of a device.
+    AcceptsStatus(Status),
     /// It does an instruction.
     Instructs,
 }
 
 /// What a running processor does next.
 #[inline(always)]
-pub fn look(cpu: &Cpu, pending: Pending) -> Next
-    ensures { (bytes keys : List ℕ) → result ≡ look (core_of (state_of cpu.now bytes keys) pending) }
+pub fn look(cpu: &Cpu, pending: Pending, subchannels: &Subchannels) -> Next
+    ensures { (bytes keys : List ℕ) → result ≡ look (core_of (state_of cpu.now bytes keys) pending subchannels.now) }
 {
     if cpu.psw.is_ec() {
         return Next::Stops(Reason::EcMode);
@@ -47,7 +50,18 @@ pub fn look(cpu: &Cpu, pending: Pending) -> Next
     if enabled.is_any() {
         return Next::Accepts(enabled);
     }
-    waits(&cpu.psw)
+    offered(subchannels.first_status(&cpu.psw), &cpu.psw)
+}
+
+/// A status of a device comes before a wait.
+#[inline(always)]
+fn offered(status: Option<Status>, psw: &Psw) -> Next
+    ensures { result ≡ offered status psw.now }
+{
+    match status {
+        Some(status) => Next::AcceptsStatus(status),
+        None => waits(psw),
+    }
 }
 
 /// Whether the processor waits.

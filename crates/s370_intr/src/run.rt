@@ -7,9 +7,10 @@ ghost use Rattle.s370_intr.specs.Run.{AllNeeded, RunNeeds, SuppliesUnit, TellsRu
 
 use crate::next::{Next, Reason, look};
 use crate::pending::Pending;
-use crate::unit::{Processor, accept, instruct_saving};
+use crate::unit::{Processor, accept, accept_status, instruct_saving};
 use s370_rows::Cpu;
 use s370_store::{FramesOut, Supply};
+use s370_subchannels::{Status, Subchannels};
 
 /// How many units a run did, and why it did no more.
 #[derive(Clone, Copy, Debug, PartialEq, Eq)]
@@ -25,18 +26,19 @@ fn instruct_supplied<P: Processor, S: Supply>(
     cpu: &mut Cpu,
     spare: &mut Cpu,
     pending: Pending,
+    subchannels: &mut Subchannels,
     storage: &mut S,
 ) -> Result<(), FramesOut>
     requires { 8192 ≤ length (S.Storage.bytes storage.old) }
-    ensures unit { let before = core_of (state_of cpu.old (S.Storage.bytes storage.old) (S.Storage.keys storage.old)) pending in
-        let after = core_of (state_of cpu.new (S.Storage.bytes storage.new) (S.Storage.keys storage.new)) pending in
+    ensures unit { let before = core_of (state_of cpu.old (S.Storage.bytes storage.old) (S.Storage.keys storage.old)) pending subchannels.old in
+        let after = core_of (state_of cpu.new (S.Storage.bytes storage.new) (S.Storage.keys storage.new)) pending subchannels.new in
         SuppliesUnit next.Instructs before result after (S.IsShort storage.new) }
-    ensures supply { let before = core_of (state_of cpu.old (S.Storage.bytes storage.old) (S.Storage.keys storage.old)) pending in
+    ensures supply { let before = core_of (state_of cpu.old (S.Storage.bytes storage.old) (S.Storage.keys storage.old)) pending subchannels.old in
         (pages : List ℕ) × S.Brought storage.old pages storage.new × AllNeeded (NeedsAt next.Instructs before) pages }
     ensures size { length (S.Storage.bytes storage.new) ≡ length (S.Storage.bytes storage.old) }
 {
     loop {
-        match instruct_saving::<P, S>(cpu, spare, storage) {
+        match instruct_saving::<P, S>(cpu, spare, subchannels, storage) {
             Ok(()) => return Ok(()),
             Err(page) => {
                 storage.bring(page)?;
@@ -51,18 +53,46 @@ fn accept_supplied<P: Processor, S: Supply>(
     taken: Pending,
     cpu: &mut Cpu,
     pending: &mut Pending,
+    subchannels: &Subchannels,
     storage: &mut S,
 ) -> Result<(), FramesOut>
     requires { 8192 ≤ length (S.Storage.bytes storage.old) }
-    ensures unit { let before = core_of (state_of cpu.old (S.Storage.bytes storage.old) (S.Storage.keys storage.old)) pending.old in
-        let after = core_of (state_of cpu.new (S.Storage.bytes storage.new) (S.Storage.keys storage.new)) pending.new in
+    ensures unit { let before = core_of (state_of cpu.old (S.Storage.bytes storage.old) (S.Storage.keys storage.old)) pending.old subchannels.now in
+        let after = core_of (state_of cpu.new (S.Storage.bytes storage.new) (S.Storage.keys storage.new)) pending.new subchannels.now in
         SuppliesUnit (next.Accepts taken) before result after (S.IsShort storage.new) }
-    ensures supply { let before = core_of (state_of cpu.old (S.Storage.bytes storage.old) (S.Storage.keys storage.old)) pending.old in
+    ensures supply { let before = core_of (state_of cpu.old (S.Storage.bytes storage.old) (S.Storage.keys storage.old)) pending.old subchannels.now in
         (pages : List ℕ) × S.Brought storage.old pages storage.new × AllNeeded (NeedsAt (next.Accepts taken) before) pages }
     ensures size { length (S.Storage.bytes storage.new) ≡ length (S.Storage.bytes storage.old) }
 {
     loop {
-        match accept::<P, S>(taken, cpu, pending, storage) {
+        match accept::<P, S>(taken, cpu, pending, subchannels, storage) {
+            Ok(()) => return Ok(()),
+            Err(page) => {
+                storage.bring(page)?;
+            }
+        }
+    }
+}
+
+/// The acceptance of a status of a device, likewise.
+#[inline(never)]
+fn accept_status_supplied<P: Processor, S: Supply>(
+    status: Status,
+    cpu: &mut Cpu,
+    pending: Pending,
+    subchannels: &mut Subchannels,
+    storage: &mut S,
+) -> Result<(), FramesOut>
+    requires { 8192 ≤ length (S.Storage.bytes storage.old) }
+    ensures unit { let before = core_of (state_of cpu.old (S.Storage.bytes storage.old) (S.Storage.keys storage.old)) pending subchannels.old in
+        let after = core_of (state_of cpu.new (S.Storage.bytes storage.new) (S.Storage.keys storage.new)) pending subchannels.new in
+        SuppliesUnit (next.AcceptsStatus status) before result after (S.IsShort storage.new) }
+    ensures supply { let before = core_of (state_of cpu.old (S.Storage.bytes storage.old) (S.Storage.keys storage.old)) pending subchannels.old in
+        (pages : List ℕ) × S.Brought storage.old pages storage.new × AllNeeded (NeedsAt (next.AcceptsStatus status) before) pages }
+    ensures size { length (S.Storage.bytes storage.new) ≡ length (S.Storage.bytes storage.old) }
+{
+    loop {
+        match accept_status::<P, S>(status, cpu, subchannels, storage) {
             Ok(()) => return Ok(()),
             Err(page) => {
                 storage.bring(page)?;
@@ -78,20 +108,24 @@ fn supplied<P: Processor, S: Supply>(
     cpu: &mut Cpu,
     spare: &mut Cpu,
     pending: &mut Pending,
+    subchannels: &mut Subchannels,
     storage: &mut S,
 ) -> Result<(), FramesOut>
     requires { 8192 ≤ length (S.Storage.bytes storage.old) }
-    ensures unit { let before = core_of (state_of cpu.old (S.Storage.bytes storage.old) (S.Storage.keys storage.old)) pending.old in
-        let after = core_of (state_of cpu.new (S.Storage.bytes storage.new) (S.Storage.keys storage.new)) pending.new in
+    ensures unit { let before = core_of (state_of cpu.old (S.Storage.bytes storage.old) (S.Storage.keys storage.old)) pending.old subchannels.old in
+        let after = core_of (state_of cpu.new (S.Storage.bytes storage.new) (S.Storage.keys storage.new)) pending.new subchannels.new in
         SuppliesUnit look before result after (S.IsShort storage.new) }
-    ensures supply { let before = core_of (state_of cpu.old (S.Storage.bytes storage.old) (S.Storage.keys storage.old)) pending.old in
+    ensures supply { let before = core_of (state_of cpu.old (S.Storage.bytes storage.old) (S.Storage.keys storage.old)) pending.old subchannels.old in
         (pages : List ℕ) × S.Brought storage.old pages storage.new × AllNeeded (NeedsAt look before) pages }
     ensures size { length (S.Storage.bytes storage.new) ≡ length (S.Storage.bytes storage.old) }
 {
     match look {
         Next::Stops(_) => Ok(()),
-        Next::Accepts(taken) => accept_supplied::<P, S>(taken, cpu, pending, storage),
-        Next::Instructs => instruct_supplied::<P, S>(cpu, spare, *pending, storage),
+        Next::Accepts(taken) => accept_supplied::<P, S>(taken, cpu, pending, subchannels, storage),
+        Next::AcceptsStatus(status) => {
+            accept_status_supplied::<P, S>(status, cpu, *pending, subchannels, storage)
+        }
+        Next::Instructs => instruct_supplied::<P, S>(cpu, spare, *pending, subchannels, storage),
     }
 }
 
@@ -99,25 +133,26 @@ fn supplied<P: Processor, S: Supply>(
 pub fn run_units<P: Processor, S: Supply>(
     cpu: &mut Cpu,
     pending: &mut Pending,
+    subchannels: &mut Subchannels,
     storage: &mut S,
     count: u32,
 ) -> Ran
     requires { 8192 ≤ length (S.Storage.bytes storage.old) }
-    ensures told { let before = core_of (state_of cpu.old (S.Storage.bytes storage.old) (S.Storage.keys storage.old)) pending.old in
-        let after = core_of (state_of cpu.new (S.Storage.bytes storage.new) (S.Storage.keys storage.new)) pending.new in
+    ensures told { let before = core_of (state_of cpu.old (S.Storage.bytes storage.old) (S.Storage.keys storage.old)) pending.old subchannels.old in
+        let after = core_of (state_of cpu.new (S.Storage.bytes storage.new) (S.Storage.keys storage.new)) pending.new subchannels.new in
         TellsRun count before (record { core = after; units = result.units; reason = result.reason }) (S.IsShort storage.new) }
-    ensures supply { let before = core_of (state_of cpu.old (S.Storage.bytes storage.old) (S.Storage.keys storage.old)) pending.old in
+    ensures supply { let before = core_of (state_of cpu.old (S.Storage.bytes storage.old) (S.Storage.keys storage.old)) pending.old subchannels.old in
         (pages : List ℕ) × S.Brought storage.old pages storage.new × AllNeeded (RunNeeds before result.units result.reason) pages }
     ensures size { length (S.Storage.bytes storage.new) ≡ length (S.Storage.bytes storage.old) }
 {
     let mut spare = *cpu;
     for units in 0..count {
-        let next = look(cpu, *pending);
+        let next = look(cpu, *pending, subchannels);
         match next {
             Next::Stops(reason) => return Ran { units, reason },
             _ => {}
         }
-        match supplied::<P, S>(next, cpu, &mut spare, pending, storage) {
+        match supplied::<P, S>(next, cpu, &mut spare, pending, subchannels, storage) {
             Ok(()) => {}
             Err(FramesOut) => {
                 return Ran {

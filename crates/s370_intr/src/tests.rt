@@ -1,12 +1,13 @@
 //! Interruptions whose words are known. The locations stand here as the manual's numbers (GA22-7000, "Assigned Storage
 //! Locations").
-use super::{Class, Pending, Ran, RealCpu, Reason, run_units, swap};
-use s370_num::AccessKey;
+use super::{Class, Pending, Ran, RealCpu, Reason, instruct, run_units, swap};
+use s370_num::{AccessKey, DevAddr};
 use s370_psw::{Ilc, Psw};
 use s370_rows::Cpu;
 use s370_store::{
     Access, Page, PagedStorage, PlainStorage, Range, Storage, load_doubleword, store_doubleword,
 };
+use s370_subchannels::{DeviceState, Subchannels};
 use std::process::Abort;
 use std::test::Fail;
 
@@ -101,8 +102,15 @@ fn accepted(
     place(&mut storage, 88, 0x300)?;
     let mut cpu = processor(psw, control);
     let mut left = pending;
+    let mut devices = Subchannels::new(rt.alloc());
     assert!(rt; storage.size() >= 8192);
-    let ran = run_units::<RealCpu, PlainStorage>(&mut cpu, &mut left, &mut storage, 1);
+    let ran = run_units::<RealCpu, PlainStorage>(
+        &mut cpu,
+        &mut left,
+        &mut devices,
+        &mut storage,
+        1,
+    );
     let one = Ran {
         units: 1,
         reason: Reason::Count,
@@ -155,12 +163,141 @@ fn masked_conditions_stay_pending(rt: HostRuntime) -> Result<(), Fail> {
         let mut storage = PlainStorage::new(rt.alloc(), 4)?;
         let mut cpu = processor(psw, control);
         let mut pending = BOTH;
+        let mut devices = Subchannels::new(rt.alloc());
         assert!(rt; storage.size() >= 8192);
-        let ran = run_units::<RealCpu, PlainStorage>(&mut cpu, &mut pending, &mut storage, 5);
+        let ran = run_units::<RealCpu, PlainStorage>(
+            &mut cpu,
+            &mut pending,
+            &mut devices,
+            &mut storage,
+            5,
+        );
         assert_eq!(rt; ran, Ran { units: 0, reason }, "of {psw:X}");
         assert_eq!(rt; pending, BOTH);
         assert_eq!(rt; psw_of(&cpu), psw);
         assert_eq!(rt; doubleword_at(&storage, 24)?, 0);
     }
+    Ok(())
+}
+
+/// Devices on channels 1 and 2 with their own addresses as status, of which one unit of a processor with this program
+/// status word is done that has pending conditions.
+fn interrupted(
+    rt: &(impl Abort + AllocGlobal),
+    psw: u64,
+    pending: Pending,
+) -> Result<(Subchannels, PlainStorage), Fail> {
+    let mut devices = Subchannels::new(rt.alloc());
+    for address in [0x190, 0x290] {
+        let device = DevAddr::new(address);
+        assert!(rt; devices.can_add(device));
+        devices.add(device)?;
+        devices.set_state(address, DeviceState::Pending(u64::from(address)));
+    }
+    let mut storage = PlainStorage::new(rt.alloc(), 4)?;
+    place(&mut storage, 88, 0x300)?;
+    place(&mut storage, 120, 0x500)?;
+    let mut cpu = processor(psw, 0xE0);
+    let mut left = pending;
+    assert!(rt; storage.size() >= 8192);
+    let ran = run_units::<RealCpu, PlainStorage>(
+        &mut cpu,
+        &mut left,
+        &mut devices,
+        &mut storage,
+        1,
+    );
+    assert_eq!(rt;
+        ran,
+        Ran {
+            units: 1,
+            reason: Reason::Count
+        }
+    );
+    Ok((devices, storage))
+}
+
+#[test]
+fn statuses_of_devices_are_accepted(rt: HostRuntime) -> Result<(), Fail> {
+    let cases = [
+        // (PSW that waits, pending; the device that is taken; the old PSW, and where it stands)
+        (
+            0x60020000_00000104,
+            Pending::NOTHING,
+            0x190,
+            0x60020190_00000104,
+            56,
+        ),
+        (
+            0x20020000_00000104,
+            Pending::NOTHING,
+            0x290,
+            0x20020290_00000104,
+            56,
+        ),
+        (0x40020000_00000104, BOTH, 0x190, 0x40020190_00000104, 56),
+        // external conditions come first
+        (0x61020000_00000104, TIMER, 0, 0x61020080_00000104, 24),
+    ];
+    for (psw, pending, taken, old, at) in cases {
+        let (devices, storage) = interrupted(&rt, psw, pending)?;
+        assert_eq!(rt; doubleword_at(&storage, at)?, old, "of {psw:X}");
+        assert_eq!(rt;
+            doubleword_at(&storage, 64)?,
+            u64::from(taken),
+            "of {psw:X}"
+        );
+        for address in [0x190u16, 0x290] {
+            let wanted = if address == taken {
+                DeviceState::Idle
+            } else {
+                DeviceState::Pending(u64::from(address))
+            };
+            assert!(rt; devices.state_of(address) == Some(wanted), "of {psw:X}");
+        }
+    }
+    Ok(())
+}
+
+// SIO 191, whose first command word stands in a page that is not there: the registers are as they were.
+#[test]
+fn a_start_is_undone(rt: HostRuntime) -> Result<(), Fail> {
+    let mut storage = PagedStorage::new(rt.alloc(), 2)?;
+    assert!(rt; storage.size() >= 8192);
+    storage.set_present(Page(0), true);
+    storage.check(
+        Range {
+            start: 72,
+            count: 8,
+        },
+        Access::Store,
+        AccessKey::ZERO,
+    )?;
+    store_doubleword(&mut storage, 72, 0x00001000_00000000);
+    storage.check(
+        Range {
+            start: 256,
+            count: 8,
+        },
+        Access::Store,
+        AccessKey::ZERO,
+    )?;
+    store_doubleword(&mut storage, 256, 0x9C000191_00000000);
+    let mut devices = Subchannels::new(rt.alloc());
+    let device = DevAddr::new(0x191);
+    assert!(rt; devices.can_add(device));
+    devices.add(device)?;
+    let mut cpu = processor(0x100, 0xE0);
+    assert!(rt; storage.size() >= 8192);
+    let told = instruct::<RealCpu, PagedStorage>(&mut cpu, &mut devices, &mut storage);
+    assert_eq!(rt; told, Err(Page(1)));
+    assert_eq!(rt; psw_of(&cpu), 0x100);
+    storage.set_present(Page(1), true);
+    assert!(rt; storage.size() >= 8192);
+    let told = instruct::<RealCpu, PagedStorage>(&mut cpu, &mut devices, &mut storage);
+    assert_eq!(rt; told, Ok(()));
+    // the first command word is zero: a program check
+    assert_eq!(rt; psw_of(&cpu), 0x10000104);
+    assert!(rt; devices.state_of(0x191) == Some(DeviceState::Idle));
     Ok(())
 }

@@ -5,11 +5,12 @@ ghost use Rattle.s370_cpu.specs.Opcodes.{opcode_at};
 ghost use Rattle.s370_cpu.specs.Table.{is_supervised, supervised, unit};
 ghost use Rattle.s370_cpu.specs.Unit.{MeetsUnit};
 ghost use Rattle.s370_intr.specs.Swap.{MeetsSwap, swapped};
-ghost use Rattle.s370_intr.specs.Units.{MeetsFollowed, MeetsInstruction, MeetsUnitAt, core_of};
+ghost use Rattle.s370_intr.specs.InputOutput.{configuration_of};
+ghost use Rattle.s370_intr.specs.Units.{IsSaved, MeetsFollowed, MeetsInstruction, MeetsPresented, MeetsUnitAt, core_of};
 ghost use Rattle.s370_intr.specs.declared.next.Next.TheVariants as next;
 
 use crate::class::Class;
-use crate::input_output::answer;
+use crate::input_output::answer_asked;
 use crate::pending::Pending;
 use crate::psw_swap::swap;
 use s370_cpu::{Stop, step, supervise};
@@ -17,6 +18,7 @@ use s370_num::AccessKey;
 use s370_psw::Ilc;
 use s370_rows::{Cpu, Instruction};
 use s370_store::{Access, Keyed, Page, Range, Storage};
+use s370_subchannels::{DeviceState, Status, Subchannels, store_csw};
 
 /// How the instructions for the supervisor state and the interruptions of a processor are carried out: by the processor
 /// itself, or for a guest by the control program.
@@ -70,35 +72,45 @@ impl Processor for RealCpu {
     }
 }
 
-/// One instruction, up to the stop that it ends in.
+/// One instruction, up to the stop that it ends in. The registers are copied where an answer may have to be undone: only
+/// an instruction for the supervisor state asks a device.
 #[inline(always)]
-fn perform<P: Processor, S: Keyed>(cpu: &mut Cpu, storage: &mut S) -> Stop
+fn perform<P: Processor, S: Keyed>(cpu: &mut Cpu, spare: &mut Cpu, storage: &mut S) -> Stop
     ensures unit { let before = state_of cpu.old (S.Storage.bytes storage.old) (S.Storage.keys storage.old) in
         let after = state_of cpu.new (S.Storage.bytes storage.new) (S.Storage.keys storage.new) in
         MeetsUnit (unit before) (S.Storage.present storage.old) before result after }
+    ensures saved { IsSaved result cpu.old spare.new }
+    ensures copy { (spare.new ≡ spare.old) ⊎ (spare.new ≡ cpu.old) }
     ensures size { length (S.Storage.bytes storage.new) ≡ length (S.Storage.bytes storage.old) }
     ensures present { S.Storage.present storage.new ≡ S.Storage.present storage.old }
     ensures rest { S.Storage.Keeps storage.old storage.new }
 {
     match step(cpu, storage) {
-        Stop::Privileged(i, ilc) => P::control(cpu, storage, i, ilc),
+        Stop::Privileged(i, ilc) => {
+            *spare = *cpu;
+            P::control(cpu, storage, i, ilc)
+        }
         stop => stop,
     }
 }
 
 /// One instruction, and the interruption or the answer that it ends in. Where they need a page that is not present, that is
 /// the error, and all is as it was.
-pub fn instruct<P: Processor, S: Keyed>(cpu: &mut Cpu, storage: &mut S) -> Result<(), Page>
+pub fn instruct<P: Processor, S: Keyed>(
+    cpu: &mut Cpu,
+    subchannels: &mut Subchannels,
+    storage: &mut S,
+) -> Result<(), Page>
     requires { 8192 ≤ length (S.Storage.bytes storage.old) }
-    ensures instruction { let before = state_of cpu.old (S.Storage.bytes storage.old) (S.Storage.keys storage.old) in
-        let after = state_of cpu.new (S.Storage.bytes storage.new) (S.Storage.keys storage.new) in
+    ensures instruction { let before = configuration_of (state_of cpu.old (S.Storage.bytes storage.old) (S.Storage.keys storage.old)) subchannels.old in
+        let after = configuration_of (state_of cpu.new (S.Storage.bytes storage.new) (S.Storage.keys storage.new)) subchannels.new in
         MeetsInstruction (S.Storage.present storage.old) before result after }
     ensures size { length (S.Storage.bytes storage.new) ≡ length (S.Storage.bytes storage.old) }
     ensures present { S.Storage.present storage.new ≡ S.Storage.present storage.old }
     ensures rest { S.Storage.Keeps storage.old storage.new }
 {
     let mut spare = *cpu;
-    instruct_saving::<P, S>(cpu, &mut spare, storage)
+    instruct_saving::<P, S>(cpu, &mut spare, subchannels, storage)
 }
 
 /// As [`instruct`], with a place for a copy of the registers, of which one is made only where it may be wanted.
@@ -106,26 +118,27 @@ pub fn instruct<P: Processor, S: Keyed>(cpu: &mut Cpu, storage: &mut S) -> Resul
 pub(crate) fn instruct_saving<P: Processor, S: Keyed>(
     cpu: &mut Cpu,
     spare: &mut Cpu,
+    subchannels: &mut Subchannels,
     storage: &mut S,
 ) -> Result<(), Page>
     requires { 8192 ≤ length (S.Storage.bytes storage.old) }
-    ensures instruction { let before = state_of cpu.old (S.Storage.bytes storage.old) (S.Storage.keys storage.old) in
-        let after = state_of cpu.new (S.Storage.bytes storage.new) (S.Storage.keys storage.new) in
+    ensures instruction { let before = configuration_of (state_of cpu.old (S.Storage.bytes storage.old) (S.Storage.keys storage.old)) subchannels.old in
+        let after = configuration_of (state_of cpu.new (S.Storage.bytes storage.new) (S.Storage.keys storage.new)) subchannels.new in
         MeetsInstruction (S.Storage.present storage.old) before result after }
     ensures size { length (S.Storage.bytes storage.new) ≡ length (S.Storage.bytes storage.old) }
     ensures present { S.Storage.present storage.new ≡ S.Storage.present storage.old }
     ensures rest { S.Storage.Keeps storage.old storage.new }
 {
     save(cpu, spare, storage);
-    let stop = perform::<P, S>(cpu, storage);
+    let stop = perform::<P, S>(cpu, spare, storage);
     match stop {
         Stop::Absent(page) => return Err(page),
         _ => {}
     }
-    match follow::<P, S>(cpu, storage, stop) {
+    match follow::<P, S>(cpu, subchannels, storage, stop) {
         Ok(()) => Ok(()),
         Err(page) => {
-            // What interrupts has changed registers alone.
+            // What interrupts, or asks a device, has changed registers alone.
             *cpu = *spare;
             Err(page)
         }
@@ -147,10 +160,15 @@ fn save<S: Storage>(cpu: &Cpu, spare: &mut Cpu, storage: &S)
 
 /// Carries out what the stop of an instruction is followed by: its interruption, or the answer of the device that it asks.
 #[inline(always)]
-fn follow<P: Processor, S: Keyed>(cpu: &mut Cpu, storage: &mut S, stop: Stop) -> Result<(), Page>
+fn follow<P: Processor, S: Keyed>(
+    cpu: &mut Cpu,
+    subchannels: &mut Subchannels,
+    storage: &mut S,
+    stop: Stop,
+) -> Result<(), Page>
     requires { 8192 ≤ length (S.Storage.bytes storage.old) }
-    ensures followed { let before = state_of cpu.old (S.Storage.bytes storage.old) (S.Storage.keys storage.old) in
-        let after = state_of cpu.new (S.Storage.bytes storage.new) (S.Storage.keys storage.new) in
+    ensures followed { let before = configuration_of (state_of cpu.old (S.Storage.bytes storage.old) (S.Storage.keys storage.old)) subchannels.old in
+        let after = configuration_of (state_of cpu.new (S.Storage.bytes storage.new) (S.Storage.keys storage.new)) subchannels.new in
         MeetsFollowed stop (S.Storage.present storage.old) before result after }
     ensures size { length (S.Storage.bytes storage.new) ≡ length (S.Storage.bytes storage.old) }
     ensures present { S.Storage.present storage.new ≡ S.Storage.present storage.old }
@@ -162,24 +180,25 @@ fn follow<P: Processor, S: Keyed>(cpu: &mut Cpu, storage: &mut S, stop: Stop) ->
             P::interrupt(cpu, storage, Class::SupervisorCall, u16::from(number), ilc)
         }
         Stop::InputOutput(operation, device) => {
-            answer(cpu, operation, device);
-            Ok(())
+            answer_asked(cpu, subchannels, storage, operation, device)
         }
         Stop::Done | Stop::Privileged(_, _) | Stop::Absent(_) => Ok(()),
     }
 }
 
 /// Accepts external conditions together. Where page 0 is not present, that is the error, and all is as it was.
+/// No device takes part.
 #[inline]
 pub fn accept<P: Processor, S: Keyed>(
     taken: Pending,
     cpu: &mut Cpu,
     pending: &mut Pending,
+    _subchannels: &Subchannels,
     storage: &mut S,
 ) -> Result<(), Page>
     requires { 8192 ≤ length (S.Storage.bytes storage.old) }
-    ensures unit { let before = core_of (state_of cpu.old (S.Storage.bytes storage.old) (S.Storage.keys storage.old)) pending.old in
-        let after = core_of (state_of cpu.new (S.Storage.bytes storage.new) (S.Storage.keys storage.new)) pending.new in
+    ensures unit { let before = core_of (state_of cpu.old (S.Storage.bytes storage.old) (S.Storage.keys storage.old)) pending.old _subchannels.now in
+        let after = core_of (state_of cpu.new (S.Storage.bytes storage.new) (S.Storage.keys storage.new)) pending.new _subchannels.now in
         MeetsUnitAt (next.Accepts taken) (S.Storage.present storage.old) before result after }
     ensures size { length (S.Storage.bytes storage.new) ≡ length (S.Storage.bytes storage.old) }
     ensures present { S.Storage.present storage.new ≡ S.Storage.present storage.old }
@@ -187,5 +206,35 @@ pub fn accept<P: Processor, S: Keyed>(
 {
     P::interrupt(cpu, storage, Class::External, taken.code(), Ilc::ZERO)?;
     *pending = pending.without(taken);
+    Ok(())
+}
+
+/// Accepts the status of a device: stores its channel status word and interrupts the processor; the device is idle. Where
+/// page 0 is not present, that is the error, and all is as it was.
+#[inline]
+pub fn accept_status<P: Processor, S: Keyed>(
+    status: Status,
+    cpu: &mut Cpu,
+    subchannels: &mut Subchannels,
+    storage: &mut S,
+) -> Result<(), Page>
+    requires { 8192 ≤ length (S.Storage.bytes storage.old) }
+    ensures status { let before = configuration_of (state_of cpu.old (S.Storage.bytes storage.old) (S.Storage.keys storage.old)) subchannels.old in
+        let after = configuration_of (state_of cpu.new (S.Storage.bytes storage.new) (S.Storage.keys storage.new)) subchannels.new in
+        MeetsPresented status (S.Storage.present storage.old) before result after }
+    ensures size { length (S.Storage.bytes storage.new) ≡ length (S.Storage.bytes storage.old) }
+    ensures present { S.Storage.present storage.new ≡ S.Storage.present storage.old }
+    ensures rest { S.Storage.Keeps storage.old storage.new }
+{
+    match store_csw(storage, status.csw) {
+        Ok(()) => {}
+        Err(page) => return Err(page),
+    }
+    match P::interrupt(cpu, storage, Class::InputOutput, status.device, Ilc::ZERO) {
+        Ok(()) => {}
+        // Page 0 is present: the channel status word was stored there.
+        Err(_) => unreachable!(),
+    }
+    subchannels.set_state(status.device, DeviceState::Idle);
     Ok(())
 }

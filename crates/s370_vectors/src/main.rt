@@ -19,6 +19,7 @@ use anyhow::{Result, bail};
 use cp_text::lines::numbered_lines;
 use cp_text::words::words_of;
 use s370_store::{PagedStorage, PlainStorage};
+use s370_subchannels::Subchannels;
 use std::alloc::Global;
 use std::{env, fs};
 
@@ -31,6 +32,7 @@ fn run_all<R: Print, S: Bed>(
     text: &[u8],
 ) -> Result<()> {
     let mut image = PlainStorage::new(alloc, 2048)?;
+    let mut devices = Subchannels::new(alloc);
     let mut agreed = 0u64;
     let mut lines = 0u64;
     for line in numbered_lines(text) {
@@ -43,7 +45,7 @@ fn run_all<R: Print, S: Bed>(
             continue;
         };
         lines = lines.wrapping_add(1);
-        match difference(storage, &mut image, &case) {
+        match difference(storage, &mut image, &mut devices, &case) {
             None => agreed = agreed.wrapping_add(1),
             Some(what) => tell(rt, name, &case, line.number, what)?,
         }

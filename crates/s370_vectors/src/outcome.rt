@@ -8,6 +8,7 @@ use s370_intr::{RealCpu, instruct};
 use s370_psw::{Ilc, Psw};
 use s370_rows::Cpu;
 use s370_store::{LEAST_STORAGE, PlainStorage};
+use s370_subchannels::Subchannels;
 
 /// How many times an instruction is carried out at most, whose parts or whose pages follow one another.
 const MOST: u32 = 200_000;
@@ -23,6 +24,7 @@ struct Ended {
 pub fn difference<S: Bed>(
     storage: &mut S,
     image: &mut PlainStorage,
+    devices: &mut Subchannels,
     case: &Case,
 ) -> Option<&'static str> {
     let mut cpu = Cpu {
@@ -32,7 +34,7 @@ pub fn difference<S: Bed>(
     };
     prepare(storage, case);
     expect(image, case);
-    run(&mut cpu, storage, is_long(case.row));
+    run(&mut cpu, devices, storage, is_long(case.row));
     let ended = end_of(&cpu, storage);
     if !case.interruption.starts_with(&[ended.interruption]) {
         return Some("the interruption");
@@ -66,13 +68,13 @@ fn is_long(row: &[u8]) -> bool {
 
 /// Carries out an instruction, with the interruption that it ends in: of one in parts all, and after each page that it
 /// needs was brought.
-fn run<S: Bed>(cpu: &mut Cpu, storage: &mut S, is_long: bool) {
+fn run<S: Bed>(cpu: &mut Cpu, devices: &mut Subchannels, storage: &mut S, is_long: bool) {
     let at = cpu.psw.address();
     for _ in 0..MOST {
         if storage.size() < LEAST_STORAGE {
             return;
         }
-        match instruct::<RealCpu, S>(cpu, storage) {
+        match instruct::<RealCpu, S>(cpu, devices, storage) {
             Err(page) => storage.bring(page),
             Ok(()) => {
                 if !is_long || cpu.psw.address() != at {

@@ -6,6 +6,7 @@ use cp_core::{Ended, Event, Reply, Sizes, System};
 use cp_directory::{User, read_directory};
 use cp_users::UserNo;
 use s370_store::{BLOCK_SIZE, PlainStorage};
+use s370_subchannels::Subchannels;
 use std::alloc::{AllocError, Global};
 
 /// A system, and for each of its users a bare machine with a storage of the same size.
@@ -20,7 +21,7 @@ fn machines_of(alloc: Global, users: &[User]) -> Result<Vec<Bare>, AllocError> {
     let mut machines = Vec::new(alloc);
     for user in users {
         let storage = PlainStorage::new(alloc, user.storage().blocks())?;
-        machines.push(Bare::new(alloc, storage))?;
+        machines.push(Bare::new(alloc, storage, Subchannels::new(alloc)))?;
     }
     Ok(machines)
 }

@@ -1,4 +1,4 @@
-use Rattle.std.proofs.Common.{◌≡◌, ℕ, ◌+◌, ◌*◌, ◌%◌, ◌^◌, Err, subst}
+use Rattle.std.proofs.Common.{◌≡◌, ℕ, ◌+◌, ◌*◌, ◌%◌, ◌^◌, Err, subst, sym, ◌∙◌}
 use Rattle.s370_rows.specs.State.{state_of}
 use Rattle.s370_rows.specs.Rows.{MeetsRow}
 use Rattle.s370_cpu.specs.Table.{row_of}
@@ -13,7 +13,7 @@ returns-clause-unit g c =
     let ilc = c.length_of-ilc.result in
     let i = c.in-Ok-execute.i in
     let e : c.wrapping_add-next.result ≡ (m.cpu.psw.address + 2 * ilc) % 2 ^ 24 = rw (c.wrapping_add-next.ensures, c.get.ensures.value, c.address-at.ensures) in
-    row_steps m ilc i c.conclude-2.result c.conclude-2.new.cpu (g.S.Storage.present c.args.storage.now) c.perform-outcome.result m'
+    row_steps m ilc i c.conclude-2.result c.conclude-2.new.cpu (g.S.Storage.present c.args.storage.now) c.perform-outcome.result m' (sym c.is_supervised.ensures ∙ c.if-is_supervised.false)
     (record { first = c.in-Ok.first; fetch = rw (← c.address-at.ensures) c.in-Ok.ensures; length_code = c.length_of-ilc.ensures; execute = c.in-Ok-execute.ensures })
     (subst (λ (n : ℕ). MeetsRow (row_of m (record { next = n; ilc = ilc }) i) (g.S.Storage.present c.args.storage.now) m c.perform-outcome.result m') e c.perform-outcome.ensures.row)
     (subst (λ (n : ℕ). stopped c.perform-outcome.result (record { next = n; ilc = ilc }) m'.cpu ≡ record { stop = c.conclude-2.result; cpu = c.conclude-2.new.cpu }) e c.conclude-2.ensures)

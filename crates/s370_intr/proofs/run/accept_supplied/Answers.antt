@@ -15,7 +15,7 @@ pub loop-page-preserved : goal.loop-page-preserved
 loop-page-preserved g c =
     let s = c.loop-page.invariant.supply in
     let page = c.in-Err.page.0 in
-    let first = core_of (state_of c.args.cpu.now (g.S.Storage.bytes c.args.storage.now) (g.S.Storage.keys c.args.storage.now)) c.args.pending.now in
+    let first = core_of (state_of c.args.cpu.now (g.S.Storage.bytes c.args.storage.now) (g.S.Storage.keys c.args.storage.now)) c.args.pending.now c.args.subchannels.now in
     let need : NeedsAt (Accepts c.args.taken) first page = subst (λ (x : Core). NeedsAt (Accepts c.args.taken) x page) c.loop-page.invariant.state c.in-Err.ensures.unit.2 in
     record {
       state = rw (c.bring.ensures.bytes, c.bring.ensures.keys) (c.in-Err.ensures.unit.0 ∙ c.loop-page.invariant.state);

@@ -1,5 +1,6 @@
 use Rattle.std.proofs.Common.{◌≡◌, ℕ, List, [], ◌∷◌, ◌++◌, ◌∙◌, ap, subst}
-use Rattle.s370_rows.specs.State.{State, state_of}
+use Rattle.s370_rows.specs.State.{state_of}
+use Rattle.s370_intr.specs.InputOutput.{Configuration}
 use Rattle.s370_intr.specs.declared.next.Next.TheVariants.{Instructs, Accepts}
 use Rattle.s370_intr.specs.Units.{Core, NeedsAt, core_of}
 use Rattle.s370_intr.specs.Run.{AllNeeded}
@@ -15,10 +16,10 @@ pub loop-page-preserved : goal.loop-page-preserved
 loop-page-preserved g c =
     let s = c.loop-page.invariant.supply in
     let page = c.in-Err.page.0 in
-    let first = core_of (state_of c.args.cpu.now (g.S.Storage.bytes c.args.storage.now) (g.S.Storage.keys c.args.storage.now)) c.args.pending in
+    let first = core_of (state_of c.args.cpu.now (g.S.Storage.bytes c.args.storage.now) (g.S.Storage.keys c.args.storage.now)) c.args.pending c.args.subchannels.now in
     let need : NeedsAt (Instructs) first page = subst (λ (x : Core). NeedsAt (Instructs) x page) c.loop-page.invariant.state c.in-Err.ensures.instruction.2 in
     record {
-      state = rw (c.bring.ensures.bytes, c.bring.ensures.keys) (ap (λ (s : State). core_of s c.args.pending) c.in-Err.ensures.instruction.0 ∙ c.loop-page.invariant.state);
+      state = rw (c.bring.ensures.bytes, c.bring.ensures.keys) (ap (λ (x : Configuration). core_of x.processor c.args.pending x.subchannels) c.in-Err.ensures.instruction.0 ∙ c.loop-page.invariant.state);
       supply = (
         (s.0 ++ []) ++ (page ∷ []),
         g.met.S.Supply.brought_on _ _ _ (s.0 ++ []) (page ∷ []) (g.met.S.Supply.brought_on _ _ _ s.0 [] s.1 (g.met.S.Supply.brought_none _ _ c.instruct_saving.ensures.rest)) c.in_ok-bring-in-Err.ensures.brought,

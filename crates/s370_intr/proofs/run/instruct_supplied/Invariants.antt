@@ -7,9 +7,9 @@ use Rattle.s370_intr.proofs.run.instruct_supplied.Given as goal
 
 abbrev pub invariant-loop-page : goal.invariant-loop-page
 invariant-loop-page g l =
-    let first = core_of (state_of l.fn.cpu (g.S.Storage.bytes l.fn.storage) (g.S.Storage.keys l.fn.storage)) l.fn.pending in
+    let first = core_of (state_of l.fn.cpu (g.S.Storage.bytes l.fn.storage) (g.S.Storage.keys l.fn.storage)) l.fn.pending l.fn.subchannels in
     record {
-      state : core_of (state_of l.cpu (g.S.Storage.bytes l.storage) (g.S.Storage.keys l.storage)) l.fn.pending ≡ first;
+      state : core_of (state_of l.cpu (g.S.Storage.bytes l.storage) (g.S.Storage.keys l.storage)) l.fn.pending l.subchannels ≡ first;
       supply : (pages : List ℕ) × g.S.Supply.Brought l.fn.storage pages l.storage × AllNeeded (NeedsAt Instructs first) pages;
     }
 

@@ -21,7 +21,7 @@ returns-in-Stops-clause-supply g c =
 
 pub returns-in-Err-clause-told : goal.returns-in-Err-clause-told
 returns-in-Err-clause-told g c =
-    let now = core_of (state_of c.loop-units.cpu (g.S.Storage.bytes c.loop-units.storage) (g.S.Storage.keys c.loop-units.storage)) c.loop-units.pending in
+    let now = core_of (state_of c.loop-units.cpu (g.S.Storage.bytes c.loop-units.storage) (g.S.Storage.keys c.loop-units.storage)) c.loop-units.pending c.loop-units.subchannels in
     let e : c.look-next.result ≡ look now = c.look-next.ensures (g.S.Storage.bytes c.loop-units.storage) (g.S.Storage.keys c.loop-units.storage) in
     tells_cut c.loop-units.units c.args.count _ now _ c.look-next.result _ c.loop-units.invariant.ran (omega arith) e c.in-Err.ensures.unit.0 c.in-Err.ensures.unit.1
 
@@ -30,8 +30,8 @@ returns-in-Err-clause-supply g c =
     let s = c.loop-units.invariant.supply in
     let t = c.in-Err.ensures.supply in
     let k = c.loop-units.units in
-    let first = core_of (state_of c.args.cpu.now (g.S.Storage.bytes c.args.storage.now) (g.S.Storage.keys c.args.storage.now)) c.args.pending.now in
-    let now = core_of (state_of c.loop-units.cpu (g.S.Storage.bytes c.loop-units.storage) (g.S.Storage.keys c.loop-units.storage)) c.loop-units.pending in
+    let first = core_of (state_of c.args.cpu.now (g.S.Storage.bytes c.args.storage.now) (g.S.Storage.keys c.args.storage.now)) c.args.pending.now c.args.subchannels.now in
+    let now = core_of (state_of c.loop-units.cpu (g.S.Storage.bytes c.loop-units.storage) (g.S.Storage.keys c.loop-units.storage)) c.loop-units.pending c.loop-units.subchannels in
     let e : c.look-next.result ≡ look now = c.look-next.ensures (g.S.Storage.bytes c.loop-units.storage) (g.S.Storage.keys c.loop-units.storage) in
     let n : AllNeeded (NeedsAt (look now) now) t.0 = subst (λ (l : Next). AllNeeded (NeedsAt l now) t.0) e t.2 in (
       s.0 ++ t.0,
@@ -44,9 +44,9 @@ loop-units-preserved g c =
     let s = c.loop-units.invariant.supply in
     let t = c.in-Ok.ensures.supply in
     let k = c.loop-units.units in
-    let first = core_of (state_of c.args.cpu.now (g.S.Storage.bytes c.args.storage.now) (g.S.Storage.keys c.args.storage.now)) c.args.pending.now in
-    let now = core_of (state_of c.loop-units.cpu (g.S.Storage.bytes c.loop-units.storage) (g.S.Storage.keys c.loop-units.storage)) c.loop-units.pending in
-    let new = core_of (state_of c.supplied.new.cpu (g.S.Storage.bytes c.supplied.new.storage) (g.S.Storage.keys c.supplied.new.storage)) c.supplied.new.pending in
+    let first = core_of (state_of c.args.cpu.now (g.S.Storage.bytes c.args.storage.now) (g.S.Storage.keys c.args.storage.now)) c.args.pending.now c.args.subchannels.now in
+    let now = core_of (state_of c.loop-units.cpu (g.S.Storage.bytes c.loop-units.storage) (g.S.Storage.keys c.loop-units.storage)) c.loop-units.pending c.loop-units.subchannels in
+    let new = core_of (state_of c.supplied.new.cpu (g.S.Storage.bytes c.supplied.new.storage) (g.S.Storage.keys c.supplied.new.storage)) c.supplied.new.pending c.supplied.new.subchannels in
     let e : c.look-next.result ≡ look now = c.look-next.ensures (g.S.Storage.bytes c.loop-units.storage) (g.S.Storage.keys c.loop-units.storage) in
     let goes : Goes (look now) = subst Goes e (not_stopped c.look-next.result c.in_default.not-Stops) in
     let step : new ≡ unit_at (look now) now = subst (λ (l : Next). new ≡ unit_at l now) e c.in-Ok.ensures.unit in

@@ -8,9 +8,9 @@ use Rattle.s370_intr.proofs.run.run_units.Given as goal
 
 abbrev pub invariant-loop-units : goal.invariant-loop-units
 invariant-loop-units g l =
-    let first = core_of (state_of l.fn.cpu (g.S.Storage.bytes l.fn.storage) (g.S.Storage.keys l.fn.storage)) l.fn.pending in
+    let first = core_of (state_of l.fn.cpu (g.S.Storage.bytes l.fn.storage) (g.S.Storage.keys l.fn.storage)) l.fn.pending l.fn.subchannels in
     record {
-      ran : run l.units first ≡ all_done l.units (core_of (state_of l.cpu (g.S.Storage.bytes l.storage) (g.S.Storage.keys l.storage)) l.pending);
+      ran : run l.units first ≡ all_done l.units (core_of (state_of l.cpu (g.S.Storage.bytes l.storage) (g.S.Storage.keys l.storage)) l.pending l.subchannels);
       supply : (pages : List ℕ) × g.S.Supply.Brought l.fn.storage pages l.storage × AllNeeded (RunNeeds first l.units Count) pages;
       size : length (g.S.Storage.bytes l.storage) ≡ length (g.S.Storage.bytes l.fn.storage);
     }

@@ -1,0 +1,17 @@
+use Rattle.std.proofs.Common.{◌≡◌, ℕ, List}
+use Rattle.s370_rows.specs.State.{state_of}
+use Rattle.s370_intr.specs.declared.next.Next.TheVariants.{AcceptsStatus}
+use Rattle.s370_intr.specs.Units.{NeedsAt, core_of}
+use Rattle.s370_intr.specs.Run.{AllNeeded}
+use Rattle.s370_intr.proofs.run.accept_status_supplied.Given as goal
+
+abbrev pub invariant-loop-page : goal.invariant-loop-page
+invariant-loop-page g l =
+    let first = core_of (state_of l.fn.cpu (g.S.Storage.bytes l.fn.storage) (g.S.Storage.keys l.fn.storage)) l.fn.pending l.fn.subchannels in
+    record {
+      state : core_of (state_of l.cpu (g.S.Storage.bytes l.storage) (g.S.Storage.keys l.storage)) l.fn.pending l.subchannels ≡ first;
+      supply : (pages : List ℕ) × g.S.Supply.Brought l.fn.storage pages l.storage × AllNeeded (NeedsAt (AcceptsStatus l.fn.status) first) pages;
+    }
+
+abbrev pub decreases-loop-page : goal.decreases-loop-page
+decreases-loop-page g l = g.S.Supply.spare l.storage

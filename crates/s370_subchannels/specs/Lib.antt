@@ -1,0 +1,2 @@
+pub mod Subchannels
+pub mod Answers
