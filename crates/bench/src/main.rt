@@ -68,11 +68,7 @@ fn words_of(rt: &(impl Env + AllocGlobal)) -> Result<Asked> {
 }
 
 /// The fastest of some runs of so many units, and how many units all of them did.
-fn best_of(
-    rt: &impl CpuClock,
-    guests: &mut Guests,
-    units: u32,
-) -> Result<(Duration, u64)> {
+fn best_of(rt: &impl CpuClock, guests: &mut Guests, units: u32) -> Result<(Duration, u64)> {
     let mut best = Duration::MAX;
     let mut done = 0u64;
     for _ in 0..TIMES {
@@ -102,7 +98,9 @@ fn measure(
     match guest.bytes_moved(u64::from(units)) {
         Some(bytes) => {
             let moved = bytes / micros;
-            eprintln!(rt; "{name} {place} {whole}.{tenth} million units a second, {moved} MB a second")?;
+            eprintln!(rt;
+                "{name} {place} {whole}.{tenth} million units a second, {moved} MB a second"
+            )?;
         }
         None => eprintln!(rt; "{name} {place} {whole}.{tenth} million units a second")?,
     }

@@ -133,14 +133,7 @@ fn move_through<S: Storage>(
 
 /// As [`move_padded`], where there are pads.
 #[inline(never)]
-fn move_pads<S: Storage>(
-    storage: &mut S,
-    to: u32,
-    from: u32,
-    pad: u8,
-    count: u32,
-    moved: u32,
-)
+fn move_pads<S: Storage>(storage: &mut S, to: u32, from: u32, pad: u8, count: u32, moved: u32)
     requires within { moved ≤ count }
     requires short { count ≤ 256 }
     requires target { IsGranted (length (S.bytes storage.old)) (S.present storage.old) to count }
@@ -157,14 +150,7 @@ fn move_pads<S: Storage>(
 
 /// Moves a range, and then pads up to a count.
 #[inline(always)]
-fn move_padded<S: Storage>(
-    storage: &mut S,
-    to: u32,
-    from: u32,
-    pad: u8,
-    count: u32,
-    moved: u32,
-)
+fn move_padded<S: Storage>(storage: &mut S, to: u32, from: u32, pad: u8, count: u32, moved: u32)
     requires some { 0 < count }
     requires within { moved ≤ count }
     requires short { count ≤ 256 }

@@ -11,9 +11,9 @@ ghost use Rattle.s370_cpu.specs.RegisterRows.{branched, register_row, shift_coun
 use crate::opcodes::{Branching, RegisterRow};
 use s370_psw::ProgramCode;
 use s370_rows::{
-    Arithmetic, Cpu, Ending, Instruction, Place, Shift, arithmetic_row, branch_and_link, branch_on_condition,
-    branch_on_count, branch_on_index, divide_row, load_address_row, multiply_row,
-    set_program_mask_row, shift_pair_row, shift_row,
+    Arithmetic, Cpu, Ending, Instruction, Place, Shift, arithmetic_row, branch_and_link,
+    branch_on_condition, branch_on_count, branch_on_index, divide_row, load_address_row,
+    multiply_row, set_program_mask_row, shift_pair_row, shift_row,
 };
 
 /// 05 BALR, 45 BAL; 06 BCTR, 46 BCT; 07 BCR, 47 BC. `may` says whether there is an address to branch to.

@@ -95,12 +95,7 @@ impl Storage for PlainStorage {
 
     #[inline(always)]
     fn copy(&mut self, from: u32, to: u32, count: u32) {
-        copy_at(
-            &mut self.bytes,
-            from as usize,
-            to as usize,
-            count as usize,
-        );
+        copy_at(&mut self.bytes, from as usize, to as usize, count as usize);
     }
 
     ghost keeps_same = { λ s. tt };
