@@ -1,11 +1,10 @@
 -- Whole commands of the punch, the printer and the console.
-use Rattle.std.proofs.Common.{◌≡◌, ℕ, zero, suc, ◌+◌, ◌-◌, ◌<◌, ◌≤◌, Bool, true, false, List, [], ◌∷◌, ◌++◌, length, replicate, refl, ap, sym, ◌∙◌, arith, append-nil, append_assoc, take, drop, Some}
-use Rattle.s370_walk.specs.declared.bits.Flags.{Flags}
+use Rattle.std.proofs.Common.{◌≡◌, ◌-◌, true, false, [], ◌∷◌, ◌++◌, length, replicate, ap, ◌∙◌, arith, append-nil, append_assoc, take, drop, Some}
 use Rattle.s370_walk.specs.declared.parts.Order.{Order}
-use Rattle.s370_walk.specs.Hardware.{Machine, after_taking}
-use Rattle.unit_record.specs.Punch.{PunchState, punch_machine, punch_finished}
+use Rattle.s370_walk.specs.Hardware.{after_taking}
+use Rattle.unit_record.specs.Punch.{punch_finished}
 use Rattle.unit_record.specs.Printer.{PrinterState, printer_machine, printer_started, is_write}
-use Rattle.unit_record.specs.Console.{ConsoleState, console_machine, console_finished}
+use Rattle.unit_record.specs.Console.{console_finished}
 use Rattle.unit_record.specs.Laws.{PunchesOneCard, KeepsEightyBytes, PrintsOneEntry, WritesOneLine, WritesTwoLines, WritesOn, asked, printed, space_left}
 use Rattle.unit_record.proofs.Takes.{punch_took_all, printer_took_all, console_took_all, console_took_over}
 

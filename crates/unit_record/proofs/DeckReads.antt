@@ -1,12 +1,11 @@
 -- Read after read of a deck.
-use Rattle.std.proofs.Common.{◌≡◌, ℕ, zero, suc, ◌+◌, ◌<◌, ◌≤◌, Bool, List, [], ◌∷◌, length, Option, Some, None, refl, ap, ◌∙◌, arith, add-one}
+use Rattle.std.proofs.Common.{◌≡◌, ℕ, zero, suc, ◌<◌, Bool, List, [], ◌∷◌, length, Option, Some, None, refl, ap, ◌∙◌, arith, add-one}
 use Rattle.std.specs.Prelude.{slice_get, slice_index_or}
 use Rattle.s370_walk.specs.declared.bits.Flags.{Flags}
-use Rattle.s370_walk.specs.declared.parts.Order.{Order}
 use Rattle.s370_walk.specs.declared.parts.Answer.TheVariants.{Refused, Input}
 use Rattle.unit_record.specs.Front.{unit_exception}
 use Rattle.unit_record.specs.Reader.{ReaderState, DeckValue, reader_answer, reader_started, place_of}
-use Rattle.unit_record.specs.Laws.{ReadsDecksInOrder, ReadsInOrder, after_reads, before_deck, asked}
+use Rattle.unit_record.specs.Laws.{ReadsDecksInOrder, after_reads, before_deck, asked}
 
 there : (cards : List (List ℕ)) (k : ℕ) → k < length cards → slice_get cards k ≡ Some (slice_index_or cards k [])
 there [] k lt = absurd (omega arith)

@@ -1,11 +1,11 @@
 -- What is left of a device after bytes that it took one by one.
-use Rattle.std.proofs.Common.{◌≡◌, ℕ, zero, suc, ◌+◌, ◌-◌, ◌<◌, ◌≤◌, Bool, true, false, nat_lt, nat_eq, List, [], ◌∷◌, ◌++◌, length, map, take, drop, refl, ap, sym, ◌∙◌, arith, append_assoc, append-nil, length-append}
+use Rattle.std.proofs.Common.{◌≡◌, ℕ, zero, suc, ◌+◌, ◌-◌, ◌<◌, ◌≤◌, true, false, nat_lt, nat_eq, List, [], ◌∷◌, ◌++◌, length, take, drop, ap, sym, ◌∙◌, arith, append_assoc, append-nil, length-append}
 use Rattle.s370_num.specs.Ebcdic.{printable_of}
-use Rattle.s370_walk.specs.Hardware.{Machine, after_taking}
+use Rattle.s370_walk.specs.Hardware.{after_taking}
 use Rattle.unit_record.specs.Punch.{PunchState, punch_machine, punch_took}
 use Rattle.unit_record.specs.Printer.{PrinterState, printer_machine, printer_took}
 use Rattle.unit_record.specs.Console.{ConsoleState, console_machine, console_took}
-use Rattle.unit_record.specs.Laws.{printed, space_left}
+use Rattle.unit_record.specs.Laws.{printed}
 
 below : (m n : ℕ) → m < n → nat_lt m n ≡ true
 below m n lt = grind arith

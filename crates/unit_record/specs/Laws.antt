@@ -1,13 +1,11 @@
 -- What whole commands come to.
-use Rattle.std.specs.Prelude.{ℕ, zero, suc, ◌+◌, ◌-◌, ◌≡◌, ◌<◌, ◌≤◌, Bool, true, false, List, [], ◌∷◌, ◌++◌, length, map, take, drop, slice_index_or, Option, None, Some}
+use Rattle.std.specs.Prelude.{ℕ, zero, suc, ◌+◌, ◌-◌, ◌≡◌, ◌<◌, ◌≤◌, Bool, true, false, List, [], ◌∷◌, ◌++◌, length, map, take, drop, slice_index_or, None}
 use Rattle.s370_num.specs.Ebcdic.{printable_of}
 use Rattle.s370_walk.specs.declared.bits.Flags.{Flags}
 use Rattle.s370_walk.specs.declared.parts.Order.{Order}
-use Rattle.s370_walk.specs.declared.parts.Answer.{Answer}
 use Rattle.s370_walk.specs.declared.parts.Answer.TheVariants.{Refused, Input}
 use Rattle.s370_walk.specs.Hardware.{Machine, after_taking}
 use Rattle.unit_record.specs.Front.{unit_exception}
-use Rattle.unit_record.specs.Output.{EntryValue}
 use Rattle.unit_record.specs.Punch.{PunchState, punch_machine, whole_card}
 use Rattle.unit_record.specs.Printer.{PrinterState, printer_machine, is_write}
 use Rattle.unit_record.specs.Reader.{ReaderState, DeckValue, reader_answer, reader_started}

@@ -1,5 +1,5 @@
 -- What a punch or a printer has made: an open file, and closed ones.
-use Rattle.std.specs.Prelude.{ℕ, List, Bool, [], ◌∷◌, ◌++◌}
+use Rattle.std.specs.Prelude.{ℕ, List, [], ◌∷◌, ◌++◌}
 use Rattle.unit_record.specs.declared.output.Target.{Target}
 
 -- An entry: the command that made it, and the bytes that it took.

@@ -1,5 +1,5 @@
 -- The card reader (GA24-3543, "3505 Card Reader", for the command; decks and their queue are the profile's).
-use Rattle.std.specs.Prelude.{ℕ, suc, ◌+◌, ◌==◌, ◌&&◌, Bool, true, false, nat_lt, if◌then◌else◌, List, [], ◌∷◌, ◌++◌, drop, remove, slice_index, slice_get, Option, Some, None, is_some}
+use Rattle.std.specs.Prelude.{ℕ, ◌+◌, ◌==◌, false, if◌then◌else◌, List, [], ◌∷◌, ◌++◌, drop, remove, slice_index, slice_get, Option, Some, None}
 use Rattle.std.specs.List.{position_from}
 use Rattle.s370_walk.specs.declared.parts.Order.{Order}
 use Rattle.s370_walk.specs.declared.parts.Answer.{Answer}

@@ -1,5 +1,6 @@
 //! The card reader.
-ghost use Rattle.std.specs.Prelude.{◌≡◌, ◌++◌, ◌∷◌, [], is_some, IfOk, OnOk, OnErr};
+ghost use Rattle.std.specs.Prelude.{◌≡◌, ◌++◌, ◌∷◌, [], ◌==◌, length, slice_get, is_some, IfOk, OnOk, OnErr};
+ghost use Rattle.std.specs.Option.{option_copied};
 ghost use Rattle.unit_record.specs.Reader.{reader_new, reader_reset, currents, with_deck, with_deck_back, queued_at, purged};
 
 use crate::front::{COMMAND_REJECT, INTERVENTION_REQUIRED, NO_OPERATION, is_sense};
@@ -205,6 +206,34 @@ impl Reader {
     {
         self.sense = 0;
         self.giving = Outgoing::new();
+    }
+
+    /// How many decks there are, a current one included.
+    pub fn len(&self) -> usize
+        ensures { result ≡ length self.now.decks }
+    {
+        self.decks.len()
+    }
+
+    /// Whether there is no deck.
+    pub fn is_empty(&self) -> bool
+        ensures { result ≡ (length self.now.decks == 0) }
+    {
+        self.decks.is_empty()
+    }
+
+    /// A deck, in their order; a current one is the first.
+    pub fn get(&self, index: usize) -> Option<&Deck>
+        ensures { option_copied result ≡ slice_get self.now.decks index }
+    {
+        self.decks.get(index)
+    }
+
+    /// How many cards of the current deck were read, or None where no deck is current.
+    pub fn place(&self) -> Option<usize>
+        ensures { result ≡ self.now.place }
+    {
+        self.place
     }
 
     /// The sense byte of the last unit check.
