@@ -128,6 +128,11 @@ impl Device for Obedient {
         }
     }
 
+    #[tactic(auto, using(crate::proofs::Ready::still_giving, crate::proofs::Ready::still_taking))]
+    fn ready(&self) -> u32 {
+        if self.code % 16 == 13 { 1 } else { 256 }
+    }
+
     fn finish(&mut self) -> UnitStatus {
         UnitStatus {
             bits: status(self.code % 16),

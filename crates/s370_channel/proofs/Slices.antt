@@ -1,19 +1,17 @@
 -- Bytes moved in a slice are moved one by one.
-use Rattle.std.proofs.Common.{◌≡◌, ◌≢◌, ℕ, zero, suc, ◌+◌, ◌-◌, ◌*◌, ◌%◌, ◌^◌, ◌==◌, ◌<◌, ◌≤◌, Bool, true, false, List, [], ◌∷◌, ◌++◌, length, take, drop, Option, Some, None, refl, sym, ap, ◌∙◌, arith, get_or, subst}
-use Rattle.std.specs.Prelude.{slice_range, slice_index, nat_lt, if◌then◌else◌}
+use Rattle.std.proofs.Common.{◌≡◌, ◌≢◌, ℕ, zero, suc, ◌+◌, ◌-◌, ◌%◌, ◌^◌, ◌==◌, ◌<◌, ◌≤◌, Bool, false, List, [], ◌∷◌, length, take, drop, Option, Some, None, refl, sym, ap, ◌∙◌, arith, subst}
+use Rattle.std.specs.Prelude.{slice_range, slice_index}
 use Rattle.std.proofs.lemmas.Bool.{lt-ltb}
 use Rattle.std.proofs.Math.Seq.{drop-cons}
 use Rattle.std.proofs.lemmas.Bool.Decides.{nat_tests}
-use Rattle.std.proofs.lemmas.Grind.{common_steps}
-use Rattle.s370_store.specs.declared.Access.{Access}
 use Rattle.s370_store.specs.declared.Access.TheVariants.{Fetch, Store}
-use Rattle.s370_store.specs.Access.{Test, put, IsGranted}
-use Rattle.s370_store.proofs.Verdicts.{part_fine, fits}
+use Rattle.s370_store.specs.Access.{put, IsGranted}
+use Rattle.s370_store.proofs.Verdicts.{part_fine}
 use Rattle.s370_store.proofs.Puts.{put-nothing, length-put}
 use Rattle.s370_walk.specs.declared.parts.Position.{Position}
 use Rattle.s370_walk.specs.declared.parts.Kind.TheVariants.{Gives, Takes, TakesUpTo}
-use Rattle.s370_walk.specs.Blocks.{served, begins_block, after}
-use Rattle.s370_walk.specs.Hardware.{Memory, Machine, area, fault_of, given, after_giving, after_taking, memory_of, put_byte, byte_at}
+use Rattle.s370_walk.specs.Blocks.{served}
+use Rattle.s370_walk.specs.Hardware.{Memory, area, fault_of, given, after_giving, after_taking, memory_of, put_byte, byte_at}
 use Rattle.s370_walk.specs.Walk.{Form, Setting, State, Moving, Written, Reaches, next, live, rest, place_in, stepped, skips, given_to, given_at, moved, byte_moved, taken_from, taken_at}
 use Rattle.s370_walk.specs.declared.parts.Kind.{Kind}
 use Rattle.s370_channel.specs.declared.moving.Moved.{Moved}

@@ -1,6 +1,5 @@
 -- A byte whose page is absent stops the walk there.
-use Rattle.std.proofs.Common.{◌≡◌, ◌≢◌, ℕ, ◌+◌, ◌<◌, Bool, true, false, not, ◌&&◌, List, [], ◌∷◌, length, Option, Some, refl, inl, inr, sym, ap, ◌∙◌, subst}
-use Rattle.std.specs.Prelude.{nat_lt, bit_and, ◌==◌}
+use Rattle.std.proofs.Common.{◌≡◌, ◌≢◌, ℕ, ◌<◌, Bool, true, false, List, [], ◌∷◌, length, Some, refl, inl, inr, ap, ◌∙◌, subst}
 use Rattle.std.proofs.lemmas.Bool.{lt-ltb}
 use Rattle.s370_store.specs.declared.Access.{Access}
 use Rattle.s370_store.specs.Access.{Test, IsAway, Touches, IsVerdict}

@@ -1,6 +1,6 @@
 -- The words of a guest's channel program: eight bytes in storage (GA22-7000, "Channel-Command Word"), and with IDA a list
 -- of words of four bytes ("Channel Indirect Data Addressing").
-use Rattle.std.specs.Prelude.{ℕ, ◌+◌, ◌*◌, ◌/◌, ◌%◌, ◌^◌, ◌==◌, Bool, List, [], ◌∷◌, Option, None, Some, nat_lt, ◌||◌, ◌&&◌, if◌then◌else◌}
+use Rattle.std.specs.Prelude.{ℕ, ◌+◌, ◌*◌, ◌%◌, ◌^◌, ◌==◌, List, [], ◌∷◌, Option, None, Some, nat_lt, ◌||◌, ◌&&◌, if◌then◌else◌}
 use Rattle.std.specs.Int.{w32, from_be_bytes}
 use Rattle.std.specs.List.{slice_range}
 use Rattle.s370_store.specs.declared.Access.TheVariants.{Fetch}

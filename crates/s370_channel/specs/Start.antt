@@ -2,7 +2,6 @@
 use Rattle.std.specs.Prelude.{ℕ, Option, None, Some}
 use Rattle.s370_walk.specs.declared.parts.Word.{Word}
 use Rattle.s370_walk.specs.Walk.{Verdict, Bad, Jump, Good, judged, start_spot}
-use Rattle.s370_channel.specs.Words.{caw_of}
 use Rattle.s370_channel.specs.declared.words.Caw.{Caw}
 
 -- commands numbered from 1 to this one may be started

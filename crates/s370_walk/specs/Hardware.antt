@@ -1,7 +1,7 @@
 -- Storage and devices as a channel sees them.
-use Rattle.std.specs.Prelude.{ℕ, zero, suc, ◌≡◌, Bool, List, [], ◌∷◌, length, slice_index, Option, None, Some, is_none, Result, Ok, Err}
+use Rattle.std.specs.Prelude.{ℕ, zero, suc, ◌≡◌, Bool, List, [], ◌∷◌, length, slice_index, Option, is_none, Result, Ok, Err}
 use Rattle.s370_store.specs.declared.Access.{Access}
-use Rattle.s370_store.specs.declared.Access.TheVariants.{Fetch, Store}
+use Rattle.s370_store.specs.declared.Access.TheVariants.{Fetch}
 use Rattle.s370_store.specs.declared.Fault.{Fault}
 use Rattle.s370_store.specs.declared.Page.{Page}
 use Rattle.s370_store.specs.Access.{Test, first_fault, put, IsAway, Touches}

@@ -1,13 +1,12 @@
 -- How walks go on, and that they end in one way.
-use Rattle.std.specs.Prelude.{Some, None, ℕ, zero, suc, ◌+◌, ◌-◌, ◌≡◌, ◌<◌, ◌≤◌, refl, Bool}
+use Rattle.std.specs.Prelude.{Some, None, ℕ, zero, suc, ◌+◌, ◌-◌, ◌≡◌, ◌≤◌, refl, Bool}
 use Rattle.std.proofs.Common.{sym, ◌∙◌, ap, arith, inl, inr, ◌⊎◌}
-use Rattle.s370_walk.specs.declared.parts.Position.{Position}
 use Rattle.s370_walk.specs.declared.parts.Spot.{Spot}
 use Rattle.s370_walk.specs.declared.parts.Word.{Word}
 use Rattle.s370_walk.specs.declared.parts.Ending.{Ending}
 use Rattle.s370_walk.specs.Hardware.{Memory}
 use Rattle.s370_walk.specs.Stuck.{IsStuck}
-use Rattle.s370_walk.specs.Walk.{Form, Setting, State, Fetching, Moving, Over, next, walk, Reaches, byte_moved, counted_out, closes, moved, judged, Good, answered, order_of, Written, live}
+use Rattle.s370_walk.specs.Walk.{Form, Setting, State, Fetching, Over, next, walk, Reaches, judged, Good, answered, order_of, Written, live}
 
 module _ {D : Type 0} (form : Form) (h : Setting D) where
   pub walk-more : (m n : ℕ) (s : State D) → walk form h (m + n) s ≡ walk form h n (walk form h m s)

@@ -1,10 +1,10 @@
 -- The walk of a channel program, one step at a time (GA22-7000, "Execution of Input/Output Operations"; docs/MACHINE.md,
 -- "Channel", says the same in sentences).
-use Rattle.std.specs.Prelude.{ℕ, zero, suc, ◌+◌, ◌-◌, ◌*◌, ◌/◌, ◌%◌, ◌==◌, ◌≡◌, ◌<◌, ◌⊎◌, Bool, true, false, ◌||◌, ◌&&◌, not, nat_le, nat_lt, if◌then◌else◌, List, [], ◌∷◌, length, Option, None, Some}
+use Rattle.std.specs.Prelude.{ℕ, zero, suc, ◌+◌, ◌-◌, ◌%◌, ◌==◌, ◌≡◌, Bool, true, false, ◌||◌, ◌&&◌, not, nat_le, if◌then◌else◌, List, Option, None, Some}
 use Rattle.s370_store.specs.declared.Access.TheVariants.{Fetch, Store}
 use Rattle.s370_store.specs.declared.Fault.{Fault}
 use Rattle.s370_store.specs.declared.Fault.TheVariants.{Addressing, Protection, Absent}
-use Rattle.s370_store.specs.Access.{Test, IsAway, Touches}
+use Rattle.s370_store.specs.Access.{Test}
 use Rattle.s370_walk.specs.declared.bits.UnitStatus.{UnitStatus}
 use Rattle.s370_walk.specs.declared.bits.ChannelStatus.{ChannelStatus}
 use Rattle.s370_walk.specs.declared.parts.Order.{Order}

@@ -1,4 +1,4 @@
-use Rattle.std.proofs.Common.{sym, ◌∙◌, arith}
+use Rattle.std.proofs.Common.{sym, ◌∙◌}
 use Rattle.s370_store.specs.declared.Access.TheVariants.{Fetch}
 use Rattle.s370_channel.proofs.Stuck.{stuck_taking_byte, absent_verdict}
 use Rattle.s370_channel.proofs.moving.take_byte.Goals as goal

@@ -1,4 +1,4 @@
-use Rattle.std.proofs.Common.{arith, ◌∙◌, sym, ◌<◌, ◌+◌, ◌-◌, ◌≡◌, subst}
+use Rattle.std.proofs.Common.{arith, sym, ◌<◌, ◌+◌, ◌-◌, ◌≡◌, subst}
 use Rattle.s370_walk.specs.Hardware.{memory_of}
 use Rattle.s370_walk.specs.Walk.{Moving, Reaches, live}
 use Rattle.s370_walk.specs.declared.parts.Position.{Position}
