@@ -1,6 +1,6 @@
 -- The device of the tests is done only by the digit D of its command.
-use Rattle.std.proofs.Common.{◌≡◌, ℕ, zero, suc, ◌<◌, Bool, true, false, List, [], ◌∷◌, length, refl, sym, ◌∙◌, ap, arith}
-use Rattle.std.specs.Prelude.{nat_lt, nat_le, ◌%◌, ◌/◌, ◌+◌, ◌==◌, ◌&&◌, slice_set, if◌then◌else◌}
+use Rattle.std.proofs.Common.{◌≡◌, ℕ, zero, suc, true, false, List, [], ◌∷◌, refl, ◌∙◌, ap}
+use Rattle.std.specs.Prelude.{nat_lt, ◌%◌, ◌+◌, ◌==◌, slice_set, if◌then◌else◌}
 use Rattle.s370_walk.specs.Hardware.{after_giving, after_taking}
 use Rattle.channel_programs.specs.Device.{obedient, moved_on}
 use Rattle.channel_programs.specs.declared.device.Obedient.{Obedient}

@@ -1,11 +1,6 @@
 -- The device of the tests as a machine: what src/device.rt says in its table.
-use Rattle.std.specs.Prelude.{ℕ, ◌+◌, ◌*◌, ◌/◌, ◌%◌, ◌^◌, ◌==◌, Bool, ◌||◌, ◌&&◌, not, nat_lt, nat_le, if◌then◌else◌, slice_set}
-use Rattle.s370_walk.specs.Bits.{has_bits}
+use Rattle.std.specs.Prelude.{ℕ, ◌+◌, ◌/◌, ◌%◌, ◌^◌, ◌==◌, ◌&&◌, nat_lt, nat_le, if◌then◌else◌, slice_set}
 use Rattle.s370_walk.specs.Hardware.{Machine}
-use Rattle.s370_walk.specs.declared.bits.UnitStatus.{UnitStatus}
-use Rattle.s370_walk.specs.declared.parts.Order.{Order}
-use Rattle.s370_walk.specs.declared.parts.Answer.{Answer}
-use Rattle.s370_walk.specs.declared.parts.Answer.TheVariants.{Refused, Immediate, Input, Output, OutputUpTo}
 use Rattle.channel_programs.specs.Answers.{answer_to, status_by}
 use Rattle.channel_programs.specs.declared.device.Obedient.{Obedient}
 
