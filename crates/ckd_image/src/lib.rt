@@ -1,0 +1,6 @@
+//! Volume images.
+#![tactic(auto)]
+
+mod writer;
+
+pub use writer::image;
