@@ -1,6 +1,9 @@
 -- Laws of images, part by part.
 use Rattle.std.specs.Prelude.{ℕ, zero, suc, ◌+◌, ◌≡◌, ◌<◌, ◌≤◌, refl, List, [], ◌∷◌, ◌++◌, length, drop, slice_index_or}
 use Rattle.std.proofs.Common.{sym, ◌∙◌, ap, arith, append_assoc}
+use Rattle.std.specs.Prelude.{Option, None, Some}
+use Rattle.std.proofs.Common.{append-nil}
+use Rattle.s370_num.specs.Host.{AppendsFront}
 use Rattle.ckd_track.specs.Track.{Record, TrackFormat, no_record}
 use Rattle.ckd_volume.specs.Front.{Cylinder, no_track}
 use Rattle.ckd_image.specs.Image.{record_bytes, records_bytes, track_bytes, tracks_bytes, cylinders_bytes, tracks_total, cylinders_total}
@@ -49,3 +52,8 @@ cylinders_total_on (c ∷ cs) (suc i) lt = let less : i < length cs = omega arit
 
 pub image_parts : (a b c d e : List ℕ) → (((a ++ b) ++ c) ++ d) ++ e ≡ (a ++ (b ++ c)) ++ (d ++ e)
 image_parts a b c d e = append_assoc ((a ++ b) ++ c) d e ∙ ap (λ l. l ++ (d ++ e)) (append_assoc a b c)
+
+-- a writer that nothing was written to has a beginning
+pub nothing_appended : (known : Option (List ℕ)) (bytes : List ℕ) → AppendsFront known known bytes
+nothing_appended None bytes = (zero, omega arith, tt)
+nothing_appended (Some xs) bytes = (zero, omega arith, sym (append-nil xs))

@@ -1,10 +1,15 @@
 //! The image of a volume.
-ghost use Rattle.std.specs.Prelude.{◌≡◌, ◌<◌, ◌≤◌, ◌+◌, ◌*◌, ◌++◌, ◌∷◌, [], length, OnOk, IfOk};
+ghost use Rattle.std.specs.Prelude.{◌≡◌, ◌<◌, ◌≤◌, ◌+◌, ◌*◌, ◌++◌, ◌∷◌, [], length, OnOk, OnErr, IfOk};
+ghost use Rattle.std.specs.Io.KnownBytes.{Appends};
+ghost use Rattle.s370_num.specs.Host.{AppendsFront};
+ghost use Rattle.ckd_image.specs.Faults.{CountsImage};
 ghost use Rattle.ckd_track.specs.Track.{record_in};
 ghost use Rattle.ckd_image.specs.Image.{record_bytes, track_bytes, tracks_bytes, tracks_total, cylinders_bytes, cylinders_total, image_of};
 
+use crate::faults::ImageError;
 use ckd_track::Track;
 use ckd_volume::{Cylinder, Volume};
+use s370_num::host::{HostFault, HostWriter, write_all};
 use std::alloc::{AllocError, Global};
 
 /// Appends a record of a track: its count, its key and its data.
@@ -16,7 +21,11 @@ fn put_record(out: &mut Vec<u8>, track: &Track, i: usize) -> Result<(), AllocErr
     let record = track.record(i);
     let id = record.id;
     let content = record.content.len();
-    let lengths = [record.key.len() as u8, (content / 256) as u8, (content % 256) as u8];
+    let lengths = [
+        record.key.len() as u8,
+        (content / 256) as u8,
+        (content % 256) as u8,
+    ];
     out.extend_from_slice(&id)?;
     out.extend_from_slice(&lengths)?;
     out.extend_from_slice(record.key)?;
@@ -107,4 +116,25 @@ pub fn image(alloc: Global, volume: &Volume) -> Result<Vec<u8>, AllocError>
     ];
     out.extend_from_slice(&bytes)?;
     Ok(out)
+}
+
+/// Writes the image of a volume, or a beginning of it where that fails.
+#[tactic(auto, using(crate::proofs::Parts::nothing_appended))]
+pub fn write_image<W: HostWriter>(
+    alloc: Global,
+    volume: &Volume,
+    writer: &mut W,
+) -> Result<(), ImageError>
+    ensures ok { OnOk result (Appends (W.contents writer.old) (W.contents writer.new) (image_of volume.now)) }
+    ensures err { OnErr result (AppendsFront (W.contents writer.old) (W.contents writer.new) (image_of volume.now)) }
+    ensures counts { CountsImage (W.HostFile.failures writer.old) (W.HostFile.failures writer.new) result }
+{
+    let Ok(bytes) = image(alloc, volume) else {
+        return Err(ImageError::Memory);
+    };
+    match write_all(writer, &bytes) {
+        Ok(()) => Ok(()),
+        Err(HostFault::Memory) => Err(ImageError::Memory),
+        Err(HostFault::Device(number)) => Err(ImageError::Device(number)),
+    }
 }
