@@ -51,6 +51,14 @@ impl Cylinder {
         Ok(Cylinder { tracks })
     }
 
+    /// How many heads reach it.
+    pub fn heads(&self) -> usize
+        ensures count { result ≡ length self.now }
+        ensures always { result ≡ 19 }
+    {
+        self.tracks.len()
+    }
+
     /// The track under this head.
     pub fn track(&self, head: usize) -> &Track
         requires { head < 19 }

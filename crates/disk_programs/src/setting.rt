@@ -8,8 +8,8 @@ use s370_num::{AccessKey, StorageKey};
 use s370_store::{Access, BLOCK_SIZE, Keyed, PlainStorage, Range, Storage, load_byte, store_byte};
 
 /// Whether there is a byte at an address.
-fn is_there(storage: &PlainStorage, at: u32) -> bool
-    ensures { result ≡ true → IsGranted (length (PlainStorage.Storage.bytes storage.now)) (PlainStorage.Storage.present storage.now) at 1 }
+fn is_there<S: Storage>(storage: &S, at: u32) -> bool
+    ensures { result ≡ true → IsGranted (length (S.bytes storage.now)) (S.present storage.now) at 1 }
 {
     let byte = Range {
         start: at,
@@ -30,7 +30,7 @@ fn byte_at(storage: &PlainStorage, at: u32) -> u8 {
 }
 
 /// Sets the byte at an address, where there is one.
-fn set_byte(storage: &mut PlainStorage, at: u32, byte: u8) {
+fn set_byte<S: Storage>(storage: &mut S, at: u32, byte: u8) {
     if is_there(storage, at) {
         store_byte(storage, at, byte);
     }

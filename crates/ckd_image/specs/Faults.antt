@@ -1,0 +1,19 @@
+-- The count of a file's failures after an image was read or written.
+use Rattle.std.specs.Prelude.{◌≡◌, ℕ, Result, Ok, Err}
+use Rattle.s370_num.specs.Host.{one_more}
+use Rattle.ckd_image.specs.declared.faults.ImageError.{ImageError}
+use Rattle.ckd_image.specs.declared.faults.ImageError.TheVariants.{Memory, BadMagic, Truncated, BadTrack, Trailing, Device, BadTotal}
+
+-- a failure of the file is counted, and tells the count; no other error is
+abbrev pub IsCountedImage : ℕ → ℕ → ImageError → Type 0
+IsCountedImage old new (Device k) = (new ≡ one_more old) × (k ≡ new)
+IsCountedImage old new Memory = new ≡ old
+IsCountedImage old new BadMagic = new ≡ old
+IsCountedImage old new Truncated = new ≡ old
+IsCountedImage old new (BadTrack c h) = new ≡ old
+IsCountedImage old new Trailing = new ≡ old
+IsCountedImage old new BadTotal = new ≡ old
+
+abbrev pub CountsImage : {A : Type 0} → ℕ → ℕ → Result A ImageError → Type 0
+CountsImage old new (Ok a) = new ≡ old
+CountsImage old new (Err fault) = IsCountedImage old new fault
