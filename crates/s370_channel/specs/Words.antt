@@ -3,6 +3,7 @@
 use Rattle.std.specs.Prelude.{ℕ, ◌+◌, ◌*◌, ◌/◌, ◌%◌, ◌^◌, ◌==◌, ◌&&◌, ◌++◌, ◌∷◌, [], List, slice_index, drop, Option, None, Some, if◌then◌else◌}
 use Rattle.byteorder.specs.Endian.{big_number, big_bytes}
 use Rattle.s370_num.specs.Address.{storage_address}
+use Rattle.s370_walk.specs.declared.parts.Ending.{Ending}
 use Rattle.s370_channel.specs.declared.words.Ccw.{Ccw}
 use Rattle.s370_channel.specs.declared.words.Csw.{Csw}
 use Rattle.s370_channel.specs.declared.words.Caw.{Caw}
@@ -33,6 +34,10 @@ csw_of bytes =
 
 abbrev pub csw_bytes : Csw → List ℕ
 csw_bytes w = (w.key * 16 ∷ []) ++ big_bytes 3 w.address ++ (w.unit.bits ∷ w.channel.bits ∷ []) ++ big_bytes 2 w.count
+
+-- the status word of a program: the command address is that of the last word used, or of the failing one, plus 8
+abbrev pub ending_word : ℕ → Ending → Csw
+ending_word key e = record { key = key; address = storage_address (e.at + 8); unit = e.unit; channel = e.channel; count = e.count }
 
 -- key 0-3, zeros 4-7, address 8-31 on a doubleword
 abbrev pub caw_of : ℕ → Option Caw

@@ -1,12 +1,29 @@
-//! Channel words.
+//! Channel programs: their words, the test of a start, and their run over any storage, device and form of words.
+//!
+//! Its one theorem: what [`run`] leaves of storage and device, and the ending that it answers, are those of the walk of
+//! `s370_walk`, step by step; and where it stops for a page that is not present, the walk comes to a step which needs that
+//! page (GA22-7000, "Execution of Input/Output Operations").
+//!
+//! ```
+//! let Some(start) = check_start(&Guest, &storage, caw)? else { return Ok(None) };
+//! let limits = Limits { key: start.key, commands: MOST_COMMANDS, prefix: 0 };
+//! let ending = run(&Guest, &mut storage, start.address.get(), &limits, &mut device)?;
+//! let csw = Csw::of_ending(start.key, ending);
+//! ```
 #![tactic(auto)]
 
+mod endings;
 mod guest;
 mod judging;
+mod limits;
+mod moving;
+mod running;
 mod starting;
 mod words;
 
 pub use guest::{Guest, fetch_block, fetch_word};
 pub use judging::{Verdict, judge};
+pub use limits::Limits;
+pub use running::{ChannelError, run};
 pub use starting::{MOST_COMMANDS, check_start};
 pub use words::{Caw, Ccw, Csw};

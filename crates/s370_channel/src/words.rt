@@ -1,11 +1,11 @@
 //! The words of a channel: command word, status word and address word (GA22-7000, "Channel-Command Word",
 //! "Channel-Status Word" and "Channel-Address Word").
-ghost use Rattle.std.specs.Prelude.{◌≡◌, ◌+◌, ◌<◌, ◌≤◌, ◌^◌, ◌/◌, ◌%◌, IfSome, IfNone, IsSome, length};
-ghost use Rattle.s370_channel.specs.Words.{ccw_of, ccw_bytes, csw_of, csw_bytes, caw_of};
+ghost use Rattle.std.specs.Prelude.{◌≡◌};
+ghost use Rattle.s370_channel.specs.Words.{ccw_of, ccw_bytes, csw_of, csw_bytes, ending_word, caw_of};
 
 use byteorder::{BigEndian, ByteOrder};
 use s370_num::{AccessKey, Addr24};
-use s370_walk::{ChannelStatus, Command, Flags, UnitStatus};
+use s370_walk::{ChannelStatus, Command, Ending, Flags, UnitStatus};
 
 /// A channel command word: what a device is to do, and with which bytes of storage.
 #[derive(Clone, Copy, Debug, PartialEq, Eq)]
@@ -62,6 +62,19 @@ pub struct Csw {
 }
 
 impl Csw {
+    /// The word that tells how a program with this key ended.
+    pub fn of_ending(key: AccessKey, ending: Ending) -> Csw
+        ensures { result ≡ ending_word key ending }
+    {
+        Csw {
+            key,
+            address: Addr24::wrapping(ending.at.wrapping_add(8)),
+            unit: ending.unit,
+            channel: ending.channel,
+            count: ending.count,
+        }
+    }
+
     /// The word that eight bytes of storage hold. Bits 4 to 7 are ignored.
     pub fn from_bytes(bytes: &[u8; 8]) -> Csw
         ensures { result ≡ csw_of bytes.now }

@@ -1,11 +1,12 @@
 //! Devices, and the forms in which channel programs are written.
-ghost use Rattle.std.specs.Prelude.{◌≡◌, ℕ, ◌<◌, ◌≤◌, ◌+◌, ◌-◌, ◌*◌, false, length, List, if◌then◌else◌};
+ghost use Rattle.std.specs.Prelude.{◌≡◌, ℕ, ◌<◌, ◌≤◌, ◌+◌, ◌-◌, ◌*◌, false, length, List, if◌then◌else◌, IfOk, OnOk, OnErr};
 ghost use Rattle.s370_walk.specs.Hardware.{Machine, FetchTells, memory_of, given, after_giving, after_taking};
 ghost use Rattle.s370_walk.specs.Walk.{Written};
 
 use crate::bits::UnitStatus;
 use crate::parts::{Answer, Order, Position, Word};
 use s370_store::{Page, Storage};
+use std::alloc::AllocError;
 
 /// A device, which answers a command, then gives or takes bytes, and then finishes.
 ///
@@ -16,9 +17,13 @@ pub trait Device {
     ghost machine: { Machine Self };
 
     /// Begins a command, or refuses it.
-    fn command(&mut self, order: Order) -> Answer
-        ensures answer { result ≡ machine.answer self.old order }
-        ensures after { self.new ≡ machine.started self.old order };
+    ///
+    /// A command that keeps a record takes the memory for it here, so that its bytes and its end need none. Where memory is
+    /// refused nothing has happened.
+    fn command(&mut self, order: Order) -> Result<Answer, AllocError>
+        ensures answer { IfOk result (λ answer. answer ≡ machine.answer self.old order) }
+        ensures after { OnOk result (self.new ≡ machine.started self.old order) }
+        ensures memory { OnErr result (self.new ≡ self.old) };
 
     /// Whether it wants no more bytes, though it has fewer than it said.
     fn is_done(&self) -> bool

@@ -1,0 +1,26 @@
+-- The device of the tests as a machine: what src/device.rt says in its table.
+use Rattle.std.specs.Prelude.{ℕ, ◌+◌, ◌*◌, ◌/◌, ◌%◌, ◌^◌, ◌==◌, Bool, ◌||◌, ◌&&◌, not, nat_lt, nat_le, if◌then◌else◌, slice_set}
+use Rattle.s370_walk.specs.Bits.{has_bits}
+use Rattle.s370_walk.specs.Hardware.{Machine}
+use Rattle.s370_walk.specs.declared.bits.UnitStatus.{UnitStatus}
+use Rattle.s370_walk.specs.declared.parts.Order.{Order}
+use Rattle.s370_walk.specs.declared.parts.Answer.{Answer}
+use Rattle.s370_walk.specs.declared.parts.Answer.TheVariants.{Refused, Immediate, Input, Output, OutputUpTo}
+use Rattle.channel_programs.specs.Answers.{answer_to, status_by}
+use Rattle.channel_programs.specs.declared.device.Obedient.{Obedient}
+
+abbrev pub moved_on : Obedient → ℕ
+moved_on d = (d.moved + 1) % 2 ^ 32
+
+abbrev pub obedient : Machine Obedient
+obedient =
+    record {
+      answer = λ d o. answer_to o;
+      started = λ d o. record d { code = o.command.code; moved = 0 };
+      done = λ d. d.code % 16 == 13 && nat_le (d.code / 16) d.moved;
+      gives = λ d. d.given;
+      gave = λ d. record d { given = (d.given + 1) % 256; moved = moved_on d };
+      took = λ d b. if nat_lt d.kept 64 then record d { taken = slice_set d.taken d.kept b; kept = d.kept + 1; moved = moved_on d } else record d { moved = moved_on d };
+      status = λ d. record { bits = status_by (d.code % 16) };
+      finished = λ d. d;
+    }

@@ -1,0 +1,176 @@
+//! Runs channel programs on a device that does what its command codes ask for, and compares what they leave with what was
+//! worked out by hand.
+//!
+//! `cases.txt` has one program a line; its first lines tell the fields. Each that does not agree is told by its line, its
+//! name and what differs.
+#![tactic(auto)]
+
+mod case;
+mod device;
+
+use crate::case::{Case, Item, Place, case_of, item_of};
+use crate::device::Obedient;
+use anyhow::{Context, Result, bail};
+use cp_text::numbers::hexadecimal_of;
+use s370_channel::{Csw, Guest, Limits, MOST_COMMANDS, check_start, run};
+use s370_num::{AccessKey, StorageKey};
+use s370_store::{Access, Keyed, PlainStorage, Range, Storage};
+use std::alloc::Global;
+use std::{env, fs};
+
+/// How many blocks of 2048 bytes a machine of the cases has.
+const BLOCKS: u32 = 8;
+
+/// The bytes that hexadecimal digits spell are stored from an address on.
+fn store(alloc: Global, storage: &mut PlainStorage, start: u32, digits: &str) -> Result<()> {
+    let bytes = hex::decode(alloc, digits)?;
+    let mut at = start;
+    for byte in &bytes {
+        let range = Range {
+            start: at,
+            count: 1,
+        };
+        if storage
+            .check(range, Access::Store, AccessKey::ZERO)
+            .is_err()
+        {
+            bail!("{at:x} is past storage");
+        }
+        storage.store(at, &[*byte]);
+        at = at.wrapping_add(1);
+    }
+    Ok(())
+}
+
+/// Sets what an item names.
+fn set(alloc: Global, storage: &mut PlainStorage, item: &Item<'_>) -> Result<()> {
+    match item.place {
+        Place::Storage(address) => store(alloc, storage, address, item.digits),
+        Place::Key(address) => {
+            let bits = hexadecimal_of(2, 2, item.digits.as_bytes()).context("a key has 2 digits")?;
+            if bits % 8 != 0 || address >= storage.size() {
+                bail!("no such key or block");
+            }
+            storage.set_key(address / 2048, StorageKey::new((bits / 8) as u8));
+            Ok(())
+        }
+        Place::Taken => bail!("nothing is taken yet"),
+    }
+}
+
+/// Storage as a case finds it.
+fn found(alloc: Global, case: &Case<'_>) -> Result<PlainStorage> {
+    let mut storage = PlainStorage::new(alloc, BLOCKS)?;
+    for word in case.found.split_whitespace() {
+        set(alloc, &mut storage, &item_of(word).context("an item")?)?;
+    }
+    Ok(storage)
+}
+
+/// Starts and runs a program, and tells its status word, or None where the start is refused.
+fn carry_out(
+    storage: &mut PlainStorage,
+    caw: u32,
+    device: &mut Obedient,
+) -> Result<Option<[u8; 8]>> {
+    let Ok(start) = check_start(&Guest, storage, caw) else {
+        bail!("a page is absent");
+    };
+    let Some(start) = start else {
+        return Ok(None);
+    };
+    let limits = Limits {
+        key: start.key,
+        commands: MOST_COMMANDS,
+        prefix: 0,
+    };
+    let ending = run(&Guest, storage, start.address.get(), &limits, device)?;
+    Ok(Some(Csw::of_ending(start.key, ending).to_bytes()))
+}
+
+/// Whether a program leaves what its case says, or what differs.
+fn judge(alloc: Global, case: &Case<'_>) -> Result<Option<&'static str>> {
+    let mut storage = found(alloc, case)?;
+    let mut wanted = found(alloc, case)?;
+    let mut device = Obedient::new();
+    let caw = hexadecimal_of(8, 8, case.caw.as_bytes()).context("a CAW has 8 digits")?;
+    let csw = carry_out(&mut storage, caw, &mut device)?;
+    let mut taken = Vec::new(alloc);
+    for word in case.left.split_whitespace() {
+        let item = item_of(word).context("an item")?;
+        match item.place {
+            Place::Taken => taken = hex::decode(alloc, item.digits)?,
+            _ => set(alloc, &mut wanted, &item)?,
+        }
+    }
+    if !is_status(alloc, csw, case.csw)? {
+        return Ok(Some("CSW"));
+    }
+    if storage.bytes() != wanted.bytes() {
+        return Ok(Some("storage"));
+    }
+    if device.taken() != taken.as_slice() {
+        return Ok(Some("bytes taken"));
+    }
+    Ok(None)
+}
+
+/// Whether this is the status word that a case wants.
+fn is_status(alloc: Global, csw: Option<[u8; 8]>, wanted: &str) -> Result<bool> {
+    match csw {
+        None => Ok(wanted == "REFUSED"),
+        Some(bytes) => Ok(
+            wanted != "REFUSED" && bytes.as_slice() == hex::decode(alloc, wanted)?.as_slice(),
+        ),
+    }
+}
+
+/// How many cases there are, and how many agree.
+#[derive(Drop)]
+struct Tally {
+    cases: u32,
+    agreed: u32,
+}
+
+/// Runs the program of a line, and prints it where it does not agree.
+fn try_line<R: Print>(
+    rt: &R,
+    alloc: Global,
+    number: u32,
+    line: &str,
+    tally: &mut Tally,
+) -> Result<()> {
+    let Some(case) = case_of(line) else {
+        bail!("line {number} is no case");
+    };
+    tally.cases = tally.cases.wrapping_add(1);
+    match judge(alloc, &case)? {
+        None => tally.agreed = tally.agreed.wrapping_add(1),
+        Some(what) => {
+            let name = case.name;
+            println!(rt; "line {number}: {name}: {what}")?;
+        }
+    }
+    Ok(())
+}
+
+fn main(rt: HostRuntime) -> Result<()> {
+    let Some(path) = env::args(&rt)?.nth(1) else {
+        bail!("the file of cases has to be named");
+    };
+    let text = fs::read_to_string(&rt, &path)?;
+    let mut tally = Tally {
+        cases: 0,
+        agreed: 0,
+    };
+    let mut number = 0u32;
+    for line in text.lines() {
+        number = number.wrapping_add(1);
+        if !line.is_empty() && !line.starts_with('#') {
+            try_line(&rt, rt.alloc(), number, line, &mut tally)?;
+        }
+    }
+    let Tally { cases, agreed } = tally;
+    println!(rt; "{agreed} of {cases} programs agree")?;
+    Ok(())
+}

@@ -1,0 +1,136 @@
+//! How a word ends: what it leads to, or with which status the program is over.
+ghost use Rattle.std.specs.Prelude.{◌≡◌, ◌<◌, ◌⊎◌};
+ghost use Rattle.s370_walk.specs.Hardware.{Memory};
+ghost use Rattle.s370_walk.specs.Walk.{Form, Moving, next, closed, failure, failed, state_of, ending, rest, tells_length};
+ghost use Rattle.s370_channel.specs.Progress.{setting, IsBehind};
+
+use crate::limits::Limits;
+use s370_walk::{
+    ChannelStatus, Device, Ending, Flags, Kind, Position, Progress, Spot, Transfer, UnitStatus,
+    Word,
+};
+
+/// The end of a program at a word, which has channel end and device end.
+pub(crate) fn end_at(at: u32, status: UnitStatus, channel: ChannelStatus, count: u16) -> Ending
+    ensures { result ≡ ending at status channel count }
+{
+    Ending {
+        at,
+        unit: UnitStatus::ENDED.with(status),
+        channel,
+        count,
+    }
+}
+
+/// A check stops a transfer, and the device ends with the bytes that it has.
+pub(crate) fn stop<D: Device>(device: &mut D, at: u32, check: ChannelStatus, count: u16) -> Ending
+    ensures ending { result ≡ ending at (D.machine.status device.old) check count }
+    ensures after { device.new ≡ D.machine.finished device.old }
+{
+    end_at(at, device.finish(), check, count)
+}
+
+/// A word cannot be fetched, or is bad.
+pub(crate) fn fail<D: Device>(device: &mut D, role: Option<Transfer>, at: u32) -> Ending
+    ensures ending { result ≡ failure D.machine role at device.old }
+    ensures after { device.new ≡ failed D.machine role device.old }
+{
+    match role {
+        Some(_) => stop(device, at, ChannelStatus::PROGRAM_CHECK, 0),
+        None => end_at(at, UnitStatus::NONE, ChannelStatus::PROGRAM_CHECK, 0),
+    }
+}
+
+/// What a command leads to that is over: the next command, or the end of the program.
+pub(crate) fn close(
+    prefix: u32,
+    wrong: bool,
+    status: UnitStatus,
+    at: u32,
+    started: u32,
+    word: &Word,
+    count: u16,
+) -> Progress
+    ensures { result ≡ closed prefix wrong status at started word.now count }
+{
+    if wrong {
+        return Progress::Ended(end_at(at, status, ChannelStatus::INCORRECT_LENGTH, count));
+    }
+    let chains = word.flags.has(Flags::CHAIN_COMMAND) && !word.flags.has(Flags::CHAIN_DATA);
+    if chains && !status.has(UnitStatus::UNUSUAL) {
+        Progress::At(Spot {
+            at: if status.has(UnitStatus::STATUS_MODIFIER) {
+                word.skipped
+            } else {
+                word.next
+            },
+            role: None,
+            jumped: started == prefix,
+            started,
+        })
+    } else {
+        Progress::Ended(end_at(at, status, ChannelStatus::NONE, count))
+    }
+}
+
+/// Whether an incorrect length is told at this word.
+fn minds_length(p: &Position) -> bool
+    ensures { result ≡ tells_length p.now }
+{
+    let exact = match p.transfer.kind {
+        Kind::Gives => true,
+        Kind::Takes => true,
+        Kind::TakesUpTo => false,
+    };
+    let flags = p.word.flags;
+    exact && (flags.has(Flags::CHAIN_DATA) || !flags.has(Flags::SUPPRESS_LENGTH))
+}
+
+/// The bytes that the device has left or wants.
+pub(crate) fn left_of<D: Device>(device: &D, p: &Position) -> u32
+    ensures { result ≡ rest D.machine p.now device.now }
+{
+    if device.is_done() { 0 } else { p.transfer.left }
+}
+
+/// What a word leads to whose count is zero, or whose device has nothing left.
+#[tactic(auto, unfolding(crate::specs::Progress::weight))]
+pub(crate) fn finish<D: Device>(device: &mut D, limits: &Limits, p: &Position) -> Progress
+    requires { (p.now.count ≡ 0) ⊎ (rest D.machine p.now device.old ≡ 0) }
+    ensures next { (form : Form) (m : Memory) → next form (setting D.machine limits.now) (Moving p.now m device.old) ≡ state_of result m device.new }
+    ensures lighter { IsBehind limits.now.commands p.now result }
+{
+    let wrong = minds_length(p);
+    if p.count == 0 {
+        if p.word.flags.has(Flags::CHAIN_DATA) {
+            return Progress::At(Spot {
+                at: p.word.next,
+                role: Some(p.transfer),
+                jumped: false,
+                started: p.started,
+            });
+        }
+        let left = left_of(device, p);
+        let status = device.finish();
+        close(
+            limits.prefix,
+            left != 0 && wrong,
+            status,
+            p.at,
+            p.started,
+            &p.word,
+            p.count,
+        )
+    } else {
+        let status = device.finish();
+        close(
+            limits.prefix,
+            wrong,
+            status,
+            p.at,
+            p.started,
+            &p.word,
+            p.count,
+        )
+    }
+}

@@ -1,0 +1,233 @@
+//! Bytes between a device and the area of a word.
+ghost use Rattle.std.specs.Prelude.{◌≡◌, ℕ, ◌<◌, ◌≤◌, IfOk, IfErr, length, ◌≢◌};
+ghost use Rattle.s370_walk.specs.Blocks.{begins_block, after};
+ghost use Rattle.s370_walk.specs.Hardware.{FetchTells, memory_of};
+ghost use Rattle.s370_walk.specs.Walk.{Moving, next, Reaches, live, rest, stepped, place_in};
+ghost use Rattle.s370_walk.specs.Stuck.{IsStuck, place_asks};
+ghost use Rattle.s370_walk.specs.declared.parts.Kind.TheVariants.{Gives};
+ghost use Rattle.s370_channel.specs.declared.moving.Moved.TheVariants.{Done};
+ghost use Rattle.s370_channel.specs.Progress.{setting, moved_state, IsOut, IsOneOn};
+
+use crate::endings::{left_of, stop};
+use crate::limits::Limits;
+use s370_store::{Access, Fault, Page, Range, Storage, load_byte, store_byte};
+use s370_walk::{ChannelStatus, Device, Ending, Flags, Kind, Position, Transfer, WordForm};
+
+/// What a transfer leads to.
+pub(crate) enum Moved {
+    /// So far, with no check.
+    Done(Position),
+    /// To a check.
+    Stopped(Ending),
+}
+
+/// Whether the next byte begins a block.
+fn is_first_of_block(before: Option<u32>) -> bool
+    ensures { result ≡ begins_block before }
+{
+    match before {
+        None => true,
+        Some(a) => a % 2048 == 2047,
+    }
+}
+
+/// The place after a place.
+fn one_further(before: Option<u32>) -> Option<u32>
+    ensures { result ≡ after before }
+{
+    match before {
+        None => None,
+        Some(a) => { if a == u32::MAX { None } else { Some(a + 1) } }
+    }
+}
+
+/// Where the next byte lies, or None where that cannot be found out.
+fn place<F: WordForm, S: Storage>(
+    program: &F,
+    storage: &S,
+    p: &Position,
+) -> Result<Option<u32>, Page>
+    requires { p.now.count ≤ p.now.word.count }
+    ensures { FetchTells (length (S.bytes storage.now)) (S.present storage.now) (place_asks (F.written program.now) p.now) (place_in (F.written program.now) (memory_of (S.bytes storage.now) (S.keys storage.now)) p.now) result }
+{
+    if is_first_of_block(p.before) {
+        let index = (p.word.count - p.count) as u32;
+        program.block(storage, p, (index + 2047) / 2048)
+    } else {
+        Ok(one_further(p.before))
+    }
+}
+
+/// One byte further.
+fn one_on(p: &Position, before: Option<u32>) -> Moved
+    requires count { 0 < p.now.count }
+    requires left { 0 < p.now.transfer.left }
+    ensures { result ≡ Done (stepped p.now before) }
+{
+    Moved::Done(Position {
+        at: p.at,
+        started: p.started,
+        word: p.word,
+        count: p.count - 1,
+        before,
+        transfer: Transfer {
+            command: p.transfer.command,
+            kind: p.transfer.kind,
+            left: p.transfer.left - 1,
+        },
+    })
+}
+
+/// Takes a byte from the device, and stores it.
+#[tactic(auto, using(crate::proofs::Stuck::stuck_giving_place, crate::proofs::Stuck::stuck_giving_byte))]
+fn give_byte<F: WordForm, S: Storage, D: Device>(
+    program: &F,
+    storage: &mut S,
+    device: &mut D,
+    limits: &Limits,
+    p: &Position,
+) -> Result<Moved, Page>
+    requires count { 0 < p.now.count }
+    requires left { 0 < rest D.machine p.now device.old }
+    requires gives { p.now.transfer.kind ≡ Gives }
+    requires within { p.now.count ≤ p.now.word.count }
+    ensures next { IfOk result (λ r. next (live (F.written program.now)) (setting D.machine limits.now) (Moving p.now (memory_of (S.bytes storage.old) (S.keys storage.old)) device.old) ≡ moved_state r (memory_of (S.bytes storage.new) (S.keys storage.new)) device.new) }
+    ensures on { IfOk result (IsOneOn p.now) }
+    ensures present { S.present storage.new ≡ S.present storage.old }
+    ensures keys { S.keys storage.new ≡ S.keys storage.old }
+    ensures size { length (S.bytes storage.new) ≡ length (S.bytes storage.old) }
+    ensures rest { S.Keeps storage.old storage.new }
+    ensures stuck { IfErr result (λ page. IsStuck (F.written program.now) (setting D.machine limits.now) (S.present storage.old) (Moving p.now (memory_of (S.bytes storage.old) (S.keys storage.old)) device.old) page.0) }
+{
+    if p.word.flags.has(Flags::SKIP) {
+        let _ = device.give();
+        return Ok(one_on(p, p.before));
+    }
+    let Some(address) = place(program, storage, p)? else {
+        return Ok(Moved::Stopped(stop(device, p.at, ChannelStatus::PROGRAM_CHECK, p.count)));
+    };
+    let one_byte = Range {
+        start: address,
+        count: 1,
+    };
+    match storage.check(one_byte, Access::Store, limits.key) {
+        Ok(()) => {
+            let byte = device.give();
+            store_byte(storage, address, byte);
+            Ok(one_on(p, Some(address)))
+        }
+        Err(Fault::Protection) => Ok(Moved::Stopped(stop(
+            device,
+            p.at,
+            ChannelStatus::PROTECTION_CHECK,
+            p.count,
+        ))),
+        Err(Fault::Addressing) => Ok(Moved::Stopped(stop(
+            device,
+            p.at,
+            ChannelStatus::PROGRAM_CHECK,
+            p.count,
+        ))),
+        Err(Fault::Absent(page)) => Err(page),
+    }
+}
+
+/// Loads a byte, and hands it to the device.
+#[tactic(auto, using(crate::proofs::Stuck::stuck_taking_place, crate::proofs::Stuck::stuck_taking_byte))]
+fn take_byte<F: WordForm, S: Storage, D: Device>(
+    program: &F,
+    storage: &S,
+    device: &mut D,
+    limits: &Limits,
+    p: &Position,
+) -> Result<Moved, Page>
+    requires count { 0 < p.now.count }
+    requires left { 0 < rest D.machine p.now device.old }
+    requires takes { p.now.transfer.kind ≢ Gives }
+    requires within { p.now.count ≤ p.now.word.count }
+    ensures next { IfOk result (λ r. next (live (F.written program.now)) (setting D.machine limits.now) (Moving p.now (memory_of (S.bytes storage.now) (S.keys storage.now)) device.old) ≡ moved_state r (memory_of (S.bytes storage.now) (S.keys storage.now)) device.new) }
+    ensures on { IfOk result (IsOneOn p.now) }
+    ensures stuck { IfErr result (λ page. IsStuck (F.written program.now) (setting D.machine limits.now) (S.present storage.now) (Moving p.now (memory_of (S.bytes storage.now) (S.keys storage.now)) device.old) page.0) }
+{
+    let Some(address) = place(program, storage, p)? else {
+        return Ok(Moved::Stopped(stop(device, p.at, ChannelStatus::PROGRAM_CHECK, p.count)));
+    };
+    let one_byte = Range {
+        start: address,
+        count: 1,
+    };
+    match storage.check(one_byte, Access::Fetch, limits.key) {
+        Ok(()) => {
+            let byte = load_byte(storage, address);
+            device.take(byte);
+            Ok(one_on(p, Some(address)))
+        }
+        Err(Fault::Protection) => Ok(Moved::Stopped(stop(
+            device,
+            p.at,
+            ChannelStatus::PROTECTION_CHECK,
+            p.count,
+        ))),
+        Err(Fault::Addressing) => Ok(Moved::Stopped(stop(
+            device,
+            p.at,
+            ChannelStatus::PROGRAM_CHECK,
+            p.count,
+        ))),
+        Err(Fault::Absent(page)) => Err(page),
+    }
+}
+
+/// Moves a byte either way.
+fn move_byte<F: WordForm, S: Storage, D: Device>(
+    program: &F,
+    storage: &mut S,
+    device: &mut D,
+    limits: &Limits,
+    p: &Position,
+) -> Result<Moved, Page>
+    requires count { 0 < p.now.count }
+    requires left { 0 < rest D.machine p.now device.old }
+    requires within { p.now.count ≤ p.now.word.count }
+    ensures next { IfOk result (λ r. next (live (F.written program.now)) (setting D.machine limits.now) (Moving p.now (memory_of (S.bytes storage.old) (S.keys storage.old)) device.old) ≡ moved_state r (memory_of (S.bytes storage.new) (S.keys storage.new)) device.new) }
+    ensures on { IfOk result (IsOneOn p.now) }
+    ensures present { S.present storage.new ≡ S.present storage.old }
+    ensures keys { S.keys storage.new ≡ S.keys storage.old }
+    ensures size { length (S.bytes storage.new) ≡ length (S.bytes storage.old) }
+    ensures rest { S.Keeps storage.old storage.new }
+    ensures stuck { IfErr result (λ page. IsStuck (F.written program.now) (setting D.machine limits.now) (S.present storage.old) (Moving p.now (memory_of (S.bytes storage.old) (S.keys storage.old)) device.old) page.0) }
+{
+    match p.transfer.kind {
+        Kind::Gives => give_byte(program, storage, device, limits, p),
+        Kind::Takes => take_byte(program, storage, device, limits, p),
+        Kind::TakesUpTo => take_byte(program, storage, device, limits, p),
+    }
+}
+
+/// Moves bytes until the count or the device has run out, or to a check.
+#[tactic(auto, using(s370_walk::specs::Reaching::reach_then, crate::proofs::Stuck::stuck_later))]
+pub(crate) fn transfer<F: WordForm, S: Storage, D: Device>(
+    program: &F,
+    storage: &mut S,
+    device: &mut D,
+    limits: &Limits,
+    position: Position,
+) -> Result<Moved, Page>
+    requires { position.count ≤ position.word.count }
+    ensures reaches { IfOk result (λ r. Reaches (live (F.written program.now)) (setting D.machine limits.now) (Moving position (memory_of (S.bytes storage.old) (S.keys storage.old)) device.old) (moved_state r (memory_of (S.bytes storage.new) (S.keys storage.new)) device.new)) }
+    ensures out { IfOk result (IsOut D.machine position device.new) }
+    ensures present { S.present storage.new ≡ S.present storage.old }
+    ensures keys { S.keys storage.new ≡ S.keys storage.old }
+    ensures size { length (S.bytes storage.new) ≡ length (S.bytes storage.old) }
+    ensures rest { S.Keeps storage.old storage.new }
+    ensures stuck { IfErr result (λ page. IsStuck (F.written program.now) (setting D.machine limits.now) (S.present storage.old) (Moving position (memory_of (S.bytes storage.old) (S.keys storage.old)) device.old) page.0) }
+{
+    let mut p = position;
+    'bytes: while p.count > 0 && left_of(device, &p) > 0 {
+        match move_byte(program, storage, device, limits, &p)? {
+            Moved::Done(then) => p = then,
+            Moved::Stopped(ending) => return Ok(Moved::Stopped(ending)),
+        }
+    }
+    Ok(Moved::Done(p))
+}

@@ -1,0 +1,242 @@
+//! The run of a channel program over any form of words, storage and device.
+ghost use Rattle.std.specs.Prelude.{◌≡◌, ℕ, ◌+◌, ◌<◌, ◌≤◌, IfOk, IfErr, None, Some, length};
+ghost use Rattle.s370_walk.specs.Hardware.{memory_of};
+ghost use Rattle.s370_walk.specs.Walk.{Moving, Fetching, Over, next, judged, moving, Good, state_of, Reaches, start_spot, live};
+ghost use Rattle.s370_walk.specs.Stuck.{IsStuck};
+ghost use Rattle.s370_channel.specs.Progress.{setting, IsLighter, IsFollowed, MatchStuck};
+
+use crate::endings::{close, end_at, fail, finish};
+use crate::judging::{Verdict, judge};
+use crate::limits::Limits;
+use crate::moving::{Moved, transfer};
+use s370_store::{Page, Storage};
+use s370_walk::{
+    Answer, ChannelStatus, Device, Ending, Kind, Order, Position, Progress, Spot, Transfer,
+    UnitStatus, Word, WordForm,
+};
+use thiserror::Error;
+
+/// Obeys a word from its first byte on.
+fn obey<F: WordForm, S: Storage, D: Device>(
+    program: &F,
+    storage: &mut S,
+    device: &mut D,
+    limits: &Limits,
+    position: Position,
+) -> Result<Progress, Page>
+    requires count { 0 < position.count }
+    requires within { position.count ≤ position.word.count }
+    ensures reaches { IfOk result (λ r. Reaches (live (F.written program.now)) (setting D.machine limits.now) (Moving position (memory_of (S.bytes storage.old) (S.keys storage.old)) device.old) (state_of r (memory_of (S.bytes storage.new) (S.keys storage.new)) device.new)) }
+    ensures followed { IfOk result (IsFollowed limits.now.commands position) }
+    ensures present { S.present storage.new ≡ S.present storage.old }
+    ensures keys { S.keys storage.new ≡ S.keys storage.old }
+    ensures size { length (S.bytes storage.new) ≡ length (S.bytes storage.old) }
+    ensures rest { S.Keeps storage.old storage.new }
+    ensures stuck { IfErr result (λ page. IsStuck (F.written program.now) (setting D.machine limits.now) (S.present storage.old) (Moving position (memory_of (S.bytes storage.old) (S.keys storage.old)) device.old) page.0) }
+{
+    match transfer(program, storage, device, limits, position)? {
+        Moved::Stopped(ending) => Ok(Progress::Ended(ending)),
+        Moved::Done(p) => Ok(finish(device, limits, &p)),
+    }
+}
+
+/// A word before its first byte.
+fn position(spot: &Spot, started: u32, word: Word, transfer: Transfer) -> Position
+    ensures { result ≡ moving spot.now started word transfer }
+{
+    Position {
+        at: spot.at,
+        started,
+        word,
+        count: word.count,
+        before: None,
+        transfer,
+    }
+}
+
+/// Starts a command.
+#[tactic(auto, using(s370_walk::specs::Reaching::reach_then, s370_walk::specs::Reaching::reach_from, crate::proofs::Stuck::stuck_next), unfolding(crate::specs::Progress::weight))]
+fn begin<F: WordForm, S: Storage, D: Device>(
+    program: &F,
+    storage: &mut S,
+    device: &mut D,
+    limits: &Limits,
+    spot: &Spot,
+    word: Word,
+) -> Result<Progress, ChannelError>
+    requires good { judged limits.now.commands spot.now word ≡ Good }
+    requires role { spot.now.role ≡ None }
+    requires text { (F.written program.now).text (memory_of (S.bytes storage.old) (S.keys storage.old)) spot.now.at ≡ Some word }
+    ensures reaches { IfOk result (λ r. Reaches (live (F.written program.now)) (setting D.machine limits.now) (Fetching spot.now (memory_of (S.bytes storage.old) (S.keys storage.old)) device.old) (state_of r (memory_of (S.bytes storage.new) (S.keys storage.new)) device.new)) }
+    ensures lighter { IfOk result (IsLighter limits.now.commands spot.now) }
+    ensures present { S.present storage.new ≡ S.present storage.old }
+    ensures keys { S.keys storage.new ≡ S.keys storage.old }
+    ensures size { length (S.bytes storage.new) ≡ length (S.bytes storage.old) }
+    ensures rest { S.Keeps storage.old storage.new }
+    ensures stuck { IfErr result (MatchStuck (F.written program.now) (setting D.machine limits.now) (S.present storage.old) (Fetching spot.now (memory_of (S.bytes storage.old) (S.keys storage.old)) device.old)) }
+{
+    let order = Order {
+        command: word.command,
+        first: spot.started == limits.prefix,
+        flags: word.flags,
+    };
+    let started = spot.started + 1;
+    let answer = match device.command(order) {
+        Ok(answer) => answer,
+        Err(_) => return Err(ChannelError::Memory),
+    };
+    let wanted = match answer {
+        Answer::Refused(status) => {
+            return Ok(Progress::Ended(end_at(spot.at, status, ChannelStatus::NONE, word.count)));
+        }
+        Answer::Immediate => return Ok(close(
+            limits.prefix,
+            false,
+            UnitStatus::NONE,
+            spot.at,
+            started,
+            &word,
+            word.count,
+        )),
+        Answer::Input(left) => Transfer {
+            command: word.command,
+            kind: Kind::Gives,
+            left,
+        },
+        Answer::Output(left) => Transfer {
+            command: word.command,
+            kind: Kind::Takes,
+            left,
+        },
+        Answer::OutputUpTo(left) => Transfer {
+            command: word.command,
+            kind: Kind::TakesUpTo,
+            left,
+        },
+    };
+    match obey(
+        program,
+        storage,
+        device,
+        limits,
+        position(spot, started, word, wanted),
+    ) {
+        Ok(then) => Ok(then),
+        Err(page) => Err(ChannelError::Absent(page)),
+    }
+}
+
+/// Goes on with a command in its next word.
+#[tactic(auto, using(s370_walk::specs::Reaching::reach_from), unfolding(crate::specs::Progress::weight))]
+fn resume<F: WordForm, S: Storage, D: Device>(
+    program: &F,
+    storage: &mut S,
+    device: &mut D,
+    limits: &Limits,
+    spot: &Spot,
+    word: Word,
+    wanted: Transfer,
+) -> Result<Progress, ChannelError>
+    requires good { judged limits.now.commands spot.now word ≡ Good }
+    requires role { spot.now.role ≡ Some wanted }
+    requires text { (F.written program.now).text (memory_of (S.bytes storage.old) (S.keys storage.old)) spot.now.at ≡ Some word }
+    ensures reaches { IfOk result (λ r. Reaches (live (F.written program.now)) (setting D.machine limits.now) (Fetching spot.now (memory_of (S.bytes storage.old) (S.keys storage.old)) device.old) (state_of r (memory_of (S.bytes storage.new) (S.keys storage.new)) device.new)) }
+    ensures lighter { IfOk result (IsLighter limits.now.commands spot.now) }
+    ensures present { S.present storage.new ≡ S.present storage.old }
+    ensures keys { S.keys storage.new ≡ S.keys storage.old }
+    ensures size { length (S.bytes storage.new) ≡ length (S.bytes storage.old) }
+    ensures rest { S.Keeps storage.old storage.new }
+    ensures stuck { IfErr result (MatchStuck (F.written program.now) (setting D.machine limits.now) (S.present storage.old) (Fetching spot.now (memory_of (S.bytes storage.old) (S.keys storage.old)) device.old)) }
+{
+    match obey(
+        program,
+        storage,
+        device,
+        limits,
+        position(spot, spot.started, word, wanted),
+    ) {
+        Ok(then) => Ok(then),
+        Err(page) => Err(ChannelError::Absent(page)),
+    }
+}
+
+/// Fetches one word and obeys it.
+#[tactic(auto, using(s370_walk::specs::Reaching::reach_from, s370_walk::specs::Reaching::reach_next, crate::proofs::Stuck::stuck_next, crate::proofs::Stuck::stuck_word), unfolding(crate::specs::Progress::weight))]
+fn one_word<F: WordForm, S: Storage, D: Device>(
+    program: &F,
+    storage: &mut S,
+    device: &mut D,
+    limits: &Limits,
+    spot: &Spot,
+) -> Result<Progress, ChannelError>
+    ensures reaches { IfOk result (λ r. Reaches (live (F.written program.now)) (setting D.machine limits.now) (Fetching spot.now (memory_of (S.bytes storage.old) (S.keys storage.old)) device.old) (state_of r (memory_of (S.bytes storage.new) (S.keys storage.new)) device.new)) }
+    ensures lighter { IfOk result (IsLighter limits.now.commands spot.now) }
+    ensures present { S.present storage.new ≡ S.present storage.old }
+    ensures keys { S.keys storage.new ≡ S.keys storage.old }
+    ensures size { length (S.bytes storage.new) ≡ length (S.bytes storage.old) }
+    ensures rest { S.Keeps storage.old storage.new }
+    ensures stuck { IfErr result (MatchStuck (F.written program.now) (setting D.machine limits.now) (S.present storage.old) (Fetching spot.now (memory_of (S.bytes storage.old) (S.keys storage.old)) device.old)) }
+{
+    let found = match program.fetch(storage, spot.at) {
+        Ok(found) => found,
+        Err(page) => return Err(ChannelError::Absent(page)),
+    };
+    let Some(word) = found else {
+        return Ok(Progress::Ended(fail(device, spot.role, spot.at)));
+    };
+    match judge(limits.commands, spot, &word) {
+        Verdict::Bad => Ok(Progress::Ended(fail(device, spot.role, spot.at))),
+        Verdict::Jump => Ok(Progress::At(Spot {
+            at: word.next,
+            role: spot.role,
+            jumped: true,
+            started: spot.started,
+        })),
+        Verdict::Good => match spot.role {
+            None => Ok(begin(program, storage, device, limits, spot, word)?),
+            Some(wanted) => resume(program, storage, device, limits, spot, word, wanted),
+        },
+    }
+}
+
+/// Why a program could not be run.
+#[derive(Clone, Copy, Debug, PartialEq, Eq, Error)]
+pub enum ChannelError {
+    /// A device was refused the memory that a command wants.
+    #[error("out of memory")]
+    Memory,
+    /// A page of its words, its lists or its data is not present.
+    #[error("page {} is absent", .0.0)]
+    Absent(Page),
+}
+
+/// Runs the program that starts at an address.
+#[tactic(auto, using(s370_walk::specs::Reaching::reach_on, crate::proofs::Stuck::stuck_later))]
+pub fn run<F: WordForm, S: Storage, D: Device>(
+    program: &F,
+    storage: &mut S,
+    start: u32,
+    limits: &Limits,
+    device: &mut D,
+) -> Result<Ending, ChannelError>
+    ensures reaches { IfOk result (λ ending. Reaches (live (F.written program.now)) (setting D.machine limits.now) (Fetching (start_spot start) (memory_of (S.bytes storage.old) (S.keys storage.old)) device.old) (Over ending (memory_of (S.bytes storage.new) (S.keys storage.new)) device.new)) }
+    ensures present { S.present storage.new ≡ S.present storage.old }
+    ensures keys { S.keys storage.new ≡ S.keys storage.old }
+    ensures size { length (S.bytes storage.new) ≡ length (S.bytes storage.old) }
+    ensures rest { S.Keeps storage.old storage.new }
+    ensures stuck { IfErr result (MatchStuck (F.written program.now) (setting D.machine limits.now) (S.present storage.old) (Fetching (start_spot start) (memory_of (S.bytes storage.old) (S.keys storage.old)) device.old)) }
+{
+    let mut spot = Spot {
+        at: start,
+        role: None,
+        jumped: true,
+        started: 0,
+    };
+    'words: loop {
+        match one_word(program, storage, device, limits, &spot) {
+            Ok(Progress::At(then)) => spot = then,
+            Ok(Progress::Ended(ending)) => return Ok(ending),
+            Err(error) => return Err(error),
+        }
+    }
+}
