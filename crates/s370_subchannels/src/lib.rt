@@ -12,11 +12,13 @@
 #![tactic(auto)]
 
 mod answers;
+mod serving;
 mod subchannel;
 mod subchannels;
 #[cfg(test)]
 mod tests;
 
 pub use answers::{answer, store_csw};
+pub use serving::serve;
 pub use subchannel::{DeviceState, Status, Subchannel};
 pub use subchannels::{MOST_DEVICES, Subchannels};

@@ -9,6 +9,11 @@ use s370_store::{
 use std::process::Abort;
 use std::test::Fail;
 
+const ZERO: ConditionCode = ConditionCode::ZERO;
+const ONE: ConditionCode = ConditionCode::ONE;
+const TWO: ConditionCode = ConditionCode::TWO;
+const THREE: ConditionCode = ConditionCode::THREE;
+
 const IDLE: DeviceState = DeviceState::Idle;
 
 const WORKING: DeviceState = DeviceState::Working(0x800);
@@ -62,30 +67,30 @@ fn each_state_has_its_answers(rt: HostRuntime) -> Result<(), Fail> {
     let cases = [
         // (the state of 191, what is asked of which device, channel address word; condition code, channel status word and
         // the state of 191 after)
-        (IDLE, start, 0x191, 0x00000800, 0, ones, WORKING),
-        (IDLE, start, 0x191, 0x48000801, 1, refused, IDLE),
-        (IDLE, start, 0x191, 0x08000800, 1, refused, IDLE),
-        (IDLE, start, 0x191, 0x00000808, 1, refused, IDLE),
-        (IDLE, start, 0x191, 0x00000810, 1, refused, IDLE),
-        (IDLE, start, 0x191, 0x00002000, 1, refused, IDLE),
-        (WORKING, start, 0x191, 0x48000801, 2, ones, WORKING),
-        (PENDING, start, 0x191, 0x48000801, 2, ones, PENDING),
-        (IDLE, test, 0x191, 0x800, 0, ones, IDLE),
-        (PENDING, test, 0x191, 0x800, 1, 0x00000818_0C000064, IDLE),
-        (WORKING, test, 0x191, 0x800, 2, ones, WORKING),
-        (IDLE, halt, 0x191, 0x800, 0, ones, IDLE),
-        (PENDING, halt, 0x191, 0x800, 0, ones, PENDING),
-        (WORKING, halt, 0x191, 0x800, 1, 0xFFFFFFFF_0000FFFF, IDLE),
-        (WORKING, halt, 0x192, 0x800, 3, ones, WORKING),
-        (PENDING, test, 0x1191, 0x800, 3, ones, PENDING),
-        (IDLE, start, 0x291, 0x800, 3, ones, IDLE),
+        (IDLE, start, 0x191, 0x00000800u32, ZERO, ones, WORKING),
+        (IDLE, start, 0x191, 0x48000801, ONE, refused, IDLE),
+        (IDLE, start, 0x191, 0x08000800, ONE, refused, IDLE),
+        (IDLE, start, 0x191, 0x00000808, ONE, refused, IDLE),
+        (IDLE, start, 0x191, 0x00000810, ONE, refused, IDLE),
+        (IDLE, start, 0x191, 0x00002000, ONE, refused, IDLE),
+        (WORKING, start, 0x191, 0x48000801, TWO, ones, WORKING),
+        (PENDING, start, 0x191, 0x48000801, TWO, ones, PENDING),
+        (IDLE, test, 0x191, 0x800, ZERO, ones, IDLE),
+        (PENDING, test, 0x191, 0x800, ONE, 0x00000818_0C000064, IDLE),
+        (WORKING, test, 0x191, 0x800, TWO, ones, WORKING),
+        (IDLE, halt, 0x191, 0x800, ZERO, ones, IDLE),
+        (PENDING, halt, 0x191, 0x800, ZERO, ones, PENDING),
+        (WORKING, halt, 0x191, 0x800, ONE, 0xFFFFFFFF_0000FFFF, IDLE),
+        (WORKING, halt, 0x192, 0x800, THREE, ones, WORKING),
+        (PENDING, test, 0x1191, 0x800, THREE, ones, PENDING),
+        (IDLE, start, 0x291, 0x800, THREE, ones, IDLE),
     ];
     for (before, operation, device, caw, code, csw, after) in cases {
         let mut devices = devices_at(&rt, &[0x190, 0x191])?;
         devices.set_state(0x191, before);
         let mut storage = PlainStorage::new(rt.alloc(), 4)?;
         place(&mut storage, 64, ones)?;
-        place(&mut storage, 72, caw * 0x1_0000_0000)?;
+        place(&mut storage, 72, u64::from(caw) * 0x1_0000_0000)?;
         // write five bytes; and a transfer in channel
         place(&mut storage, 0x800, 0x09000840_00000005)?;
         place(&mut storage, 0x810, 0x08000800_00000001)?;
@@ -93,7 +98,7 @@ fn each_state_has_its_answers(rt: HostRuntime) -> Result<(), Fail> {
         let told = answer(&mut devices, &mut storage, operation, device);
         assert_eq!(rt;
             told,
-            Ok(ConditionCode::new(code)),
+            Ok(code),
             "{before:?} {operation:?}"
         );
         storage.check(
@@ -124,10 +129,17 @@ fn channels_are_tested(rt: HostRuntime) -> Result<(), Fail> {
     devices.set_state(0x191, PENDING);
     devices.set_state(0x290, WORKING);
     let mut storage = PlainStorage::new(rt.alloc(), 4)?;
-    for (device, code) in [(0x100, 1), (0x1FF, 1), (0x200, 0), (0x300, 3), (0x8191, 3)] {
+    let cases = [
+        (0x100, ONE),
+        (0x1FF, ONE),
+        (0x200, ZERO),
+        (0x300, THREE),
+        (0x8191, THREE),
+    ];
+    for (device, code) in cases {
         assert!(rt; storage.size() >= 8192);
         let told = answer(&mut devices, &mut storage, IoOperation::TestChannel, device);
-        assert_eq!(rt; told, Ok(ConditionCode::new(code)), "of {device:X}");
+        assert_eq!(rt; told, Ok(code), "of {device:X}");
     }
     Ok(())
 }
@@ -141,7 +153,7 @@ fn the_lowest_device_of_an_enabled_channel_interrupts(rt: HostRuntime) -> Result
     devices.set_state(0x190, WORKING);
     let cases = [
         // (the masks of the PSW, the device that interrupts)
-        (0xFF, Some(0x191)),
+        (0xFFu8, Some(0x191)),
         (0x40, Some(0x191)),
         (0x20, Some(0x290)),
         (0x24, Some(0x290)),
@@ -150,7 +162,7 @@ fn the_lowest_device_of_an_enabled_channel_interrupts(rt: HostRuntime) -> Result
         (0x00, None),
     ];
     for (masks, device) in cases {
-        let psw = Psw::from_word(masks * 0x1_0000_0000_0000_00);
+        let psw = Psw::from_word(u64::from(masks) * 0x100_0000_0000_0000);
         let status = devices.first_status(&psw);
         let wanted = device.map(|device: u16| Status {
             device,
@@ -172,11 +184,11 @@ fn only_needed_pages_are_named(rt: HostRuntime) -> Result<(), Fail> {
     let cases = [
         // (the state of 191, what is asked, what is told where no page is present)
         (IDLE, IoOperation::Start, Err(Page(0))),
-        (PENDING, IoOperation::Start, Ok(ConditionCode::TWO)),
-        (IDLE, IoOperation::Test, Ok(ConditionCode::ZERO)),
+        (PENDING, IoOperation::Start, Ok(TWO)),
+        (IDLE, IoOperation::Test, Ok(ZERO)),
         (PENDING, IoOperation::Test, Err(Page(0))),
         (WORKING, IoOperation::Halt, Err(Page(0))),
-        (PENDING, IoOperation::Halt, Ok(ConditionCode::ZERO)),
+        (PENDING, IoOperation::Halt, Ok(ZERO)),
     ];
     for (before, operation, wanted) in cases {
         let mut devices = devices_at(&rt, &[0x191])?;
