@@ -6,15 +6,18 @@ ghost use Rattle.cp_console.specs.Responses.{text_of};
 ghost use Rattle.cp_panel.specs.Machine.{unused};
 ghost use Rattle.cp_panel.specs.Panel.{line, line_room};
 ghost use Rattle.cp_panel.specs.Run.{run};
+ghost use Rattle.cp_panel.specs.Serve.{Serves};
 ghost use Rattle.cp_panel.specs.Tick.{ticked};
 
 use cp_console::responses::Response;
 use cp_panel::{LineError, Machine, MachineRan, Mode};
+use s370_channel::ChannelError;
 use s370_intr::{Pending, RealCpu};
-use s370_num::StorageKey;
+use s370_num::{DevAddr, StorageKey};
 use s370_psw::Psw;
 use s370_store::{PlainStorage, Supply};
 use s370_subchannels::{Subchannel, Subchannels};
+use s370_walk::Device;
 use std::alloc::{AllocError, Global};
 use std::marker::Model;
 
@@ -85,6 +88,14 @@ impl Bare {
             // Every page of its storage is present.
             Err(_) => unreachable!(),
         }
+    }
+
+    /// Serves the device of this address, whose part is lent: the channel program that was started runs as a whole, and its
+    /// status is pending. Tells whether there was one; else nothing has happened.
+    pub fn serve<D: Device>(&mut self, device: DevAddr, part: &mut D) -> Result<bool, ChannelError>
+        ensures { IfOk result (λ done. Serves D.machine device self.old part.old done self.new part.new) }
+    {
+        self.machine.serve(&mut self.storage, device, part)
     }
 
     /// The general registers.

@@ -49,7 +49,11 @@ const TURN: u32 = 100;
 
 /// A machine that runs the loop.
 fn bare_guest(alloc: Global, guest: Loop) -> Result<Bare> {
-    let mut machine = Bare::new(alloc, PlainStorage::new(alloc, 128)?, Subchannels::new(alloc));
+    let mut machine = Bare::new(
+        alloc,
+        PlainStorage::new(alloc, 128)?,
+        Subchannels::new(alloc),
+    );
     machine.line(b"LOGON")?;
     for line in guest.typed() {
         machine.line(line.as_bytes())?;

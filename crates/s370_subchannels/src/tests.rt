@@ -10,8 +10,11 @@ use std::process::Abort;
 use std::test::Fail;
 
 const ZERO: ConditionCode = ConditionCode::ZERO;
+
 const ONE: ConditionCode = ConditionCode::ONE;
+
 const TWO: ConditionCode = ConditionCode::TWO;
+
 const THREE: ConditionCode = ConditionCode::THREE;
 
 const IDLE: DeviceState = DeviceState::Idle;
@@ -96,11 +99,7 @@ fn each_state_has_its_answers(rt: HostRuntime) -> Result<(), Fail> {
         place(&mut storage, 0x810, 0x08000800_00000001)?;
         assert!(rt; storage.size() >= 8192);
         let told = answer(&mut devices, &mut storage, operation, device);
-        assert_eq!(rt;
-            told,
-            Ok(code),
-            "{before:?} {operation:?}"
-        );
+        assert_eq!(rt; told, Ok(code), "{before:?} {operation:?}");
         storage.check(
             Range {
                 start: 64,

@@ -1,0 +1,112 @@
+//! A card reader and a line printer of a bare machine: both are started, both are served, and their statuses interrupt in the
+//! order of their addresses. What is printed was worked out by hand.
+//!
+//! The guest has the channel address word of the printer at 48 and that of the reader at 4C. It starts the printer, moves the
+//! second word over the first, starts the reader, and waits with channel 0 enabled; each interruption leads to 300, where it
+//! goes on waiting.
+#![tactic(auto)]
+
+use anyhow::{Result, bail};
+use bare_machine::Bare;
+use cp_console::printing::reply;
+use s370_num::DevAddr;
+use s370_store::PlainStorage;
+use s370_subchannels::Subchannels;
+use s370_walk::Device;
+use std::alloc::Global;
+use unit_record::{Deck, Printer, Reader};
+
+/// The device address of the reader.
+const READER: u16 = 0x00C;
+
+/// The device address of the printer.
+const PRINTER: u16 = 0x00E;
+
+/// What is typed before the guest runs.
+const TYPED: [&str; 12] = [
+    "LOGON",
+    "STORE 48 0000080000000820",
+    "STORE 78 0000000000000300",
+    "STORE 100 9C00000ED2030048004C9C00000C8200",
+    "STORE 110 0118",
+    "STORE 118 8002000000000200",
+    "STORE 300 82000118",
+    "STORE 800 0900084000000005",
+    "STORE 820 0200090000000050",
+    "STORE 840 C8C5D3D3D6",
+    "STORE PSW 00000000 00000100",
+    "BEGIN",
+];
+
+fn main(rt: HostRuntime) -> Result<()> {
+    let alloc = rt.alloc();
+    let mut machine = machine(alloc)?;
+    let mut reader = Reader::new(alloc);
+    let mut card = [0x40; 80];
+    card[0] = 0xC1;
+    reader.deck(Deck::new(1, vec![in alloc; card]?))?;
+    let mut printer = Printer::new(alloc);
+    run(&rt, &mut machine, 100)?;
+    serve(&rt, &mut machine, PRINTER, &mut printer)?;
+    serve(&rt, &mut machine, READER, &mut reader)?;
+    serve(&rt, &mut machine, PRINTER, &mut printer)?;
+    run(&rt, &mut machine, 1)?;
+    show(&rt, &mut machine, "#CP DISPLAY 30")?;
+    show(&rt, &mut machine, "#CP DISPLAY 40")?;
+    run(&rt, &mut machine, 100)?;
+    show(&rt, &mut machine, "#CP DISPLAY 30")?;
+    show(&rt, &mut machine, "#CP DISPLAY 40")?;
+    show(&rt, &mut machine, "#CP DISPLAY 900")?;
+    for entry in printer.entries() {
+        println!(&rt;
+            "printed {:02X} {}",
+            entry.code(),
+            hex::encode_upper(alloc, entry.bytes())?
+        )?;
+    }
+    Ok(())
+}
+
+/// The machine with its devices, running at its program.
+fn machine(alloc: Global) -> Result<Bare> {
+    let mut devices = Subchannels::new(alloc);
+    for address in [READER, PRINTER] {
+        let address = DevAddr::new(address);
+        if !devices.can_add(address) {
+            bail!("no such device can be added");
+        }
+        devices.add(address)?;
+    }
+    let mut machine = Bare::new(alloc, PlainStorage::new(alloc, 4)?, devices);
+    for line in TYPED {
+        machine.line(line.as_bytes())?;
+    }
+    Ok(machine)
+}
+
+/// Lets the machine run, and tells how it went.
+fn run<R: Print>(rt: &R, machine: &mut Bare, units: u32) -> Result<()> {
+    let told = machine.units(units);
+    println!(rt; "ran {} {:?}", told.ran.units, told.ran.reason)?;
+    Ok(())
+}
+
+/// Serves a device, and tells whether it worked.
+fn serve<R: Print, D: Device>(rt: &R, machine: &mut Bare, device: u16, part: &mut D) -> Result<()> {
+    match machine.serve(DevAddr::new(device), part) {
+        Ok(true) => println!(rt; "served {device:03X}")?,
+        Ok(false) => println!(rt; "idle {device:03X}")?,
+        Err(_) => bail!("no memory for a device"),
+    }
+    Ok(())
+}
+
+/// What a display shows.
+fn show<R: Print + AllocGlobal>(rt: &R, machine: &mut Bare, line: &str) -> Result<()> {
+    let Some(response) = machine.line(line.as_bytes())? else {
+        bail!("nothing was said");
+    };
+    let text = String::from_utf8(reply(rt.alloc(), &response)?)?;
+    println!(rt; "{text}")?;
+    Ok(())
+}
