@@ -14,7 +14,7 @@ use Rattle.s370_subchannels.specs.declared.subchannel.DeviceState.{DeviceState}
 use Rattle.s370_subchannels.specs.declared.subchannel.DeviceState.TheVariants.{Idle, Working, Pending}
 use Rattle.s370_subchannels.specs.declared.subchannel.Status.{Status}
 use Rattle.s370_subchannels.specs.declared.subchannel.Subchannel.{Subchannel}
-use Rattle.s370_subchannels.specs.Subchannels.{AreAbove, AreAscending, channel_mask, first_status, can_add, found, is_at, is_below, mask_in, mask_of, masks_with, new_device, or_else, reset_one, status_in, waiting, with_state}
+use Rattle.s370_subchannels.specs.Subchannels.{AreAbove, AreAscending, channel_mask, first_status, can_add, found, is_at, is_below, mask_in, mask_of, masks_with, new_device, or_else, reset_one, status_in, waiting, changed, with_attention, with_state}
 
 -- ---- masks
 
@@ -115,37 +115,37 @@ found_at device (s ∷ ss) (suc k) d l h f =
     let e : is_at device s ≡ false = f 0 (omega arith) in
     rw e (found_at device ss k d (omega (arith, l)) h (λ j m. f (suc j) (omega (arith, m))))
 
-pub changed_at : (device : ℕ) (state : DeviceState) (ss : List Subchannel) (k : ℕ) (d : Subchannel) → k < length ss → is_at device (get_or ss k d) ≡ true → ((j : ℕ) → j < k → is_at device (get_or ss j d) ≡ false) → set ss k (record (get_or ss k d) { state = state }) ≡ with_state device state ss
-changed_at device state [] k d l h f = absurd (omega (arith, l))
-changed_at device state (s ∷ ss) zero d l h f = rw h refl
-changed_at device state (s ∷ ss) (suc k) d l h f =
-    let e : is_at device s ≡ false = f 0 (omega arith) in
-    rw e (ap (λ (xs : List Subchannel). s ∷ xs) (changed_at device state ss k d (omega (arith, l)) h (λ j m. f (suc j) (omega (arith, m)))))
+pub changed_at : (device : ℕ) (f : Subchannel → Subchannel) (ss : List Subchannel) (k : ℕ) (d : Subchannel) → k < length ss → is_at device (get_or ss k d) ≡ true → ((j : ℕ) → j < k → is_at device (get_or ss j d) ≡ false) → set ss k (f (get_or ss k d)) ≡ changed device f ss
+changed_at device f [] k d l h n = absurd (omega (arith, l))
+changed_at device f (s ∷ ss) zero d l h n = rw h refl
+changed_at device f (s ∷ ss) (suc k) d l h n =
+    let e : is_at device s ≡ false = n 0 (omega arith) in
+    rw e (ap (λ (xs : List Subchannel). s ∷ xs) (changed_at device f ss k d (omega (arith, l)) h (λ j m. n (suc j) (omega (arith, m)))))
 
 -- no subchannel is at the address
-abbrev pub IsNowhere : ℕ → DeviceState → List Subchannel → Type 0
-IsNowhere device state ss = (found device ss ≡ None) × (with_state device state ss ≡ ss)
+abbrev pub IsNowhere : ℕ → (Subchannel → Subchannel) → List Subchannel → Type 0
+IsNowhere device f ss = (found device ss ≡ None) × (changed device f ss ≡ ss)
 
-nowhere_else : (b : Bool) (device : ℕ) (state : DeviceState) (s : Subchannel) (ss : List Subchannel) → suc (length ss) ≤ cond (not b) (1 + position_or_len (is_at device) ss) 0 → (length ss ≤ position_or_len (is_at device) ss → IsNowhere device state ss) → ((if b then Some s else found device ss) ≡ None) × ((if b then record s { state = state } ∷ ss else s ∷ with_state device state ss) ≡ s ∷ ss)
-nowhere_else true device state s ss h rest = absurd (omega (arith, h))
-nowhere_else false device state s ss h rest = let r = rest (omega (arith, h)) in (r.0, ap (λ (xs : List Subchannel). s ∷ xs) r.1)
+nowhere_else : (b : Bool) (device : ℕ) (f : Subchannel → Subchannel) (s : Subchannel) (ss : List Subchannel) → suc (length ss) ≤ cond (not b) (1 + position_or_len (is_at device) ss) 0 → (length ss ≤ position_or_len (is_at device) ss → IsNowhere device f ss) → ((if b then Some s else found device ss) ≡ None) × ((if b then f s ∷ ss else s ∷ changed device f ss) ≡ s ∷ ss)
+nowhere_else true device f s ss h rest = absurd (omega (arith, h))
+nowhere_else false device f s ss h rest = let r = rest (omega (arith, h)) in (r.0, ap (λ (xs : List Subchannel). s ∷ xs) r.1)
 
-nowhere : (device : ℕ) (state : DeviceState) (ss : List Subchannel) → length ss ≤ position_or_len (is_at device) ss → IsNowhere device state ss
-nowhere device state [] h = (refl, refl)
-nowhere device state (s ∷ ss) h = nowhere_else (is_at device s) device state s ss h (nowhere device state ss)
+nowhere : (device : ℕ) (f : Subchannel → Subchannel) (ss : List Subchannel) → length ss ≤ position_or_len (is_at device) ss → IsNowhere device f ss
+nowhere device f [] h = (refl, refl)
+nowhere device f (s ∷ ss) h = nowhere_else (is_at device s) device f s ss h (nowhere device f ss)
 
-pub no_place : (device : ℕ) (state : DeviceState) (ss : List Subchannel) → position (is_at device) ss ≡ None → IsNowhere device state ss
-no_place device state ss e =
+pub no_place : (device : ℕ) (f : Subchannel → Subchannel) (ss : List Subchannel) → position (is_at device) ss ≡ None → IsNowhere device f ss
+no_place device f ss e =
     let past : length ss ≤ position_or_len (is_at device) ss = grind (arith, common_steps) in
-    nowhere device state ss past
+    nowhere device f ss past
 
 -- where a device stands
-pub a_place : (device : ℕ) (state : DeviceState) (ss : List Subchannel) (k : ℕ) (x : Subchannel) → position (is_at device) ss ≡ Some k → x ≡ get_or ss k x → (found device ss ≡ Some x) × (set ss k (record x { state = state }) ≡ with_state device state ss) × (k < length ss)
-a_place device state ss k x e same =
+pub a_place : (device : ℕ) (f : Subchannel → Subchannel) (ss : List Subchannel) (k : ℕ) (x : Subchannel) → position (is_at device) ss ≡ Some k → x ≡ get_or ss k x → (found device ss ≡ Some x) × (set ss k (f x) ≡ changed device f ss) × (k < length ss)
+a_place device f ss k x e same =
     let p = position-Some (is_at device) ss k x e in
-    let f = found_at device ss k x p.0 p.1 p.2 in
-    let c = changed_at device state ss k x p.0 p.1 p.2 in
-    (f ∙ ap (λ (y : Subchannel). Some y) (sym same), ap (λ (y : Subchannel). set ss k (record y { state = state })) same ∙ c, p.0)
+    let a = found_at device ss k x p.0 p.1 p.2 in
+    let c = changed_at device f ss k x p.0 p.1 p.2 in
+    (a ∙ ap (λ (y : Subchannel). Some y) (sym same), ap (λ (y : Subchannel). set ss k (f y)) same ∙ c, p.0)
 
 -- where there is room, the order alone decides
 pub addition : (device : ℕ) (list : List Subchannel) (all : Bool) → length list < 32 → device < 0x600 → all ≡ list_all (is_below device) list → all ≡ can_add device list

@@ -28,6 +28,20 @@ pub record IsWalked {D : Type 0} (machine : Machine D) (device : ℕ) (gives : B
   pub walk : Reaches (live guest_written) (set_by machine start) (Fetching (start_spot start.address) (memory_of old.bytes old.keys) part) (Over ending (memory_of new.bytes new.keys) part')
   pub left : new.subchannels ≡ with_state device (ended gives (status_word start ending)) old.subchannels
 
+-- a program was started, with a channel address word that is good, as it is in each that was started
+abbrev pub is_start : Option Caw → Bool
+is_start None = false
+is_start (Some start) = true
+
+abbrev pub has_started : DeviceState → Bool
+has_started Idle = false
+has_started (Working caw) = is_start (caw_of caw)
+has_started (Pending csw) = false
+
+abbrev pub is_started : Option Subchannel → Bool
+is_started None = false
+is_started (Some s) = has_started s.state
+
 -- nothing has happened
 abbrev pub IsIdle : {D : Type 0} → Devices → D → Bool → Devices → D → Type 0
 IsIdle old part done new part' = (done ≡ false) × (new ≡ old) × (part' ≡ part)

@@ -44,11 +44,41 @@ abbrev pub found : ℕ → List Subchannel → Option Subchannel
 found device [] = None
 found device (s ∷ ss) = if is_at device s then Some s else found device ss
 
+-- the subchannel of a device is changed so, if there is such a device
+abbrev pub changed : ℕ → (Subchannel → Subchannel) → List Subchannel → List Subchannel
+changed device change [] = []
+changed device change (s ∷ ss) = if is_at device s then change s ∷ ss else s ∷ changed device change ss
+
+abbrev pub in_state : DeviceState → Subchannel → Subchannel
+in_state state s = record s { state = state }
+
+abbrev pub that_gives : Bool → Subchannel → Subchannel
+that_gives gives s = record s { attention = gives }
+
 -- the device is in this state from now on
 abbrev pub with_state : ℕ → DeviceState → List Subchannel → List Subchannel
-with_state device state [] = []
-with_state device state (s ∷ ss) =
-    if is_at device s then record s { state = state } ∷ ss else s ∷ with_state device state ss
+with_state device state = changed device (in_state state)
+
+-- the device has attention to give from now on, or has none any more; its state stays
+abbrev pub with_attention : ℕ → Bool → List Subchannel → List Subchannel
+with_attention device gives = changed device (that_gives gives)
+
+-- ---- attention that arises
+
+-- an idle device has attention alone pending, one that has a status pending has it in that status, and one that works gives
+-- it when its program ends
+abbrev pub attending : DeviceState → DeviceState
+attending Idle = Pending attention
+attending (Working caw) = Working caw
+attending (Pending csw) = Pending (bit_or csw attention)
+
+abbrev pub attended_by : Option Subchannel → ℕ → List Subchannel → List Subchannel
+attended_by None device list = list
+attended_by (Some s) device list = with_attention device true (with_state device (attending s.state) list)
+
+-- the device has attention to give
+abbrev pub attended : ℕ → List Subchannel → List Subchannel
+attended device list = attended_by (found device list) device list
 
 abbrev pub or_else : Option Status → Option Status → Option Status
 or_else None other = other

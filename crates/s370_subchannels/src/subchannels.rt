@@ -2,9 +2,11 @@
 ghost use Rattle.std.specs.Prelude.{◌≡◌, ◌++◌, ◌∷◌, [], map, true, IfOk, OnErr};
 ghost use Rattle.std.specs.Option.{option_map};
 ghost use Rattle.std.specs.List.{list_all, list_any, position};
-ghost use Rattle.s370_subchannels.specs.Subchannels.{AreAscending, can_add, first_status, found, is_at, is_below, is_on, new_device, pending_masks, pends_on, reset, reset_one, with_state};
+ghost use Rattle.s370_subchannels.specs.Serving.{is_started};
+ghost use Rattle.s370_subchannels.specs.Subchannels.{AreAscending, attended, can_add, first_status, found, is_at, is_below, is_on, new_device, pending_masks, pends_on, reset, reset_one, with_attention, with_state};
 
 use crate::subchannel::{DeviceState, Status, Subchannel};
+use s370_channel::Caw;
 use s370_num::DevAddr;
 use s370_psw::Psw;
 use std::alloc::{AllocError, Global};
@@ -124,6 +126,44 @@ impl Subchannels {
                 self.masks = pending_masks(self.list.as_slice());
             }
             None => {}
+        }
+    }
+
+    /// The device has attention to give from now on, or has none any more. Its state stays. Where there is no such device,
+    /// nothing changes.
+    pub fn set_attention(&mut self, device: u16, attention: bool)
+        ensures { self.new ≡ with_attention device attention self.old }
+    {
+        match self.place_of(device) {
+            Some(place) => {
+                self.list[place].attention = attention;
+                self.masks = pending_masks(self.list.as_slice());
+            }
+            None => {}
+        }
+    }
+
+    /// The device has attention to give: it is pending at once, unless a program is under way, which gives it at its end.
+    /// Where there is no such device, nothing changes.
+    pub fn attend(&mut self, device: u16)
+        ensures { self.new ≡ attended device self.old }
+    {
+        match self.get(device) {
+            Some(s) => {
+                self.set_state(device, s.attending());
+                self.set_attention(device, true);
+            }
+            None => {}
+        }
+    }
+
+    /// Whether a program of the device was started and is not served yet.
+    pub fn is_started(&self, device: u16) -> bool
+        ensures { result ≡ is_started (found device self.now) }
+    {
+        match self.state_of(device) {
+            Some(DeviceState::Working(caw)) => Caw::from_word(caw).is_some(),
+            Some(DeviceState::Idle) | Some(DeviceState::Pending(_)) | None => false,
         }
     }
 

@@ -1,7 +1,7 @@
 use Rattle.std.proofs.Common.{◌∙◌, ◌≡◌, ◌≤◌, Some, sym, ap, refl, arith, List, length, length-set}
 use Rattle.std.specs.List.{position}
 use Rattle.s370_subchannels.specs.declared.subchannel.Subchannel.{Subchannel}
-use Rattle.s370_subchannels.specs.Subchannels.{is_at, pending_masks, with_state}
+use Rattle.s370_subchannels.specs.Subchannels.{is_at, pending_masks, with_state, in_state}
 use Rattle.s370_subchannels.proofs.Lists.{a_place, ascending_set, no_place}
 use Rattle.s370_subchannels.proofs.subchannels.Subchannels.set_state.Goals as goal
 
@@ -11,10 +11,10 @@ invariant_of-self c =
     let x = c.index_mut.result.now in
     let e : old ≡ c.args.self.now = c.self.view_is in
     let at : position (is_at c.args.device) old ≡ Some c.in-Some.place = ap (position (is_at c.args.device)) e ∙ (sym c.place_of.ensures ∙ c.in-Some.is) in
-    let p = a_place c.args.device c.args.state old c.in-Some.place x at c.index_mut.ensures.value in (
+    let p = a_place c.args.device (in_state c.args.state) old c.in-Some.place x at c.index_mut.ensures.value in (
       c.pending_masks-self-inside.ensures ∙ ap pending_masks c.as_slice.ensures.value,
-      ascending_set old c.in-Some.place (record x { state = c.args.state }) x c.self.invariant.1 p.2 (ap (λ (y : Subchannel). y.address) c.index_mut.ensures.value),
-      omega (arith, c.self.invariant.2, length-set old c.in-Some.place (record x { state = c.args.state })),
+      ascending_set old c.in-Some.place (in_state c.args.state x) x c.self.invariant.1 p.2 (ap (λ (y : Subchannel). y.address) c.index_mut.ensures.value),
+      omega (arith, c.self.invariant.2, length-set old c.in-Some.place (in_state c.args.state x)),
     )
 
 pub returns-in-Some : goal.returns-in-Some
@@ -22,7 +22,7 @@ returns-in-Some c =
     let old = c.self.inside.list.items in
     let e : old ≡ c.args.self.now = c.self.view_is in
     let at : position (is_at c.args.device) old ≡ Some c.in-Some.place = ap (position (is_at c.args.device)) e ∙ (sym c.place_of.ensures ∙ c.in-Some.is) in
-    (a_place c.args.device c.args.state old c.in-Some.place c.index_mut.result.now at c.index_mut.ensures.value).1 ∙ ap (λ (ss : List Subchannel). with_state c.args.device c.args.state ss) e
+    (a_place c.args.device (in_state c.args.state) old c.in-Some.place c.index_mut.result.now at c.index_mut.ensures.value).1 ∙ ap (λ (ss : List Subchannel). with_state c.args.device c.args.state ss) e
 
 pub returns-in-None : goal.returns-in-None
-returns-in-None c = sym (no_place c.args.device c.args.state c.args.self.now (sym c.place_of.ensures ∙ c.in-None.is)).1
+returns-in-None c = sym (no_place c.args.device (in_state c.args.state) c.args.self.now (sym c.place_of.ensures ∙ c.in-None.is)).1
