@@ -1,6 +1,6 @@
 -- A System/370 with its operator's panel (GA22-7000, "Program States", "Resets"; docs/MACHINE.md).
 use Rattle.std.specs.Prelude.{ℕ, Bool, true, false, List, [], ◌∷◌, ◌++◌, length, replicate}
-use Rattle.s370_psw.specs.Fields.{fields_of}
+use Rattle.s370_psw.specs.Fields.{Fields, fields_of}
 use Rattle.s370_rows.specs.declared.cpu.Cpu.{Cpu}
 use Rattle.s370_rows.specs.State.{State, state_of}
 use Rattle.s370_intr.specs.declared.pending.Pending.{Pending}
@@ -61,6 +61,15 @@ unused bytes keys devices =
 -- a line more on the console
 abbrev pub printed : Machine → List ℕ → Machine
 printed m text = record m { output = m.output ++ text ∷ [] }
+
+-- the machine with these subchannels
+abbrev pub with_subchannels : Machine → List Subchannel → Machine
+with_subchannels m list = record m { core = record m.core { subchannels = list } }
+
+-- the machine runs from this PSW on
+abbrev pub started : Machine → Fields → Machine
+started m psw =
+    record m { core = record m.core { processor = record m.core.processor { cpu = record m.core.processor.cpu { psw = psw } } }; mode = Running }
 
 -- ---- a machine whose storage stands apart
 

@@ -12,10 +12,9 @@ ghost use Rattle.cp_console.specs.declared.responses.Response.TheVariants.{Syste
 
 use crate::display_store::{change, display};
 use crate::line::LineError;
-use crate::machine::{Machine, Mode, reset_cpu};
+use crate::machine::{Machine, Mode};
 use cp_console::commands::{Change, Place};
 use cp_console::responses::Response;
-use s370_intr::Pending;
 use s370_num::Addr24;
 use s370_rows::Cpu;
 use s370_store::{FramesOut, Supply};
@@ -38,17 +37,14 @@ impl Machine {
     }
 
     /// SYSTEM RESET: general registers, storage, keys and what was printed stay.
-    pub(crate) fn system_reset(&mut self) -> Result<(), AllocError>
+    pub fn system_reset(&mut self) -> Result<(), AllocError>
         ensures ok { (bytes keys : List ℕ) → OnOk result (obeyed commands.SystemReset (machine_of self.old bytes keys) ≡ record { machine = machine_of self.new bytes keys; reply = Some SystemReset }) }
         ensures err { (bytes keys : List ℕ) → OnErr result (machine_of self.new bytes keys ≡ machine_of self.old bytes keys) }
         ensures memory { OnErr result (self.old.room < 1) }
     {
         let answer = 1;
         self.output.make_room(answer)?;
-        self.cpu = reset_cpu(self.cpu.general);
-        self.pending = Pending::NOTHING;
-        self.subchannels.reset();
-        self.mode = Mode::Stopped;
+        self.reset();
         self.output.print(&Response::SystemReset);
         Ok(())
     }

@@ -16,6 +16,7 @@
 
 mod commands;
 mod display_store;
+mod hands;
 mod line;
 mod machine;
 mod run;

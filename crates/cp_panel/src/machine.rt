@@ -78,7 +78,7 @@ impl Machine {
     }
 
     /// LOGON: a reset machine with zeros everywhere; what was printed stays.
-    pub(crate) fn clear<S: Supply>(&mut self, storage: &mut S)
+    pub fn clear<S: Supply>(&mut self, storage: &mut S)
         ensures machine { machine_of self.new (S.Storage.bytes storage.new) (S.Storage.keys storage.new) ≡ cleared (machine_of self.old (S.Storage.bytes storage.old) (S.Storage.keys storage.old)) }
         ensures cleared { S.Cleared storage.old storage.new }
         ensures size { length (S.Storage.bytes storage.new) ≡ length (S.Storage.bytes storage.old) }
@@ -92,7 +92,7 @@ impl Machine {
     }
 
     /// LOGOFF: as after LOGON, but off.
-    pub(crate) fn switch_off<S: Supply>(&mut self, storage: &mut S)
+    pub fn switch_off<S: Supply>(&mut self, storage: &mut S)
         ensures machine { machine_of self.new (S.Storage.bytes storage.new) (S.Storage.keys storage.new) ≡ switched_off (machine_of self.old (S.Storage.bytes storage.old) (S.Storage.keys storage.old)) }
         ensures cleared { S.Cleared storage.old storage.new }
         ensures size { length (S.Storage.bytes storage.new) ≡ length (S.Storage.bytes storage.old) }

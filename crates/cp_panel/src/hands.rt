@@ -1,0 +1,76 @@
+//! What the devices of a machine, and the operator, change of it beside its units and its lines.
+ghost use Rattle.std.specs.Prelude.{◌≡◌, ◌+◌, ◌<◌, ◌≤◌, ◌++◌, ◌∷◌, [], ℕ, List, OnErr, OnOk};
+ghost use Rattle.cp_console.specs.Responses.{text_of};
+ghost use Rattle.s370_subchannels.specs.Serving.{is_started};
+ghost use Rattle.s370_subchannels.specs.Subchannels.{attended, found, reset as reset_devices, with_attention};
+ghost use Rattle.cp_panel.specs.Machine.{nothing_pending, reset_cpu};
+ghost use Rattle.cp_panel.specs.declared.machine.Mode.TheVariants.{Running, Stopped};
+
+use crate::machine::{Machine, Mode, reset_cpu};
+use cp_console::responses::Response;
+use s370_intr::Pending;
+use s370_num::DevAddr;
+use s370_psw::Psw;
+use std::alloc::AllocError;
+
+impl Machine {
+    /// Whether a channel program of the device was started and is not served yet.
+    pub fn is_started(&self, device: DevAddr) -> bool
+        ensures { result ≡ is_started (found device self.now.subchannels) }
+    {
+        self.subchannels.is_started(device.get())
+    }
+
+    /// The device has attention to give when its program ends, or has none any more.
+    pub fn set_attention(&mut self, device: DevAddr, gives: bool)
+        ensures { self.new ≡ record self.old { subchannels = with_attention device gives self.old.subchannels } }
+    {
+        self.subchannels.set_attention(device.get(), gives);
+    }
+
+    /// The device has attention to give: it is pending at once, unless a program of the device is under way.
+    pub fn attend(&mut self, device: DevAddr)
+        ensures { self.new ≡ record self.old { subchannels = attended device self.old.subchannels } }
+    {
+        self.subchannels.attend(device.get());
+    }
+
+    /// Makes room on the console for so many lines, and for the notice of the machine's stop.
+    pub fn make_room(&mut self, lines: usize) -> Result<(), AllocError>
+        requires { lines ≤ 65536 }
+        ensures ok { OnOk result (lines < self.new.room) }
+        ensures err { OnErr result (self.old.room < lines + 1) }
+        ensures kept { self.new ≡ record self.old { room = self.new.room } }
+        ensures room { self.old.room ≤ self.new.room }
+    {
+        self.output.make_room(lines + 1)
+    }
+
+    /// Prints a line on the console, for which there is room beside that for the notice of the machine's stop.
+    pub fn print(&mut self, response: &Response)
+        requires { 1 < self.old.room }
+        ensures printed { self.new ≡ record self.old { output = self.old.output ++ text_of response.now ∷ []; room = self.new.room } }
+        ensures room { self.new.room + 1 ≡ self.old.room }
+    {
+        self.output.print(response);
+    }
+
+    /// A system reset: general registers and what was printed stay. The machine is stopped.
+    pub fn reset(&mut self)
+        ensures { self.new ≡ record self.old { cpu = reset_cpu self.old.cpu.general; pending = nothing_pending; subchannels = reset_devices self.old.subchannels; mode = Stopped } }
+    {
+        self.cpu = reset_cpu(self.cpu.general);
+        self.pending = Pending::NOTHING;
+        self.subchannels.reset();
+        self.mode = Mode::Stopped;
+    }
+
+    /// The machine runs with this PSW. The notice of its stop has its room.
+    pub fn start(&mut self, psw: Psw)
+        requires { 0 < self.old.room }
+        ensures { self.new ≡ record self.old { cpu = record self.old.cpu { psw = psw }; mode = Running } }
+    {
+        self.cpu.psw = psw;
+        self.mode = Mode::Running;
+    }
+}
