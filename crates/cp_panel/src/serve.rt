@@ -1,6 +1,7 @@
 //! The devices of a machine are served.
 ghost use Rattle.std.specs.Prelude.{◌≡◌, IfErr, IfOk, length};
 ghost use Rattle.cp_panel.specs.Machine.{machine_of};
+ghost use Rattle.s370_subchannels.specs.Serving.{TellsAway};
 ghost use Rattle.cp_panel.specs.Serve.{Serves};
 
 use crate::machine::Machine;
@@ -23,6 +24,7 @@ impl Machine {
         ensures served { let before = machine_of self.old (S.bytes storage.old) (S.keys storage.old) in
             let after = machine_of self.new (S.bytes storage.new) (S.keys storage.new) in
             IfOk result (λ done. Serves D.machine device before part.old done after part.new) }
+        ensures away { IfErr result (TellsAway (S.present storage.old)) }
         ensures kept { IfErr result (λ error. self.new ≡ self.old) }
         ensures size { length (S.bytes storage.new) ≡ length (S.bytes storage.old) }
         ensures keys { S.keys storage.new ≡ S.keys storage.old }

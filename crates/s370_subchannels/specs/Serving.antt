@@ -4,6 +4,8 @@ use Rattle.std.specs.Int.{w64, from_be_bytes}
 use Rattle.s370_walk.specs.declared.parts.Ending.{Ending}
 use Rattle.s370_walk.specs.Hardware.{Machine, memory_of}
 use Rattle.s370_walk.specs.Walk.{Fetching, Over, Reaches, Setting, live, start_spot}
+use Rattle.s370_channel.specs.declared.running.ChannelError.{ChannelError}
+use Rattle.s370_channel.specs.declared.running.ChannelError.TheVariants as errors
 use Rattle.s370_channel.specs.declared.words.Caw.{Caw}
 use Rattle.s370_channel.specs.Guest.{guest_written}
 use Rattle.s370_channel.specs.Start.{most_commands}
@@ -41,6 +43,11 @@ has_started (Pending csw) = false
 abbrev pub is_started : Option Subchannel → Bool
 is_started None = false
 is_started (Some s) = has_started s.state
+
+-- a page that is told as absent is not present
+abbrev pub TellsAway : (ℕ → Bool) → ChannelError → Type 0
+TellsAway present errors.Memory = Unit {0}
+TellsAway present (errors.Absent page) = present page.0 ≡ false
 
 -- nothing has happened
 abbrev pub IsIdle : {D : Type 0} → Devices → D → Bool → Devices → D → Type 0

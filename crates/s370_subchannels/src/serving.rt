@@ -5,7 +5,7 @@ ghost use Rattle.s370_walk.specs.Walk.{Fetching, start_spot};
 ghost use Rattle.s370_channel.specs.Guest.{guest_written};
 ghost use Rattle.s370_channel.specs.Progress.{MatchStuck, setting};
 ghost use Rattle.s370_subchannels.specs.Answers.{devices_of};
-ghost use Rattle.s370_subchannels.specs.Serving.{IsServed};
+ghost use Rattle.s370_subchannels.specs.Serving.{IsServed, TellsAway};
 
 use crate::subchannel::DeviceState;
 use crate::subchannels::Subchannels;
@@ -26,6 +26,7 @@ pub fn serve<S: Storage, D: Device>(
         let after = devices_of devices.new (S.bytes storage.new) (S.keys storage.new) in
         IfOk result (λ done. IsServed D.machine device before part.old done after part.new) }
     ensures kept { IfErr result (λ error. devices.new ≡ devices.old) }
+    ensures away { IfErr result (TellsAway (S.present storage.old)) }
     ensures keys { S.keys storage.new ≡ S.keys storage.old }
     ensures size { length (S.bytes storage.new) ≡ length (S.bytes storage.old) }
     ensures present { S.present storage.new ≡ S.present storage.old }
