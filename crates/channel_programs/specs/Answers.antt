@@ -5,6 +5,10 @@ use Rattle.s370_walk.specs.declared.parts.Order.{Order}
 use Rattle.s370_walk.specs.declared.parts.Answer.{Answer}
 use Rattle.s370_walk.specs.declared.parts.Answer.TheVariants.{Refused, Immediate, Input, Output, OutputUpTo}
 
+-- command 02 stands for another code
+abbrev pub code_of : ℕ → ℕ → ℕ
+code_of read code = if code == 2 then read else code
+
 abbrev pub sense_of : Order → ℕ → Answer
 sense_of o n = if o.first && not (has_bits o.flags.bits 192) then Input n else Refused (record { bits = 2 })
 
@@ -19,8 +23,8 @@ answer_by o n how =
     else if how == 12 then Input (n * 4096)
     else Input n
 
-abbrev pub answer_to : Order → Answer
-answer_to o = answer_by o (o.command.code / 16) (o.command.code % 16)
+abbrev pub answer_to : Order → ℕ → Answer
+answer_to o code = answer_by o (code / 16) (code % 16)
 
 abbrev pub status_by : ℕ → ℕ
 status_by how = if how == 5 || how == 6 || how == 15 then 64 else if how == 10 then 1 else if how == 14 then 2 else 0

@@ -1,7 +1,7 @@
 -- The device of the tests as a machine: what src/device.rt says in its table.
 use Rattle.std.specs.Prelude.{ℕ, ◌+◌, ◌/◌, ◌%◌, ◌^◌, ◌==◌, ◌&&◌, nat_lt, nat_le, if◌then◌else◌, slice_set}
 use Rattle.s370_walk.specs.Hardware.{Machine}
-use Rattle.channel_programs.specs.Answers.{answer_to, status_by}
+use Rattle.channel_programs.specs.Answers.{code_of, answer_to, status_by}
 use Rattle.channel_programs.specs.declared.device.Obedient.{Obedient}
 
 abbrev pub moved_on : Obedient → ℕ
@@ -10,8 +10,8 @@ moved_on d = (d.moved + 1) % 2 ^ 32
 abbrev pub obedient : Machine Obedient
 obedient =
     record {
-      answer = λ d o. answer_to o;
-      started = λ d o. record d { code = o.command.code; moved = 0 };
+      answer = λ d o. answer_to o (code_of d.read o.command.code);
+      started = λ d o. record d { code = code_of d.read o.command.code; moved = 0 };
       done = λ d. d.code % 16 == 13 && nat_le (d.code / 16) d.moved;
       gives = λ d. d.given;
       gave = λ d. record d { given = (d.given + 1) % 256; moved = moved_on d };

@@ -6,9 +6,9 @@ use cp_text::numbers::hexadecimal_of;
 pub struct Case<'a> {
     /// What the line shows.
     pub name: &'a str,
-    /// The channel address word, in eight digits.
+    /// The channel address word, in eight digits, or `IPL`.
     pub caw: &'a str,
-    /// What stands in storage.
+    /// What stands in storage, and what the device is.
     pub found: &'a str,
     /// The status word in sixteen digits, or `REFUSED`.
     pub csw: &'a str,
@@ -25,6 +25,10 @@ pub enum Place {
     Key(u32),
     /// The bytes that the device took.
     Taken,
+    /// The code that command 02 stands for.
+    Read,
+    /// The byte that the device gives first.
+    Given,
 }
 
 /// A place, and what stands there in hexadecimal digits.
@@ -65,11 +69,13 @@ pub fn item_of(word: &str) -> Option<Item<'_>> {
 
 /// The place of this name.
 fn place_of(name: &str) -> Option<Place> {
-    if name == "TAKEN" {
-        return Some(Place::Taken);
-    }
-    match name.strip_prefix('K') {
-        Some(address) => Some(Place::Key(hexadecimal_of(1, 6, address.as_bytes())?)),
-        None => Some(Place::Storage(hexadecimal_of(1, 6, name.as_bytes())?)),
+    match name {
+        "TAKEN" => Some(Place::Taken),
+        "READ" => Some(Place::Read),
+        "GIVEN" => Some(Place::Given),
+        _ => match name.strip_prefix('K') {
+            Some(address) => Some(Place::Key(hexadecimal_of(1, 6, address.as_bytes())?)),
+            None => Some(Place::Storage(hexadecimal_of(1, 6, name.as_bytes())?)),
+        },
     }
 }

@@ -1,6 +1,6 @@
 //! A device that does what the command code asks for.
 ghost use Rattle.std.specs.Prelude.{◌≡◌, ◌<◌};
-ghost use Rattle.channel_programs.specs.Answers.{sense_of, answer_by, status_by};
+ghost use Rattle.channel_programs.specs.Answers.{code_of, sense_of, answer_by, status_by};
 
 use s370_walk::{Answer, Device, Flags, Order, UnitStatus};
 use std::alloc::AllocError;
@@ -19,15 +19,23 @@ use std::alloc::AllocError;
 /// | 7 | refuses, with n as unit status |
 /// | B, F | takes exactly n bytes, as a control command; F ends with status modifier |
 ///
-/// It gives the bytes 01, 02 and so on, from the first command of a program to the last, and keeps the first 64 bytes that it
-/// takes.
+/// To command 02 it does what another code asks for, since an initial program loading has that command alone. It gives bytes
+/// that count up, from the first command of a program to the last, and keeps the first 64 bytes that it takes.
 #[derive(Drop)]
 pub struct Obedient {
+    read: u8,
     code: u8,
     moved: u32,
     given: u8,
     taken: [u8; 64],
     kept: u8,
+}
+
+/// The code that it obeys, where command 02 stands for another one.
+fn obeyed(read: u8, code: u8) -> u8
+    ensures { result ≡ code_of read code }
+{
+    if code == 2 { read } else { code }
 }
 
 /// What it answers to a sense.
@@ -81,12 +89,13 @@ fn status(how: u8) -> u8
 }
 
 impl Obedient {
-    /// A device that has done nothing yet.
-    pub fn new() -> Obedient {
+    /// A device that has done nothing yet: the code that command 02 stands for, and the first byte that it gives.
+    pub fn new(read: u8, given: u8) -> Obedient {
         Obedient {
+            read,
             code: 0,
             moved: 0,
-            given: 1,
+            given,
             taken: [0; 64],
             kept: 0,
         }
@@ -104,9 +113,9 @@ impl Device for Obedient {
     ghost machine = { obedient };
 
     fn command(&mut self, order: Order) -> Result<Answer, AllocError> {
-        self.code = order.command.code;
+        self.code = obeyed(self.read, order.command.code);
         self.moved = 0;
-        Ok(answer(order, order.command.code / 16, order.command.code % 16))
+        Ok(answer(order, self.code / 16, self.code % 16))
     }
 
     fn is_done(&self) -> bool {

@@ -12,7 +12,7 @@ use crate::case::{Case, Item, Place, case_of, item_of};
 use crate::device::Obedient;
 use anyhow::{Context, Result, bail};
 use cp_text::numbers::hexadecimal_of;
-use s370_channel::{Csw, Guest, Limits, MOST_COMMANDS, check_start, run};
+use s370_channel::{Csw, Guest, Limits, MOST_COMMANDS, check_start, run, run_ipl};
 use s370_num::{AccessKey, StorageKey};
 use s370_store::{Access, Keyed, PlainStorage, Range, Storage};
 use std::alloc::Global;
@@ -55,6 +55,7 @@ fn set(alloc: Global, storage: &mut PlainStorage, item: &Item<'_>) -> Result<()>
             Ok(())
         }
         Place::Taken => bail!("nothing is taken yet"),
+        Place::Read | Place::Given => Ok(()),
     }
 }
 
@@ -67,12 +68,38 @@ fn found(alloc: Global, case: &Case<'_>) -> Result<PlainStorage> {
     Ok(storage)
 }
 
-/// Starts and runs a program, and tells its status word, or None where the start is refused.
+/// The device that a case finds.
+fn device_of(case: &Case<'_>) -> Result<Obedient> {
+    let mut read = 2u8;
+    let mut given = 1u8;
+    for word in case.found.split_whitespace() {
+        let item = item_of(word).context("an item")?;
+        match item.place {
+            Place::Read => read = byte_of(item.digits)?,
+            Place::Given => given = byte_of(item.digits)?,
+            _ => {}
+        }
+    }
+    Ok(Obedient::new(read, given))
+}
+
+/// The byte that two hexadecimal digits spell.
+fn byte_of(digits: &str) -> Result<u8> {
+    let byte = hexadecimal_of(2, 2, digits.as_bytes()).context("a byte has 2 digits")?;
+    Ok(byte as u8)
+}
+
+/// Starts and runs the program that a case names, and tells its status word, or None where the start is refused.
 fn carry_out(
     storage: &mut PlainStorage,
-    caw: u32,
+    caw: &str,
     device: &mut Obedient,
 ) -> Result<Option<[u8; 8]>> {
+    if caw == "IPL" {
+        let ending = run_ipl(&Guest, storage, device)?;
+        return Ok(Some(Csw::of_ending(AccessKey::ZERO, ending).to_bytes()));
+    }
+    let caw = hexadecimal_of(8, 8, caw.as_bytes()).context("a CAW has 8 digits")?;
     let Ok(start) = check_start(&Guest, storage, caw) else {
         bail!("a page is absent");
     };
@@ -92,9 +119,8 @@ fn carry_out(
 fn judge(alloc: Global, case: &Case<'_>) -> Result<Option<&'static str>> {
     let mut storage = found(alloc, case)?;
     let mut wanted = found(alloc, case)?;
-    let mut device = Obedient::new();
-    let caw = hexadecimal_of(8, 8, case.caw.as_bytes()).context("a CAW has 8 digits")?;
-    let csw = carry_out(&mut storage, caw, &mut device)?;
+    let mut device = device_of(case)?;
+    let csw = carry_out(&mut storage, case.caw, &mut device)?;
     let mut taken = Vec::new(alloc);
     for word in case.left.split_whitespace() {
         let item = item_of(word).context("an item")?;

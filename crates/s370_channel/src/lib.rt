@@ -2,7 +2,8 @@
 //!
 //! Its one theorem: what [`run`] leaves of storage and device, and the ending that it answers, are those of the walk of
 //! `s370_walk`, step by step; and where it stops for a page that is not present, the walk comes to a step which needs that
-//! page (GA22-7000, "Execution of Input/Output Operations").
+//! page (GA22-7000, "Execution of Input/Output Operations"). [`run_ipl`] does the same for the program of an initial program
+//! loading, whose first command stands in no storage.
 //!
 //! ```
 //! let Some(start) = check_start(&Guest, &storage, caw)? else { return Ok(None) };
@@ -16,6 +17,7 @@ mod endings;
 mod guest;
 mod judging;
 mod limits;
+mod loading;
 mod moving;
 mod pieces;
 mod running;
@@ -27,6 +29,7 @@ mod words;
 pub use guest::{Guest, fetch_block, fetch_word};
 pub use judging::{Verdict, judge};
 pub use limits::Limits;
+pub use loading::run_ipl;
 pub use running::{ChannelError, run};
 pub use starting::{MOST_COMMANDS, check_start};
 pub use words::{Caw, Ccw, Csw};

@@ -1,7 +1,7 @@
 //! The run of a channel program over any form of words, storage and device.
 ghost use Rattle.std.specs.Prelude.{◌≡◌, ℕ, ◌+◌, ◌<◌, ◌≤◌, IfOk, IfErr, None, Some, length};
 ghost use Rattle.s370_walk.specs.Hardware.{memory_of};
-ghost use Rattle.s370_walk.specs.Walk.{Moving, Fetching, Over, next, judged, moving, Good, state_of, Reaches, start_spot, live};
+ghost use Rattle.s370_walk.specs.Walk.{Moving, Fetching, Over, next, judged, moving, Good, state_of, entered, Reaches, start_spot, live};
 ghost use Rattle.s370_walk.specs.Stuck.{IsStuck};
 ghost use Rattle.s370_channel.specs.Progress.{setting, IsLighter, IsFollowed, MatchStuck};
 
@@ -9,6 +9,7 @@ use crate::endings::{close, end_at, fail, finish};
 use crate::judging::{Verdict, judge};
 use crate::limits::Limits;
 use crate::moving::{Moved, transfer};
+use crate::starting::first_spot;
 use s370_store::{Page, Storage};
 use s370_walk::{
     Answer, ChannelStatus, Device, Ending, Kind, Order, Position, Progress, Spot, Transfer,
@@ -55,8 +56,8 @@ fn position(spot: &Spot, started: u32, word: Word, transfer: Transfer) -> Positi
 }
 
 /// Starts a command.
-#[tactic(auto, using(s370_walk::specs::Reaching::reach_then, s370_walk::specs::Reaching::reach_from, crate::proofs::Stuck::stuck_next), unfolding(crate::specs::Progress::weight))]
-fn begin<F: WordForm, S: Storage, D: Device>(
+#[tactic(auto, unfolding(crate::specs::Progress::weight))]
+pub(crate) fn begin<F: WordForm, S: Storage, D: Device>(
     program: &F,
     storage: &mut S,
     device: &mut D,
@@ -64,16 +65,16 @@ fn begin<F: WordForm, S: Storage, D: Device>(
     spot: &Spot,
     word: Word,
 ) -> Result<Progress, ChannelError>
-    requires good { judged limits.now.commands spot.now word ≡ Good }
+    requires started { spot.now.started < limits.now.commands }
     requires role { spot.now.role ≡ None }
-    requires text { (F.written program.now).text (memory_of (S.bytes storage.old) (S.keys storage.old)) spot.now.at ≡ Some word }
-    ensures reaches { IfOk result (λ r. Reaches (live (F.written program.now)) (setting D.machine limits.now) (Fetching spot.now (memory_of (S.bytes storage.old) (S.keys storage.old)) device.old) (state_of r (memory_of (S.bytes storage.new) (S.keys storage.new)) device.new)) }
+    requires count { 0 < word.count }
+    ensures reaches { IfOk result (λ r. Reaches (live (F.written program.now)) (setting D.machine limits.now) (entered (setting D.machine limits.now) spot.now word None (memory_of (S.bytes storage.old) (S.keys storage.old)) device.old) (state_of r (memory_of (S.bytes storage.new) (S.keys storage.new)) device.new)) }
     ensures lighter { IfOk result (IsLighter limits.now.commands spot.now) }
     ensures present { S.present storage.new ≡ S.present storage.old }
     ensures keys { S.keys storage.new ≡ S.keys storage.old }
     ensures size { length (S.bytes storage.new) ≡ length (S.bytes storage.old) }
     ensures rest { S.Keeps storage.old storage.new }
-    ensures stuck { IfErr result (MatchStuck (F.written program.now) (setting D.machine limits.now) (S.present storage.old) (Fetching spot.now (memory_of (S.bytes storage.old) (S.keys storage.old)) device.old)) }
+    ensures stuck { IfErr result (MatchStuck (F.written program.now) (setting D.machine limits.now) (S.present storage.old) (entered (setting D.machine limits.now) spot.now word None (memory_of (S.bytes storage.old) (S.keys storage.old)) device.old)) }
 {
     let order = Order {
         command: word.command,
@@ -210,8 +211,33 @@ pub enum ChannelError {
     Absent(Page),
 }
 
-/// Runs the program that starts at an address.
+/// Goes on with the words from a spot, to the end of the program.
 #[tactic(auto, using(s370_walk::specs::Reaching::reach_on, crate::proofs::Stuck::stuck_later))]
+pub(crate) fn go_on<F: WordForm, S: Storage, D: Device>(
+    program: &F,
+    storage: &mut S,
+    device: &mut D,
+    limits: &Limits,
+    from: Spot,
+) -> Result<Ending, ChannelError>
+    ensures reaches { IfOk result (λ ending. Reaches (live (F.written program.now)) (setting D.machine limits.now) (Fetching from (memory_of (S.bytes storage.old) (S.keys storage.old)) device.old) (Over ending (memory_of (S.bytes storage.new) (S.keys storage.new)) device.new)) }
+    ensures present { S.present storage.new ≡ S.present storage.old }
+    ensures keys { S.keys storage.new ≡ S.keys storage.old }
+    ensures size { length (S.bytes storage.new) ≡ length (S.bytes storage.old) }
+    ensures rest { S.Keeps storage.old storage.new }
+    ensures stuck { IfErr result (MatchStuck (F.written program.now) (setting D.machine limits.now) (S.present storage.old) (Fetching from (memory_of (S.bytes storage.old) (S.keys storage.old)) device.old)) }
+{
+    let mut spot = from;
+    'words: loop {
+        match one_word(program, storage, device, limits, &spot) {
+            Ok(Progress::At(then)) => spot = then,
+            Ok(Progress::Ended(ending)) => return Ok(ending),
+            Err(error) => return Err(error),
+        }
+    }
+}
+
+/// Runs the program that starts at an address.
 pub fn run<F: WordForm, S: Storage, D: Device>(
     program: &F,
     storage: &mut S,
@@ -226,17 +252,5 @@ pub fn run<F: WordForm, S: Storage, D: Device>(
     ensures rest { S.Keeps storage.old storage.new }
     ensures stuck { IfErr result (MatchStuck (F.written program.now) (setting D.machine limits.now) (S.present storage.old) (Fetching (start_spot start) (memory_of (S.bytes storage.old) (S.keys storage.old)) device.old)) }
 {
-    let mut spot = Spot {
-        at: start,
-        role: None,
-        jumped: true,
-        started: 0,
-    };
-    'words: loop {
-        match one_word(program, storage, device, limits, &spot) {
-            Ok(Progress::At(then)) => spot = then,
-            Ok(Progress::Ended(ending)) => return Ok(ending),
-            Err(error) => return Err(error),
-        }
-    }
+    go_on(program, storage, device, limits, first_spot(start))
 }

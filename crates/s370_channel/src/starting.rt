@@ -2,6 +2,7 @@
 ghost use Rattle.std.specs.Prelude.{◌≡◌, ℕ, ◌%◌, ◌^◌, IfOk, IfErr, length};
 ghost use Rattle.s370_store.specs.Access.{IsAway, Touches};
 ghost use Rattle.s370_walk.specs.Hardware.{memory_of};
+ghost use Rattle.s370_walk.specs.Walk.{start_spot};
 ghost use Rattle.s370_channel.specs.Words.{caw_of};
 ghost use Rattle.s370_channel.specs.Start.{start_of};
 
@@ -12,6 +13,18 @@ use s370_walk::{Spot, WordForm};
 
 /// How many commands one program may start: the start of one more is a program check.
 pub const MOST_COMMANDS: u32 = 65535;
+
+/// Where a program starts that begins at an address.
+pub(crate) fn first_spot(at: u32) -> Spot
+    ensures { result ≡ start_spot at }
+{
+    Spot {
+        at,
+        role: None,
+        jumped: true,
+        started: 0,
+    }
+}
 
 /// The start that the channel address word asks for, or None where that word or the first command word is bad. An error
 /// is a page of the first word that is not present.
@@ -32,13 +45,7 @@ pub fn check_start<F: WordForm, S: Storage>(
     let Some(word) = program.fetch(storage, at)? else {
         return Ok(None);
     };
-    let spot = Spot {
-        at,
-        role: None,
-        jumped: true,
-        started: 0,
-    };
-    match judge(MOST_COMMANDS, &spot, &word) {
+    match judge(MOST_COMMANDS, &first_spot(at), &word) {
         Verdict::Good => Ok(Some(start)),
         Verdict::Jump => Ok(None),
         Verdict::Bad => Ok(None),

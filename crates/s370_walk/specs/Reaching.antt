@@ -1,12 +1,10 @@
 -- How walks go on, and that they end in one way.
-use Rattle.std.specs.Prelude.{Some, None, ℕ, zero, suc, ◌+◌, ◌-◌, ◌≡◌, ◌≤◌, refl, Bool}
+use Rattle.std.specs.Prelude.{ℕ, zero, suc, ◌+◌, ◌-◌, ◌≡◌, ◌≤◌, refl, Bool}
 use Rattle.std.proofs.Common.{sym, ◌∙◌, ap, arith, inl, inr, ◌⊎◌}
-use Rattle.s370_walk.specs.declared.parts.Spot.{Spot}
-use Rattle.s370_walk.specs.declared.parts.Word.{Word}
 use Rattle.s370_walk.specs.declared.parts.Ending.{Ending}
 use Rattle.s370_walk.specs.Hardware.{Memory}
 use Rattle.s370_walk.specs.Stuck.{IsStuck}
-use Rattle.s370_walk.specs.Walk.{Form, Setting, State, Fetching, Over, next, walk, Reaches, judged, Good, answered, order_of, Written, live}
+use Rattle.s370_walk.specs.Walk.{Form, Setting, State, Over, next, walk, Reaches, Written, live}
 
 module _ {D : Type 0} (form : Form) (h : Setting D) where
   pub walk-more : (m n : ℕ) (s : State D) → walk form h (m + n) s ≡ walk form h n (walk form h m s)
@@ -51,11 +49,6 @@ reach_then {form = form} {h = h} {s = s} {t = t} a e = reach_on form h a (reach_
 -- A walk begins with one step.
 pub reach_from : {D : Type 0} {form : Form} {h : Setting D} {r s t : State D} → next form h r ≡ s → Reaches form h s t → Reaches form h r t
 reach_from {form = form} {h = h} {r = r} {s = s} e a = reach_on form h (reach_next form h r s e) a
-
--- A good command is started.
-pub next_command : {D : Type 0} (form : Form) (h : Setting D) (spot : Spot) (w : Word) (m : Memory) (d : D) → form.text m spot.at ≡ Some w → judged h.limit spot w ≡ Good → spot.role ≡ None
-    → next form h (Fetching spot m d) ≡ answered h.prefix spot w (h.machine.answer d (order_of h.prefix spot w)) m (h.machine.started d (order_of h.prefix spot w))
-next_command form h spot w m d text good role = rw (text, good, role) refl
 
 -- What a walk is stuck at later, it is stuck at.
 pub stuck_on : {D : Type 0} {w : Written} {h : Setting D} {present : ℕ → Bool} {r s : State D} {page : ℕ} → Reaches (live w) h r s → IsStuck w h present s page → IsStuck w h present r page

@@ -1,5 +1,5 @@
 use Rattle.s370_channel.proofs.Stuck.{match_later}
-use Rattle.s370_channel.proofs.running.run.Goals as goal
+use Rattle.s370_channel.proofs.running.go_on.Goals as goal
 
 pub returns-in-Err-clause-stuck : goal.returns-in-Err-clause-stuck
 returns-in-Err-clause-stuck g c = match_later _ _ _ c.in-Err.error c.in-Err.ensures.stuck c.words.invariant.reaches c.words.invariant.present

@@ -1,0 +1,26 @@
+-- A first command, and then the words after it.
+use Rattle.std.specs.Prelude.{ℕ, ◌≡◌, Bool, Result, Ok, Err, IfOk, IfErr}
+use Rattle.std.proofs.Common.{subst}
+use Rattle.s370_walk.specs.declared.parts.Ending.{Ending}
+use Rattle.s370_walk.specs.declared.parts.Progress.{Progress}
+use Rattle.s370_walk.specs.declared.parts.Progress.TheVariants.{At}
+use Rattle.s370_walk.specs.declared.parts.Spot.{Spot}
+use Rattle.s370_walk.specs.Hardware.{Memory, Machine}
+use Rattle.s370_walk.specs.Reaching.{reach_on}
+use Rattle.s370_walk.specs.Walk.{Form, Setting, State, Fetching, Over, Written, Reaches, live, state_of}
+use Rattle.s370_channel.specs.declared.limits.Limits.{Limits}
+use Rattle.s370_channel.specs.declared.running.ChannelError.{ChannelError}
+use Rattle.s370_channel.specs.Progress.{setting, MatchStuck}
+use Rattle.s370_channel.proofs.Stuck.{match_later}
+
+pub reach_word : {D : Type 0} {form : Form} {h : Setting D} {r : State D} {progress : Progress} {spot : Spot} {m : Memory} {d : D} → progress ≡ At spot → Reaches form h r (state_of progress m d) → Reaches form h r (Fetching spot m d)
+reach_word {form = form} {h = h} {r = r} {m = m} {d = d} is a = let P : Progress → Type 0 = λ x. Reaches form h r (state_of x m d) in subst P is a
+
+pub then_ends : {D : Type 0} (form : Form) (h : Setting D) {r s : State D} (n : Memory) (e : D) (result : Result Ending ChannelError) → Reaches form h r s → IfOk result (λ ending. Reaches form h s (Over ending n e)) → IfOk result (λ ending. Reaches form h r (Over ending n e))
+then_ends form h n e (Ok ending) a b = reach_on form h a b
+then_ends form h n e (Err error) a b = tt
+
+pub then_stuck : {D : Type 0} (w : Written) (machine : Machine D) (limits : Limits) {present later : ℕ → Bool} {r s : State D} (result : Result Ending ChannelError) → Reaches (live w) (setting machine limits) r s → later ≡ present → IfErr result (MatchStuck w (setting machine limits) later s)
+    → IfErr result (MatchStuck w (setting machine limits) present r)
+then_stuck w machine limits (Ok ending) a e b = tt
+then_stuck w machine limits (Err error) a e b = match_later w machine limits error b a e

@@ -1,0 +1,50 @@
+//! The channel program of an initial program loading (GA22-7000, "Initial Program Loading").
+ghost use Rattle.std.specs.Prelude.{◌≡◌, IfOk, IfErr, length};
+ghost use Rattle.s370_walk.specs.Hardware.{memory_of};
+ghost use Rattle.s370_walk.specs.Walk.{Over, Reaches, live};
+ghost use Rattle.s370_channel.specs.Loading.{loading, loading_limits};
+ghost use Rattle.s370_channel.specs.Progress.{setting, MatchStuck};
+
+use crate::limits::Limits;
+use crate::running::{ChannelError, begin, go_on};
+use crate::starting::{MOST_COMMANDS, first_spot};
+use s370_num::AccessKey;
+use s370_store::Storage;
+use s370_walk::{Command, Device, Ending, Flags, Progress, Word, WordForm};
+
+/// Its first command, which stands in no storage: to read 24 bytes to location 0, and then to go on with the word at 8.
+const IMPLIED: Word = Word {
+    command: Command { code: 0x02 },
+    address: 0,
+    flags: Flags { bits: 0x60 },
+    count: 24,
+    next: 8,
+    skipped: 16,
+};
+
+/// Its key is zero, and its first command counts.
+const LIMITS: Limits = Limits {
+    key: AccessKey::ZERO,
+    commands: MOST_COMMANDS,
+    prefix: 0,
+};
+
+/// Runs the program of an initial program loading. It has gone well where its ending has the unit status
+/// [`UnitStatus::ENDED`](s370_walk::UnitStatus::ENDED) and no channel status.
+pub fn run_ipl<F: WordForm, S: Storage, D: Device>(
+    program: &F,
+    storage: &mut S,
+    device: &mut D,
+) -> Result<Ending, ChannelError>
+    ensures reaches { IfOk result (λ ending. Reaches (live (F.written program.now)) (setting D.machine loading_limits) (loading D.machine (memory_of (S.bytes storage.old) (S.keys storage.old)) device.old) (Over ending (memory_of (S.bytes storage.new) (S.keys storage.new)) device.new)) }
+    ensures present { S.present storage.new ≡ S.present storage.old }
+    ensures keys { S.keys storage.new ≡ S.keys storage.old }
+    ensures size { length (S.bytes storage.new) ≡ length (S.bytes storage.old) }
+    ensures rest { S.Keeps storage.old storage.new }
+    ensures stuck { IfErr result (MatchStuck (F.written program.now) (setting D.machine loading_limits) (S.present storage.old) (loading D.machine (memory_of (S.bytes storage.old) (S.keys storage.old)) device.old)) }
+{
+    match begin(program, storage, device, &LIMITS, &first_spot(0), IMPLIED)? {
+        Progress::At(spot) => go_on(program, storage, device, &LIMITS, spot),
+        Progress::Ended(ending) => Ok(ending),
+    }
+}
