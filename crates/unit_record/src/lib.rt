@@ -36,5 +36,5 @@ pub use laws::{
 pub use output::{Entry, File, Target};
 pub use printer::Printer;
 pub use punch::Punch;
-pub use reader::{Card, Deck, Reader};
+pub use reader::{Card, Deck, Reader, Sender};
 pub use record::{RECORD_LENGTH, Record};
