@@ -16,6 +16,7 @@
 //! ```
 #![tactic(auto)]
 
+mod closing;
 mod console;
 mod front;
 mod laws;
@@ -28,6 +29,7 @@ mod record;
 #[cfg(test)]
 mod tests;
 
+pub use closing::{Closed, close_both};
 pub use console::{Arrival, Console};
 pub use front::{COMMAND_REJECT, INTERVENTION_REQUIRED};
 pub use laws::{
