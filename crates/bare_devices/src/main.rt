@@ -14,7 +14,7 @@ use s370_store::PlainStorage;
 use s370_subchannels::Subchannels;
 use s370_walk::Device;
 use std::alloc::Global;
-use unit_record::{Deck, Printer, Reader};
+use unit_record::{Deck, Printer, Reader, Sender};
 
 /// The device address of the reader.
 const READER: u16 = 0x00C;
@@ -44,7 +44,7 @@ fn main(rt: HostRuntime) -> Result<()> {
     let mut reader = Reader::new(alloc);
     let mut card = [0x40; 80];
     card[0] = 0xC1;
-    reader.deck(Deck::new(1, vec![in alloc; card]?))?;
+    reader.deck(Deck::new(1, Sender::System, vec![in alloc; card]?))?;
     let mut printer = Printer::new(alloc);
     run(&rt, &mut machine, 100)?;
     serve(&rt, &mut machine, PRINTER, &mut printer)?;

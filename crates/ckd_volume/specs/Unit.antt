@@ -11,7 +11,7 @@ use Rattle.ckd_volume.specs.declared.parts.Right.TheVariants as rights
 use Rattle.ckd_volume.specs.declared.unit.Arm.{Arm}
 use Rattle.ckd_volume.specs.Front.{Front, Cylinder}
 use Rattle.ckd_volume.specs.Volume.{VolumeFormat}
-use Rattle.ckd_volume.specs.Begin.{Begun, starting, no_status, unit_check}
+use Rattle.ckd_volume.specs.Begin.{Begun, starting, no_status, sense_of, unit_check}
 use Rattle.ckd_volume.specs.End.{Ended, resting, fails, stands}
 use Rattle.ckd_volume.specs.declared.control.Seek.{Seek}
 use Rattle.ckd_volume.specs.Control.{sought}
@@ -160,3 +160,18 @@ idle v arm =
         given = 0;
       };
     }
+
+-- From outside: a reset. The unit is as at the start and has no sense; its arm stays.
+abbrev pub volume_of : Disk → VolumeFormat
+volume_of d = record { volser = d.volser; cylinders = d.cylinders }
+
+abbrev pub without_sense : Disk → ℕ → ℕ → Arm
+without_sense d cylinder head =
+    record { cylinder = cylinder; head = head; home = d.home; writable = d.front.writable; sense = sense_of 0 0 }
+
+abbrev pub disk_reset : Disk → Disk
+disk_reset d = idle (volume_of d) (without_sense d d.cylinder d.front.head)
+
+-- LOGON finds the arm at the first track.
+abbrev pub disk_cleared : Disk → Disk
+disk_cleared d = idle (volume_of d) (without_sense d 0 0)

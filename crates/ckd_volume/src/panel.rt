@@ -1,5 +1,5 @@
 //! What a control unit keeps beside the volume: where its head stands, its mask, its sense, and the bytes of the command.
-ghost use Rattle.std.specs.Prelude.{◌≡◌, ◌≤◌, ◌<◌, ◌+◌, ◌++◌, ◌∷◌, [], length, slice_index, IfOk};
+ghost use Rattle.std.specs.Prelude.{◌≡◌, ◌≤◌, ◌<◌, ◌+◌, ◌++◌, ◌∷◌, [], length, slice_index, true, IfOk};
 ghost use Rattle.s370_walk.specs.declared.parts.Answer.TheVariants as answers;
 ghost use Rattle.ckd_volume.specs.declared.parts.Job.TheVariants as jobs;
 ghost use Rattle.ckd_volume.specs.declared.parts.Place.TheVariants as places;
@@ -83,6 +83,17 @@ impl Panel {
         self.job = Job::Nothing;
         self.bytes.clear();
         self.given = 0;
+    }
+
+    /// As before a program, and without sense.
+    pub(crate) fn reset(&mut self)
+        ensures { self.new ≡ record (table.starting self.old true) { sense = table.sense_of 0 0 } }
+    {
+        self.start(true);
+        self.sense = Sense {
+            first: 0,
+            second: 0,
+        };
     }
 
     /// A refusal, with its sense.

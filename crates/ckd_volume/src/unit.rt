@@ -50,7 +50,7 @@ impl Model for Unit {
 }
 
 impl Unit {
-    ghost use Rattle.ckd_volume.specs.Unit.{idle, begins, aimed, started, ending, after, finished, status, seek_of, seek_status, moved, keeps, disk_machine};
+    ghost use Rattle.ckd_volume.specs.Unit.{idle, begins, aimed, started, ending, after, finished, status, seek_of, seek_status, moved, keeps, disk_machine, disk_reset, disk_cleared};
 
     /// A unit whose arm stands over a volume; it has room for the longest command.
     pub fn new(alloc: Global, volume: Volume, arm: Arm) -> Result<Unit, AllocError>
@@ -103,6 +103,22 @@ impl Unit {
             writable: panel.writable,
             sense: panel.sense,
         }
+    }
+
+    /// A system reset: no command is under way, and there is no sense; the arm stays.
+    pub fn reset(&mut self)
+        ensures { self.new ≡ disk_reset self.old }
+    {
+        self.panel.reset();
+    }
+
+    /// As [`Unit::reset`], and the arm stands over cylinder 0, with head 0 chosen.
+    pub fn clear(&mut self)
+        ensures { self.new ≡ disk_cleared self.old }
+    {
+        self.panel.reset();
+        self.panel.choose_first_head();
+        self.cylinder = 0;
     }
 
     /// Read IPL moves the arm to the first track before all else.

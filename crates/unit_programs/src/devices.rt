@@ -4,7 +4,7 @@ use crate::case::{Case, byte_in, cut_item, spells};
 use s370_channel::{Csw, Guest, Limits, MOST_COMMANDS, check_start, run};
 use s370_walk::Device;
 use std::alloc::{AllocError, Global};
-use unit_record::{Deck, Entry, Printer, Punch, Reader};
+use unit_record::{Deck, Entry, Printer, Punch, Reader, Sender};
 
 /// What differs first; none where all is as it should be.
 pub fn difference(
@@ -69,7 +69,7 @@ fn deck_of(alloc: Global, list: &[u8]) -> Result<Deck, AllocError> {
         }
         cards.push(card)?;
     }
-    Ok(Deck::new(1, cards))
+    Ok(Deck::new(1, Sender::System, cards))
 }
 
 /// The status word that a program ends with; none where it is not started.

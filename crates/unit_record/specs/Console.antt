@@ -94,6 +94,10 @@ console_new = record { lines = []; unfinished = []; waiting = []; sense = 0; wan
 abbrev pub console_reset : ConsoleState → ConsoleState
 console_reset c = record c { waiting = []; sense = 0; wanted = 0; ends_line = false; giving = [] }
 
+-- The finished lines were taken elsewhere.
+abbrev pub without_lines : ConsoleState → ConsoleState
+without_lines c = record c { lines = [] }
+
 -- A line that is typed is kept where fewer than 16 wait. A character without a byte becomes a blank.
 abbrev pub has_room : ConsoleState → Bool
 has_room c = nat_lt (length c.waiting) 16

@@ -1,5 +1,5 @@
 -- What a punch or a printer has made: an open file, and closed ones.
-use Rattle.std.specs.Prelude.{ℕ, List, [], ◌∷◌, ◌++◌}
+use Rattle.std.specs.Prelude.{ℕ, ◌==◌, Bool, not, List, [], ◌∷◌, ◌++◌, length}
 use Rattle.unit_record.specs.declared.output.Target.{Target}
 
 -- An entry: the command that made it, and the bytes that it took.
@@ -12,13 +12,18 @@ pub record FileValue : Type 0 where
   pub target : Target
   pub entries : List EntryValue
 
--- The entries of the open file, the closed files in order, and for how many more entries there is room.
+-- The entries of the open file, the closed files in order, and for how many more entries and closed files there is room.
 pub record OutputValue : Type 0 where
   pub entries : List EntryValue
   pub closed : List FileValue
   pub room : ℕ
+  pub file_room : ℕ
 
--- The closed files, once the open one is closed too: an open file without an entry is none.
+-- An open file without an entry is none.
+abbrev pub has_entries : List EntryValue → Bool
+has_entries entries = not (length entries == 0)
+
+-- The closed files, once the open one is closed too.
 abbrev pub closed_with : List FileValue → Target → List EntryValue → List FileValue
 closed_with closed target [] = closed
 closed_with closed target (entry ∷ entries) = closed ++ record { target = target; entries = entry ∷ entries } ∷ []

@@ -5,11 +5,13 @@ use Rattle.s370_walk.specs.declared.parts.Order.{Order}
 use Rattle.s370_walk.specs.declared.parts.Answer.{Answer}
 use Rattle.s370_walk.specs.declared.parts.Answer.TheVariants.{Refused, Immediate, Input}
 use Rattle.s370_walk.specs.Hardware.{Machine}
+use Rattle.unit_record.specs.declared.reader.Sender.{Sender}
 use Rattle.unit_record.specs.Front.{is_sense, nothing_to_say, unit_check, unit_exception, command_reject, intervention_required}
 
--- A deck: its label, which is the id of a spool file, and its cards of 80 bytes.
+-- A deck: its label, which is the id of a spool file, from whom it comes, and its cards of 80 bytes.
 pub record DeckValue : Type 0 where
   pub label : ℕ
+  pub sender : Sender
   pub cards : List (List ℕ)
 
 -- State

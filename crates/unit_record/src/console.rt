@@ -2,7 +2,7 @@
 ghost use Rattle.std.specs.Prelude.{◌≡◌, ◌≤◌, ◌==◌, length, IfOk, OnOk, OnErr, map, slice_get, if◌then◌else◌};
 ghost use Rattle.std.specs.Option.{option_copied};
 ghost use Rattle.unit_record.specs.declared.console.Arrival.TheVariants.{Kept, Lost};
-ghost use Rattle.unit_record.specs.Console.{console_new, console_reset, is_write, has_room, typed_byte, with_typed, wants_attention};
+ghost use Rattle.unit_record.specs.Console.{console_new, console_reset, without_lines, is_write, has_room, typed_byte, with_typed, wants_attention};
 
 use crate::front::{COMMAND_REJECT, NO_OPERATION, is_sense};
 use crate::outgoing::Outgoing;
@@ -191,6 +191,13 @@ impl Console {
         ensures { result.now ≡ self.now.lines }
     {
         self.lines.as_slice()
+    }
+
+    /// Forgets the finished lines, which were copied elsewhere. The room for what is being written stays.
+    pub fn forget_lines(&mut self)
+        ensures { self.new ≡ without_lines self.old }
+    {
+        self.lines.clear();
     }
 
     /// The characters of the line that is not finished.

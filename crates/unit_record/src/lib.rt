@@ -16,6 +16,7 @@
 //! ```
 #![tactic(auto)]
 
+mod closing;
 mod console;
 mod front;
 mod laws;
@@ -28,6 +29,7 @@ mod record;
 #[cfg(test)]
 mod tests;
 
+pub use closing::{Closed, close_both};
 pub use console::{Arrival, Console};
 pub use front::{COMMAND_REJECT, INTERVENTION_REQUIRED};
 pub use laws::{
@@ -36,5 +38,5 @@ pub use laws::{
 pub use output::{Entry, File, Target};
 pub use printer::Printer;
 pub use punch::Punch;
-pub use reader::{Card, Deck, Reader};
+pub use reader::{Card, Deck, Reader, Sender};
 pub use record::{RECORD_LENGTH, Record};

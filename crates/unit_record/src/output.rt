@@ -98,7 +98,7 @@ impl Model for Output {
 
     ghost Value = { OutputValue };
 
-    ghost view = { λ o. record { entries = o.entries.items; closed = o.closed.items; room = vec_capacity o.entries - vec_len o.entries } };
+    ghost view = { λ o. record { entries = o.entries.items; closed = o.closed.items; room = vec_capacity o.entries - vec_len o.entries; file_room = vec_capacity o.closed - vec_len o.closed } };
 }
 
 impl Output {
@@ -146,10 +146,33 @@ impl Output {
         if self.entries.is_empty() {
             return Ok(false);
         }
-        self.closed.reserve(1)?;
+        self.reserve_file()?;
+        Ok(self.close_reserved(alloc, target))
+    }
+
+    /// Makes room for one more closed file.
+    pub fn reserve_file(&mut self) -> Result<(), AllocError>
+        ensures entries { self.new.entries ≡ self.old.entries }
+        ensures closed { self.new.closed ≡ self.old.closed }
+        ensures entry_room { self.new.room ≡ self.old.room }
+        ensures room { OnOk result (0 < self.new.file_room) }
+    {
+        self.closed.reserve(1)
+    }
+
+    /// Closes the open file, and tells whether there was any. This takes no memory.
+    pub fn close_reserved(&mut self, alloc: Global, target: Target) -> bool
+        requires { 0 < self.old.file_room }
+        ensures any { result ≡ not (length self.old.entries == 0) }
+        ensures entries { self.new.entries ≡ [] }
+        ensures closed { self.new.closed ≡ closed_with self.old.closed target self.old.entries }
+    {
+        if self.entries.is_empty() {
+            return false;
+        }
         let entries = mem::replace(&mut self.entries, Vec::new(alloc));
         self.closed.push_reserved(File { target, entries });
-        Ok(true)
+        true
     }
 
     /// The entries of the open file, in order.

@@ -20,10 +20,10 @@ const BLANK: u8 = 0x40;
 /// A card punch: the cards of its open file, and its closed files.
 #[derive(Drop)]
 pub struct Punch {
-    output: Output,
+    pub(crate) output: Output,
     sense: u8,
-    is_punching: bool,
-    card: Record,
+    pub(crate) is_punching: bool,
+    pub(crate) card: Record,
 }
 
 impl Model for Punch {

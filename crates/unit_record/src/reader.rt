@@ -17,10 +17,20 @@ pub type Card = [u8; 80];
 /// The command that reads a card.
 const READ: u8 = 0x02;
 
-/// A deck of cards, with a label by which it is found again.
+/// From whom a deck comes.
+#[derive(Clone, Copy, Debug, PartialEq, Eq)]
+pub enum Sender {
+    /// The operator.
+    System,
+    /// A user, by his number in the directory.
+    User(u8),
+}
+
+/// A deck of cards, with a label by which it is found again, and the one from whom it comes.
 #[derive(Drop)]
 pub struct Deck {
     label: u64,
+    sender: Sender,
     cards: Vec<Card>,
 }
 
@@ -29,16 +39,21 @@ impl Model for Deck {
 
     ghost Value = { DeckValue };
 
-    ghost view = { λ d. record { label = d.label; cards = d.cards.items } };
+    ghost view = { λ d. record { label = d.label; sender = d.sender; cards = d.cards.items } };
 }
 
 impl Deck {
     /// A deck of these cards.
-    pub fn new(label: u64, cards: Vec<Card>) -> Deck
+    pub fn new(label: u64, sender: Sender, cards: Vec<Card>) -> Deck
         ensures label { result.label ≡ label }
+        ensures sender { result.sender ≡ sender }
         ensures cards { result.cards ≡ cards.items }
     {
-        Deck { label, cards }
+        Deck {
+            label,
+            sender,
+            cards,
+        }
     }
 
     /// Its label.
@@ -46,6 +61,13 @@ impl Deck {
         ensures { result ≡ self.now.label }
     {
         self.label
+    }
+
+    /// From whom it comes.
+    pub fn sender(&self) -> Sender
+        ensures { result ≡ self.now.sender }
+    {
+        self.sender
     }
 
     /// Its cards, in order.

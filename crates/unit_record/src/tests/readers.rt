@@ -1,5 +1,5 @@
 use super::{EXCEPTION, REJECTED, alone, gives};
-use crate::{Deck, Reader};
+use crate::{Deck, Reader, Sender};
 use s370_walk::{Answer, Device};
 use std::alloc::{AllocError, Global};
 use std::test::Fail;
@@ -10,7 +10,7 @@ fn deck(alloc: Global, label: u64, bytes: &[u8]) -> Result<Deck, AllocError> {
     for byte in bytes {
         cards.push([*byte; 80])?;
     }
-    Ok(Deck::new(label, cards))
+    Ok(Deck::new(label, Sender::System, cards))
 }
 
 #[test]
