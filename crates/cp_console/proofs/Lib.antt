@@ -1,2 +1,3 @@
+pub mod ConsoleLines
 pub mod Spellings
 pub mod Grammars

@@ -4,5 +4,6 @@ pub mod StoredBytes
 pub mod Operands
 pub mod Output
 pub mod Commands
+pub mod ConsoleLine
 pub mod Responses
 pub mod Grammar

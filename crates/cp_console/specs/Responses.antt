@@ -2,8 +2,9 @@
 use Rattle.std.specs.Prelude.{ℕ, ◌+◌, ◌*◌, ◌/◌, ◌%◌, ◌^◌, Bool, true, false, List, ◌++◌, codes, decimal, slice_range}
 use Rattle.std.specs.Int.{w32, from_be_bytes}
 use Rattle.s370_num.specs.Address.{address_text, two_digits, word_text}
+use Rattle.cp_console.specs.ConsoleLine.{characters_of}
 use Rattle.cp_console.specs.declared.responses.Response.{Response}
-use Rattle.cp_console.specs.declared.responses.Response.TheVariants.{LogonOk, LogoffOk, AlreadyLoggedOn, NotLoggedOn, SystemReset, Psw, General, Control, Key, Storage, Stored, AddressPastStorage, UnknownCommand, BadOperand, NoConsole, StoppedDisabledWait, StoppedEcMode}
+use Rattle.cp_console.specs.declared.responses.Response.TheVariants.{LogonOk, LogoffOk, AlreadyLoggedOn, NotLoggedOn, SystemReset, Psw, General, Control, Key, Storage, Stored, AddressPastStorage, UnknownCommand, BadOperand, NoConsole, StoppedDisabledWait, StoppedEcMode, Written}
 
 -- the word that four bytes are, from this one on
 abbrev pub word_at : List ℕ → ℕ → ℕ
@@ -55,6 +56,7 @@ text_of (BadOperand place) = operand_text place
 text_of NoConsole = codes "NO CONSOLE"
 text_of StoppedDisabledWait = codes "STOPPED DISABLED WAIT"
 text_of StoppedEcMode = codes "STOPPED EC MODE"
+text_of (Written line) = characters_of line
 
 -- a console keeps displays, answers about storage and resets, and notices, and not what was said about the command or the user
 abbrev pub is_panel : Response → Bool
@@ -75,3 +77,9 @@ is_panel (BadOperand place) = false
 is_panel NoConsole = false
 is_panel StoppedDisabledWait = true
 is_panel StoppedEcMode = true
+is_panel (Written line) = true
+
+-- whether a program or another user said it
+abbrev pub is_written : Response → Bool
+is_written (Written line) = true
+is_written other = false

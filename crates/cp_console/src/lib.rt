@@ -18,6 +18,7 @@
 #![tactic(auto)]
 
 pub mod commands;
+pub mod console_line;
 pub mod lines;
 mod operands;
 pub mod output;

@@ -1,6 +1,6 @@
 //! The texts of responses.
-ghost use Rattle.std.specs.Prelude.{◌≡◌, ◌+◌, ◌*◌, ◌/◌, ◌≤◌, IfOk, length, string_bytes};
-ghost use Rattle.cp_console.specs.Responses.{control_text, general_text, key_text, psw_text, storage_text, text_of, word_at};
+ghost use Rattle.std.specs.Prelude.{◌≡◌, ◌+◌, ◌*◌, ◌/◌, ◌≤◌, IfOk, false, length, string_bytes};
+ghost use Rattle.cp_console.specs.Responses.{control_text, general_text, is_written, key_text, psw_text, storage_text, text_of, word_at};
 
 use crate::responses::Response;
 use byteorder::{BigEndian, ByteOrder};
@@ -11,11 +11,18 @@ use std::alloc::{AllocError, Global};
 pub fn reply(alloc: Global, response: &Response) -> Result<Vec<u8>, AllocError>
     ensures { IfOk result (λ text. text.items ≡ text_of response.now) }
 {
-    let text = response_text(alloc, response)?;
-    Ok(text.into_bytes())
+    match response {
+        Response::Written(line) => line.as_slice().to_vec(alloc),
+        _ => {
+            let text = response_text(alloc, response)?;
+            Ok(text.into_bytes())
+        }
+    }
 }
 
+/// The text of what the control program says.
 fn response_text(alloc: Global, response: &Response) -> Result<String, AllocError>
+    requires { is_written response.now ≡ false }
     ensures { IfOk result (λ text. string_bytes text ≡ text_of response.now) }
 {
     match response {
@@ -36,6 +43,7 @@ fn response_text(alloc: Global, response: &Response) -> Result<String, AllocErro
         Response::NoConsole => "NO CONSOLE".to_string(alloc),
         Response::StoppedDisabledWait => "STOPPED DISABLED WAIT".to_string(alloc),
         Response::StoppedEcMode => "STOPPED EC MODE".to_string(alloc),
+        Response::Written(_) => unreachable!(),
     }
 }
 

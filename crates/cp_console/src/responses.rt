@@ -2,6 +2,7 @@
 ghost use Rattle.std.specs.Prelude.{◌≡◌};
 ghost use Rattle.cp_console.specs.Responses.{is_panel};
 
+use crate::console_line::ConsoleLine;
 use s370_num::{Addr24, Register, StorageKey, Word};
 
 /// What the control program says on a console.
@@ -41,6 +42,8 @@ pub enum Response {
     StoppedDisabledWait,
     /// A notice: the machine stopped at a PSW of extended control mode.
     StoppedEcMode,
+    /// A line that a program, or another user, wrote on the console.
+    Written(ConsoleLine),
 }
 
 impl Response {
@@ -58,7 +61,8 @@ impl Response {
             | Response::Stored
             | Response::AddressPastStorage
             | Response::StoppedDisabledWait
-            | Response::StoppedEcMode => true,
+            | Response::StoppedEcMode
+            | Response::Written(_) => true,
             Response::LogonOk
             | Response::LogoffOk
             | Response::AlreadyLoggedOn

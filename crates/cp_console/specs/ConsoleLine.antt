@@ -1,0 +1,6 @@
+-- A line that a program, or another user, wrote on a console.
+use Rattle.std.specs.Prelude.{ℕ, List, take}
+use Rattle.cp_console.specs.declared.console_line.ConsoleLine.{ConsoleLine}
+
+abbrev pub characters_of : ConsoleLine → List ℕ
+characters_of line = take line.length line.characters
