@@ -18,10 +18,13 @@
 #![tactic(auto)]
 
 pub mod commands;
+pub mod device_commands;
+pub mod line_part;
 pub mod lines;
 mod operands;
 pub mod output;
 pub mod printing;
+mod reading;
 pub mod responses;
 
 pub use operands::StoredBytes;
