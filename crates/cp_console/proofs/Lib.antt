@@ -1,3 +1,7 @@
 pub mod ConsoleLines
 pub mod Spellings
 pub mod Grammars
+pub mod FileNumbers
+pub mod Spelled
+pub mod DeviceGrammars
+pub mod FileTexts

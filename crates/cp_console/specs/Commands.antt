@@ -2,30 +2,17 @@
 use Rattle.std.specs.Prelude.{ℕ, ◌+◌, ◌*◌, ◌^◌, ◌==◌, if◌then◌else◌, List, [], ◌∷◌, codes, Option, Some, None, Result, Ok, Err}
 use Rattle.std.specs.Option.{option_map}
 use Rattle.std.specs.Str.{bytes_eq}
-use Rattle.cp_text.specs.Words.{words_of}
+use Rattle.cp_text.specs.Words.{after_first_word, words_of}
 use Rattle.cp_console.specs.Operands.{address_of, register_of, contents_of, bytes_of}
+use Rattle.cp_console.specs.Reading.{operand, ended, keyword}
+use Rattle.cp_console.specs.DeviceCommands.{device_command_named, message_text}
 use Rattle.cp_console.specs.declared.commands.Place.{Place}
 use Rattle.cp_console.specs.declared.commands.Place.TheVariants as places
 use Rattle.cp_console.specs.declared.commands.Change.TheVariants as changes
 use Rattle.cp_console.specs.declared.commands.Command.{Command}
 use Rattle.cp_console.specs.declared.commands.Command.TheVariants.{Nothing, Logon, Logoff, Begin, SystemReset, External, Display, Store}
 use Rattle.cp_console.specs.declared.commands.CommandError.{CommandError}
-use Rattle.cp_console.specs.declared.commands.CommandError.TheVariants.{Unknown, Operand}
-
--- what follows an operand that was read; one that was not is told by its place
-abbrev pub operand_read : {A : Type 0} → ℕ → Option A → (A → Result Command CommandError) → Result Command CommandError
-operand_read place None next = Err (Operand place)
-operand_read place (Some a) next = next a
-
--- the word at this place is an operand by this rule, and the words after it are read next; a missing word is told by its place
-abbrev pub operand : {A : Type 0} → ℕ → (List ℕ → Option A) → List (List ℕ) → (A → List (List ℕ) → Result Command CommandError) → Result Command CommandError
-operand place rule [] next = Err (Operand place)
-operand place rule (word ∷ words) next = operand_read place (rule word) (λ a. next a words)
-
--- no word is left; a surplus one is told by its place
-abbrev pub ended : ℕ → Command → List (List ℕ) → Result Command CommandError
-ended place command [] = Ok command
-ended place command (word ∷ words) = Err (Operand place)
+use Rattle.cp_console.specs.declared.commands.CommandError.TheVariants.{Operand}
 
 -- `G` or `X` and a register's number, `K` and an address, or an address of storage
 abbrev pub numbered_place : List ℕ → Option Place
@@ -47,10 +34,6 @@ logon_of words = ended 1 Logon words
 -- `LOGOFF`
 abbrev pub logoff_of : List (List ℕ) → Result Command CommandError
 logoff_of words = ended 1 Logoff words
-
--- this word and no other
-abbrev pub keyword : List ℕ → List ℕ → Option (List ℕ)
-keyword wanted word = if bytes_eq word wanted then Some word else None
 
 -- `SYSTEM RESET`
 abbrev pub system_of : List (List ℕ) → Result Command CommandError
@@ -82,9 +65,9 @@ change_of (places.Storage address) words = operand 2 bytes_of words (λ bytes. e
 abbrev pub store_of : List (List ℕ) → Result Command CommandError
 store_of words = operand 1 place_of words change_of
 
--- by the first word, which is the command's name
-abbrev pub command_named : List ℕ → List (List ℕ) → Result Command CommandError
-command_named name operands =
+-- by the first word, which is the command's name; the text is what a message with these operands says
+abbrev pub command_named : List ℕ → List (List ℕ) → List ℕ → Result Command CommandError
+command_named name operands text =
     if bytes_eq name (codes "LOGON") then logon_of operands
     else if bytes_eq name (codes "LOGOFF") then logoff_of operands
     else if bytes_eq name (codes "BEGIN") then begin_of operands
@@ -92,13 +75,13 @@ command_named name operands =
     else if bytes_eq name (codes "EXTERNAL") then external_of operands
     else if bytes_eq name (codes "DISPLAY") then display_of operands
     else if bytes_eq name (codes "STORE") then store_of operands
-    else Err Unknown
+    else device_command_named name operands text
 
--- by its words; a text without a word asks for nothing
-abbrev pub command_by : List (List ℕ) → Result Command CommandError
-command_by [] = Ok Nothing
-command_by (name ∷ operands) = command_named name operands
+-- by its words, and what a message with these words says; a text without a word asks for nothing
+abbrev pub command_by : List (List ℕ) → List ℕ → Result Command CommandError
+command_by [] text = Ok Nothing
+command_by (name ∷ operands) text = command_named name operands text
 
 -- the command that a text is, or why it is none
 abbrev pub command_of : List ℕ → Result Command CommandError
-command_of text = command_by (words_of text)
+command_of text = command_by (words_of text) (message_text (after_first_word text))

@@ -1,13 +1,15 @@
 -- What it is for words to spell a command, and to be no command.
 use Rattle.std.specs.Prelude.{◌≡◌, ℕ, ◌+◌, ◌*◌, ◌^◌, List, [], ◌∷◌, ◌++◌, length, codes, Option, Some, None, Result, Ok, Err}
-use Rattle.cp_text.specs.Words.{words_of}
-use Rattle.cp_console.specs.Operands.{address_of, contents_of, bytes_of}
+use Rattle.cp_text.specs.Words.{after_first_word, words_of}
+use Rattle.cp_console.specs.Operands.{address_of, contents_of, bytes_of, device_of, file_of}
+use Rattle.cp_console.specs.DeviceCommands.{message_text}
 use Rattle.cp_console.specs.Commands.{command_of, place_of}
 use Rattle.cp_console.specs.declared.commands.Place.{Place}
 use Rattle.cp_console.specs.declared.commands.Place.TheVariants as places
 use Rattle.cp_console.specs.declared.commands.Change.TheVariants as changes
 use Rattle.cp_console.specs.declared.commands.Command.{Command}
-use Rattle.cp_console.specs.declared.commands.Command.TheVariants.{Nothing, Logon, Logoff, Begin, SystemReset, External, Display, Store}
+use Rattle.cp_console.specs.declared.commands.Command.TheVariants.{Nothing, Logon, Logoff, Begin, SystemReset, External, Display, Store, Device}
+use Rattle.cp_console.specs.declared.device_commands.DeviceCommand.TheVariants.{Ipl, QueryFiles, QueryUsers, Spool, Close, Purge, Message}
 use Rattle.cp_console.specs.declared.commands.CommandError.{CommandError}
 use Rattle.cp_console.specs.declared.commands.CommandError.TheVariants.{Memory, Unknown, Operand}
 
@@ -44,25 +46,52 @@ pub record SpellsStore {A : Type 0} (rule : List ℕ → Option A) (words : List
   pub read : place_of word ≡ Some place
   pub digits_read : rule digits ≡ Some given
 
--- the words spell a command
-abbrev pub Spells : List (List ℕ) → Command → Type 0
-Spells words Nothing = words ≡ []
-Spells words Logon = words ≡ codes "LOGON" ∷ []
-Spells words Logoff = words ≡ codes "LOGOFF" ∷ []
-Spells words (Begin None) = words ≡ codes "BEGIN" ∷ []
-Spells words (Begin (Some address)) = SpellsBegin words address
-Spells words SystemReset = words ≡ codes "SYSTEM" ∷ codes "RESET" ∷ []
-Spells words External = words ≡ codes "EXTERNAL" ∷ []
-Spells words (Display place) = SpellsDisplay words place
-Spells words (Store (changes.Psw psw)) = SpellsPsw words psw
-Spells words (Store (changes.General register contents)) = SpellsStore contents_of words (places.General register) contents
-Spells words (Store (changes.Storage address bytes)) = SpellsStore bytes_of words (places.Storage address) bytes
+-- this name and one operand, a word read by this rule
+pub record SpellsOperand {A : Type 0} (name : List ℕ) (rule : List ℕ → Option A) (words : List (List ℕ)) (operand : A) : Type 0 where
+  pub word : List ℕ
+  pub spelled : words ≡ name ∷ word ∷ []
+  pub read : rule word ≡ Some operand
+
+-- `SPOOL`, the word of a device, `TO` and a name
+pub record SpellsSpool (words : List (List ℕ)) (device : ℕ) (name : List ℕ) : Type 0 where
+  pub word : List ℕ
+  pub spelled : words ≡ codes "SPOOL" ∷ word ∷ codes "TO" ∷ name ∷ []
+  pub read : device_of word ≡ Some device
+
+-- `MSG`, a name, and a text that has a word: it is all that follows the name
+pub record SpellsMessage (words : List (List ℕ)) (following : List ℕ) (name : List ℕ) (text : List ℕ) : Type 0 where
+  pub word : List ℕ
+  pub more : List (List ℕ)
+  pub spelled : words ≡ codes "MSG" ∷ name ∷ word ∷ more
+  pub said : text ≡ following
+
+-- the words spell a command; `following` is what follows the second of them, from its first character that is no blank
+abbrev pub Spells : List (List ℕ) → List ℕ → Command → Type 0
+Spells words following Nothing = words ≡ []
+Spells words following Logon = words ≡ codes "LOGON" ∷ []
+Spells words following Logoff = words ≡ codes "LOGOFF" ∷ []
+Spells words following (Begin None) = words ≡ codes "BEGIN" ∷ []
+Spells words following (Begin (Some address)) = SpellsBegin words address
+Spells words following SystemReset = words ≡ codes "SYSTEM" ∷ codes "RESET" ∷ []
+Spells words following External = words ≡ codes "EXTERNAL" ∷ []
+Spells words following (Display place) = SpellsDisplay words place
+Spells words following (Store (changes.Psw psw)) = SpellsPsw words psw
+Spells words following (Store (changes.General register contents)) = SpellsStore contents_of words (places.General register) contents
+Spells words following (Store (changes.Storage address bytes)) = SpellsStore bytes_of words (places.Storage address) bytes
+Spells words following (Device (Ipl device)) = SpellsOperand (codes "IPL") device_of words device
+Spells words following (Device QueryFiles) = words ≡ codes "QUERY" ∷ codes "FILES" ∷ []
+Spells words following (Device QueryUsers) = words ≡ codes "QUERY" ∷ codes "USERS" ∷ []
+Spells words following (Device (Spool device name)) = SpellsSpool words device name
+Spells words following (Device (Close device)) = SpellsOperand (codes "CLOSE") device_of words device
+Spells words following (Device (Purge file)) = SpellsOperand (codes "PURGE") file_of words file
+Spells words following (Device (Message name text)) = SpellsMessage words following name text
 
 -- the words begin a command: with some words after them they spell one
 pub record Begins (words : List (List ℕ)) : Type 0 where
   pub rest : List (List ℕ)
+  pub following : List ℕ
   pub command : Command
-  pub whole : Spells (words ++ rest) command
+  pub whole : Spells (words ++ rest) following command
 
 -- no command has this first word
 pub record IsUnknown (words : List (List ℕ)) : Type 0 where
@@ -73,7 +102,7 @@ pub record IsUnknown (words : List (List ℕ)) : Type 0 where
 
 -- these words go no further: alone they spell no command, or with the next word they begin none
 abbrev pub Stops : List (List ℕ) → List (List ℕ) → Type 0
-Stops front [] = (command : Command) → Spells front command → ⊥
+Stops front [] = (following : List ℕ) (command : Command) → Spells front following command → ⊥
 Stops front (word ∷ more) = Begins (front ++ word ∷ []) → ⊥
 
 -- the name and the operands before this place begin a command, and the word at the place is wrong, missing or surplus
@@ -85,15 +114,19 @@ pub record IsFirstWrong (words : List (List ℕ)) (place : ℕ) : Type 0 where
   pub begins : Begins front
   pub stops : Stops front after
 
--- what an answer tells of the words
-abbrev pub Tells : List (List ℕ) → Result Command CommandError → Type 0
-Tells words (Ok command) = Spells words command
-Tells words (Err Memory) = ⊥
-Tells words (Err Unknown) = IsUnknown words
-Tells words (Err (Operand place)) = IsFirstWrong words place
+-- what an answer tells of the words, and of what follows the second of them
+abbrev pub Tells : List (List ℕ) → List ℕ → Result Command CommandError → Type 0
+Tells words following (Ok command) = Spells words following command
+Tells words following (Err Memory) = ⊥
+Tells words following (Err Unknown) = IsUnknown words
+Tells words following (Err (Operand place)) = IsFirstWrong words place
+
+-- what follows the second word of a text, from its first character that is no blank
+abbrev pub following_of : List ℕ → List ℕ
+following_of text = message_text (after_first_word text)
 
 -- each text is read as what its words spell, and refused by its first wrong word where they spell nothing
 abbrev pub ReadsGrammar : Type 0
 ReadsGrammar = (text : List ℕ) →
-    Tells (words_of text) (command_of text)
-    × ((command : Command) → Spells (words_of text) command → command_of text ≡ Ok command)
+    Tells (words_of text) (following_of text) (command_of text)
+    × ((command : Command) → Spells (words_of text) (following_of text) command → command_of text ≡ Ok command)

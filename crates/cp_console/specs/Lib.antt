@@ -3,6 +3,8 @@ pub mod Asked
 pub mod StoredBytes
 pub mod Operands
 pub mod Output
+pub mod Reading
+pub mod DeviceCommands
 pub mod Commands
 pub mod ConsoleLine
 pub mod Responses

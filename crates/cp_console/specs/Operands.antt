@@ -1,7 +1,7 @@
 -- The operands of commands, each a word.
-use Rattle.std.specs.Prelude.{ℕ, ◌+◌, ◌*◌, ◌-◌, ◌==◌, ◌&&◌, if◌then◌else◌, nat_le, List, [], ◌∷◌, length, Option, Some, None}
+use Rattle.std.specs.Prelude.{ℕ, ◌+◌, ◌*◌, ◌-◌, ◌^◌, ◌==◌, ◌&&◌, if◌then◌else◌, nat_le, nat_lt, List, [], ◌∷◌, length, Option, Some, None}
 use Rattle.std.specs.Option.{option_map, option_and_then}
-use Rattle.cp_text.specs.Numbers.{digit_value, hexadecimal_of, is_digit}
+use Rattle.cp_text.specs.Numbers.{digit_value, hexadecimal_of, is_digit, number_from}
 
 -- an address of storage is 1 to 6 hexadecimal digits
 abbrev pub address_of : List ℕ → Option ℕ
@@ -31,3 +31,16 @@ bytes_spelled (left ∷ right ∷ digits) = option_and_then (λ byte. option_map
 -- what is stored is 1 to 16 bytes, each of two hexadecimal digits
 abbrev pub bytes_of : List ℕ → Option (List ℕ)
 bytes_of word = if nat_le 2 (length word) && nat_le (length word) 32 then bytes_spelled word else None
+
+-- a device is three hexadecimal digits
+abbrev pub device_of : List ℕ → Option ℕ
+device_of word = hexadecimal_of 3 3 word
+
+-- a number that a word of 64 bits holds
+abbrev pub in_64_bits : ℕ → Option ℕ
+in_64_bits n = if nat_lt n (2 ^ 64) then Some n else None
+
+-- the number of a file is decimal, with any leading zeros, and below 2^64
+abbrev pub file_of : List ℕ → Option ℕ
+file_of [] = None
+file_of (c ∷ cs) = option_and_then in_64_bits (number_from 0 (c ∷ cs))

@@ -1,10 +1,10 @@
 -- The texts of responses, and which of them a console keeps.
-use Rattle.std.specs.Prelude.{ℕ, ◌+◌, ◌*◌, ◌/◌, ◌%◌, ◌^◌, Bool, true, false, List, ◌++◌, codes, decimal, slice_range}
+use Rattle.std.specs.Prelude.{ℕ, ◌+◌, ◌*◌, ◌/◌, ◌%◌, ◌-◌, ◌^◌, Bool, true, false, List, ◌++◌, codes, decimal, length, replicate, slice_range}
 use Rattle.std.specs.Int.{w32, from_be_bytes}
 use Rattle.s370_num.specs.Address.{address_text, two_digits, word_text}
 use Rattle.cp_console.specs.ConsoleLine.{characters_of}
 use Rattle.cp_console.specs.declared.responses.Response.{Response}
-use Rattle.cp_console.specs.declared.responses.Response.TheVariants.{LogonOk, LogoffOk, AlreadyLoggedOn, NotLoggedOn, SystemReset, Psw, General, Control, Key, Storage, Stored, AddressPastStorage, UnknownCommand, BadOperand, NoConsole, StoppedDisabledWait, StoppedEcMode, Written}
+use Rattle.cp_console.specs.declared.responses.Response.TheVariants.{LogonOk, LogoffOk, AlreadyLoggedOn, NotLoggedOn, SystemReset, Psw, General, Control, Key, Storage, Stored, AddressPastStorage, UnknownCommand, BadOperand, NoConsole, DeviceNotFound, UserNotFound, UserNotLoggedOn, Spooled, NoFile, FileClosed, NoFiles, Users, Purged, FileNotFound, Sent, IplFailed, LineLost, StoppedDisabledWait, StoppedEcMode, Written}
 
 -- the word that four bytes are, from this one on
 abbrev pub word_at : List ℕ → ℕ → ℕ
@@ -37,6 +37,30 @@ storage_text address bytes =
 abbrev pub operand_text : ℕ → List ℕ
 operand_text place = codes "BAD OPERAND " ++ decimal place
 
+-- the number of a file, in at least four digits
+abbrev pub file_number : ℕ → List ℕ
+file_number file = replicate (4 - length (decimal file)) 48 ++ decimal file
+
+-- the file that was closed
+abbrev pub closed_text : ℕ → List ℕ
+closed_text file = codes "FILE " ++ (file_number file ++ codes " CLOSED")
+
+-- how many users are logged on
+abbrev pub users_text : ℕ → List ℕ
+users_text users = codes "USERS " ++ decimal users
+
+-- a file's number, before the name of its sender
+abbrev pub file_start : ℕ → List ℕ
+file_start file = codes "FILE " ++ (file_number file ++ codes " FROM ")
+
+-- a file, who sent it, and how many cards it has
+abbrev pub file_text : ℕ → List ℕ → ℕ → List ℕ
+file_text file sender cards = file_start file ++ (sender ++ (codes " CARDS " ++ decimal cards))
+
+-- what another user says
+abbrev pub told_text : List ℕ → List ℕ → List ℕ
+told_text sender text = codes "MSG FROM " ++ (sender ++ (codes ": " ++ text))
+
 -- what a response says
 abbrev pub text_of : Response → List ℕ
 text_of LogonOk = codes "LOGON OK"
@@ -54,11 +78,24 @@ text_of AddressPastStorage = codes "ADDRESS PAST STORAGE"
 text_of UnknownCommand = codes "UNKNOWN COMMAND"
 text_of (BadOperand place) = operand_text place
 text_of NoConsole = codes "NO CONSOLE"
+text_of DeviceNotFound = codes "DEVICE NOT FOUND"
+text_of UserNotFound = codes "USER NOT FOUND"
+text_of UserNotLoggedOn = codes "USER NOT LOGGED ON"
+text_of Spooled = codes "SPOOLED"
+text_of NoFile = codes "NO FILE"
+text_of (FileClosed file) = closed_text file
+text_of NoFiles = codes "NO FILES"
+text_of (Users users) = users_text users
+text_of Purged = codes "PURGED"
+text_of FileNotFound = codes "FILE NOT FOUND"
+text_of Sent = codes "SENT"
+text_of IplFailed = codes "IPL FAILED"
+text_of LineLost = codes "LINE LOST"
 text_of StoppedDisabledWait = codes "STOPPED DISABLED WAIT"
 text_of StoppedEcMode = codes "STOPPED EC MODE"
 text_of (Written line) = characters_of line
 
--- a console keeps displays, answers about storage and resets, and notices, and not what was said about the command or the user
+-- a console keeps displays, answers about storage, resets and loading, and notices, and not what was said about the command, users or files
 abbrev pub is_panel : Response → Bool
 is_panel LogonOk = false
 is_panel LogoffOk = false
@@ -75,6 +112,19 @@ is_panel AddressPastStorage = true
 is_panel UnknownCommand = false
 is_panel (BadOperand place) = false
 is_panel NoConsole = false
+is_panel DeviceNotFound = false
+is_panel UserNotFound = false
+is_panel UserNotLoggedOn = false
+is_panel Spooled = false
+is_panel NoFile = false
+is_panel (FileClosed file) = false
+is_panel NoFiles = false
+is_panel (Users users) = false
+is_panel Purged = false
+is_panel FileNotFound = false
+is_panel Sent = false
+is_panel IplFailed = true
+is_panel LineLost = true
 is_panel StoppedDisabledWait = true
 is_panel StoppedEcMode = true
 is_panel (Written line) = true

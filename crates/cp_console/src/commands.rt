@@ -1,10 +1,13 @@
 //! The commands, and how their texts are read.
-ghost use Rattle.std.specs.Prelude.{◌≡◌, [], ◌∷◌, MatchResult};
-ghost use Rattle.cp_console.specs.Commands.{begin_of, change_of, command_named, command_of, display_of, ended, external_of, logon_of, numbered_place, place_of, store_of, system_of};
+ghost use Rattle.std.specs.Prelude.{◌≡◌};
+ghost use Rattle.cp_console.specs.Commands.{begin_of, change_of, command_named, command_of, display_of, external_of, logoff_of, logon_of, numbered_place, place_of, store_of, system_of};
+ghost use Rattle.cp_console.specs.DeviceCommands.{message_text};
 ghost use Rattle.cp_console.specs.Grammar.{ReadsGrammar};
 ghost use Rattle.cp_text.specs.Words.{words_of};
 
+use crate::device_commands::{DeviceCommand, read_device_named};
 use crate::operands::{StoredBytes, address_of, bytes_of, contents_of, register_of};
+use crate::reading::{ended, operand};
 use cp_text::words::next_word;
 use s370_num::{Addr24, Register, Word};
 use thiserror::Error;
@@ -36,8 +39,8 @@ pub enum Change {
 }
 
 /// A command of the operator of a machine.
-#[derive(Clone, Copy, Debug, PartialEq, Eq)]
-pub enum Command {
+#[derive(Debug, PartialEq, Eq, Drop)]
+pub enum Command<'a> {
     /// A text without a word, which does nothing.
     Nothing,
     /// `LOGON`.
@@ -54,6 +57,8 @@ pub enum Command {
     Display(Place),
     /// `STORE`.
     Store(Change),
+    /// A command that concerns devices or other users.
+    Device(DeviceCommand<'a>),
 }
 
 /// Why a text is no command.
@@ -71,7 +76,7 @@ pub enum CommandError {
 }
 
 /// The command that a text is.
-pub fn read_command(text: &[u8]) -> Result<Command, CommandError>
+pub fn read_command(text: &[u8]) -> Result<Command<'_>, CommandError>
     ensures { result ≡ command_of text.now }
 {
     let Some((name, operands)) = next_word(text) else {
@@ -87,8 +92,8 @@ pub fn reads_grammar()
 {}
 
 /// The command of a name, with its operands.
-fn read_named(name: &[u8], operands: &[u8]) -> Result<Command, CommandError>
-    ensures { result ≡ command_named name.now (words_of operands.now) }
+fn read_named<'a>(name: &[u8], operands: &'a [u8]) -> Result<Command<'a>, CommandError>
+    ensures { result ≡ command_named name.now (words_of operands.now) (message_text operands.now) }
 {
     if name == b"LOGON".as_slice() {
         ended(1, Command::Logon, operands)
@@ -105,29 +110,12 @@ fn read_named(name: &[u8], operands: &[u8]) -> Result<Command, CommandError>
     } else if name == b"STORE".as_slice() {
         read_store(operands)
     } else {
-        Err(CommandError::Unknown)
+        read_device_named(name, operands)
     }
-}
-
-/// The command, where no operand is left; a surplus one is told by its place.
-fn ended(place: u64, command: Command, operands: &[u8]) -> Result<Command, CommandError>
-    ensures { result ≡ ended place command (words_of operands.now) }
-{
-    match next_word(operands) {
-        None => Ok(command),
-        Some(_) => Err(CommandError::Operand(place)),
-    }
-}
-
-/// The operand at this place, and what follows it; a missing one is told by its place.
-fn operand(place: u64, operands: &[u8]) -> Result<(&[u8], &[u8]), CommandError>
-    ensures { MatchResult result (λ cut. words_of operands.now ≡ cut.0.now ∷ words_of cut.1.now) (λ error. (words_of operands.now ≡ []) × (error ≡ CommandError.Operand place)) }
-{
-    next_word(operands).ok_or(CommandError::Operand(place))
 }
 
 /// `BEGIN`, which may name an address.
-fn read_begin(operands: &[u8]) -> Result<Command, CommandError>
+fn read_begin(operands: &[u8]) -> Result<Command<'_>, CommandError>
     ensures { result ≡ begin_of (words_of operands.now) }
 {
     let Some((word, rest)) = next_word(operands) else {
@@ -138,7 +126,7 @@ fn read_begin(operands: &[u8]) -> Result<Command, CommandError>
 }
 
 /// `SYSTEM RESET`.
-fn read_system(operands: &[u8]) -> Result<Command, CommandError>
+fn read_system(operands: &[u8]) -> Result<Command<'_>, CommandError>
     ensures { result ≡ system_of (words_of operands.now) }
 {
     let (word, rest) = operand(1, operands)?;
@@ -149,7 +137,7 @@ fn read_system(operands: &[u8]) -> Result<Command, CommandError>
 }
 
 /// `DISPLAY` and a place.
-fn read_display(operands: &[u8]) -> Result<Command, CommandError>
+fn read_display(operands: &[u8]) -> Result<Command<'_>, CommandError>
     ensures { result ≡ display_of (words_of operands.now) }
 {
     let (word, rest) = operand(1, operands)?;
@@ -158,7 +146,7 @@ fn read_display(operands: &[u8]) -> Result<Command, CommandError>
 }
 
 /// `STORE`, a place and what it is given.
-fn read_store(operands: &[u8]) -> Result<Command, CommandError>
+fn read_store(operands: &[u8]) -> Result<Command<'_>, CommandError>
     ensures { result ≡ store_of (words_of operands.now) }
 {
     let (word, rest) = operand(1, operands)?;
@@ -172,7 +160,7 @@ fn read_store(operands: &[u8]) -> Result<Command, CommandError>
 }
 
 /// The two halves that the PSW is given.
-fn read_psw(operands: &[u8]) -> Result<Command, CommandError>
+fn read_psw(operands: &[u8]) -> Result<Command<'_>, CommandError>
     ensures { result ≡ change_of Place.Psw (words_of operands.now) }
 {
     let (word, rest) = operand(2, operands)?;
@@ -184,7 +172,7 @@ fn read_psw(operands: &[u8]) -> Result<Command, CommandError>
 }
 
 /// The contents that a register is given.
-fn read_general(register: Register, operands: &[u8]) -> Result<Command, CommandError>
+fn read_general(register: Register, operands: &[u8]) -> Result<Command<'_>, CommandError>
     ensures { result ≡ change_of (Place.General register) (words_of operands.now) }
 {
     let (word, rest) = operand(2, operands)?;
@@ -193,7 +181,7 @@ fn read_general(register: Register, operands: &[u8]) -> Result<Command, CommandE
 }
 
 /// The bytes that storage is given from an address on.
-fn read_storage(address: Addr24, operands: &[u8]) -> Result<Command, CommandError>
+fn read_storage(address: Addr24, operands: &[u8]) -> Result<Command<'_>, CommandError>
     ensures { result ≡ change_of (Place.Storage address) (words_of operands.now) }
 {
     let (word, rest) = operand(2, operands)?;

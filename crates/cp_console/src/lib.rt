@@ -19,10 +19,13 @@
 
 pub mod commands;
 pub mod console_line;
+pub mod device_commands;
+pub mod line_part;
 pub mod lines;
 mod operands;
 pub mod output;
 pub mod printing;
+mod reading;
 pub mod responses;
 
 pub use operands::StoredBytes;

@@ -1,9 +1,10 @@
 //! The operands of commands: addresses, registers and the bytes that are stored.
-ghost use Rattle.std.specs.Prelude.{◌≡◌, ◌<◌, ◌≤◌, ◌++◌, ◌∷◌, [], length, IfSome, IfNone, Option, Some, None};
-ghost use Rattle.cp_console.specs.Operands.{address_of, byte_of, bytes_of, bytes_spelled, contents_of, register_of};
+ghost use Rattle.std.specs.Prelude.{◌≡◌, ◌+◌, ◌*◌, ◌-◌, if◌then◌else◌, ◌<◌, ◌≤◌, ◌++◌, ◌∷◌, [], length, IfSome, IfNone, Option, Some, None};
+ghost use Rattle.cp_text.specs.Numbers.{is_digit};
+ghost use Rattle.cp_console.specs.Operands.{address_of, byte_of, bytes_of, bytes_spelled, contents_of, device_of, file_of, in_64_bits, register_of};
 
-use cp_text::numbers::{digit_value, hexadecimal_of};
-use s370_num::{Addr24, Register, Word};
+use cp_text::numbers::{digit_value, hexadecimal_of, is_digit};
+use s370_num::{Addr24, DevAddr, Register, Word};
 use std::marker::Model;
 
 /// The bytes that a command stores: at most sixteen.
@@ -82,6 +83,38 @@ pub fn register_of(word: &[u8]) -> Option<Register>
         [b'1', units @ b'0'..=b'5'] => Some(Register::new(*units - b'0' + 10)),
         _ => None,
     }
+}
+
+/// The address of a device, three hexadecimal digits.
+pub fn device_of(word: &[u8]) -> Option<DevAddr>
+    ensures { result ≡ device_of word.now }
+{
+    Some(DevAddr::new(hexadecimal_of(3, 3, word)? as u16))
+}
+
+/// The number of a file, decimal with any leading zeros.
+#[tactic(auto, using(crate::proofs::FileNumbers::fits))]
+pub fn file_of(word: &[u8]) -> Option<u64>
+    ensures { result ≡ file_of word.now }
+{
+    if word.is_empty() {
+        return None;
+    }
+    let mut number = 0;
+    for digit in word {
+        number = with_digit(number, *digit)?;
+    }
+    Some(number)
+}
+
+/// The number with one more decimal digit at its right.
+fn with_digit(number: u64, digit: u8) -> Option<u64>
+    ensures { result ≡ (if is_digit digit then in_64_bits (number * 10 + (digit - 48)) else None) }
+{
+    if !is_digit(digit) {
+        return None;
+    }
+    number.checked_mul(10)?.checked_add(u64::from(digit - b'0'))
 }
 
 /// The bytes that pairs of hexadecimal digits spell.

@@ -1,6 +1,6 @@
 //! The texts of responses.
 ghost use Rattle.std.specs.Prelude.{◌≡◌, ◌+◌, ◌*◌, ◌/◌, ◌≤◌, IfOk, false, length, string_bytes};
-ghost use Rattle.cp_console.specs.Responses.{control_text, general_text, is_written, key_text, psw_text, storage_text, text_of, word_at};
+ghost use Rattle.cp_console.specs.Responses.{closed_text, control_text, file_start, file_text, general_text, is_written, key_text, psw_text, storage_text, text_of, told_text, users_text, word_at};
 
 use crate::responses::Response;
 use byteorder::{BigEndian, ByteOrder};
@@ -41,6 +41,19 @@ fn response_text(alloc: Global, response: &Response) -> Result<String, AllocErro
         Response::UnknownCommand => "UNKNOWN COMMAND".to_string(alloc),
         Response::BadOperand(place) => format!(in alloc; "BAD OPERAND {place}"),
         Response::NoConsole => "NO CONSOLE".to_string(alloc),
+        Response::DeviceNotFound => "DEVICE NOT FOUND".to_string(alloc),
+        Response::UserNotFound => "USER NOT FOUND".to_string(alloc),
+        Response::UserNotLoggedOn => "USER NOT LOGGED ON".to_string(alloc),
+        Response::Spooled => "SPOOLED".to_string(alloc),
+        Response::NoFile => "NO FILE".to_string(alloc),
+        Response::FileClosed(file) => closed_text(alloc, *file),
+        Response::NoFiles => "NO FILES".to_string(alloc),
+        Response::Users(users) => format!(in alloc; "USERS {users}"),
+        Response::Purged => "PURGED".to_string(alloc),
+        Response::FileNotFound => "FILE NOT FOUND".to_string(alloc),
+        Response::Sent => "SENT".to_string(alloc),
+        Response::IplFailed => "IPL FAILED".to_string(alloc),
+        Response::LineLost => "LINE LOST".to_string(alloc),
         Response::StoppedDisabledWait => "STOPPED DISABLED WAIT".to_string(alloc),
         Response::StoppedEcMode => "STOPPED EC MODE".to_string(alloc),
         Response::Written(_) => unreachable!(),
@@ -105,6 +118,56 @@ fn line_of(address: Addr24) -> Addr24
     ensures { result ≡ address / 16 * 16 }
 {
     Addr24::wrapping(address.get() / 16 * 16)
+}
+
+/// The file that was closed, by its number in at least four digits.
+fn closed_text(alloc: Global, file: u64) -> Result<String, AllocError>
+    ensures { IfOk result (λ text. string_bytes text ≡ closed_text file) }
+{
+    format!(in alloc; "FILE {file:04} CLOSED")
+}
+
+/// The line that tells of a file: its number, who sent it, and how many cards it has. Only want of
+/// memory is an error.
+///
+/// ```text
+/// let line = file_line(alloc, 1, b"A", 3)?; // b"FILE 0001 FROM A CARDS 3"
+/// ```
+pub fn file_line(
+    alloc: Global,
+    file: u64,
+    sender: &[u8],
+    cards: usize,
+) -> Result<Vec<u8>, AllocError>
+    ensures { IfOk result (λ line. line.items ≡ file_text file sender.now cards) }
+{
+    let mut line = file_start(alloc, file)?.into_bytes();
+    line.extend_from_slice(sender)?;
+    let count = format!(in alloc; " CARDS {cards}")?;
+    line.extend_from_slice(count.as_bytes())?;
+    Ok(line)
+}
+
+/// A file's number in at least four digits, before the name of its sender.
+fn file_start(alloc: Global, file: u64) -> Result<String, AllocError>
+    ensures { IfOk result (λ text. string_bytes text ≡ file_start file) }
+{
+    format!(in alloc; "FILE {file:04} FROM ")
+}
+
+/// The line in which a user is told what another one says. Only want of memory is an error.
+///
+/// ```text
+/// let line = message_line(alloc, b"A", b"HELLO")?; // b"MSG FROM A: HELLO"
+/// ```
+pub fn message_line(alloc: Global, sender: &[u8], text: &[u8]) -> Result<Vec<u8>, AllocError>
+    ensures { IfOk result (λ line. line.items ≡ told_text sender.now text.now) }
+{
+    let mut line = b"MSG FROM ".to_vec(alloc)?;
+    line.extend_from_slice(sender)?;
+    line.extend_from_slice(b": ")?;
+    line.extend_from_slice(text)?;
+    Ok(line)
 }
 
 /// The word that four bytes are.

@@ -38,6 +38,32 @@ pub enum Response {
     BadOperand(u64),
     /// A line for a machine that runs and has no console.
     NoConsole,
+    /// The machine has no device at the address that can do what was asked for.
+    DeviceNotFound,
+    /// No user has the name.
+    UserNotFound,
+    /// The user of the name is not logged on.
+    UserNotLoggedOn,
+    /// The files of the punch go to the user who was named.
+    Spooled,
+    /// Nothing was written to the device since its last file was closed.
+    NoFile,
+    /// The file of this number was closed.
+    FileClosed(u64),
+    /// The reader has no files.
+    NoFiles,
+    /// How many users are logged on.
+    Users(u64),
+    /// The file was dropped.
+    Purged,
+    /// No file that can be dropped has the number.
+    FileNotFound,
+    /// The text was told to the user who was named.
+    Sent,
+    /// The machine was not loaded.
+    IplFailed,
+    /// A notice: a line that was typed for the machine's console is lost.
+    LineLost,
     /// A notice: the machine stopped, since it waits and can take no interruption.
     StoppedDisabledWait,
     /// A notice: the machine stopped at a PSW of extended control mode.
@@ -60,6 +86,8 @@ impl Response {
             | Response::Storage(_, _)
             | Response::Stored
             | Response::AddressPastStorage
+            | Response::IplFailed
+            | Response::LineLost
             | Response::StoppedDisabledWait
             | Response::StoppedEcMode
             | Response::Written(_) => true,
@@ -69,6 +97,17 @@ impl Response {
             | Response::NotLoggedOn
             | Response::UnknownCommand
             | Response::BadOperand(_)
+            | Response::DeviceNotFound
+            | Response::UserNotFound
+            | Response::UserNotLoggedOn
+            | Response::Spooled
+            | Response::NoFile
+            | Response::FileClosed(_)
+            | Response::NoFiles
+            | Response::Users(_)
+            | Response::Purged
+            | Response::FileNotFound
+            | Response::Sent
             | Response::NoConsole => false,
         }
     }

@@ -5,7 +5,7 @@ use Rattle.cp_console.specs.Asked.{Asked, Stop, Command as ToControlProgram, Pla
 use Rattle.cp_console.specs.Commands.{command_of}
 use Rattle.cp_console.specs.Responses.{text_of, is_panel}
 use Rattle.cp_console.specs.declared.commands.Command.{Command}
-use Rattle.cp_console.specs.declared.commands.Command.TheVariants.{Nothing, Logon, Logoff, Begin, SystemReset, External, Display, Store}
+use Rattle.cp_console.specs.declared.commands.Command.TheVariants.{Nothing, Logon, Logoff, Begin, SystemReset, External, Display, Store, Device}
 use Rattle.cp_console.specs.declared.commands.CommandError.{CommandError}
 use Rattle.cp_console.specs.declared.commands.CommandError.TheVariants.{Memory, Unknown, Operand}
 use Rattle.cp_console.specs.declared.responses.Response.{Response}
@@ -42,7 +42,7 @@ at_address (Some a) s = record s { cpu = record s.cpu { psw = record s.cpu.psw {
 abbrev pub with_key_pressed : Core → Core
 with_key_pressed c = record c { pending = record c.pending { key = true } }
 
--- ---- a command to a machine that is on
+-- ---- a command to a machine that is on; one that concerns devices or other users is none to a machine alone
 
 abbrev pub obeyed : Command → Machine → Answer
 obeyed Nothing m = silent m
@@ -54,6 +54,7 @@ obeyed External m = silent (record m { core = with_key_pressed m.core })
 obeyed (Display place) m = answered (displayed place m.core.processor) m
 obeyed (Store change) m =
     answered (stored change m.core.processor) (record m { core = record m.core { processor = changed change m.core.processor } })
+obeyed (Device command) m = answered responses.UnknownCommand m
 
 abbrev pub commanded : Result Command CommandError → Machine → Answer
 commanded (Ok command) m = obeyed command m
@@ -101,6 +102,7 @@ command_needs (Ok Logoff) = []
 command_needs (Ok SystemReset) = []
 command_needs (Ok (Begin address)) = []
 command_needs (Ok External) = []
+command_needs (Ok (Device command)) = []
 command_needs (Err fault) = []
 
 abbrev pub plain_needs : Mode → List ℕ → List Test
@@ -132,6 +134,7 @@ command_room (Ok Nothing) = 0
 command_room (Ok Logon) = 0
 command_room (Ok Logoff) = 0
 command_room (Ok External) = 0
+command_room (Ok (Device command)) = 0
 command_room (Err fault) = 0
 
 abbrev pub plain_room : Mode → List ℕ → ℕ

@@ -146,6 +146,8 @@ impl Machine {
             }
             Ok(Command::Display(place)) => self.display(storage, place),
             Ok(Command::Store(change)) => self.store(storage, change),
+            // A machine alone has neither files nor other users.
+            Ok(Command::Device(_)) => Ok(Some(Response::UnknownCommand)),
             Err(CommandError::Unknown) => Ok(Some(Response::UnknownCommand)),
             Err(CommandError::Operand(place)) => Ok(Some(Response::BadOperand(place))),
             // No command takes memory to be read.

@@ -36,7 +36,7 @@ pub fn next_word(line: &[u8]) -> Option<(&[u8], &[u8])>
 }
 
 /// The line from its first character on that is no blank.
-fn unindented(line: &[u8]) -> &[u8]
+pub fn unindented(line: &[u8]) -> &[u8]
     ensures { result.now ≡ unindented line.now }
 {
     let mut rest = line;

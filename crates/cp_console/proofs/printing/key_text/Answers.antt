@@ -1,4 +1,4 @@
-use Rattle.std.proofs.Common.{◌≡◌, ◌*◌, ◌/◌, ◌%◌, ◌<◌, true, arith}
+use Rattle.std.proofs.Common.{◌*◌, ◌<◌, true, arith}
 use Rattle.std.specs.Fmt.{styled_digits_output}
 use Rattle.std.proofs.lemmas.Fmt.{hex_byte}
 use Rattle.cp_console.proofs.printing.key_text.Goals as goal

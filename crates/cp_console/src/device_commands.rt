@@ -1,0 +1,121 @@
+//! The commands that concern the devices of a machine, their files and other users.
+ghost use Rattle.std.specs.Prelude.{◌≡◌};
+ghost use Rattle.cp_console.specs.DeviceCommands.{close_of, device_command_named, ipl_of, message_of, message_text, purge_of, query_of, spool_of};
+ghost use Rattle.cp_text.specs.Words.{words_of};
+
+use crate::commands::{Command, CommandError};
+use crate::line_part::LinePart;
+use crate::operands::{device_of, file_of};
+use crate::reading::{ended, operand};
+use cp_text::words::unindented;
+use s370_num::DevAddr;
+
+/// A command that no machine obeys by itself: it concerns devices, their files or other users.
+#[derive(Debug, PartialEq, Eq, Drop)]
+pub enum DeviceCommand<'a> {
+    /// `IPL`: the machine is loaded from the device of this address.
+    Ipl(DevAddr),
+    /// `QUERY FILES`.
+    QueryFiles,
+    /// `QUERY USERS`.
+    QueryUsers,
+    /// `SPOOL`: the files of the punch at this address go to the user of this name.
+    Spool(DevAddr, LinePart<'a>),
+    /// `CLOSE`: the open file of the device at this address is closed.
+    Close(DevAddr),
+    /// `PURGE`: the file of this number is dropped.
+    Purge(u64),
+    /// `MSG`: the user of this name is told this text.
+    Message(LinePart<'a>, LinePart<'a>),
+}
+
+/// The command of a name that no command of a machine has, with its operands.
+pub(crate) fn read_device_named<'a>(
+    name: &[u8],
+    operands: &'a [u8],
+) -> Result<Command<'a>, CommandError>
+    ensures { result ≡ device_command_named name.now (words_of operands.now) (message_text operands.now) }
+{
+    if name == b"IPL".as_slice() {
+        read_ipl(operands)
+    } else if name == b"QUERY".as_slice() {
+        read_query(operands)
+    } else if name == b"SPOOL".as_slice() {
+        read_spool(operands)
+    } else if name == b"CLOSE".as_slice() {
+        read_close(operands)
+    } else if name == b"PURGE".as_slice() {
+        read_purge(operands)
+    } else if name == b"MSG".as_slice() {
+        read_message(operands)
+    } else {
+        Err(CommandError::Unknown)
+    }
+}
+
+/// `IPL` and a device.
+fn read_ipl(operands: &[u8]) -> Result<Command<'_>, CommandError>
+    ensures { result ≡ ipl_of (words_of operands.now) }
+{
+    let (word, rest) = operand(1, operands)?;
+    let device = device_of(word).ok_or(CommandError::Operand(1))?;
+    ended(2, Command::Device(DeviceCommand::Ipl(device)), rest)
+}
+
+/// `QUERY FILES` or `QUERY USERS`.
+fn read_query(operands: &[u8]) -> Result<Command<'_>, CommandError>
+    ensures { result ≡ query_of (words_of operands.now) }
+{
+    let (word, rest) = operand(1, operands)?;
+    if word == b"FILES".as_slice() {
+        ended(2, Command::Device(DeviceCommand::QueryFiles), rest)
+    } else if word == b"USERS".as_slice() {
+        ended(2, Command::Device(DeviceCommand::QueryUsers), rest)
+    } else {
+        Err(CommandError::Operand(1))
+    }
+}
+
+/// `SPOOL`, a device, `TO` and a name.
+fn read_spool(operands: &[u8]) -> Result<Command<'_>, CommandError>
+    ensures { result ≡ spool_of (words_of operands.now) }
+{
+    let (word, rest) = operand(1, operands)?;
+    let device = device_of(word).ok_or(CommandError::Operand(1))?;
+    let (word, rest) = operand(2, rest)?;
+    if word != b"TO".as_slice() {
+        return Err(CommandError::Operand(2));
+    }
+    let (name, rest) = operand(3, rest)?;
+    let spool = DeviceCommand::Spool(device, LinePart::new(name));
+    ended(4, Command::Device(spool), rest)
+}
+
+/// `CLOSE` and a device.
+fn read_close(operands: &[u8]) -> Result<Command<'_>, CommandError>
+    ensures { result ≡ close_of (words_of operands.now) }
+{
+    let (word, rest) = operand(1, operands)?;
+    let device = device_of(word).ok_or(CommandError::Operand(1))?;
+    ended(2, Command::Device(DeviceCommand::Close(device)), rest)
+}
+
+/// `PURGE` and the number of a file.
+fn read_purge(operands: &[u8]) -> Result<Command<'_>, CommandError>
+    ensures { result ≡ purge_of (words_of operands.now) }
+{
+    let (word, rest) = operand(1, operands)?;
+    let file = file_of(word).ok_or(CommandError::Operand(1))?;
+    ended(2, Command::Device(DeviceCommand::Purge(file)), rest)
+}
+
+/// `MSG`, a name and a text, which is the rest of the line with its blanks.
+fn read_message(operands: &[u8]) -> Result<Command<'_>, CommandError>
+    ensures { result ≡ message_of (words_of operands.now) (message_text operands.now) }
+{
+    let (name, rest) = operand(1, operands)?;
+    let _ = operand(2, rest)?;
+    let text = LinePart::new(unindented(rest));
+    let message = DeviceCommand::Message(LinePart::new(name), text);
+    Ok(Command::Device(message))
+}

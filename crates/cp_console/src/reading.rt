@@ -1,0 +1,29 @@
+//! How the words of a command are read, one after another.
+ghost use Rattle.std.specs.Prelude.{◌≡◌, [], ◌∷◌, IfOk, MatchResult};
+ghost use Rattle.cp_console.specs.Reading.{ended};
+ghost use Rattle.cp_text.specs.Words.{after_first_word, words_of};
+
+use crate::commands::{Command, CommandError};
+use cp_text::words::next_word;
+
+/// The command, where no operand is left; a surplus one is told by its place.
+pub(crate) fn ended<'a>(
+    place: u64,
+    command: Command<'a>,
+    operands: &[u8],
+) -> Result<Command<'a>, CommandError>
+    ensures { result ≡ ended place command.entry (words_of operands.now) }
+{
+    match next_word(operands) {
+        None => Ok(command),
+        Some(_) => Err(CommandError::Operand(place)),
+    }
+}
+
+/// The operand at this place, and what follows it; a missing one is told by its place.
+pub(crate) fn operand(place: u64, operands: &[u8]) -> Result<(&[u8], &[u8]), CommandError>
+    ensures words { MatchResult result (λ cut. words_of operands.now ≡ cut.0.now ∷ words_of cut.1.now) (λ error. (words_of operands.now ≡ []) × (error ≡ CommandError.Operand place)) }
+    ensures rest { IfOk result (λ cut. cut.1.now ≡ after_first_word operands.now) }
+{
+    next_word(operands).ok_or(CommandError::Operand(place))
+}
