@@ -1,0 +1,23 @@
+//! The parts of the devices of one machine: a console, a card reader, a card punch, a line printer and disks.
+//!
+//! Their one theorem: each call makes of all the parts what a definition of `specs/` says, and a part that it does not name
+//! stays as it was. Where memory is refused all stay.
+//!
+//! ```
+//! let mut devices = Devices::new(alloc, places);
+//! devices.attach_disk(DevAddr::new(0x191), unit)?;
+//! devices.spool(0x00D, Target::User(3));
+//! let closed = devices.log_off(alloc)?;
+//! ```
+#![tactic(auto)]
+
+mod devices;
+mod disks;
+mod places;
+mod spooling;
+#[cfg(test)]
+mod tests;
+
+pub use devices::Devices;
+pub use disks::AttachedDisk;
+pub use places::{Kind, Places};

@@ -1,0 +1,35 @@
+//! Where the devices of a machine are.
+ghost use Rattle.std.specs.Prelude.{◌≡◌};
+ghost use Rattle.cp_devices.specs.Devices.{is_there};
+
+use s370_num::DevAddr;
+
+/// The addresses of console, reader, punch and printer; None where the machine has no such device.
+#[derive(Clone, Copy, Debug, PartialEq, Eq)]
+pub struct Places {
+    pub console: Option<DevAddr>,
+    pub reader: Option<DevAddr>,
+    pub punch: Option<DevAddr>,
+    pub printer: Option<DevAddr>,
+}
+
+/// What has an address.
+#[derive(Clone, Copy, Debug, PartialEq, Eq)]
+pub enum Kind {
+    Console,
+    Reader,
+    Punch,
+    Printer,
+    /// The disk of this index.
+    Disk(usize),
+}
+
+/// Whether this is the address of the device.
+pub(crate) fn is_there(place: Option<DevAddr>, device: u16) -> bool
+    ensures { result ≡ is_there place device }
+{
+    match place {
+        None => false,
+        Some(address) => address.get() == device,
+    }
+}
