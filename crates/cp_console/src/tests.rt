@@ -1,7 +1,7 @@
 //! Lines, commands and responses as an operator meets them.
 use crate::commands::{Change, Command, CommandError, Place, read_command};
 use crate::lines::{Asked, ConsoleText, asked_of};
-use crate::printing::reply;
+use crate::printing::{file_line, message_line, reply};
 use crate::responses::Response;
 use s370_num::{Addr24, Register, StorageKey, Word};
 use std::test::Fail;
@@ -193,6 +193,20 @@ fn prints_responses(rt: HostRuntime) -> Result<(), Fail> {
         (Response::UnknownCommand, "UNKNOWN COMMAND", false),
         (Response::BadOperand(1), "BAD OPERAND 1", false),
         (Response::NoConsole, "NO CONSOLE", false),
+        (Response::DeviceNotFound, "DEVICE NOT FOUND", false),
+        (Response::UserNotFound, "USER NOT FOUND", false),
+        (Response::UserNotLoggedOn, "USER NOT LOGGED ON", false),
+        (Response::Spooled, "SPOOLED", false),
+        (Response::NoFile, "NO FILE", false),
+        (Response::FileClosed(1), "FILE 0001 CLOSED", false),
+        (Response::FileClosed(12345), "FILE 12345 CLOSED", false),
+        (Response::NoFiles, "NO FILES", false),
+        (Response::Users(64), "USERS 64", false),
+        (Response::Purged, "PURGED", false),
+        (Response::FileNotFound, "FILE NOT FOUND", false),
+        (Response::Sent, "SENT", false),
+        (Response::IplFailed, "IPL FAILED", true),
+        (Response::LineLost, "LINE LOST", true),
         (Response::StoppedDisabledWait, "STOPPED DISABLED WAIT", true),
         (Response::StoppedEcMode, "STOPPED EC MODE", true),
     ];
@@ -200,5 +214,14 @@ fn prints_responses(rt: HostRuntime) -> Result<(), Fail> {
         assert_eq!(rt; reply(rt.alloc(), &response)?.as_slice(), text.as_bytes());
         assert_eq!(rt; response.is_panel(), is_panel, "at {text}");
     }
+    Ok(())
+}
+
+#[test]
+fn prints_lines_of_other_users(rt: HostRuntime) -> Result<(), Fail> {
+    let file = file_line(rt.alloc(), 1, b"A", 3)?;
+    assert_eq!(rt; file.as_slice(), b"FILE 0001 FROM A CARDS 3".as_slice());
+    let message = message_line(rt.alloc(), b"A", b"HI ")?;
+    assert_eq!(rt; message.as_slice(), b"MSG FROM A: HI ".as_slice());
     Ok(())
 }
