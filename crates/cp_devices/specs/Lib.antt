@@ -1,3 +1,5 @@
 pub mod Devices
 pub mod Resets
 pub mod Spooling
+pub mod Equipped
+pub mod Serve

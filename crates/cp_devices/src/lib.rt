@@ -14,6 +14,7 @@
 mod devices;
 mod disks;
 mod places;
+mod serve;
 mod spooling;
 #[cfg(test)]
 mod tests;
