@@ -1,0 +1,61 @@
+//! The initial program loading of a machine.
+ghost use Rattle.std.specs.Prelude.{◌≡◌, ◌<◌, ◌≤◌, IfErr, IfOk, length};
+ghost use Rattle.s370_subchannels.specs.Serving.{TellsAway};
+ghost use Rattle.cp_panel.specs.Machine.{machine_of};
+ghost use Rattle.cp_devices.specs.Loading.{IsLoaded, is_good};
+
+use cp_console::responses::Response;
+use cp_panel::Machine;
+use s370_channel::{ChannelError, Guest, run_ipl};
+use s370_num::{AccessKey, DevAddr};
+use s370_psw::Psw;
+use s370_store::{Access, Fault, Range, Storage, load_doubleword, store_halfword};
+use s370_walk::{ChannelStatus, Device, Ending, UnitStatus};
+
+/// Where the device's address is stored, in the PSW that is loaded.
+const IPL_PSW: Range = Range { start: 0, count: 8 };
+
+/// Resets the machine, runs the program that the device loads, and lets the machine run where that ended well; tells whether
+/// it did. An error is told only where memory was refused, or a page is not present that the program names; nothing is said
+/// of the machine then. There is room for a line and for the notice of the machine's stop.
+pub(crate) fn load<S: Storage, D: Device>(
+    machine: &mut Machine,
+    storage: &mut S,
+    device: DevAddr,
+    part: &mut D,
+) -> Result<bool, ChannelError>
+    requires size { 8192 ≤ length (S.bytes storage.old) }
+    requires room { 1 < machine.old.room }
+    ensures loaded { let before = machine_of machine.old (S.bytes storage.old) (S.keys storage.old) in
+        let after = machine_of machine.new (S.bytes storage.new) (S.keys storage.new) in
+        IfOk result (λ well. IsLoaded D.machine device before part.old well after part.new) }
+    ensures away { IfErr result (TellsAway (S.present storage.old)) }
+    ensures size { length (S.bytes storage.new) ≡ length (S.bytes storage.old) }
+    ensures keys { S.keys storage.new ≡ S.keys storage.old }
+    ensures present { S.present storage.new ≡ S.present storage.old }
+    ensures rest { S.Keeps storage.old storage.new }
+{
+    machine.reset();
+    let ending = run_ipl(&Guest, storage, part)?;
+    if !is_good(&ending) {
+        machine.print(&Response::IplFailed);
+        return Ok(false);
+    }
+    match storage.check(IPL_PSW, Access::Store, AccessKey::ZERO) {
+        Ok(()) => {}
+        Err(Fault::Absent(page)) => return Err(ChannelError::Absent(page)),
+        // The location lies in every storage, and key 0 passes every test.
+        Err(Fault::Addressing) => unreachable!(),
+        Err(Fault::Protection) => unreachable!(),
+    }
+    store_halfword(storage, 2, device.get());
+    machine.start(Psw::from_word(load_doubleword(storage, 0)));
+    Ok(true)
+}
+
+/// Whether nothing went wrong.
+fn is_good(ending: &Ending) -> bool
+    ensures { result ≡ is_good ending.now }
+{
+    ending.unit == UnitStatus::ENDED && ending.channel == ChannelStatus::NONE
+}

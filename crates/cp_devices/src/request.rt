@@ -1,0 +1,80 @@
+//! What of a line concerns the devices of a machine.
+ghost use Rattle.std.specs.Prelude.{◌≡◌};
+ghost use Rattle.cp_console.specs.Asked.{asked};
+ghost use Rattle.cp_console.specs.Commands.{command_of};
+ghost use Rattle.cp_devices.specs.Requests.{asked_request, command_request, off_request, request_in};
+
+use cp_console::commands::{Command, read_command};
+use cp_console::device_commands::DeviceCommand;
+use cp_console::lines::{Asked, asked_of};
+use cp_panel::Mode;
+
+/// What of a line concerns the devices of a machine.
+#[derive(Debug, PartialEq, Eq, Drop)]
+pub enum Request<'a> {
+    /// LOGON switches the machine on.
+    LogsOn,
+    /// LOGOFF.
+    LogsOff,
+    /// SYSTEM RESET.
+    Resets,
+    /// A line for the console of a machine that runs.
+    Types,
+    /// A command that concerns devices, their files or other users.
+    Asks(DeviceCommand<'a>),
+    /// Nothing: the machine alone answers.
+    Elsewhere,
+}
+
+/// What of a line that was cut and cleaned concerns the devices of a machine in this mode, with a console or without one.
+pub(crate) fn request_of(mode: Mode, has_console: bool, text: &[u8]) -> Request<'_>
+    ensures { result ≡ request_in mode has_console text.now }
+{
+    match mode {
+        Mode::Off => off_request(text),
+        Mode::Stopped | Mode::Running => asked_request(mode, has_console, asked_of(text)),
+    }
+}
+
+/// Of a line to a machine that is off.
+fn off_request(text: &[u8]) -> Request<'_>
+    ensures { result ≡ off_request (command_of text.now) }
+{
+    match read_command(text) {
+        Ok(Command::Logon) => Request::LogsOn,
+        _ => Request::Elsewhere,
+    }
+}
+
+/// Of a line to a machine that is on.
+fn asked_request<'a>(mode: Mode, has_console: bool, line: Asked<'a>) -> Request<'a>
+    ensures { result ≡ asked_request mode has_console (asked line) }
+{
+    match line {
+        Asked::Stop => Request::Elsewhere,
+        Asked::Command(text) => command_request(text),
+        Asked::Plain(text) => match mode {
+            Mode::Running => {
+                if has_console {
+                    Request::Types
+                } else {
+                    Request::Elsewhere
+                }
+            }
+            Mode::Stopped => command_request(text),
+            Mode::Off => Request::Elsewhere,
+        },
+    }
+}
+
+/// Of a command's text.
+fn command_request(text: &[u8]) -> Request<'_>
+    ensures { result ≡ command_request (command_of text.now) }
+{
+    match read_command(text) {
+        Ok(Command::Logoff) => Request::LogsOff,
+        Ok(Command::SystemReset) => Request::Resets,
+        Ok(Command::Device(command)) => Request::Asks(command),
+        _ => Request::Elsewhere,
+    }
+}

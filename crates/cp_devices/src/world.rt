@@ -1,0 +1,31 @@
+//! What a line of one machine may ask of the others.
+ghost use Rattle.std.specs.Prelude.{◌≡◌, ◌+◌};
+ghost use Rattle.cp_users.specs.Users.{user_of};
+
+ghost use Rattle.cp_devices.specs.World.{World as Known};
+
+/// What the control program knows beside one machine: its users, who of them is logged on, and the files so far.
+pub trait World {
+    /// What is known.
+    ghost known: { Self → Known };
+
+    /// The number of the user of this name.
+    fn user_of(&self, name: &[u8]) -> Option<u8>
+        ensures { result ≡ user_of (known self.now).names name.now };
+
+    /// The name of the user whose machine it is.
+    fn own_name(&self) -> &[u8]
+        ensures { result.now ≡ (known self.now).own };
+
+    /// Whether the user of this number is logged on.
+    fn is_on(&self, user: u8) -> bool
+        ensures { result ≡ (known self.now).is_on user };
+
+    /// How many users are logged on.
+    fn users_on(&self) -> u64
+        ensures { result ≡ (known self.now).users_on };
+
+    /// The number that the next file has.
+    fn next_file(&self) -> u64
+        ensures { result ≡ (known self.now).files + 1 };
+}
