@@ -1,1 +1,3 @@
+pub mod Requested
+pub mod Printed
 pub mod Cards

@@ -3,3 +3,7 @@ pub mod Resets
 pub mod Spooling
 pub mod Equipped
 pub mod Serve
+pub mod Loading
+pub mod World
+pub mod Requests
+pub mod Lines

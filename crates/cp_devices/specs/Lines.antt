@@ -1,5 +1,5 @@
 -- What a line does to a machine and its devices, and what is told (docs/COMMANDS.md).
-use Rattle.std.specs.Prelude.{ℕ, ◌≡◌, ◌+◌, Bool, true, false, if◌then◌else◌, List, [], ◌∷◌, codes, is_some, set, slice_get, take, Option, Some, None}
+use Rattle.std.specs.Prelude.{ℕ, ◌≡◌, ◌⊎◌, ◌+◌, Bool, true, false, if◌then◌else◌, List, [], ◌∷◌, codes, is_some, set, slice_get, take, Option, Some, None}
 use Rattle.std.specs.Str.{bytes_eq}
 use Rattle.cp_users.specs.Users.{user_of}
 use Rattle.cp_console.specs.ConsoleLine.{characters_of}
@@ -15,6 +15,7 @@ use Rattle.unit_record.specs.declared.output.Target.TheVariants as targets
 use Rattle.unit_record.specs.Console.{has_room, with_typed}
 use Rattle.unit_record.specs.Reader.{DeckValue, queued_at, reader_machine}
 use Rattle.ckd_volume.specs.Unit.{Disk, disk_machine}
+use Rattle.s370_intr.specs.Run.{IsLacking}
 use Rattle.cp_panel.specs.Machine.{Machine, cleared, printed, reset, switched_off}
 use Rattle.cp_panel.specs.Panel.{line}
 use Rattle.cp_devices.specs.declared.line.Told.{Told}
@@ -126,12 +127,13 @@ files_told (deck ∷ decks) = Files
 
 -- ---- MSG
 
+abbrev pub SendsWhere : Bool → ℕ → World → List ℕ → Told → Type 0
+SendsWhere true user w text told = (line : ConsoleLine) × (characters_of line ≡ take 144 (told_text w.own text)) × (told ≡ Sent user line)
+SendsWhere false user w text told = told ≡ Said responses.UserNotLoggedOn
+
 abbrev pub SendsTo : Option ℕ → World → List ℕ → Told → Type 0
 SendsTo None w text told = told ≡ Said responses.UserNotFound
-SendsTo (Some user) w text told =
-    if w.is_on user
-    then (line : ConsoleLine) × (characters_of line ≡ take 144 (told_text w.own text)) × (told ≡ Sent user line)
-    else told ≡ Said responses.UserNotLoggedOn
+SendsTo (Some user) w text told = SendsWhere (w.is_on user) user w text told
 
 -- ---- IPL
 
@@ -143,14 +145,14 @@ pub record LoadsReader (device : ℕ) (old : Equipped) (told : Told) (new : Equi
   pub well : Bool
   pub loaded : IsLoaded reader_machine device old.machine (devices_reset old.devices).reader well new.machine new.devices.reader
   pub rest : new.devices ≡ record (devices_reset old.devices) { reader = new.devices.reader }
-  pub told : told ≡ ipl_told well
+  pub says : told ≡ ipl_told well
 
 pub record LoadsUnit (index : ℕ) (disk : DiskAt) (device : ℕ) (old : Equipped) (told : Told) (new : Equipped) : Type 0 where
   pub well : Bool
   pub unit : Disk
   pub loaded : IsLoaded disk_machine device old.machine disk.unit well new.machine unit
   pub rest : new.devices ≡ with_unit (devices_reset old.devices) index disk unit
-  pub told : told ≡ ipl_told well
+  pub says : told ≡ ipl_told well
 
 abbrev pub IsNotFound : Equipped → Told → Equipped → Type 0
 IsNotFound old told new = outcome new told ≡ outcome old (Said responses.DeviceNotFound)
@@ -199,6 +201,16 @@ abbrev pub IsLine : World → List ℕ → Equipped → Told → Equipped → Ty
 IsLine w typed old told new = IsAnswered (requested typed old) w typed old told new
 
 -- whether a line is an IPL: what that leaves is not undone where it fails for want of memory
+abbrev pub is_loading : DeviceCommand → Bool
+is_loading (commands.Ipl device) = true
+is_loading other = false
+
 abbrev pub is_ipl : Request → Bool
-is_ipl (Asks (commands.Ipl device)) = true
+is_ipl (Asks command) = is_loading command
 is_ipl other = false
+
+-- ---- where there is no room for a page
+
+-- a page that a machine alone needs for a line, or one that is not present
+abbrev pub LacksPage : (ℕ → Type 0) → ℕ → (ℕ → Type 0) → (ℕ → Bool) → Type 0
+LacksPage needs size is_short present = IsLacking needs size is_short ⊎ ((page : ℕ) × (present page ≡ false))

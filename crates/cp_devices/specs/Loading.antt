@@ -38,5 +38,5 @@ pub record IsLoaded {D : Type 0} (machine : Device D) (device : ℕ) (old : Mach
   pub ending : Ending
   pub bytes : List ℕ
   pub walk : Reaches (live guest_written) (setting machine loading_limits) (loading machine (memory_of old.core.processor.bytes old.core.processor.keys) part) (Over ending (memory_of bytes old.core.processor.keys) part')
-  pub well : well ≡ is_good ending
+  pub told : well ≡ is_good ending
   pub left : new ≡ left_by (is_good ending) device (reset old) bytes

@@ -54,15 +54,15 @@ abbrev pub attended_where : Bool → ℕ → Machine → Machine
 attended_where wants device m = if wants then with_attended device m else m
 
 -- the program of a console gives attention at its end where a line waits then, and the lines that it has finished are printed
-pub record RunsConsole (device : ℕ) (old : Equipped) (new : Equipped) : Type 0 where
+pub record RunsConsole (device : ℕ) (old : Equipped) (done : Bool) (new : Equipped) : Type 0 where
   pub walked : Machine
   pub console : ConsoleState
-  pub served : Serves console_machine device (with_subchannels old.machine (with_attention device false old.machine.core.subchannels)) old.devices.console true walked console
+  pub served : Serves console_machine device (with_subchannels old.machine (with_attention device false old.machine.core.subchannels)) old.devices.console done walked console
   pub machine : new.machine ≡ with_lines (attended_where (wants_attention console) device walked) console.lines
   pub devices : new.devices ≡ record old.devices { console = without_lines console }
 
 abbrev pub ServesConsole : Bool → ℕ → Equipped → Bool → Equipped → Type 0
-ServesConsole true device old done new = (done ≡ true) × RunsConsole device old new
+ServesConsole true device old done new = RunsConsole device old done new
 ServesConsole false device old done new = IsUntouched old done new
 
 -- ---- whatever has the address

@@ -13,12 +13,19 @@
 
 mod devices;
 mod disks;
+mod line;
+mod loading;
+mod obey;
 mod places;
+mod request;
 mod serve;
 mod spooling;
+mod world;
 #[cfg(test)]
 mod tests;
 
 pub use devices::Devices;
 pub use disks::AttachedDisk;
+pub use line::Told;
 pub use places::{Kind, Places};
+pub use world::World;

@@ -1,8 +1,8 @@
 //! What of a line concerns the devices of a machine.
 ghost use Rattle.std.specs.Prelude.{◌≡◌};
-ghost use Rattle.cp_console.specs.Asked.{asked};
+ghost use Rattle.cp_console.specs.Asked.{asked_of};
 ghost use Rattle.cp_console.specs.Commands.{command_of};
-ghost use Rattle.cp_devices.specs.Requests.{asked_request, command_request, off_request, request_in};
+ghost use Rattle.cp_devices.specs.Requests.{asked_request, command_request, off_request, plain_request, request_in};
 
 use cp_console::commands::{Command, read_command};
 use cp_console::device_commands::DeviceCommand;
@@ -32,7 +32,35 @@ pub(crate) fn request_of(mode: Mode, has_console: bool, text: &[u8]) -> Request<
 {
     match mode {
         Mode::Off => off_request(text),
-        Mode::Stopped | Mode::Running => asked_request(mode, has_console, asked_of(text)),
+        Mode::Stopped | Mode::Running => on_request(mode, has_console, text),
+    }
+}
+
+/// Of a line to a machine that is on.
+fn on_request(mode: Mode, has_console: bool, text: &[u8]) -> Request<'_>
+    ensures { result ≡ asked_request mode has_console (asked_of text.now) }
+{
+    match asked_of(text) {
+        Asked::Stop => Request::Elsewhere,
+        Asked::Command(text) => command_request(text),
+        Asked::Plain(text) => plain_request(mode, has_console, text),
+    }
+}
+
+/// Of a line that does not name the control program.
+fn plain_request(mode: Mode, has_console: bool, text: &[u8]) -> Request<'_>
+    ensures { result ≡ plain_request mode has_console text.now }
+{
+    match mode {
+        Mode::Running => {
+            if has_console {
+                Request::Types
+            } else {
+                Request::Elsewhere
+            }
+        }
+        Mode::Stopped => command_request(text),
+        Mode::Off => Request::Elsewhere,
     }
 }
 
@@ -43,27 +71,6 @@ fn off_request(text: &[u8]) -> Request<'_>
     match read_command(text) {
         Ok(Command::Logon) => Request::LogsOn,
         _ => Request::Elsewhere,
-    }
-}
-
-/// Of a line to a machine that is on.
-fn asked_request<'a>(mode: Mode, has_console: bool, line: Asked<'a>) -> Request<'a>
-    ensures { result ≡ asked_request mode has_console (asked line) }
-{
-    match line {
-        Asked::Stop => Request::Elsewhere,
-        Asked::Command(text) => command_request(text),
-        Asked::Plain(text) => match mode {
-            Mode::Running => {
-                if has_console {
-                    Request::Types
-                } else {
-                    Request::Elsewhere
-                }
-            }
-            Mode::Stopped => command_request(text),
-            Mode::Off => Request::Elsewhere,
-        },
     }
 }
 

@@ -1,7 +1,7 @@
 //! The devices of a machine are served.
-ghost use Rattle.std.specs.Prelude.{◌≡◌, ◌++◌, IfErr, IfOk, OnOk, length, slice_get};
+ghost use Rattle.std.specs.Prelude.{◌≡◌, ◌++◌, if◌then◌else◌, IfErr, IfOk, OnOk, length, slice_get};
 ghost use Rattle.s370_subchannels.specs.Serving.{TellsAway, is_started};
-ghost use Rattle.s370_subchannels.specs.Subchannels.{found};
+ghost use Rattle.s370_subchannels.specs.Subchannels.{attended, found};
 ghost use Rattle.cp_devices.specs.Equipped.{equipped};
 ghost use Rattle.cp_devices.specs.Serve.{IsServedAt, RunsConsole, ServesConsole, ServesDisk, ServesPrinter, ServesPunch, ServesReader};
 
@@ -84,20 +84,47 @@ impl Devices {
         ensures present { S.present storage.new ≡ S.present storage.old }
         ensures rest { S.Keeps storage.old storage.new }
     {
-        if !machine.is_started(device) {
-            return Ok(false);
+        if machine.is_started(device) {
+            self.run_console(machine, storage, device)
+        } else {
+            Ok(false)
         }
+    }
+
+    /// The program of the console runs.
+    fn run_console<S: Storage>(
+        &mut self,
+        machine: &mut Machine,
+        storage: &mut S,
+        device: DevAddr,
+    ) -> Result<bool, ChannelError>
+        ensures runs { let before = equipped machine.old self.old (S.bytes storage.old) (S.keys storage.old) in
+            let after = equipped machine.new self.new (S.bytes storage.new) (S.keys storage.new) in
+            IfOk result (λ done. RunsConsole device before done after) }
+        ensures away { IfErr result (TellsAway (S.present storage.old)) }
+        ensures size { length (S.bytes storage.new) ≡ length (S.bytes storage.old) }
+        ensures keys { S.keys storage.new ≡ S.keys storage.old }
+        ensures present { S.present storage.new ≡ S.present storage.old }
+        ensures rest { S.Keeps storage.old storage.new }
+    {
         machine.set_attention(device, false);
         let done = machine.serve(storage, device, &mut self.console)?;
-        if self.console.attention() {
-            machine.attend(device);
-        }
+        attend_where(machine, device, self.console.attention());
         match print_written(machine, &self.console) {
             Ok(()) => {}
             Err(_) => return Err(ChannelError::Memory),
         }
         self.console.forget_lines();
         Ok(done)
+    }
+}
+
+/// The device has attention to give, where it wants to.
+fn attend_where(machine: &mut Machine, device: DevAddr, wants: bool)
+    ensures { machine.new ≡ (if wants then record machine.old { subchannels = attended device machine.old.subchannels } else machine.old) }
+{
+    if wants {
+        machine.attend(device);
     }
 }
 

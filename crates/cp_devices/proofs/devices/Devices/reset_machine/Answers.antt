@@ -1,0 +1,19 @@
+use Rattle.std.proofs.Common.{sym, ap}
+use Rattle.cp_console.specs.declared.responses.Response.TheVariants.{SystemReset}
+use Rattle.cp_panel.specs.Machine.{Machine}
+use Rattle.cp_panel.specs.Panel.{Answer}
+use Rattle.cp_devices.specs.declared.line.Told.TheVariants.{Said}
+use Rattle.cp_devices.specs.Lines.{outcome}
+use Rattle.cp_devices.specs.Equipped.{Equipped}
+use Rattle.cp_devices.specs.Devices.{DevicesValue}
+use Rattle.cp_devices.specs.Resets.{devices_reset}
+use Rattle.cp_devices.proofs.devices.Devices.reset_machine.Goals as goal
+
+abbrev with : DevicesValue → Machine → Equipped
+with d m = record { machine = m; devices = d }
+
+pub returns-in-Err-clause-err : goal.returns-in-Err-clause-err
+returns-in-Err-clause-err c = λ bytes keys. ap (λ (m : Machine). with c.args.self.now m) (c.in-Err.ensures.err bytes keys)
+
+pub returns-clause-ok : goal.returns-clause-ok
+returns-clause-ok c = λ bytes keys. rw c.reset.ensures (ap (λ (a : Answer). outcome (with (devices_reset c.args.self.now) a.machine) (Said SystemReset)) (sym (c.in-Ok.ensures.ok bytes keys)))

@@ -1,0 +1,262 @@
+//! The commands that concern the devices of a machine, their files and other users.
+ghost use Rattle.std.specs.Prelude.{◌≡◌, ◌<◌, ◌≤◌, ℕ, false, is_some, if◌then◌else◌, IfOk, OnErr, OnOk, Err, length, slice_get};
+ghost use Rattle.cp_users.specs.Users.{user_of};
+ghost use Rattle.cp_console.specs.declared.responses.Response.TheVariants as responses;
+ghost use Rattle.cp_panel.specs.Machine.{Machine as WholeMachine};
+ghost use Rattle.unit_record.specs.Reader.{queued_at};
+ghost use Rattle.cp_devices.specs.Devices.{kind_at};
+ghost use Rattle.cp_devices.specs.Equipped.{equipped};
+ghost use Rattle.cp_devices.specs.Lines.{IsObeyed, LoadsDisk, LoadsKind, LoadsReader, SendsTo, close_answered, files_told, ipl_told, is_loading, outcome, spool_answered, target_of, with_closed};
+ghost use Rattle.cp_devices.specs.Resets.{devices_reset};
+ghost use Rattle.cp_devices.specs.Spooling.{with_deck_purged};
+
+use crate::devices::Devices;
+use crate::line::Told;
+use crate::loading::load;
+use crate::places::Kind;
+use crate::world::World;
+use cp_console::console_line::ConsoleLine;
+use cp_console::device_commands::DeviceCommand;
+use cp_console::printing::message_line;
+use cp_console::responses::Response;
+use cp_panel::{LineError, Machine};
+use s370_channel::ChannelError;
+use s370_num::DevAddr;
+use s370_store::Storage;
+use std::alloc::{AllocError, Global};
+use unit_record::Target;
+
+/// What an IPL tells.
+fn loaded(well: bool) -> Told
+    ensures { result ≡ ipl_told well }
+{
+    if well {
+        Told::Silent
+    } else {
+        Told::Said(Response::IplFailed)
+    }
+}
+
+/// The target that a name says: `SYSTEM` is the operator, another name is a user's.
+fn target_of<W: World>(world: &W, name: &[u8]) -> Option<Target>
+    ensures { result ≡ target_of (W.known world.now) name.now }
+{
+    if name == b"SYSTEM".as_slice() {
+        return Some(Target::System);
+    }
+    match world.user_of(name) {
+        Some(user) => Some(Target::User(user)),
+        None => None,
+    }
+}
+
+/// MSG.
+fn send<W: World>(alloc: Global, world: &W, name: &[u8], text: &[u8]) -> Result<Told, LineError>
+    ensures ok { IfOk result (λ told. SendsTo (user_of (W.known world.now).names name.now) (W.known world.now) text.now told) }
+    ensures memory { result ≡ Err LineError.FramesOut → ⊥ }
+{
+    let Some(user) = world.user_of(name) else {
+        return Ok(Told::Said(Response::UserNotFound));
+    };
+    if !world.is_on(user) {
+        return Ok(Told::Said(Response::UserNotLoggedOn));
+    }
+    match message_line(alloc, world.own_name(), text) {
+        Ok(line) => Ok(Told::Sent(user, ConsoleLine::of(&line))),
+        Err(_) => Err(LineError::Memory),
+    }
+}
+
+impl Devices {
+    /// A command to a machine with these devices. Where it is not obeyed, nothing has happened, but to a machine that an IPL
+    /// had reset.
+    pub(crate) fn obey<S: Storage, W: World>(
+        &mut self,
+        alloc: Global,
+        machine: &mut Machine,
+        storage: &mut S,
+        world: &W,
+        command: &DeviceCommand<'_>,
+    ) -> Result<Told, LineError>
+        requires size { 8192 ≤ length (S.bytes storage.old) }
+        ensures ok { let before = equipped machine.old self.old (S.bytes storage.old) (S.keys storage.old) in
+            let after = equipped machine.new self.new (S.bytes storage.new) (S.keys storage.new) in
+            IfOk result (λ told. IsObeyed (W.known world.now) command.now before told after) }
+        ensures err { let before = equipped machine.old self.old (S.bytes storage.old) (S.keys storage.old) in
+            let after = equipped machine.new self.new (S.bytes storage.new) (S.keys storage.new) in
+            OnErr result (is_loading command.now ≡ false → after ≡ before) }
+        ensures frames { result ≡ Err LineError.FramesOut → ((page : ℕ) × (S.present storage.old page ≡ false)) }
+        ensures size { length (S.bytes storage.new) ≡ length (S.bytes storage.old) }
+    {
+        match command {
+            DeviceCommand::Ipl(device) => self.ipl(machine, storage, *device),
+            DeviceCommand::QueryFiles => Ok(self.tell_files()),
+            DeviceCommand::QueryUsers => Ok(Told::Said(Response::Users(world.users_on()))),
+            DeviceCommand::Spool(device, name) => {
+                Ok(self.answer_spool(world, *device, name.as_slice()))
+            }
+            DeviceCommand::Close(device) => self.answer_close(alloc, world, *device),
+            DeviceCommand::Purge(file) => Ok(self.answer_purge(*file)),
+            DeviceCommand::Message(name, text) => {
+                send(alloc, world, name.as_slice(), text.as_slice())
+            }
+        }
+    }
+
+    /// QUERY FILES.
+    fn tell_files(&self) -> Told
+        ensures { result ≡ files_told self.now.reader.decks }
+    {
+        if self.reader.is_empty() {
+            Told::Said(Response::NoFiles)
+        } else {
+            Told::Files
+        }
+    }
+
+    /// PURGE.
+    fn answer_purge(&mut self, file: u64) -> Told
+        ensures told { result ≡ Told.Said (if is_some (queued_at self.old.reader file) then responses.Purged else responses.FileNotFound) }
+        ensures after { self.new ≡ with_deck_purged self.old file }
+    {
+        if self.purge(file) {
+            Told::Said(Response::Purged)
+        } else {
+            Told::Said(Response::FileNotFound)
+        }
+    }
+
+    /// SPOOL.
+    fn answer_spool<W: World>(&mut self, world: &W, device: DevAddr, name: &[u8]) -> Told
+        ensures { (m : WholeMachine) → outcome (record { machine = m; devices = self.new }) result ≡ spool_answered (W.known world.now) device name.now (record { machine = m; devices = self.old }) }
+    {
+        match self.kind_at(device.get()) {
+            Some(Kind::Punch) => match target_of(world, name) {
+                Some(target) => {
+                    let _found = self.spool(device.get(), target);
+                    Told::Said(Response::Spooled)
+                }
+                None => Told::Said(Response::UserNotFound),
+            },
+            _ => Told::Said(Response::DeviceNotFound),
+        }
+    }
+
+    /// CLOSE.
+    fn answer_close<W: World>(
+        &mut self,
+        alloc: Global,
+        world: &W,
+        device: DevAddr,
+    ) -> Result<Told, LineError>
+        ensures ok { (m : WholeMachine) → IfOk result (λ told. outcome (record { machine = m; devices = self.new }) told ≡ close_answered (W.known world.now) device (record { machine = m; devices = self.old })) }
+        ensures err { OnErr result (self.new ≡ self.old) }
+        ensures memory { result ≡ Err LineError.FramesOut → ⊥ }
+    {
+        match self.has_output(device.get()) {
+            None => return Ok(Told::Said(Response::DeviceNotFound)),
+            Some(false) => return Ok(Told::Said(Response::NoFile)),
+            Some(true) => {}
+        }
+        match self.close_at(alloc, device) {
+            Ok(()) => Ok(Told::Said(Response::FileClosed(world.next_file()))),
+            Err(_) => Err(LineError::Memory),
+        }
+    }
+
+    /// Closes the open file of the punch or printer at this address.
+    fn close_at(&mut self, alloc: Global, device: DevAddr) -> Result<(), AllocError>
+        ensures ok { OnOk result (self.new ≡ with_closed (kind_at self.old device) self.old) }
+        ensures err { OnErr result (self.new ≡ self.old) }
+    {
+        match self.kind_at(device.get()) {
+            Some(Kind::Punch) => {
+                self.close_punch(alloc)?;
+                Ok(())
+            }
+            Some(Kind::Printer) => {
+                self.close_printer(alloc)?;
+                Ok(())
+            }
+            _ => Ok(()),
+        }
+    }
+
+    /// IPL.
+    fn ipl<S: Storage>(
+        &mut self,
+        machine: &mut Machine,
+        storage: &mut S,
+        device: DevAddr,
+    ) -> Result<Told, LineError>
+        requires size { 8192 ≤ length (S.bytes storage.old) }
+        ensures ok { let before = equipped machine.old self.old (S.bytes storage.old) (S.keys storage.old) in
+            let after = equipped machine.new self.new (S.bytes storage.new) (S.keys storage.new) in
+            IfOk result (λ told. LoadsKind (kind_at self.old device) device before told after) }
+        ensures frames { result ≡ Err LineError.FramesOut → ((page : ℕ) × (S.present storage.old page ≡ false)) }
+        ensures size { length (S.bytes storage.new) ≡ length (S.bytes storage.old) }
+    {
+        match self.kind_at(device.get()) {
+            Some(Kind::Reader) => self.load_reader(machine, storage, device),
+            Some(Kind::Disk(index)) => self.load_disk(machine, storage, device, index),
+            _ => Ok(Told::Said(Response::DeviceNotFound)),
+        }
+    }
+
+    /// The machine is loaded from the reader.
+    fn load_reader<S: Storage>(
+        &mut self,
+        machine: &mut Machine,
+        storage: &mut S,
+        device: DevAddr,
+    ) -> Result<Told, LineError>
+        requires size { 8192 ≤ length (S.bytes storage.old) }
+        ensures ok { let before = equipped machine.old self.old (S.bytes storage.old) (S.keys storage.old) in
+            let after = equipped machine.new self.new (S.bytes storage.new) (S.keys storage.new) in
+            IfOk result (λ told. LoadsReader device before told after) }
+        ensures frames { result ≡ Err LineError.FramesOut → ((page : ℕ) × (S.present storage.old page ≡ false)) }
+        ensures size { length (S.bytes storage.new) ≡ length (S.bytes storage.old) }
+    {
+        match machine.make_room(1) {
+            Ok(()) => {}
+            Err(_) => return Err(LineError::Memory),
+        }
+        self.reset();
+        match load(machine, storage, device, &mut self.reader) {
+            Ok(well) => Ok(loaded(well)),
+            Err(ChannelError::Memory) => Err(LineError::Memory),
+            Err(ChannelError::Absent(_)) => Err(LineError::FramesOut),
+        }
+    }
+
+    /// The machine is loaded from the disk of this index.
+    fn load_disk<S: Storage>(
+        &mut self,
+        machine: &mut Machine,
+        storage: &mut S,
+        device: DevAddr,
+        index: usize,
+    ) -> Result<Told, LineError>
+        requires size { 8192 ≤ length (S.bytes storage.old) }
+        requires inside { index < length self.old.disks }
+        ensures ok { let before = equipped machine.old self.old (S.bytes storage.old) (S.keys storage.old) in
+            let after = equipped machine.new self.new (S.bytes storage.new) (S.keys storage.new) in
+            IfOk result (λ told. LoadsDisk index (slice_get (devices_reset self.old).disks index) device before told after) }
+        ensures frames { result ≡ Err LineError.FramesOut → ((page : ℕ) × (S.present storage.old page ≡ false)) }
+        ensures size { length (S.bytes storage.new) ≡ length (S.bytes storage.old) }
+    {
+        match machine.make_room(1) {
+            Ok(()) => {}
+            Err(_) => return Err(LineError::Memory),
+        }
+        self.reset();
+        let Some(disk) = self.disks.get_mut(index) else {
+            return Ok(Told::Said(Response::DeviceNotFound));
+        };
+        match load(machine, storage, device, &mut disk.unit) {
+            Ok(well) => Ok(loaded(well)),
+            Err(ChannelError::Memory) => Err(LineError::Memory),
+            Err(ChannelError::Absent(_)) => Err(LineError::FramesOut),
+        }
+    }
+}
