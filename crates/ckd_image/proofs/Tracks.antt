@@ -1,13 +1,13 @@
 -- Laws of tracks that are read.
-use Rattle.std.specs.Prelude.{ℕ, zero, suc, ◌+◌, ◌-◌, ◌*◌, ◌≡◌, ◌<◌, ◌≤◌, ◌&&◌, nat_le, Bool, true, false, refl, List, [], ◌∷◌, ◌++◌, length, take, drop, get_or, replicate, All}
-use Rattle.std.proofs.Common.{sym, ◌∙◌, ap, subst, arith, append_assoc, append-nil, length-append, length-drop, take_all}
+use Rattle.std.specs.Prelude.{ℕ, ◌+◌, ◌-◌, ◌≡◌, ◌<◌, ◌≤◌, ◌&&◌, nat_le, Bool, true, false, refl, List, [], ◌∷◌, ◌++◌, length, take, drop, get_or, replicate, All}
+use Rattle.std.proofs.Common.{sym, ◌∙◌, ap, subst, arith, append_assoc, append-nil, length-append, take_all}
 use Rattle.std.proofs.lemmas.Bool.{leb-true, leb-false, le-leb, false≢true}
 use Rattle.std.proofs.lemmas.List.{length-replicate}
 use Rattle.std.proofs.lemmas.List.Elements.{All-nil, All-push, All-append, All-cons, All-replicate}
 use Rattle.ckd_track.specs.Track.{Record, TrackFormat, cost, cost_of, record_cost, capacity, has_room, with_last}
 use Rattle.ckd_image.specs.Image.{record_bytes, records_bytes, track_bytes}
 use Rattle.ckd_image.specs.Reading.{IsSpelledRecord, IsSpelled, IsGood, IsCutTrack}
-use Rattle.ckd_image.specs.Parts.{BeginsRecord, IsCutRecord, record_with, ReadRecords, EndsInRecord, IsFullTrack}
+use Rattle.ckd_image.specs.Parts.{BeginsRecord, record_with, ReadRecords, EndsInRecord, IsFullTrack}
 
 pub records_append : (rs ss : List Record) → records_bytes (rs ++ ss) ≡ records_bytes rs ++ records_bytes ss
 records_append [] ss = refl
@@ -44,35 +44,35 @@ tried old mid new n bytes rest h r behind b fits cases ok err =
     let held = h.held refl in
     let whole : take (length mid.records) mid.records ≡ h.records = take_all (length mid.records) mid.records (omega arith) ∙ held.0 in
     let costs : cost (take (length mid.records) mid.records) + record_cost (length r.key) (length r.content) ≡ cost (h.records ++ r ∷ []) =
-        ap (λ l. cost l + cost_of r) whole ∙ sym (cost_append h.records r) in
+    ap (λ l. cost l + cost_of r) whole ∙ sym (cost_append h.records r) in
     let test = room fits (length r.key) (cost (take (length mid.records) mid.records) + record_cost (length r.key) (length r.content)) cases b.spelled.key in
-    record
-      { records = h.records ++ r ∷ []
-      ; count_is = more_count h.records r n h.count_is
-      ; spelled = All-push IsSpelledRecord h.records r h.spelled b.spelled
-      ; whole = more_bytes h.records r bytes rest behind h.whole b.whole
-      ; home = homes fits refl
-      ; held = λ t. (ap (λ x. x.records) (ok t) ∙ ap (λ l. l ++ r ∷ []) whole, subst (λ x. x ≤ capacity) costs (test.0 t))
-      ; full = λ f. subst (λ x. capacity < x) costs (test.1 f)
-      }
+    record {
+      records = h.records ++ r ∷ [];
+      count_is = more_count h.records r n h.count_is;
+      spelled = All-push IsSpelledRecord h.records r h.spelled b.spelled;
+      whole = more_bytes h.records r bytes rest behind h.whole b.whole;
+      home = homes fits refl;
+      held = λ t. (ap (λ x. x.records) (ok t) ∙ ap (λ l. l ++ r ∷ []) whole, subst (λ x. x ≤ capacity) costs (test.0 t));
+      full = λ f. subst (λ x. capacity < x) costs (test.1 f);
+    }
   where
-  homes : (b : Bool) → fits ≡ b → new.home ≡ old.home
-  homes true e = ap (λ x. x.home) (ok e) ∙ h.home
-  homes false e = ap (λ x. x.home) (err e) ∙ h.home
+    homes : (b : Bool) → fits ≡ b → new.home ≡ old.home
+    homes true e = ap (λ x. x.home) (ok e) ∙ h.home
+    homes false e = ap (λ x. x.home) (err e) ∙ h.home
 
 -- a record behind one that did not fit
 pub passed : (old mid : TrackFormat) (n : ℕ) (bytes rest : List ℕ) → ReadRecords old mid n bytes false rest
     → (r : Record) (behind : List ℕ) → BeginsRecord rest r behind → ReadRecords old mid (n + 1) bytes false behind
 passed old mid n bytes rest h r behind b =
-    record
-      { records = h.records ++ r ∷ []
-      ; count_is = more_count h.records r n h.count_is
-      ; spelled = All-push IsSpelledRecord h.records r h.spelled b.spelled
-      ; whole = more_bytes h.records r bytes rest behind h.whole b.whole
-      ; home = h.home
-      ; held = λ t. absurd (false≢true t)
-      ; full = λ f. omega (arith, cost_append h.records r, h.full refl)
-      }
+    record {
+      records = h.records ++ r ∷ [];
+      count_is = more_count h.records r n h.count_is;
+      spelled = All-push IsSpelledRecord h.records r h.spelled b.spelled;
+      whole = more_bytes h.records r bytes rest behind h.whole b.whole;
+      home = h.home;
+      held = λ t. absurd (false≢true t);
+      full = λ f. omega (arith, cost_append h.records r, h.full refl);
+    }
 
 six : (l : List ℕ) → 6 ≤ length l → l ≡ get_or l 0 0 ∷ get_or l 1 0 ∷ get_or l 2 0 ∷ get_or l 3 0 ∷ get_or l 4 0 ∷ get_or l 5 0 ∷ drop 6 l
 six [] le = absurd (omega arith)
@@ -106,7 +106,7 @@ pub whole_track : (l rest : List ℕ) (mid new : TrackFormat) → 6 ≤ length l
 whole_track l rest mid new le small home h =
     let held = h.held refl in
     let same : track_with (home_in l) h.records ≡ new =
-        ap (λ x. track_with x h.records) (sym (h.home ∙ home)) ∙ ap (λ x. track_with new.home x) (sym held.0) in
+    ap (λ x. track_with x h.records) (sym (h.home ∙ home)) ∙ ap (λ x. track_with new.home x) (sym held.0) in
     let spelled : IsSpelled (track_with (home_in l) h.records) = spelled_with l h.records h.count_is small h.spelled in
     let good : IsGood (track_with (home_in l) h.records) = record { spelled = spelled; fits = held.1 } in
     (subst IsGood same good, spelled_bytes l h.records rest le h.count_is h.whole ∙ ap (λ t. track_bytes t ++ rest) same)
@@ -115,13 +115,13 @@ whole_track l rest mid new le small home h =
 pub full_track : (l rest : List ℕ) (mid new : TrackFormat) → 6 ≤ length l → get_or l 5 0 < 256
     → ReadRecords mid new (get_or l 5 0) (drop 6 l) false rest → IsFullTrack l
 full_track l rest mid new le small h =
-    record
-      { track = track_with (home_in l) h.records
-      ; rest = rest
-      ; spelled = spelled_with l h.records h.count_is small h.spelled
-      ; full = h.full refl
-      ; whole = spelled_bytes l h.records rest le h.count_is h.whole
-      }
+    record {
+      track = track_with (home_in l) h.records;
+      rest = rest;
+      spelled = spelled_with l h.records h.count_is small h.spelled;
+      full = h.full refl;
+      whole = spelled_bytes l h.records rest le h.count_is h.whole;
+    }
 
 abbrev no_content : Record
 no_content = record_with (0 ∷ 0 ∷ 0 ∷ 0 ∷ 0 ∷ []) [] []
@@ -136,22 +136,22 @@ cut_records l le small e =
     let count : length (e.records ++ tail) ≡ get_or l 5 0 = omega (arith, length-append e.records tail, length-replicate {A = Record} missing no_content, e.fewer) in
     let plain : IsSpelledRecord no_content = record { id = refl; key = omega arith; content = omega arith } in
     let spelled : All IsSpelledRecord (e.records ++ tail) =
-        All-append IsSpelledRecord e.records tail e.spelled (All-cons IsSpelledRecord e.cut.there blanks e.cut.spelled (All-replicate IsSpelledRecord missing no_content plain)) in
+    All-append IsSpelledRecord e.records tail e.spelled (All-cons IsSpelledRecord e.cut.there blanks e.cut.spelled (All-replicate IsSpelledRecord missing no_content plain)) in
     let bytes : drop 6 l ++ more ≡ records_bytes (e.records ++ tail) =
-        ap (λ x. x ++ more) e.whole
-        ∙ append_assoc (records_bytes e.records) e.rest more
-        ∙ ap (λ x. records_bytes e.records ++ x) (sym (append_assoc e.rest e.cut.more (records_bytes blanks)))
-        ∙ ap (λ x. records_bytes e.records ++ (x ++ records_bytes blanks)) e.cut.whole
-        ∙ sym (records_append e.records tail) in
-    record
-      { track = track_with (home_in l) (e.records ++ tail)
-      ; more = more
-      ; spelled = spelled_with l (e.records ++ tail) count small spelled
-      ; some = omega (arith, length-append e.cut.more (records_bytes blanks), e.cut.some)
-      ; whole = ap (λ x. x ++ more) (six l le)
+    ap (λ x. x ++ more) e.whole
+    ∙ append_assoc (records_bytes e.records) e.rest more
+    ∙ ap (λ x. records_bytes e.records ++ x) (sym (append_assoc e.rest e.cut.more (records_bytes blanks)))
+    ∙ ap (λ x. records_bytes e.records ++ (x ++ records_bytes blanks)) e.cut.whole
+    ∙ sym (records_append e.records tail) in
+    record {
+      track = track_with (home_in l) (e.records ++ tail);
+      more = more;
+      spelled = spelled_with l (e.records ++ tail) count small spelled;
+      some = omega (arith, length-append e.cut.more (records_bytes blanks), e.cut.some);
+      whole = ap (λ x. x ++ more) (six l le)
           ∙ ap (λ n. get_or l 0 0 ∷ get_or l 1 0 ∷ get_or l 2 0 ∷ get_or l 3 0 ∷ get_or l 4 0 ∷ n ∷ (drop 6 l ++ more)) (sym count)
-          ∙ ap (λ t. get_or l 0 0 ∷ get_or l 1 0 ∷ get_or l 2 0 ∷ get_or l 3 0 ∷ get_or l 4 0 ∷ length (e.records ++ tail) ∷ t) bytes
-      }
+          ∙ ap (λ t. get_or l 0 0 ∷ get_or l 1 0 ∷ get_or l 2 0 ∷ get_or l 3 0 ∷ get_or l 4 0 ∷ length (e.records ++ tail) ∷ t) bytes;
+    }
 
 empty : (a b c d e : ℕ) → IsSpelled (track_with (a ∷ b ∷ c ∷ d ∷ e ∷ []) [])
 empty a b c d e = record { home = refl; few = omega arith; records = All-nil IsSpelledRecord }

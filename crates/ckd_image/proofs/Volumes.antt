@@ -1,12 +1,11 @@
 -- Laws of volumes whose tracks are read one after another.
-use Rattle.std.specs.Prelude.{ℕ, zero, suc, ◌+◌, ◌-◌, ◌*◌, ◌/◌, ◌%◌, ◌≡◌, ◌≢◌, ◌<◌, ◌≤◌, refl, List, [], ◌∷◌, ◌++◌, length, take, drop, get_or, set, All}
-use Rattle.std.proofs.Common.{sym, ◌∙◌, ap, subst, arith, append_assoc, append-nil, length-append, length-drop, length-set, take_all, take-append-drop, length-take-le}
-use Rattle.std.proofs.lemmas.List.{take_more_set, set-append_left, get_or_append_left, get_or-append-add, get_or-set_other, length-take}
-use Rattle.std.proofs.lemmas.List.Elements.{All-nil, All-cons, All-head, All-tail, All-push, All-set, All-take}
+use Rattle.std.specs.Prelude.{ℕ, zero, suc, ◌+◌, ◌*◌, ◌≡◌, ◌<◌, refl, List, [], ◌∷◌, ◌++◌, length, take, get_or, set, All}
+use Rattle.std.proofs.Common.{sym, ◌∙◌, ap, subst, arith, append_assoc, append-nil, length-append, length-set, length-take-le}
+use Rattle.std.proofs.lemmas.List.{take_more_set, set-append_left, get_or_append_left, get_or-append-add, get_or-set_other}
+use Rattle.std.proofs.lemmas.List.Elements.{All-nil, All-cons, All-head, All-tail, All-push, All-set}
 use Rattle.ckd_track.specs.Track.{TrackFormat}
 use Rattle.ckd_volume.specs.Front.{Cylinder, no_track}
 use Rattle.ckd_volume.specs.Volume.{VolumeFormat, blank_tracks, blank_cylinders, home_of}
-use Rattle.ckd_volume.specs.LendingVolume.{with_track}
 use Rattle.ckd_image.specs.Image.{track_bytes, tracks_bytes, cylinders_bytes, tracks_total, cylinders_total}
 use Rattle.ckd_image.specs.Reading.{IsGood, all_tracks}
 use Rattle.ckd_image.specs.Parts.{ReadTrack, ReadTracks, IsNextFault, IsTracksFault}
@@ -80,23 +79,23 @@ one_more_track old mid new k c h bytes rest behind r lt low at t =
     let cs = mid.cylinders in
     let written : new.cylinders ≡ set cs c (set (get_or cs c []) h t.track) = ap (λ v. v.cylinders) t.placed in
     let among : all_tracks new.cylinders ≡ set (all_tracks cs) k t.track =
-        ap all_tracks written ∙ set_among cs c h t.track r.heads lt low ∙ ap (λ i. set (all_tracks cs) i t.track) (sym at) in
+    ap all_tracks written ∙ set_among cs c h t.track r.heads lt low ∙ ap (λ i. set (all_tracks cs) i t.track) (sym at) in
     let long : k < length (all_tracks cs) = omega (arith, all_length cs r.heads) in
     let front : take (k + 1) (all_tracks new.cylinders) ≡ take k (all_tracks cs) ++ t.track ∷ [] =
-        ap (λ l. take (k + 1) l) among ∙ take_more_set (all_tracks cs) k t.track long in
-    record
-      { whole = r.whole ∙ ap (λ l. tracks_bytes (take k (all_tracks cs)) ++ l) t.whole
+    ap (λ l. take (k + 1) l) among ∙ take_more_set (all_tracks cs) k t.track long in
+    record {
+      whole = r.whole ∙ ap (λ l. tracks_bytes (take k (all_tracks cs)) ++ l) t.whole
           ∙ sym (append_assoc (tracks_bytes (take k (all_tracks cs))) (track_bytes t.track) behind)
           ∙ ap (λ l. (tracks_bytes (take k (all_tracks cs)) ++ l) ++ behind) (sym (append-nil (track_bytes t.track)))
           ∙ ap (λ l. l ++ behind) (sym (tracks_append (take k (all_tracks cs)) (t.track ∷ [])))
-          ∙ ap (λ l. tracks_bytes l ++ behind) (sym front)
-      ; good = subst (All IsGood) (sym front) (All-push IsGood (take k (all_tracks cs)) t.track r.good t.good)
-      ; blank = λ i le. ap (λ l. (get_or l i no_track).records) among
-          ∙ ap (λ x. x.records) (get_or-set_other (all_tracks cs) k i t.track no_track (omega (arith, le))) ∙ r.blank i (omega (arith, le))
-      ; heads = subst HaveHeads (sym written) (heads_among cs c h t.track r.heads lt)
-      ; cylinders = ap length written ∙ length-set cs c (set (get_or cs c []) h t.track) ∙ r.cylinders
-      ; volser = ap (λ v. v.volser) t.placed ∙ r.volser
-      }
+          ∙ ap (λ l. tracks_bytes l ++ behind) (sym front);
+      good = subst (All IsGood) (sym front) (All-push IsGood (take k (all_tracks cs)) t.track r.good t.good);
+      blank = λ i le. ap (λ l. (get_or l i no_track).records) among
+          ∙ ap (λ x. x.records) (get_or-set_other (all_tracks cs) k i t.track no_track (omega (arith, le))) ∙ r.blank i (omega (arith, le));
+      heads = subst HaveHeads (sym written) (heads_among cs c h t.track r.heads lt);
+      cylinders = ap length written ∙ length-set cs c (set (get_or cs c []) h t.track) ∙ r.cylinders;
+      volser = ap (λ v. v.volser) t.placed ∙ r.volser;
+    }
 
 -- no track of these has a record
 abbrev AreBlank : List TrackFormat → Type 0
@@ -132,26 +131,26 @@ blank_count c (suc n) = ap suc (blank_count (c + 1) n)
 -- no track was read yet
 pub no_tracks : (v : VolumeFormat) (bytes : List ℕ) → v.cylinders ≡ blank_cylinders 0 (length v.cylinders) → ReadTracks v v 0 bytes bytes
 no_tracks v bytes e =
-    record
-      { whole = refl
-      ; good = All-nil IsGood
-      ; blank = λ i le. subst (λ cs. (get_or (all_tracks cs) i no_track).records ≡ []) (sym e) (blank_cylinders_are 0 (length v.cylinders) i)
-      ; heads = subst HaveHeads (sym e) (blank_heads 0 (length v.cylinders))
-      ; cylinders = refl
-      ; volser = refl
-      }
+    record {
+      whole = refl;
+      good = All-nil IsGood;
+      blank = λ i le. subst (λ cs. (get_or (all_tracks cs) i no_track).records ≡ []) (sym e) (blank_cylinders_are 0 (length v.cylinders) i);
+      heads = subst HaveHeads (sym e) (blank_heads 0 (length v.cylinders));
+      cylinders = refl;
+      volser = refl;
+    }
 
 -- the next track is wrong
 pub wrong_track : (old mid : VolumeFormat) (k : ℕ) (bytes rest : List ℕ) (fault : ImageError) → ReadTracks old mid k bytes rest
     → k < 19 * length old.cylinders → IsNextFault k rest fault → IsTracksFault (length old.cylinders) bytes fault
 wrong_track old mid k bytes rest fault r lt f =
     let among : length (take k (all_tracks mid.cylinders)) ≡ k =
-        length-take-le k (all_tracks mid.cylinders) (omega (arith, all_length mid.cylinders r.heads, r.cylinders)) in
-    record
-      { tracks = take k (all_tracks mid.cylinders)
-      ; rest = rest
-      ; good = r.good
-      ; whole = r.whole
-      ; next = omega (arith, among)
-      ; fault_is = subst (λ n. IsNextFault n rest fault) (sym among) f
-      }
+    length-take-le k (all_tracks mid.cylinders) (omega (arith, all_length mid.cylinders r.heads, r.cylinders)) in
+    record {
+      tracks = take k (all_tracks mid.cylinders);
+      rest = rest;
+      good = r.good;
+      whole = r.whole;
+      next = omega (arith, among);
+      fault_is = subst (λ n. IsNextFault n rest fault) (sym among) f;
+    }

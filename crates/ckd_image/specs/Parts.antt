@@ -1,5 +1,5 @@
 -- What the parts of reading find and leave, a record, the records of a track, a track.
-use Rattle.std.specs.Prelude.{◌≡◌, ℕ, ◌+◌, ◌*◌, ◌<◌, ◌≤◌, ◌^◌, Bool, true, false, List, [], ◌++◌, length, take, drop, All, slice_index_or}
+use Rattle.std.specs.Prelude.{◌≡◌, ℕ, ◌+◌, ◌*◌, ◌<◌, ◌≤◌, ◌^◌, Bool, true, false, List, [], ◌++◌, length, take, All, slice_index_or}
 use Rattle.ckd_track.specs.Track.{Record, TrackFormat, cost, capacity}
 use Rattle.ckd_volume.specs.Front.{no_track}
 use Rattle.ckd_volume.specs.Volume.{VolumeFormat}
@@ -9,7 +9,7 @@ use Rattle.ckd_image.specs.Reading.{IsSpelledRecord, IsSpelled, IsGood, IsCutTra
 use Rattle.ckd_image.specs.declared.header.Version.{Version}
 use Rattle.ckd_image.specs.declared.header.Version.TheVariants.{One, Two}
 use Rattle.ckd_image.specs.declared.faults.ImageError.{ImageError}
-use Rattle.ckd_image.specs.declared.faults.ImageError.TheVariants.{Memory, BadMagic, Truncated, BadTrack, Trailing, Device, BadTotal}
+use Rattle.ckd_image.specs.declared.faults.ImageError.TheVariants.{BadMagic, Truncated, BadTrack, Trailing, BadTotal}
 use Rattle.ckd_image.specs.declared.reader.TrackFault.{TrackFault}
 use Rattle.ckd_image.specs.declared.reader.TrackFault.TheVariants.{Cut, Full}
 

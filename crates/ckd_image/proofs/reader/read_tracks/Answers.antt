@@ -1,4 +1,4 @@
-use Rattle.std.proofs.Common.{◌≡◌, ◌<◌, ◌+◌, ◌*◌, ◌/◌, ◌%◌, [], length, get_or, subst, ap, sym, ◌∙◌, arith}
+use Rattle.std.proofs.Common.{◌≡◌, ◌<◌, ◌+◌, ◌*◌, ◌/◌, ◌%◌, length, get_or, subst, ap, ◌∙◌, arith}
 use Rattle.ckd_volume.specs.Front.{no_track}
 use Rattle.ckd_image.specs.Reading.{all_tracks}
 use Rattle.ckd_image.specs.Parts.{IsTrackFault}
@@ -24,7 +24,7 @@ returns-in-Err-Full-clause-err c =
     let lt : k < 19 * length c.args.volume.now.cylinders = omega (arith, c.loop-number-test.true, c.count-number-end.ensures.count) in
     let at : k ≡ 19 * (k / 19) + k % 19 = omega arith in
     wrong_track c.args.volume.now c.loop-number.volume k c.args.bytes.now c.loop-number.rest.now (BadTrack (k / 19) (k % 19)) c.loop-number.invariant lt
-      (at, omega arith, subst (IsTrackFault c.loop-number.rest.now) c.in-Err-Full.field-0-is c.in-Err-Full.ensures.err)
+    (at, omega arith, subst (IsTrackFault c.loop-number.rest.now) c.in-Err-Full.field-0-is c.in-Err-Full.ensures.err)
 
 pub loop-number-preserved : goal.loop-number-preserved
 loop-number-preserved c =
@@ -32,4 +32,4 @@ loop-number-preserved c =
     let cs = c.loop-number.volume.cylinders in
     let lt : k / 19 < length cs = omega (arith, c.loop-number-test.true, c.count-number-end.ensures.count, c.loop-number.invariant.cylinders) in
     one_more_track c.args.volume.now c.loop-number.volume c.read_track_of.new.volume k (k / 19) (k % 19) c.args.bytes.now c.loop-number.rest.now c.in-Ok.behind.now
-      c.loop-number.invariant lt (omega arith) (omega arith) c.in-Ok.ensures.ok
+    c.loop-number.invariant lt (omega arith) (omega arith) c.in-Ok.ensures.ok
