@@ -8,7 +8,7 @@ use Rattle.s370_num.specs.Host.{ReadsFront}
 use Rattle.ckd_track.specs.Track.{Record, TrackFormat, cost, capacity}
 use Rattle.ckd_volume.specs.Front.{Cylinder}
 use Rattle.ckd_volume.specs.Volume.{VolumeFormat}
-use Rattle.ckd_image.specs.Image.{track_bytes, tracks_bytes, tracks_total, cylinders_total, two_bytes, four_bytes}
+use Rattle.ckd_image.specs.Image.{track_bytes, tracks_bytes, tracks_total, cylinders_total, two_bytes, four_bytes, image_of}
 use Rattle.ckd_image.specs.declared.header.Version.{Version}
 use Rattle.ckd_image.specs.declared.header.Version.TheVariants.{One, Two}
 use Rattle.ckd_image.specs.declared.faults.ImageError.{ImageError}
@@ -180,3 +180,22 @@ abbrev pub ReadsImage : Option (List ℕ) → Option (List ℕ) → Result Volum
 ReadsImage old new (Err Memory) = ReadsFront old new
 ReadsImage old new (Err (Device k)) = ReadsFront old new
 ReadsImage old new answer = (bytes : List ℕ) × Consumes old new bytes × IsAtEnd new × IsReading bytes answer
+
+-- Bytes are read as one volume, or have one first fault: no two answers fit them.
+abbrev pub OneReading : Type 0
+OneReading = (bytes : List ℕ) (one other : Result VolumeFormat ImageError) → IsReading bytes one → IsReading bytes other → one ≡ other
+
+-- A volume with a serial number that can be read, 1 to 808 cylinders of 19 tracks, and good tracks.
+pub record IsReadable (volume : VolumeFormat) : Type 0 where
+  pub long : length volume.volser ≡ 6
+  pub serial : is_volser volume.volser ≡ true
+  pub some : 0 < length volume.cylinders
+  pub few : length volume.cylinders ≤ 808
+  pub heads : All (λ cylinder. length cylinder ≡ 19) volume.cylinders
+  pub good : All IsGood (all_tracks volume.cylinders)
+
+-- What is written is read back as the same volume, and what is read can be written and read again.
+abbrev pub ReadsBack : Type 0
+ReadsBack =
+    ((volume : VolumeFormat) → IsReadable volume → IsImage (image_of volume) volume)
+    × ((bytes : List ℕ) (volume : VolumeFormat) → IsImage bytes volume → IsReadable volume)
