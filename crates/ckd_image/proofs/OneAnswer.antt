@@ -23,7 +23,7 @@ Answer = Result VolumeFormat ImageError
 cut_not_whole : (rest : List ℕ) → IsCutTrack rest → (t : TrackFormat) (z : List ℕ) → IsSpelled t → rest ≡ track_bytes t ++ z → ⊥
 cut_not_whole rest c t z spelled e =
     let whole : track_bytes t ++ (z ++ c.more) ≡ track_bytes c.track ++ [] =
-        sym (append_assoc (track_bytes t) z c.more) ∙ ap (λ l. l ++ c.more) (sym e) ∙ c.whole ∙ sym (append-nil (track_bytes c.track)) in
+    sym (append_assoc (track_bytes t) z c.more) ∙ ap (λ l. l ++ c.more) (sym e) ∙ c.whole ∙ sym (append-nil (track_bytes c.track)) in
     let same = one_track t c.track (z ++ c.more) [] spelled c.spelled whole in
     absurd (omega (arith, ap length same.rest, length-append z c.more, c.some))
 
@@ -110,13 +110,13 @@ same_cylinders (c ∷ cs) (d ∷ ds) hc hd long e =
     let heads : length c ≡ length d = All-head (λ cylinder. length cylinder ≡ 19) c cs hc ∙ sym (All-head (λ cylinder. length cylinder ≡ 19) d ds hd) in
     ap (λ x. x ∷ cs) (front_same c d (all_tracks cs) (all_tracks ds) heads e)
     ∙ ap (λ x. d ∷ x) (same_cylinders cs ds (All-tail (λ cylinder. length cylinder ≡ 19) c cs hc) (All-tail (λ cylinder. length cylinder ≡ 19) d ds hd) (omega (arith, long))
-        (back_same c d (all_tracks cs) (all_tracks ds) heads e))
+    (back_same c d (all_tracks cs) (all_tracks ds) heads e))
 
 same_volume : (volser : List ℕ) (count : ℕ) (tracks : List TrackFormat) (v w : VolumeFormat) → IsVolumeOf volser count tracks v → IsVolumeOf volser count tracks w → v ≡ w
 same_volume volser count tracks v w hv hw =
     ap (λ x. record { volser = x; cylinders = v.cylinders }) (hv.volser_is ∙ sym hw.volser_is)
     ∙ ap (λ x. record { volser = w.volser; cylinders = x })
-        (same_cylinders v.cylinders w.cylinders hv.heads hw.heads (hv.count_is ∙ sym hw.count_is) (hv.tracks_are ∙ sym hw.tracks_are))
+    (same_cylinders v.cylinders w.cylinders hv.heads hw.heads (hv.count_is ∙ sym hw.count_is) (hv.tracks_are ∙ sym hw.tracks_are))
 
 abbrev pub Ended : List ℕ → ℕ → List TrackFormat → Option ImageError → Answer → Type 0
 Ended volser count tracks told a =
@@ -172,39 +172,44 @@ at_end bytes version volser count tracks rest b e =
 in_track : (bytes : List ℕ) (version : Version) (volser : List ℕ) (count : ℕ) (tracks : List TrackFormat) (rest : List ℕ) → Begins bytes version volser count tracks rest
     → length tracks < 19 * count → ((t : TrackFormat) (z : List ℕ) → IsGood t → rest ≡ track_bytes t ++ z → ⊥) → (a : Answer) → NextWrong (length tracks) rest a → InTrack bytes a
 in_track bytes version volser count tracks rest b lt none a wrong =
-    record
-      { found = record
-          { version = version; volser = volser; count = count; tracks = tracks; rest = rest; begins = b
-          ; stops = record { within = omega (arith, lt); last = λ less. none }
-          }
-      ; next = lt
-      ; wrong = wrong
-      }
+    record {
+      found = record {
+        version = version;
+        volser = volser;
+        count = count;
+        tracks = tracks;
+        rest = rest;
+        begins = b;
+        stops = record { within = omega (arith, lt); last = λ less. none };
+      };
+      next = lt;
+      wrong = wrong;
+    }
 
 faulty : (bytes : List ℕ) (f : ImageError) → IsFault bytes f → Judged bytes (Err f)
 faulty bytes BadMagic h = inl (inr (refl, h))
 faulty bytes Truncated (inl short) = inl (inl (refl, short))
 faulty bytes Truncated (inr (inl h)) =
     inr (inl (in_track bytes h.version h.volser h.count h.tracks h.rest h.begins h.next
-      (λ t z good e. cut_not_whole h.rest h.cut t z good.spelled e) (Err Truncated) (inl (refl, h.cut))))
+    (λ t z good e. cut_not_whole h.rest h.cut t z good.spelled e) (Err Truncated) (inl (refl, h.cut))))
 faulty bytes Truncated (inr (inr h)) =
     inr (inr (record { found = at_end bytes Two h.volser h.count h.tracks h.rest h.begins h.all; all = h.all; ended = inl (Truncated, refl, judged_short (tracks_total h.tracks) h.rest h.cut) }))
 faulty bytes (BadTrack c i) h =
     let full : IsFullTrack (track_bytes h.track ++ h.rest) = record { track = h.track; rest = h.rest; spelled = h.spelled; full = h.full; whole = refl } in
     inr (inl (in_track bytes h.version h.volser h.count h.tracks (track_bytes h.track ++ h.rest) h.begins (omega (arith, h.next, h.cylinders, h.heads))
-      (full_not_good (track_bytes h.track ++ h.rest) full) (Err (BadTrack c i)) (inr (c, i, refl, h.next, h.heads, full))))
+    (full_not_good (track_bytes h.track ++ h.rest) full) (Err (BadTrack c i)) (inr (c, i, refl, h.next, h.heads, full))))
 faulty bytes BadTotal h =
-    inr (inr (record
-      { found = at_end bytes Two h.volser h.count h.tracks (four_bytes h.total ++ h.rest) h.begins h.all
-      ; all = h.all
-      ; ended = inl (BadTotal, refl, judged_other (tracks_total h.tracks) h.total h.rest h.other)
-      }))
+    inr (inr (record {
+      found = at_end bytes Two h.volser h.count h.tracks (four_bytes h.total ++ h.rest) h.begins h.all;
+      all = h.all;
+      ended = inl (BadTotal, refl, judged_other (tracks_total h.tracks) h.total h.rest h.other);
+    }))
 faulty bytes Trailing h =
-    inr (inr (record
-      { found = at_end bytes h.version h.volser h.count h.tracks (end_of h.version (tracks_total h.tracks) ++ h.rest) h.begins h.all
-      ; all = h.all
-      ; ended = inl (Trailing, refl, judged_right h.version (tracks_total h.tracks) h.rest ∙ judged_more h.rest h.some)
-      }))
+    inr (inr (record {
+      found = at_end bytes h.version h.volser h.count h.tracks (end_of h.version (tracks_total h.tracks) ++ h.rest) h.begins h.all;
+      all = h.all;
+      ended = inl (Trailing, refl, judged_right h.version (tracks_total h.tracks) h.rest ∙ judged_more h.rest h.some);
+    }))
 faulty bytes Memory h = absurd h
 faulty bytes (Device k) h = absurd h
 
@@ -214,14 +219,14 @@ judged_so bytes (Ok v) h =
     let tracks = all_tracks v.cylinders in
     let all = all_length v.cylinders h.heads in
     let right : judged h.version (tracks_total tracks) (end_of h.version (cylinders_total v.cylinders)) ≡ None =
-        ap (λ n. judged h.version (tracks_total tracks) (end_of h.version n)) (all_total v.cylinders)
-        ∙ ap (judged h.version (tracks_total tracks)) (sym (append-nil (end_of h.version (tracks_total tracks))))
-        ∙ judged_right h.version (tracks_total tracks) [] in
-    inr (inr (record
-      { found = at_end bytes h.version v.volser (length v.cylinders) tracks (end_of h.version (cylinders_total v.cylinders)) h.begins all
-      ; all = all
-      ; ended = inr (v, refl, right, record { volser_is = refl; count_is = refl; heads = h.heads; tracks_are = refl })
-      }))
+    ap (λ n. judged h.version (tracks_total tracks) (end_of h.version n)) (all_total v.cylinders)
+    ∙ ap (judged h.version (tracks_total tracks)) (sym (append-nil (end_of h.version (tracks_total tracks))))
+    ∙ judged_right h.version (tracks_total tracks) [] in
+    inr (inr (record {
+      found = at_end bytes h.version v.volser (length v.cylinders) tracks (end_of h.version (cylinders_total v.cylinders)) h.begins all;
+      all = all;
+      ended = inr (v, refl, right, record { volser_is = refl; count_is = refl; heads = h.heads; tracks_are = refl });
+    }))
 
 -- a header that was found
 found_long : (bytes : List ℕ) (f : Found bytes) → length bytes < 12 → ⊥
@@ -231,7 +236,7 @@ found_long bytes f lt =
 found_header : (bytes : List ℕ) (f : Found bytes) → HasNoHeader bytes → ⊥
 found_header bytes f h =
     let header : f.begins.header ≡ take 12 bytes =
-        sym (ap (λ l. take 12 l) f.begins.whole ∙ take_at f.begins.header (tracks_bytes f.tracks ++ f.rest) 12 (header_long f.begins.header f.version f.volser f.count f.begins.headed)) in
+    sym (ap (λ l. take 12 l) f.begins.whole ∙ take_at f.begins.header (tracks_bytes f.tracks ++ f.rest) 12 (header_long f.begins.header f.version f.volser f.count f.begins.headed)) in
     h.none f.version f.volser f.count (subst (λ x. IsHeader x f.version f.volser f.count) header f.begins.headed)
 
 not_in_header : (bytes : List ℕ) (f : Found bytes) (a : Answer) → InHeader bytes a → ⊥
@@ -247,7 +252,7 @@ in_track_once : (bytes : List ℕ) (a b : Answer) → InTrack bytes a → InTrac
 in_track_once bytes a b x y =
     let same = alike bytes x.found y.found in
     next_once (length y.found.tracks) y.found.rest a b
-      (subst (λ n. NextWrong n y.found.rest a) (ap length same.tracks) (subst (λ r. NextWrong (length x.found.tracks) r a) same.rest x.wrong)) y.wrong
+    (subst (λ n. NextWrong n y.found.rest a) (ap length same.tracks) (subst (λ r. NextWrong (length x.found.tracks) r a) same.rest x.wrong)) y.wrong
 
 at_end_once : (bytes : List ℕ) (a b : Answer) → AtEnd bytes a → AtEnd bytes b → a ≡ b
 at_end_once bytes a b x y =
@@ -255,9 +260,9 @@ at_end_once bytes a b x y =
     let g = y.found in
     let same = alike bytes f g in
     let told : judged f.version (tracks_total f.tracks) f.rest ≡ judged g.version (tracks_total g.tracks) g.rest =
-        ap (λ v. judged v (tracks_total f.tracks) f.rest) same.version
-        ∙ ap (λ t. judged g.version (tracks_total t) f.rest) same.tracks
-        ∙ ap (judged g.version (tracks_total g.tracks)) same.rest in
+    ap (λ v. judged v (tracks_total f.tracks) f.rest) same.version
+    ∙ ap (λ t. judged g.version (tracks_total t) f.rest) same.tracks
+    ∙ ap (judged g.version (tracks_total g.tracks)) same.rest in
     let one = subst (λ t. Ended f.volser f.count f.tracks t a) told x.ended in
     let two = subst (λ s. Ended s f.count f.tracks (judged g.version (tracks_total g.tracks) g.rest) a) same.volser one in
     let three = subst (λ n. Ended g.volser n f.tracks (judged g.version (tracks_total g.tracks) g.rest) a) same.count two in

@@ -17,16 +17,16 @@ use Rattle.ckd_image.proofs.Unique.{Same, same_front, same_back, one_track}
 
 pub image_written : (v : VolumeFormat) → IsReadable v → IsImage (image_of v) v
 image_written v r =
-    record
-      { version = Two
-      ; heads = r.heads
-      ; begins = record
-          { header = head_of v
-          ; headed = record { spelled = refl; long = r.long; serial = r.serial; some = r.some; few = r.few }
-          ; good = r.good
-          ; whole = ap (λ l. head_of v ++ (l ++ four_bytes (cylinders_total v.cylinders))) (all_bytes v.cylinders)
-          }
-      }
+    record {
+      version = Two;
+      heads = r.heads;
+      begins = record {
+        header = head_of v;
+        headed = record { spelled = refl; long = r.long; serial = r.serial; some = r.some; few = r.few };
+        good = r.good;
+        whole = ap (λ l. head_of v ++ (l ++ four_bytes (cylinders_total v.cylinders))) (all_bytes v.cylinders);
+      };
+    }
 
 few_cylinders : (version : Version) (n : ℕ) → n ≤ Reading.most_cylinders version → n ≤ 808
 few_cylinders One n le = omega (arith, le)
@@ -34,14 +34,14 @@ few_cylinders Two n le = le
 
 pub image_readable : (bytes : List ℕ) (v : VolumeFormat) → IsImage bytes v → IsReadable v
 image_readable bytes v i =
-    record
-      { long = i.begins.headed.long
-      ; serial = i.begins.headed.serial
-      ; some = i.begins.headed.some
-      ; few = few_cylinders i.version (length v.cylinders) i.begins.headed.few
-      ; heads = i.heads
-      ; good = i.begins.good
-      }
+    record {
+      long = i.begins.headed.long;
+      serial = i.begins.headed.serial;
+      some = i.begins.headed.some;
+      few = few_cylinders i.version (length v.cylinders) i.begins.headed.few;
+      heads = i.heads;
+      good = i.begins.good;
+    }
 
 four_long : (version : Version) → length (magic version) ≡ 4
 four_long One = refl
@@ -69,7 +69,7 @@ same_tracks n (t ∷ ts) [] x y ht hu st su e =
 same_tracks zero (t ∷ ts) (u ∷ us) x y ht hu st su e = absurd (omega (arith, st.within))
 same_tracks (suc n) (t ∷ ts) (u ∷ us) x y ht hu st su e =
     let first = one_track t u (tracks_bytes ts ++ x) (tracks_bytes us ++ y) (All-head IsGood t ts ht).spelled (All-head IsGood u us hu).spelled
-        (sym (append_assoc (track_bytes t) (tracks_bytes ts) x) ∙ e ∙ append_assoc (track_bytes u) (tracks_bytes us) y) in
+    (sym (append_assoc (track_bytes t) (tracks_bytes ts) x) ∙ e ∙ append_assoc (track_bytes u) (tracks_bytes us) y) in
     let others = same_tracks n ts us x y (All-tail IsGood t ts ht) (All-tail IsGood u us hu) (stops_tail n t ts x st) (stops_tail n u us y su) first.rest in
     record { this = ap (λ z. z ∷ ts) first.this ∙ ap (λ z. u ∷ z) others.this; rest = others.rest }
 
@@ -100,7 +100,7 @@ pub alike : (bytes : List ℕ) (f g : Found bytes) → Alike f g
 alike bytes f g =
     let whole = sym f.begins.whole ∙ g.begins.whole in
     let long : length f.begins.header ≡ length g.begins.header =
-        header_long f.begins.header f.version f.volser f.count f.begins.headed ∙ sym (header_long g.begins.header g.version g.volser g.count g.begins.headed) in
+    header_long f.begins.header f.version f.volser f.count f.begins.headed ∙ sym (header_long g.begins.header g.version g.volser g.count g.begins.headed) in
     let fr = tracks_bytes f.tracks ++ f.rest in
     let gr = tracks_bytes g.tracks ++ g.rest in
     let header : f.begins.header ≡ g.begins.header = same_front f.begins.header g.begins.header fr gr long whole in

@@ -5,11 +5,9 @@ ghost use Rattle.ckd_image.specs.Reading.{OneReading, ReadsBack};
 /// tells each fault.
 pub fn one_reading()
     ensures { OneReading }
-{
-}
+{}
 
 /// What is written is read back as the same volume, and what is read can be written and read again.
 pub fn reads_back()
     ensures { ReadsBack }
-{
-}
+{}

@@ -54,14 +54,14 @@ fn each_beginning_is_truncated(rt: HostRuntime) -> Result<(), Fail> {
     assert_eq!(rt; fault_of(rt.alloc(), &bytes), None);
     bytes.push(0)?;
     assert_eq!(rt; fault_of(rt.alloc(), &bytes), Some(ImageError::Trailing));
+    assert!(rt; 130 < bytes.len());
     bytes[129] = 1;
     assert_eq!(rt; fault_of(rt.alloc(), &bytes), Some(ImageError::BadTotal));
     bytes[3] = b'1';
-    assert_eq!(rt;
-        fault_of(rt.alloc(), &bytes[..127]),
-        Some(ImageError::Trailing)
-    );
-    assert_eq!(rt; fault_of(rt.alloc(), &bytes[..126]), None);
+    bytes.truncate(127);
+    assert_eq!(rt; fault_of(rt.alloc(), &bytes), Some(ImageError::Trailing));
+    bytes.truncate(126);
+    assert_eq!(rt; fault_of(rt.alloc(), &bytes), None);
     Ok(())
 }
 
@@ -80,6 +80,7 @@ fn headers_that_are_none(rt: HostRuntime) -> Result<(), Fail> {
     ];
     for (place, byte) in changes {
         let mut bytes = small_image(rt.alloc())?;
+        assert!(rt; place < bytes.len());
         bytes[place] = byte;
         assert_eq!(rt;
             fault_of(rt.alloc(), &bytes),
@@ -109,6 +110,7 @@ fn a_track_with_98_records(rt: HostRuntime) -> Result<(), Fail> {
     for number in 0..98u8 {
         bytes.extend_from_slice(&[0, 0, 0, 1, number, 0, 0, 0])?;
     }
+    assert!(rt; 1 <= bytes.len());
     assert_eq!(rt;
         fault_of(rt.alloc(), &bytes[..bytes.len() - 1]),
         Some(ImageError::Truncated)
@@ -117,6 +119,7 @@ fn a_track_with_98_records(rt: HostRuntime) -> Result<(), Fail> {
         fault_of(rt.alloc(), &bytes),
         Some(ImageError::BadTrack(0, 1))
     );
+    assert!(rt; 24 <= small.len());
     bytes.extend_from_slice(&small[24..])?;
     assert_eq!(rt;
         fault_of(rt.alloc(), &bytes),
