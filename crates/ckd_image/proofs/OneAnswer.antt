@@ -1,20 +1,20 @@
 -- No two answers fit the same bytes.
-use Rattle.std.specs.Prelude.{ℕ, zero, suc, ◌+◌, ◌-◌, ◌*◌, ◌/◌, ◌%◌, ◌≡◌, ◌<◌, ◌≤◌, ◌==◌, ◌⊎◌, Bool, true, false, cond, refl, List, [], ◌∷◌, ◌++◌, length, take, drop, get_or, All, Option, Some, None, Result, Ok, Err}
+use Rattle.std.specs.Prelude.{ℕ, ◌+◌, ◌*◌, ◌/◌, ◌%◌, ◌≡◌, ◌<◌, ◌==◌, ◌⊎◌, cond, refl, List, [], ◌∷◌, ◌++◌, length, take, drop, Option, Some, None, Result, Ok, Err}
 use Rattle.std.proofs.Common.{sym, ◌∙◌, ap, subst, arith, append_assoc, append-nil, take_at, length-append, inl, inr, eq-eqb, ne_eqb}
 use Rattle.std.proofs.lemmas.List.Elements.{All-head, All-tail}
-use Rattle.ckd_track.specs.Track.{TrackFormat, cost, capacity}
+use Rattle.ckd_track.specs.Track.{TrackFormat, cost}
 use Rattle.ckd_volume.specs.Front.{Cylinder}
 use Rattle.ckd_volume.specs.Volume.{VolumeFormat}
 use Rattle.ckd_image.specs.Image.{track_bytes, tracks_bytes, tracks_total, cylinders_total, four_bytes}
-use Rattle.ckd_image.specs.Reading.{IsHeader, IsSpelled, IsGood, Begins, IsImage, IsFault, IsReading, IsCutTrack, HasNoHeader, EndsInTrack, EndsInTotal, HasBadTrack, HasBadTotal, HasMore, all_tracks, end_of}
+use Rattle.ckd_image.specs.Reading.{IsHeader, IsSpelled, IsGood, Begins, IsFault, IsReading, IsCutTrack, HasNoHeader, all_tracks, end_of}
 use Rattle.ckd_image.specs.Parts.{IsFullTrack}
 use Rattle.ckd_image.specs.declared.header.Version.{Version}
 use Rattle.ckd_image.specs.declared.header.Version.TheVariants.{One, Two}
 use Rattle.ckd_image.specs.declared.faults.ImageError.{ImageError}
 use Rattle.ckd_image.specs.declared.faults.ImageError.TheVariants.{Memory, BadMagic, Truncated, BadTrack, Trailing, Device, BadTotal}
 use Rattle.ckd_image.proofs.Volumes.{HaveHeads, all_length, all_total}
-use Rattle.ckd_image.proofs.Unique.{Same, one_track}
-use Rattle.ckd_image.proofs.Readings.{Found, Stops, Alike, alike, header_long}
+use Rattle.ckd_image.proofs.Unique.{one_track}
+use Rattle.ckd_image.proofs.Readings.{Found, Stops, alike, header_long}
 
 abbrev pub Answer : Type 0
 Answer = Result VolumeFormat ImageError

@@ -1,18 +1,15 @@
 -- Bytes are read in one way.
-use Rattle.std.specs.Prelude.{ℕ, zero, suc, ◌+◌, ◌-◌, ◌*◌, ◌/◌, ◌%◌, ◌≡◌, ◌<◌, ◌≤◌, ◌==◌, ◌⊎◌, if◌then◌else◌, refl, true, List, [], ◌∷◌, ◌++◌, length, take, drop, get_or, All, Option, Some, None, Result, Ok, Err}
-use Rattle.std.proofs.Common.{sym, ◌∙◌, ap, subst, arith, append_assoc, append-nil, take_at, drop_at, length-append, inl, inr, eq-eqb}
-use Rattle.std.proofs.lemmas.List.Elements.{All-head, All-tail, All-nil, All-cons}
-use Rattle.ckd_track.specs.Track.{Record, TrackFormat, cost, capacity}
-use Rattle.ckd_volume.specs.Front.{Cylinder}
+use Rattle.std.specs.Prelude.{ℕ, zero, suc, ◌*◌, ◌/◌, ◌%◌, ◌≡◌, ◌<◌, ◌≤◌, refl, List, [], ◌∷◌, ◌++◌, length, get_or, All}
+use Rattle.std.proofs.Common.{sym, ◌∙◌, ap, subst, arith, append_assoc, length-append}
+use Rattle.std.proofs.lemmas.List.Elements.{All-head, All-tail}
+use Rattle.ckd_track.specs.Track.{TrackFormat}
 use Rattle.ckd_volume.specs.Volume.{VolumeFormat}
-use Rattle.ckd_image.specs.Image.{track_bytes, tracks_bytes, tracks_total, cylinders_total, two_bytes, four_bytes, image_of, head_of, cylinders_bytes}
+use Rattle.ckd_image.specs.Image.{track_bytes, tracks_bytes, cylinders_total, two_bytes, four_bytes, image_of, head_of}
 use Rattle.ckd_image.specs.Reading
 use Rattle.ckd_image.specs.Reading.{IsHeader, IsSpelled, IsGood, Begins, IsImage, IsFault, IsReading, IsReadable, IsCutTrack, HasNoHeader, EndsInTrack, EndsInTotal, HasBadTrack, HasBadTotal, HasMore, all_tracks, end_of, magic}
 use Rattle.ckd_image.specs.declared.header.Version.{Version}
 use Rattle.ckd_image.specs.declared.header.Version.TheVariants.{One, Two}
-use Rattle.ckd_image.specs.declared.faults.ImageError.{ImageError}
-use Rattle.ckd_image.specs.declared.faults.ImageError.TheVariants.{Memory, BadMagic, Truncated, BadTrack, Trailing, Device, BadTotal}
-use Rattle.ckd_image.proofs.Volumes.{HaveHeads, all_length, all_total, all_bytes}
+use Rattle.ckd_image.proofs.Volumes.{all_bytes}
 use Rattle.ckd_image.proofs.Unique.{Same, same_front, same_back, one_track}
 
 pub image_written : (v : VolumeFormat) → IsReadable v → IsImage (image_of v) v

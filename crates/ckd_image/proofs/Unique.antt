@@ -1,10 +1,10 @@
 -- No track begins another, so bytes are read in one way.
-use Rattle.std.specs.Prelude.{ℕ, zero, suc, ◌+◌, ◌-◌, ◌*◌, ◌/◌, ◌%◌, ◌≡◌, ◌<◌, ◌≤◌, refl, List, [], ◌∷◌, ◌++◌, length, take, drop, get_or, All}
-use Rattle.std.proofs.Common.{sym, ◌∙◌, ap, subst, arith, append_assoc, take_at, drop_at, length-append}
+use Rattle.std.specs.Prelude.{ℕ, ◌/◌, ◌%◌, ◌≡◌, refl, List, [], ◌∷◌, ◌++◌, length, take, drop, get_or, All}
+use Rattle.std.proofs.Common.{sym, ◌∙◌, ap, arith, append_assoc, take_at, drop_at}
 use Rattle.std.proofs.lemmas.List.Elements.{All-head, All-tail}
 use Rattle.ckd_track.specs.Track.{Record, TrackFormat}
-use Rattle.ckd_image.specs.Image.{record_bytes, records_bytes, track_bytes, tracks_bytes}
-use Rattle.ckd_image.specs.Reading.{IsSpelledRecord, IsSpelled, IsGood}
+use Rattle.ckd_image.specs.Image.{record_bytes, records_bytes, track_bytes}
+use Rattle.ckd_image.specs.Reading.{IsSpelledRecord, IsSpelled}
 
 -- lists that are as long, before equal wholes
 pub same_front : (p q x y : List ℕ) → length p ≡ length q → p ++ x ≡ q ++ y → p ≡ q
