@@ -1,0 +1,17 @@
+//! Volumes as texts.
+//!
+//! A text states a volume (docs/FORMATS.md, "Volume texts"), and [`make_volume`] makes exactly the volume that it states, or
+//! tells its first wrong line.
+//!
+//! ```
+//! let volume = make_volume(alloc, b"VOLUME WORK01 10\nREC 0 0 0000000001 - C1C2\n")?;
+//! ```
+#![tactic(auto)]
+
+mod fields;
+mod reader;
+mod statement;
+#[cfg(test)]
+mod tests;
+
+pub use reader::{TextError, make_volume};
