@@ -1,3 +1,5 @@
 pub mod Fields
 pub mod Text
 pub mod Stated
+pub mod Options
+pub mod Faults

@@ -8,10 +8,15 @@
 //! ```
 #![tactic(auto)]
 
+pub mod arguments;
+pub mod faults;
 mod fields;
+mod host;
+pub mod mkvol;
 mod reader;
 mod statement;
 #[cfg(test)]
 mod tests;
 
+pub use host::Ended;
 pub use reader::{TextError, make_volume};
