@@ -3,3 +3,4 @@ pub mod Text
 pub mod Stated
 pub mod Options
 pub mod Faults
+pub mod Map

@@ -12,6 +12,7 @@ pub mod arguments;
 pub mod faults;
 mod fields;
 mod host;
+mod map;
 pub mod mkvol;
 mod reader;
 mod statement;
@@ -19,4 +20,5 @@ mod statement;
 mod tests;
 
 pub use host::Ended;
+pub use map::track_map;
 pub use reader::{TextError, make_volume};

@@ -1,5 +1,8 @@
 //! Volumes that are made of texts.
+use super::arguments::{UsageError, image_path, volume_paths};
+use super::faults::{Failure, fault_line, outcome, status};
 use super::*;
+use ckd_image::ImageError;
 use std::test::Fail;
 
 /// The later of two home addresses of a track stands, and records stand in the order of their lines.
@@ -64,4 +67,109 @@ fn the_first_wrong_line(rt: HostRuntime) {
             Err(TextError::Line(told)) => assert_eq!(rt; told, line, "{text:?}"),
         }
     }
+}
+
+/// The image of the shortest text: a header, 19 tracks of six bytes, and the number of all records.
+#[test]
+fn the_image_of_one_blank_cylinder(rt: HostRuntime) -> Result<(), Fail> {
+    let volume = make_volume(rt.alloc(), b"VOLUME V1 1")?;
+    let bytes = ckd_image::image(rt.alloc(), &volume)?;
+    assert_eq!(rt; bytes.len(), 130);
+    assert!(rt; bytes.starts_with(b"CKD2V1    \x00\x01\x00\x00\x00\x00\x00\x00".as_slice()));
+    assert!(rt; bytes.ends_with(b"\x00\x00\x00\x00\x12\x00\x00\x00\x00\x00".as_slice()));
+    Ok(())
+}
+
+/// A track of 13,165 bytes is filled to its end, and one byte more is refused.
+#[test]
+fn a_full_track(rt: HostRuntime) -> Result<(), Fail> {
+    let digits = vec![in rt.alloc(); b'0'; 26062]?;
+    for (last, line) in [(26060, None), (26062, Some(2))] {
+        let mut text = Vec::new(rt.alloc());
+        text.extend_from_slice(b"VOLUME V1 1\nREC 0 0 0000000001 - ")?;
+        text.extend_from_slice(&digits[..last])?;
+        match (make_volume(rt.alloc(), &text), line) {
+            (Ok(volume), None) => {
+                assert_eq!(rt; volume.cylinder(0).track(0).record(0).content.len(), 13030)
+            }
+            (Err(TextError::Line(told)), Some(line)) => assert_eq!(rt; told, line),
+            _ => return Err(Fail::from("neither")),
+        }
+    }
+    Ok(())
+}
+
+/// Records cost 135 bytes and their data, or 191 bytes, their key and their data; a track with another home address is not
+/// blank.
+#[test]
+fn a_map(rt: HostRuntime) -> Result<(), Fail> {
+    let text =
+        b"VOLUME V1 2\nREC 0 0 0000000001 - C1C2\nREC 0 0 0000000002 D1D2D3 -\nHOME 1 18 8000010012\n";
+    let volume = make_volume(rt.alloc(), text)?;
+    let map = track_map(rt.alloc(), &volume)?;
+    let wanted: &[u8] = b"VOLUME V1 CYLINDERS 2
+TRACK 0 0 HOME 0000000000 RECORDS 2 FILL 331 OF 13165
+  0000000001 KEY 0 DATA 2 COST 137
+  0000000002 KEY 3 DATA 0 COST 194
+TRACK 1 18 HOME 8000010012 RECORDS 0 FILL 0 OF 13165
+BLANK TRACKS 36
+";
+    assert_eq!(rt; map.as_slice(), wanted);
+    Ok(())
+}
+
+/// The words of the programs.
+#[test]
+fn words_of_the_programs(rt: HostRuntime) -> Result<(), Fail> {
+    let words = ["mkvol", "--", "-image", "text"];
+    let paths = volume_paths(rt.alloc(), words.as_slice())?;
+    assert_eq!(rt; paths.out, "-image");
+    assert_eq!(rt; paths.text, "text");
+    assert_eq!(rt;
+        image_path(rt.alloc(), ["trackmap", "image"].as_slice())?,
+        "image"
+    );
+    for words in [
+        ["mkvol", "image"].as_slice(),
+        ["mkvol", "image", "text", "more"].as_slice(),
+        ["mkvol", "--help"].as_slice(),
+    ] {
+        match volume_paths(rt.alloc(), words) {
+            Err(UsageError::Usage(_)) => {}
+            Err(UsageError::Memory) => return Err(Fail::from("no memory")),
+            Ok(_) => return Err(Fail::from("taken")),
+        }
+    }
+    Ok(())
+}
+
+/// Each failure has its line and its exit status.
+#[test]
+fn failures(rt: HostRuntime) -> Result<(), Fail> {
+    for (failure, line, code) in [
+        (Failure::Text(3), "fault: text Line 3", 1),
+        (
+            Failure::Image(ImageError::Truncated),
+            "fault: image Truncated",
+            1,
+        ),
+        (
+            Failure::Image(ImageError::BadTrack(807, 18)),
+            "fault: image BadTrack 807 18",
+            1,
+        ),
+        (
+            Failure::from(ImageError::Device(2)),
+            "fault: file Device 2",
+            3,
+        ),
+        (Failure::File(1), "fault: file Device 1", 3),
+        (Failure::from(TextError::Memory), "fault: memory Memory", 4),
+    ] {
+        assert_eq!(rt; fault_line(rt.alloc(), &failure)?.as_str(), line);
+        assert_eq!(rt; status(&failure), code, "{line}");
+    }
+    assert_eq!(rt; status(&Failure::Usage), 2);
+    assert_eq!(rt; outcome(&Ok(())), 0);
+    Ok(())
 }
