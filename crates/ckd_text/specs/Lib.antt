@@ -4,3 +4,4 @@ pub mod Stated
 pub mod Options
 pub mod Faults
 pub mod Map
+pub mod Grammar

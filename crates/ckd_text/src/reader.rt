@@ -1,6 +1,7 @@
 //! The reader of volume texts: line by line.
 ghost use Rattle.std.specs.Prelude.{◌≡◌, ◌<◌, ◌≤◌, ◌+◌, IfOk, IfErr, OnOk, OnErr, Some, None, Ok, length};
 ghost use Rattle.cp_text.specs.Lines.{lines_of, read_lines};
+ghost use Rattle.ckd_text.specs.Grammar.{ReadsGrammar};
 ghost use Rattle.ckd_text.specs.Stated.{record_in, stated};
 ghost use Rattle.ckd_text.specs.Text as said;
 ghost use Rattle.ckd_text.specs.Text.{first_of, line_step, told, volume_of, with_stated, IsRefusal};
@@ -42,6 +43,12 @@ pub fn make_volume(alloc: Global, text: &[u8]) -> Result<Volume, TextError>
     };
     filled(alloc, volume, lines)
 }
+
+/// What is made is what the grammar of volume texts says, nothing else is accepted, and the line that is told is the first
+/// wrong one.
+pub fn reads_grammar()
+    ensures { ReadsGrammar }
+{}
 
 /// The volume without records that the first line states.
 fn blank_volume(alloc: Global, line: &[u8]) -> Result<Volume, TextError>
