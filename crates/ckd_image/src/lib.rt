@@ -9,9 +9,12 @@
 #![tactic(auto)]
 
 mod faults;
+mod header;
+mod reader;
 #[cfg(test)]
 mod tests;
 mod writer;
 
 pub use faults::ImageError;
+pub use reader::{read_image, volume_of};
 pub use writer::{image, write_image};
