@@ -1,5 +1,5 @@
 -- What is made of a text is in the grammar, and what is in the grammar is made.
-use Rattle.std.proofs.Common.{◌≡◌, ℕ, suc, ◌+◌, ◌≤◌, ◌⊎◌, inl, inr, ◌&&◌, Bool, true, false, cond, leb, List, [], ◌∷◌, ◌++◌, length, codes, Option, Some, None, Result, Ok, Err, refl, ap, sym, ◌∙◌, subst, arith}
+use Rattle.std.proofs.Common.{◌≡◌, ℕ, ◌+◌, ◌≤◌, ◌⊎◌, inl, inr, ◌&&◌, true, cond, leb, List, [], ◌∷◌, ◌++◌, length, codes, Option, Some, None, Ok, Err, refl, ap, sym, ◌∙◌, subst, arith}
 use Rattle.std.specs.Option.{option_map, option_and_then}
 use Rattle.std.specs.Str.{bytes_eq}
 use Rattle.std.proofs.lemmas.Option.{option_and_then_some}
@@ -13,8 +13,8 @@ use Rattle.cp_text.proofs.Firsts.{first_fault_of}
 use Rattle.ckd_track.specs.Track.{Record}
 use Rattle.ckd_volume.specs.Volume.{VolumeFormat, blank_cylinders}
 use Rattle.ckd_text.specs.Fields.{bytes_of, five_of, is_serial, padded, serial_of}
-use Rattle.ckd_text.specs.Text.{Stated, Home, Add, Placed, counted, volume_by, first_of, placed_of, home_by, record_of, add_by, stated_by, stated_of, with_stated, told, line_step, stated_volume, volume_of}
-use Rattle.ckd_text.specs.Grammar.{SaysVolume, SaysPlace, SaysHome, SaysRecord, SaysAdd, Says, Fills, IsText, BeginsWrong, IsFirstWrong, ReadsGrammar}
+use Rattle.ckd_text.specs.Text.{Stated, Home, Add, Placed, counted, volume_by, first_of, placed_of, home_by, record_of, add_by, stated_by, stated_of, with_stated, told, line_step, stated_volume}
+use Rattle.ckd_text.specs.Grammar.{SaysVolume, SaysPlace, SaysRecord, Says, Fills, IsText, BeginsWrong, IsFirstWrong, ReadsGrammar}
 
 is_word : (xs ys : List ℕ) → bytes_eq xs ys ≡ true → xs ≡ ys
 is_word xs ys h = (bytes_eq-Decides xs ys).0 h
