@@ -132,6 +132,7 @@ pub(crate) fn instruct_saving<P: Processor, S: Keyed>(
     save(cpu, spare, storage);
     let stop = perform::<P, S>(cpu, spare, storage);
     match stop {
+        Stop::Done => return Ok(()),
         Stop::Absent(page) => return Err(page),
         _ => {}
     }
