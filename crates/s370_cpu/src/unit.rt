@@ -15,7 +15,7 @@ use crate::fetch_rows::{fetch_row, test_byte_row, word_row};
 use crate::opcodes::{Branching, Opcode, opcode_of};
 use crate::register_rows::{branch_to, load_address, register_operation, register_row};
 use crate::store_rows::{store_row, store_word_row};
-use s370_bytes::move_row;
+use s370_bytes::{move_long_row, move_row};
 use s370_psw::{Ilc, ProgramCode};
 use s370_rows::{Arithmetic, ByteTest, Cpu, Ending, Instruction, Place, Refusal};
 use s370_store::{Storage, load_byte};
@@ -41,6 +41,7 @@ fn perform<S: Storage>(
 {
     // The most frequent instructions need no look at the table.
     match opcode {
+        0x0E => return move_long_row(cpu, storage, i),
         0x18 => return Ok(register_operation(Arithmetic::Load, cpu, i)),
         0x41 => return Ok(load_address(cpu, i)),
         0x46 => return Ok(branch_to(Branching::Count, cpu, place, i)),
@@ -97,6 +98,7 @@ fn step_settled<S: Storage>(cpu: &mut Cpu, storage: &mut S) -> Stop
     }
     // The most frequent instructions have one jump of their own, behind which all is compiled for the one operation code.
     match load_byte(storage, start) {
+        0x0E => carry_known(cpu, storage, start, 0x0E),
         0x18 => carry_known(cpu, storage, start, 0x18),
         0x41 => carry_known(cpu, storage, start, 0x41),
         0x46 => carry_known(cpu, storage, start, 0x46),

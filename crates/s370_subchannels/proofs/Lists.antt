@@ -1,6 +1,6 @@
 -- Lists of subchannels: masks, order, and the place of a device.
-use Rattle.std.proofs.Common.{◌≡◌, ℕ, ◌+◌, ◌-◌, ◌^◌, ◌<◌, ◌≤◌, zero, suc, Bool, true, false, List, [], ◌∷◌, ◌++◌, length, drop, get_or, set, refl, sym, ap, subst, ◌∙◌, arith, min, max, Option, Some, None, inl, inr, ◌⊎◌}
-use Rattle.std.specs.Prelude.{if◌then◌else◌, cond, not, map, ◌==◌, ◌&&◌, ◌/◌, ◌%◌, nat_lt, bit_or, bit_and}
+use Rattle.std.proofs.Common.{◌≡◌, ℕ, ◌+◌, ◌-◌, ◌^◌, ◌<◌, ◌≤◌, zero, suc, Bool, true, false, List, [], ◌∷◌, ◌++◌, length, drop, get_or, set, refl, sym, ap, subst, ◌∙◌, arith, Option, Some, None}
+use Rattle.std.specs.Prelude.{if◌then◌else◌, cond, not, map, ◌&&◌, nat_lt, bit_or, bit_and}
 use Rattle.std.specs.Int.{bit_at}
 use Rattle.std.specs.List.{list_all, position, position_or_len}
 use Rattle.std.proofs.lemmas.Nat.Bits.{bit_at_or, bit_at_and, bit_at-zero, bit_at-pow_same, bit_at-lt}
@@ -14,7 +14,7 @@ use Rattle.s370_subchannels.specs.declared.subchannel.DeviceState.{DeviceState}
 use Rattle.s370_subchannels.specs.declared.subchannel.DeviceState.TheVariants.{Idle, Working, Pending}
 use Rattle.s370_subchannels.specs.declared.subchannel.Status.{Status}
 use Rattle.s370_subchannels.specs.declared.subchannel.Subchannel.{Subchannel}
-use Rattle.s370_subchannels.specs.Subchannels.{AreAbove, AreAscending, channel_mask, first_status, can_add, found, is_at, is_below, mask_in, mask_of, masks_with, new_device, or_else, reset_one, status_in, waiting, with_state}
+use Rattle.s370_subchannels.specs.Subchannels.{AreAbove, AreAscending, first_status, can_add, found, is_at, is_below, mask_in, mask_of, masks_with, new_device, reset_one, status_in, waiting, with_state}
 
 -- ---- masks
 

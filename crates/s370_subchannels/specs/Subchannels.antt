@@ -1,6 +1,6 @@
 -- The subchannels of a machine, one for each device, in the order of their addresses: GA22-7000, "Input/Output Operations"
 -- and "Input/Output Interruption".
-use Rattle.std.specs.Prelude.{◌≡◌, ℕ, ◌-◌, ◌^◌, ◌<◌, ◌==◌, nat_lt, if◌then◌else◌, Bool, true, false, ◌&&◌, List, [], ◌∷◌, ◌++◌, length, map, bit_or, Option, Some, None}
+use Rattle.std.specs.Prelude.{ℕ, ◌-◌, ◌^◌, ◌<◌, ◌==◌, nat_lt, if◌then◌else◌, Bool, true, false, ◌&&◌, List, [], ◌∷◌, length, map, bit_or, Option, Some, None}
 use Rattle.std.specs.List.{list_all}
 use Rattle.s370_num.specs.Address.{channel_of}
 use Rattle.s370_psw.specs.Fields.{Fields, enables_channel}

@@ -6,6 +6,13 @@ use Rattle.s370_cpu.specs.Opcodes.{opcode_at}
 use Rattle.s370_cpu.specs.Table.{row_named, untested}
 use Rattle.s370_cpu.proofs.unit.perform.Goals as goal
 
+pub returns-in-14-clause-row : goal.returns-in-14-clause-row
+unfolding opcode_at
+returns-in-14-clause-row g c =
+    let m = state_of c.args.cpu.now (g.S.Storage.bytes c.args.storage.now) (g.S.Storage.keys c.args.storage.now) in
+    let after = state_of c.move_long_row.new.cpu (g.S.Storage.bytes c.move_long_row.new.storage) (g.S.Storage.keys c.move_long_row.new.storage) in
+    subst (λ (code : ℕ). MeetsRow (row_named (opcode_at code) m c.args.place c.args.i) (g.S.Storage.present c.args.storage.now) m c.move_long_row.result after) (sym (c.requires.same ∙ c.in-14.is)) c.move_long_row.ensures.row
+
 pub returns-in-24-clause-row : goal.returns-in-24-clause-row
 unfolding opcode_at
 returns-in-24-clause-row g c =
