@@ -74,7 +74,7 @@ impl Processor for RealCpu {
 }
 
 /// Goes on with an instruction for the supervisor state that was handed back, and with what follows it. The registers are
-/// copied, since an answer may have to be undone. It is out of line, as [`follow`] is for it.
+/// copied, since an answer may have to be undone. It is out of line, so that the loop over units is for the others.
 #[inline(never)]
 fn instruct_control<P: Processor, S: Keyed>(
     cpu: &mut Cpu,
