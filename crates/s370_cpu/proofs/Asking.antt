@@ -1,5 +1,5 @@
 -- Only instructions for the supervisor state ask a device.
-use Rattle.std.proofs.Common.{◌≡◌, ℕ, ℤ, Bool, true, false, List, [], Option, Some, None, Result, Ok, Err, refl, subst}
+use Rattle.std.proofs.Common.{◌≡◌, ℕ, ℤ, Bool, true, false, Option, Some, None, Result, Ok, Err, subst}
 use Rattle.std.specs.Prelude.{if◌then◌else◌}
 use Rattle.s370_psw.specs.declared.ProgramCode.{ProgramCode}
 use Rattle.s370_rows.specs.declared.cpu.Cpu.{Cpu}
@@ -12,7 +12,7 @@ use Rattle.s370_rows.specs.State.{State}
 use Rattle.s370_rows.specs.Registers.{Ended}
 use Rattle.s370_rows.specs.Product.{Division, division_left}
 use Rattle.s370_rows.specs.Results.{over_result}
-use Rattle.s370_rows.specs.Rows.{Row, Left, Outcome, judged, unless, outcome_of, over, fault_of}
+use Rattle.s370_rows.specs.Rows.{Row, Left, Outcome, judged, unless, outcome_of, fault_of}
 use Rattle.s370_bytes.specs.Decimal.{binary_left, over_result as over_number}
 use Rattle.s370_cpu.specs.declared.opcodes.Opcode.{Opcode}
 use Rattle.s370_cpu.specs.declared.opcodes.Opcode.TheVariants.{Invalid, Supervised, SupervisorCall, Execute, Computes, Fetches, Stores}
@@ -25,7 +25,7 @@ use Rattle.s370_cpu.specs.declared.opcodes.FetchRow.TheVariants.{Word, Halfword,
 use Rattle.s370_cpu.specs.declared.opcodes.StoreRow.{StoreRow}
 use Rattle.s370_cpu.specs.declared.opcodes.StoreRow.TheVariants.{StoreWord, StoreHalfword, StoreCharacter, StoreCharacters, StoreMultiple, ConvertToDecimal, ChangeByte, SwapWord, SwapDoubleword, CombineStrings, Translate, LayOut, MoveLong}
 use Rattle.s370_cpu.specs.Opcodes.{opcode_at}
-use Rattle.s370_cpu.specs.RegisterRows.{branched, register_row, with_even}
+use Rattle.s370_cpu.specs.RegisterRows.{branched, register_row}
 use Rattle.s370_cpu.specs.FetchRows.{fetch_row}
 use Rattle.s370_cpu.specs.StoreRows.{store_row}
 use Rattle.s370_cpu.specs.Table.{is_supervised, row_named, row_of}

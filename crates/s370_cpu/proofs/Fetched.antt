@@ -47,6 +47,10 @@ half_in xs a k j low e =
     let y1 = read_in xs a (a + 6) (k + 1) (j + 1) (omega arith) (omega arith) in
     omega (arith, x0, x1, y0, y1)
 
+-- the first of six bytes
+pub first_of : (bytes six : List ℕ) (a : ℕ) → six ≡ slice_range bytes a (a + 6) → get_or six 0 0 ≡ get_or bytes a 0
+first_of bytes six a is = rw is (read_in bytes a (a + 6) 0 a (omega arith) (omega arith))
+
 abbrev pub made : ℕ → ℕ → ℕ → ℕ → Instruction
 made opcode second h t = record { opcode = opcode; second_byte = second; second_half = if nat_lt opcode 0x40 then 0 else h; third_half = if nat_lt opcode 0xC0 then 0 else t }
 

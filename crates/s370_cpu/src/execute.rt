@@ -9,7 +9,7 @@ use s370_rows::{Cpu, Instruction, Refusal};
 use s370_store::Storage;
 
 /// The operation code of EX.
-const EXECUTE: u8 = 0x44;
+pub const EXECUTE: u8 = 0x44;
 
 /// The target of EX, as EX changes it.
 #[inline(always)]

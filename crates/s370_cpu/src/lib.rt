@@ -20,8 +20,6 @@ mod laws;
 mod opcodes;
 mod register_rows;
 mod store_rows;
-#[cfg(test)]
-mod tests;
 mod unit;
 
 pub use conclude::Stop;

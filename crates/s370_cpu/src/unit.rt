@@ -1,31 +1,37 @@
 //! One unit of a processor: an instruction, or the program interruption that comes in its place.
-ghost use Rattle.std.specs.Prelude.{◌≡◌, ℕ, Bool, false, length};
+ghost use Rattle.std.specs.Prelude.{◌≡◌, ℕ, Bool, Ok, false, length, slice_index};
+ghost use Rattle.s370_store.specs.Access.{IsGranted};
 ghost use Rattle.s370_rows.specs.State.{state_of};
 ghost use Rattle.s370_rows.specs.Rows.{MeetsRow};
+ghost use Rattle.s370_cpu.specs.Fetch.{fetched, halfwords_of, instruction_at};
 ghost use Rattle.s370_cpu.specs.Opcodes.{opcode_at};
 ghost use Rattle.s370_cpu.specs.Table.{MeetsStep, is_supervised, row_of};
+ghost use Rattle.s370_cpu.specs.Unit.{Carries, place_at};
 
 use crate::conclude::{Stop, conclude};
-use crate::execute::execute;
-use crate::fetch::{fetch, length_of};
+use crate::execute::{EXECUTE, execute};
+use crate::fetch::{fetch, length_of, load_known, may_fetch_longest};
 use crate::fetch_rows::{fetch_row, test_byte_row, word_row};
 use crate::opcodes::{Branching, Opcode, opcode_of};
 use crate::register_rows::{branch_to, load_address, register_operation, register_row};
 use crate::store_rows::{store_row, store_word_row};
-use s370_bytes::move_row;
+use s370_bytes::{move_long_row, move_row};
 use s370_psw::{Ilc, ProgramCode};
 use s370_rows::{Arithmetic, ByteTest, Cpu, Ending, Instruction, Place, Refusal};
-use s370_store::Storage;
+use s370_store::{Storage, load_byte};
 
-/// Carries out an instruction of any state that was fetched, but for its address.
+/// Carries out an instruction of any state that was fetched, but for its address. The operation code is passed beside the
+/// instruction, so that where it is a constant all but that instruction's row is left out of the code.
 #[inline(always)]
 fn perform<S: Storage>(
     cpu: &mut Cpu,
     storage: &mut S,
     place: Place,
+    opcode: u8,
     i: Instruction,
 ) -> Result<Ending, Refusal>
-    requires { is_supervised (opcode_at i.opcode) ≡ false }
+    requires same { i.opcode ≡ opcode }
+    requires plain { is_supervised (opcode_at i.opcode) ≡ false }
     ensures row { let before = state_of cpu.old (S.bytes storage.old) (S.keys storage.old) in
         let after = state_of cpu.new (S.bytes storage.new) (S.keys storage.new) in
         MeetsRow (row_of before place i) (S.present storage.old) before result after }
@@ -33,8 +39,9 @@ fn perform<S: Storage>(
     ensures present { S.present storage.new ≡ S.present storage.old }
     ensures rest { S.Keeps storage.old storage.new }
 {
-    // The most frequent instructions have one jump of their own, without a look at the table.
-    match i.opcode {
+    // The most frequent instructions need no look at the table.
+    match opcode {
+        0x0E => return move_long_row(cpu, storage, i),
         0x18 => return Ok(register_operation(Arithmetic::Load, cpu, i)),
         0x41 => return Ok(load_address(cpu, i)),
         0x46 => return Ok(branch_to(Branching::Count, cpu, place, i)),
@@ -46,7 +53,7 @@ fn perform<S: Storage>(
         0xD2 => return move_row(cpu, storage, i),
         _ => {}
     }
-    match opcode_of(i.opcode) {
+    match opcode_of(opcode) {
         Opcode::Invalid => Err(Refusal::Program(ProgramCode::Operation)),
         Opcode::Supervised(_) => unreachable!(),
         Opcode::SupervisorCall => Ok(Ending::SupervisorCall(i.second_byte)),
@@ -85,22 +92,135 @@ fn step_settled<S: Storage>(cpu: &mut Cpu, storage: &mut S) -> Stop
     ensures present { S.present storage.new ≡ S.present storage.old }
     ensures rest { S.Keeps storage.old storage.new }
 {
-    let at = cpu.psw.address();
-    let first = match fetch(cpu, storage, at) {
-        Ok(first) => first,
-        Err(Refusal::Program(code)) => return Stop::Program(code, Ilc::ZERO),
-        Err(Refusal::Absent(page)) => return Stop::Absent(page),
-    };
-    let ilc = length_of(first.opcode);
-    let next = at.wrapping_add(2 * ilc.get() as u32);
-    let i = match execute(cpu, storage, first) {
-        Ok(i) => i,
-        Err(refusal) => return conclude(cpu, Place { next, ilc }, Err(refusal)),
-    };
-    if is_supervised(i.opcode) {
+    let start = cpu.psw.address().get();
+    if !may_fetch_longest(cpu, storage, start) {
+        return step_apart(cpu, storage);
+    }
+    // The most frequent instructions have one jump of their own, behind which all is compiled for the one operation code.
+    match load_byte(storage, start) {
+        0x0E => carry_known(cpu, storage, start, 0x0E),
+        0x18 => carry_known(cpu, storage, start, 0x18),
+        0x41 => carry_known(cpu, storage, start, 0x41),
+        0x46 => carry_known(cpu, storage, start, 0x46),
+        0x47 => carry_known(cpu, storage, start, 0x47),
+        0x50 => carry_known(cpu, storage, start, 0x50),
+        0x58 => carry_known(cpu, storage, start, 0x58),
+        0x5A => carry_known(cpu, storage, start, 0x5A),
+        0x95 => carry_known(cpu, storage, start, 0x95),
+        0xD2 => carry_known(cpu, storage, start, 0xD2),
+        opcode => carry_known(cpu, storage, start, opcode),
+    }
+}
+
+/// As [`step`], where one look is not enough for the fetch.
+#[inline(never)]
+fn step_apart<S: Storage>(cpu: &mut Cpu, storage: &mut S) -> Stop
+    ensures unit { let before = state_of cpu.old (S.bytes storage.old) (S.keys storage.old) in
+        let after = state_of cpu.new (S.bytes storage.new) (S.keys storage.new) in
+        MeetsStep (S.present storage.old) before result after }
+    ensures size { length (S.bytes storage.new) ≡ length (S.bytes storage.old) }
+    ensures present { S.present storage.new ≡ S.present storage.old }
+    ensures rest { S.Keeps storage.old storage.new }
+{
+    match fetch(cpu, storage, cpu.psw.address()) {
+        Ok(first) => carry(cpu, storage, first.opcode, first),
+        Err(Refusal::Program(code)) => Stop::Program(code, Ilc::ZERO),
+        Err(Refusal::Absent(page)) => Stop::Absent(page),
+    }
+}
+
+/// Goes on with the instruction of this operation code, which stands at the instruction address, once one look was enough
+/// for its fetch.
+#[inline(always)]
+fn carry_known<S: Storage>(cpu: &mut Cpu, storage: &mut S, start: u32, opcode: u8) -> Stop
+    requires here { start ≡ cpu.old.psw.address }
+    requires found { let m = state_of cpu.old (S.bytes storage.old) (S.keys storage.old) in
+        (fetched m start).result ≡ Ok (instruction_at (S.bytes storage.old) start) }
+    requires granted { IsGranted (length (S.bytes storage.old)) (S.present storage.old) start 6 }
+    requires known { opcode ≡ slice_index (S.bytes storage.old) start }
+    ensures unit { let before = state_of cpu.old (S.bytes storage.old) (S.keys storage.old) in
+        let after = state_of cpu.new (S.bytes storage.new) (S.keys storage.new) in
+        MeetsStep (S.present storage.old) before result after }
+    ensures size { length (S.bytes storage.new) ≡ length (S.bytes storage.old) }
+    ensures present { S.present storage.new ≡ S.present storage.old }
+    ensures rest { S.Keeps storage.old storage.new }
+{
+    let first = load_known(storage, start, opcode);
+    carry(cpu, storage, opcode, first)
+}
+
+/// Goes on with the instruction that was fetched, of this operation code.
+#[inline(always)]
+fn carry<S: Storage>(cpu: &mut Cpu, storage: &mut S, opcode: u8, first: Instruction) -> Stop
+    requires same { first.opcode ≡ opcode }
+    requires found { let m = state_of cpu.old (S.bytes storage.old) (S.keys storage.old) in
+        (fetched m cpu.old.psw.address).result ≡ Ok first }
+    ensures unit { let before = state_of cpu.old (S.bytes storage.old) (S.keys storage.old) in
+        let after = state_of cpu.new (S.bytes storage.new) (S.keys storage.new) in
+        MeetsStep (S.present storage.old) before result after }
+    ensures size { length (S.bytes storage.new) ≡ length (S.bytes storage.old) }
+    ensures present { S.present storage.new ≡ S.present storage.old }
+    ensures rest { S.Keeps storage.old storage.new }
+{
+    let ilc = length_of(opcode);
+    let next = cpu.psw.address().wrapping_add(2 * ilc.get() as u32);
+    if opcode == EXECUTE {
+        return carry_target(cpu, storage, Place { next, ilc }, first);
+    }
+    finish(cpu, storage, Place { next, ilc }, opcode, first)
+}
+
+/// Goes on with EX, which was fetched: with its target.
+#[inline(never)]
+fn carry_target<S: Storage>(
+    cpu: &mut Cpu,
+    storage: &mut S,
+    place: Place,
+    first: Instruction,
+) -> Stop
+    requires found { let m = state_of cpu.old (S.bytes storage.old) (S.keys storage.old) in
+        (fetched m cpu.old.psw.address).result ≡ Ok first }
+    requires length_code { place.ilc ≡ halfwords_of first.opcode }
+    requires next { let m = state_of cpu.old (S.bytes storage.old) (S.keys storage.old) in
+        place ≡ place_at m place.ilc }
+    ensures unit { let before = state_of cpu.old (S.bytes storage.old) (S.keys storage.old) in
+        let after = state_of cpu.new (S.bytes storage.new) (S.keys storage.new) in
+        MeetsStep (S.present storage.old) before result after }
+    ensures size { length (S.bytes storage.new) ≡ length (S.bytes storage.old) }
+    ensures present { S.present storage.new ≡ S.present storage.old }
+    ensures rest { S.Keeps storage.old storage.new }
+{
+    match execute(cpu, storage, first) {
+        Ok(i) => finish(cpu, storage, place, i.opcode, i),
+        Err(refusal) => conclude(cpu, place, Err(refusal)),
+    }
+}
+
+/// Goes on with the instruction that is carried out, of this operation code.
+#[inline(always)]
+fn finish<S: Storage>(
+    cpu: &mut Cpu,
+    storage: &mut S,
+    place: Place,
+    opcode: u8,
+    i: Instruction,
+) -> Stop
+    requires same { i.opcode ≡ opcode }
+    requires carried { Carries (state_of cpu.old (S.bytes storage.old) (S.keys storage.old)) place.ilc i }
+    requires next { let m = state_of cpu.old (S.bytes storage.old) (S.keys storage.old) in
+        place ≡ place_at m place.ilc }
+    ensures unit { let before = state_of cpu.old (S.bytes storage.old) (S.keys storage.old) in
+        let after = state_of cpu.new (S.bytes storage.new) (S.keys storage.new) in
+        MeetsStep (S.present storage.old) before result after }
+    ensures size { length (S.bytes storage.new) ≡ length (S.bytes storage.old) }
+    ensures present { S.present storage.new ≡ S.present storage.old }
+    ensures rest { S.Keeps storage.old storage.new }
+{
+    let Place { next, ilc } = place;
+    if is_supervised(opcode) {
         return Stop::Privileged(i, ilc);
     }
-    let outcome = perform(cpu, storage, Place { next, ilc }, i);
+    let outcome = perform(cpu, storage, Place { next, ilc }, opcode, i);
     conclude(cpu, Place { next, ilc }, outcome)
 }
 

@@ -72,11 +72,11 @@ not_asked present m m1 (InputOutput operation device) old spare n h = absurd h
 not_asked present m m1 (Privileged i ilc) old spare n h = absurd (n i ilc refl)
 not_asked present m m1 (Absent page) old spare n h = tt
 
--- a copy of the registers that was made before a step that handed back is one of the registers before it
-pub saved_by : (stop : Stop) (old spare : Cpu) → spare ≡ old → IsSaved stop old spare
-saved_by Done old spare e = tt
-saved_by (Program code ilc) old spare e = tt
-saved_by (Svc k ilc) old spare e = tt
-saved_by (InputOutput operation device) old spare e = e
-saved_by (Privileged i ilc) old spare e = tt
-saved_by (Absent page) old spare e = tt
+-- what is not handed back is the unit
+pub stepped : (present : ℕ → Bool) (m m1 : State) (stop : Stop) → ((i : Rattle.s370_rows.specs.declared.instruction.Instruction.Instruction) (ilc : ℕ) → stop ≡ Privileged i ilc → ⊥) → MeetsStep present m stop m1 → MeetsUnit (unit m) present m stop m1
+stepped present m m1 Done n h = h
+stepped present m m1 (Program code ilc) n h = h
+stepped present m m1 (Svc k ilc) n h = h
+stepped present m m1 (InputOutput operation device) n h = absurd h
+stepped present m m1 (Privileged i ilc) n h = absurd (n i ilc refl)
+stepped present m m1 (Absent page) n h = h

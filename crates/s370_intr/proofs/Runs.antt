@@ -1,5 +1,5 @@
 -- A run of units done, and what comes after it.
-use Rattle.std.proofs.Common.{◌≡◌, ℕ, ◌+◌, ◌-◌, ◌<◌, ◌≤◌, zero, suc, Bool, true, false, Option, None, Some, length, List, [], ◌∷◌, ◌++◌, refl, sym, ◌∙◌, ap, arith, subst, add-one, inl, inr, ◌⊎◌}
+use Rattle.std.proofs.Common.{◌≡◌, ℕ, ◌+◌, ◌<◌, ◌≤◌, zero, suc, Bool, true, false, Option, None, Some, length, List, [], ◌∷◌, ◌++◌, refl, sym, ◌∙◌, ap, arith, subst, inl, inr, ◌⊎◌}
 use Rattle.std.specs.Prelude.{if◌then◌else◌, ◌==◌}
 use Rattle.s370_intr.specs.declared.pending.Pending.{Pending}
 use Rattle.s370_intr.specs.declared.next.Next.{Next}

@@ -5,7 +5,7 @@ use Rattle.s370_store.specs.declared.supply.FramesOut.{FramesOut as Lack}
 use Rattle.s370_intr.specs.declared.next.Next.{Next}
 use Rattle.s370_intr.specs.declared.next.Next.TheVariants.{Stops, Accepts, AcceptsStatus, Instructs}
 use Rattle.s370_intr.specs.declared.next.Reason.{Reason}
-use Rattle.s370_intr.specs.declared.next.Reason.TheVariants.{Stopped, Count, EcMode, Wait, DisabledWait, FramesOut}
+use Rattle.s370_intr.specs.declared.next.Reason.TheVariants.{Count, FramesOut}
 use Rattle.s370_intr.specs.Units.{Core, look, unit_at, Needs, NeedsAt}
 
 -- what a run leaves, how many units it did, and why it did no more

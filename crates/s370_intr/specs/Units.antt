@@ -2,7 +2,7 @@
 -- conditions, or of a status of a device.
 -- GA22-7000, "Interruptions", "Program Interruption", "Supervisor-Call Interruption", "External Interruption" and
 -- "Input/Output Interruption".
-use Rattle.std.specs.Prelude.{◌≡◌, ℕ, ◌-◌, ◌/◌, ◌%◌, ◌^◌, ◌==◌, if◌then◌else◌, Bool, true, false, not, ◌&&◌, ◌||◌, List, length, slice_index, bit_or, Option, Some, None, Result, Ok, Err, ⊤, ◌⊎◌}
+use Rattle.std.specs.Prelude.{◌≡◌, ℕ, ◌-◌, ◌/◌, ◌%◌, ◌^◌, ◌==◌, if◌then◌else◌, Bool, not, ◌&&◌, ◌||◌, List, length, slice_index, bit_or, Option, Some, None, Result, Ok, Err, ⊤, ◌⊎◌}
 use Rattle.s370_psw.specs.Fields.{Fields, enables_external}
 use Rattle.s370_psw.specs.ProgramCode.{program_number}
 use Rattle.s370_store.specs.Access.{IsAway}

@@ -46,9 +46,15 @@ pub fn look(cpu: &Cpu, pending: Pending, subchannels: &Subchannels) -> Next
     if cpu.psw.is_ec() {
         return Next::Stops(Reason::EcMode);
     }
-    let enabled = pending.enabled(cpu);
-    if enabled.is_any() {
-        return Next::Accepts(enabled);
+    // Before nearly every unit nothing is pending, which two tests tell.
+    if pending.is_any() {
+        let enabled = pending.enabled(cpu);
+        if enabled.is_any() {
+            return Next::Accepts(enabled);
+        }
+    }
+    if subchannels.is_quiet(&cpu.psw) {
+        return waits(&cpu.psw);
     }
     offered(subchannels.first_status(&cpu.psw), &cpu.psw)
 }

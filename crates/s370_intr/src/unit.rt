@@ -2,12 +2,13 @@
 ghost use Rattle.std.specs.Prelude.{◌≡◌, ℕ, ◌≤◌, ◌⊎◌, true, length};
 ghost use Rattle.s370_rows.specs.State.{state_of};
 ghost use Rattle.s370_cpu.specs.Opcodes.{opcode_at};
-ghost use Rattle.s370_cpu.specs.Table.{is_supervised, supervised, unit};
+ghost use Rattle.s370_cpu.specs.Table.{MeetsStep, is_supervised, supervised};
 ghost use Rattle.s370_cpu.specs.Unit.{MeetsUnit};
 ghost use Rattle.s370_intr.specs.Swap.{MeetsSwap, swapped};
 ghost use Rattle.s370_intr.specs.InputOutput.{configuration_of};
-ghost use Rattle.s370_intr.specs.Units.{IsSaved, MeetsFollowed, MeetsInstruction, MeetsPresented, MeetsUnitAt, core_of};
+ghost use Rattle.s370_intr.specs.Units.{MeetsFollowed, MeetsInstruction, MeetsPresented, MeetsUnitAt, core_of};
 ghost use Rattle.s370_intr.specs.declared.next.Next.TheVariants as next;
+ghost use Rattle.s370_cpu.specs.declared.conclude.Stop.TheVariants as stops;
 
 use crate::class::Class;
 use crate::input_output::answer_asked;
@@ -72,25 +73,39 @@ impl Processor for RealCpu {
     }
 }
 
-/// One instruction, up to the stop that it ends in. The registers are copied where an answer may have to be undone: only
-/// an instruction for the supervisor state asks a device.
-#[inline(always)]
-fn perform<P: Processor, S: Keyed>(cpu: &mut Cpu, spare: &mut Cpu, storage: &mut S) -> Stop
-    ensures unit { let before = state_of cpu.old (S.Storage.bytes storage.old) (S.Storage.keys storage.old) in
-        let after = state_of cpu.new (S.Storage.bytes storage.new) (S.Storage.keys storage.new) in
-        MeetsUnit (unit before) (S.Storage.present storage.old) before result after }
-    ensures saved { IsSaved result cpu.old spare.new }
-    ensures copy { (spare.new ≡ spare.old) ⊎ (spare.new ≡ cpu.old) }
+/// Goes on with an instruction for the supervisor state that was handed back, and with what follows it. The registers are
+/// copied, since an answer may have to be undone. It is out of line, so that the loop over units is for the others.
+#[inline(never)]
+fn instruct_control<P: Processor, S: Keyed>(
+    cpu: &mut Cpu,
+    subchannels: &mut Subchannels,
+    storage: &mut S,
+    i: Instruction,
+    ilc: Ilc,
+) -> Result<(), Page>
+    requires size { 8192 ≤ length (S.Storage.bytes storage.old) }
+    requires handed { let m = state_of cpu.old (S.Storage.bytes storage.old) (S.Storage.keys storage.old) in
+        MeetsStep (S.Storage.present storage.old) m (stops.Privileged i ilc) m }
+    ensures instruction { let before = configuration_of (state_of cpu.old (S.Storage.bytes storage.old) (S.Storage.keys storage.old)) subchannels.old in
+        let after = configuration_of (state_of cpu.new (S.Storage.bytes storage.new) (S.Storage.keys storage.new)) subchannels.new in
+        MeetsInstruction (S.Storage.present storage.old) before result after }
     ensures size { length (S.Storage.bytes storage.new) ≡ length (S.Storage.bytes storage.old) }
     ensures present { S.Storage.present storage.new ≡ S.Storage.present storage.old }
     ensures rest { S.Storage.Keeps storage.old storage.new }
 {
-    match step(cpu, storage) {
-        Stop::Privileged(i, ilc) => {
-            *spare = *cpu;
-            P::control(cpu, storage, i, ilc)
+    let spare = *cpu;
+    let stop = P::control(cpu, storage, i, ilc);
+    match stop {
+        Stop::Absent(page) => return Err(page),
+        _ => {}
+    }
+    match follow::<P, S>(cpu, subchannels, storage, stop) {
+        Ok(()) => Ok(()),
+        Err(page) => {
+            // What interrupts, or asks a device, has changed registers alone.
+            *cpu = spare;
+            Err(page)
         }
-        stop => stop,
     }
 }
 
@@ -130,15 +145,19 @@ pub(crate) fn instruct_saving<P: Processor, S: Keyed>(
     ensures rest { S.Storage.Keeps storage.old storage.new }
 {
     save(cpu, spare, storage);
-    let stop = perform::<P, S>(cpu, spare, storage);
+    let stop = step(cpu, storage);
     match stop {
+        Stop::Done => return Ok(()),
         Stop::Absent(page) => return Err(page),
+        Stop::Privileged(i, ilc) => {
+            return instruct_control::<P, S>(cpu, subchannels, storage, i, ilc);
+        }
         _ => {}
     }
     match follow::<P, S>(cpu, subchannels, storage, stop) {
         Ok(()) => Ok(()),
         Err(page) => {
-            // What interrupts, or asks a device, has changed registers alone.
+            // What interrupts has changed registers alone.
             *cpu = *spare;
             Err(page)
         }

@@ -1,5 +1,5 @@
 //! The subchannels of a machine.
-ghost use Rattle.std.specs.Prelude.{◌≡◌, ◌++◌, ◌∷◌, [], map, true, IfOk, OnErr};
+ghost use Rattle.std.specs.Prelude.{◌≡◌, ◌++◌, ◌∷◌, [], map, true, None, IfOk, OnErr};
 ghost use Rattle.std.specs.Option.{option_map};
 ghost use Rattle.std.specs.List.{list_all, list_any, position};
 ghost use Rattle.s370_subchannels.specs.Serving.{is_started};
@@ -167,12 +167,20 @@ impl Subchannels {
         }
     }
 
+    /// Whether one look tells that no status interrupts: none is pending on a channel that is enabled.
+    #[inline(always)]
+    pub fn is_quiet(&self, psw: &Psw) -> bool
+        ensures { result ≡ true → first_status psw.now self.now ≡ None }
+    {
+        self.masks & psw.system_mask() == 0
+    }
+
     /// The status of the lowest device that waits to interrupt.
     #[inline(always)]
     pub fn first_status(&self, psw: &Psw) -> Option<Status>
         ensures { result ≡ first_status psw.now self.now }
     {
-        if self.masks & psw.system_mask() == 0 {
+        if self.is_quiet(psw) {
             return None;
         }
         self.search_status(psw)

@@ -1,9 +1,8 @@
-use Rattle.std.proofs.Common.{◌≡◌, ℕ, List, [], ◌∷◌, ◌++◌, ◌∙◌, ap, subst}
+use Rattle.std.proofs.Common.{[], ◌∷◌, ◌++◌, ◌∙◌, ap, subst}
 use Rattle.s370_rows.specs.State.{state_of}
 use Rattle.s370_intr.specs.InputOutput.{Configuration}
 use Rattle.s370_intr.specs.declared.next.Next.TheVariants.{AcceptsStatus}
 use Rattle.s370_intr.specs.Units.{Core, NeedsAt, core_of}
-use Rattle.s370_intr.specs.Run.{AllNeeded}
 use Rattle.s370_intr.proofs.Runs.{all_needed}
 use Rattle.s370_intr.proofs.run.accept_status_supplied.Goals as goal
 

@@ -1,8 +1,7 @@
-use Rattle.std.proofs.Common.{◌≡◌, ℕ, List, [], ◌∷◌, ◌++◌, ◌∙◌, subst}
+use Rattle.std.proofs.Common.{[], ◌∷◌, ◌++◌, ◌∙◌, subst}
 use Rattle.s370_rows.specs.State.{state_of}
-use Rattle.s370_intr.specs.declared.next.Next.TheVariants.{Instructs, Accepts}
+use Rattle.s370_intr.specs.declared.next.Next.TheVariants.{Accepts}
 use Rattle.s370_intr.specs.Units.{Core, NeedsAt, core_of}
-use Rattle.s370_intr.specs.Run.{AllNeeded}
 use Rattle.s370_intr.proofs.Runs.{all_needed}
 use Rattle.s370_intr.proofs.run.accept_supplied.Goals as goal
 

@@ -1,6 +1,6 @@
 use Rattle.std.proofs.Common.{◌≡◌, ℕ, List}
 use Rattle.s370_rows.specs.State.{state_of}
-use Rattle.s370_intr.specs.declared.next.Next.TheVariants.{Instructs, Accepts}
+use Rattle.s370_intr.specs.declared.next.Next.TheVariants.{Accepts}
 use Rattle.s370_intr.specs.Units.{NeedsAt, core_of}
 use Rattle.s370_intr.specs.Run.{AllNeeded}
 use Rattle.s370_intr.proofs.run.accept_supplied.Given as goal

@@ -1,9 +1,9 @@
-use Rattle.std.proofs.Common.{◌≡◌, ℕ, List, [], ◌∷◌, ◌++◌, ◌∙◌, subst, sym, arith, refl, inl, inr, ◌+◌, ap}
+use Rattle.std.proofs.Common.{◌≡◌, [], ◌++◌, ◌∙◌, subst, sym, arith, refl, inl, inr, ◌+◌}
 use Rattle.s370_rows.specs.State.{state_of}
 use Rattle.s370_intr.specs.declared.next.Next.{Next}
 use Rattle.s370_intr.specs.declared.next.Reason.TheVariants.{Count, FramesOut}
-use Rattle.s370_intr.specs.Units.{Core, NeedsAt, core_of, look, unit_at}
-use Rattle.s370_intr.specs.Run.{AllNeeded, RunNeeds}
+use Rattle.s370_intr.specs.Units.{NeedsAt, core_of, look, unit_at}
+use Rattle.s370_intr.specs.Run.{AllNeeded}
 use Rattle.s370_intr.proofs.Runs.{all_needed, later_needs, next_needs, not_stopped, does_more, tells_stop, tells_cut, Goes}
 use Rattle.s370_intr.proofs.run.run_units.Goals as goal
 

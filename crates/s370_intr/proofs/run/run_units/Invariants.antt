@@ -1,4 +1,4 @@
-use Rattle.std.proofs.Common.{◌≡◌, ℕ, List, ◌≤◌, length}
+use Rattle.std.proofs.Common.{◌≡◌, ℕ, List, length}
 use Rattle.s370_rows.specs.State.{state_of}
 use Rattle.s370_intr.specs.Units.{core_of}
 use Rattle.s370_intr.specs.Run.{AllNeeded, RunNeeds, run}

@@ -1,6 +1,7 @@
 //! Which operation codes there are, and what a base or index field of zero names.
 use super::{place, ran};
-use crate::{Stop, step, supervise};
+use crate::supervised;
+use s370_cpu::Stop;
 use s370_psw::Psw;
 use s370_rows::Cpu;
 use s370_store::PlainStorage;
@@ -43,10 +44,7 @@ fn end_of(alloc: Global, first: u8, problem: bool) -> Result<Stop, Fail> {
         control: [0; 16],
         psw: Psw::from_word(if problem { 0x00010000_00000100 } else { 0x100 }),
     };
-    match step(&mut cpu, &mut storage) {
-        Stop::Privileged(i, ilc) => Ok(supervise(&mut cpu, &mut storage, i, ilc)),
-        end => Ok(end),
-    }
+    Ok(supervised(&mut cpu, &mut storage))
 }
 
 /// The number of the program interruption that a first byte ends by, or zero.
