@@ -15,7 +15,7 @@ one_printed output lines k text said inside is short cut =
     let there : said ≡ get_or lines k text = whole ∙ is in
     let more : suc k ≡ k + 1 = omega arith in
     let next : take k lines ++ said ∷ [] ≡ take (k + 1) lines =
-        ap (λ (x : List ℕ). take k lines ++ x ∷ []) there ∙ sym (take-suc lines k text inside) ∙ ap (λ (n : ℕ). take n lines) more in
+    ap (λ (x : List ℕ). take k lines ++ x ∷ []) there ∙ sym (take-suc lines k text inside) ∙ ap (λ (n : ℕ). take n lines) more in
     append_assoc output (take k lines) (said ∷ []) ∙ ap (λ (xs : List (List ℕ)). output ++ xs) next
 
 -- all were printed

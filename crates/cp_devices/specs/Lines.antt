@@ -119,7 +119,7 @@ close_answered w device e = let kind = kind_at e.devices device in closed_where 
 abbrev pub purge_answered : ℕ → Equipped → Outcome
 purge_answered file e =
     outcome (record e { devices = with_deck_purged e.devices file })
-      (Said (if is_some (queued_at e.devices.reader file) then responses.Purged else responses.FileNotFound))
+    (Said (if is_some (queued_at e.devices.reader file) then responses.Purged else responses.FileNotFound))
 
 abbrev pub files_told : List DeckValue → Told
 files_told [] = Said responses.NoFiles

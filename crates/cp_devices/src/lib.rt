@@ -20,9 +20,9 @@ mod places;
 mod request;
 mod serve;
 mod spooling;
-mod world;
 #[cfg(test)]
 mod tests;
+mod world;
 
 pub use devices::Devices;
 pub use disks::AttachedDisk;

@@ -1,7 +1,6 @@
 //! What a line of one machine may ask of the others.
 ghost use Rattle.std.specs.Prelude.{◌≡◌, ◌+◌};
 ghost use Rattle.cp_users.specs.Users.{user_of};
-
 ghost use Rattle.cp_devices.specs.World.{World as Known};
 
 /// What the control program knows beside one machine: its users, who of them is logged on, and the files so far.

@@ -16,7 +16,7 @@ returns-in-Resets-clause-ok g c =
     let after : Equipped = equipped c.reset_machine.new.machine c.reset_machine.new.self bytes keys in
     let has = c.is_some-has_console.ensures ∙ ap (λ (p : Places). is_some p.console) c.places.ensures in
     let judged : requested c.args.typed.now before ≡ Resets =
-        requested_is Resets before c.args.typed.now c.as_slice.result.now c.mode.result c.is_some-has_console.result c.in-Resets.ensures c.mode.ensures has (c.as_slice.ensures.value ∙ c.new-text.ensures) in
+    requested_is Resets before c.args.typed.now c.as_slice.result.now c.mode.result c.is_some-has_console.result c.in-Resets.ensures c.mode.ensures has (c.as_slice.ensures.value ∙ c.new-text.ensures) in
     subst (λ (q : Request). IfOk c.reset_machine.result (λ told. IsAnswered q (g.W.World.known c.args.world.now) c.args.typed.now before told after)) (sym judged) (c.reset_machine.ensures.ok bytes keys)
 
 pub returns-in-Resets-clause-err : goal.returns-in-Resets-clause-err
@@ -30,7 +30,7 @@ returns-in-Types-clause-ok g c =
     let after : Equipped = equipped c.type_line.new.machine c.type_line.new.self bytes keys in
     let has = c.is_some-has_console.ensures ∙ ap (λ (p : Places). is_some p.console) c.places.ensures in
     let judged : requested c.args.typed.now before ≡ Types =
-        requested_is Types before c.args.typed.now c.as_slice.result.now c.mode.result c.is_some-has_console.result c.in-Types.ensures c.mode.ensures has (c.as_slice.ensures.value ∙ c.new-text.ensures) in
+    requested_is Types before c.args.typed.now c.as_slice.result.now c.mode.result c.is_some-has_console.result c.in-Types.ensures c.mode.ensures has (c.as_slice.ensures.value ∙ c.new-text.ensures) in
     let typed = typed_is c.type_line.result c.as_slice-in-Types.result.now c.args.typed.now before after (c.as_slice-in-Types.ensures.value ∙ c.new-text.ensures) (c.type_line.ensures.ok bytes keys) in
     subst (λ (q : Request). IfOk c.type_line.result (λ told. IsAnswered q (g.W.World.known c.args.world.now) c.args.typed.now before told after)) (sym judged) typed
 

@@ -21,10 +21,10 @@ returns-clause-runs g c =
     let old : DevicesValue = record { places = c.self.inside.places; console = c.self.inside.console; reader = c.self.inside.reader; punch = c.self.inside.punch; printer = c.self.inside.printer; target = c.self.inside.target; disks = c.self.inside.disks.items } in
     let new : DevicesValue = with_console old c.forget_lines.new.self in
     subst (λ (d : DevicesValue). RunsConsole c.args.device (equipped c.args.machine.now d bytes keys) c.in_ok-done.done (equipped c.print_written.new.machine new bytes_left keys_left)) c.self.view_is
-      (record {
-        walked = machine_of c.serve.new.self bytes_left keys_left;
-        console = c.serve.new.part;
-        served = subst (λ (m : Parts). Serves console_machine c.args.device (machine_of m bytes keys) c.self.inside.console c.in_ok-done.done (machine_of c.serve.new.self bytes_left keys_left) c.serve.new.part) c.set_attention.ensures c.in_ok-done.ensures.served;
-        machine = served_on c.serve.new.self c.attend_where.new.machine c.print_written.new.machine c.args.device c.attention.result _ _ _ bytes_left keys_left c.attention.ensures c.attend_where.ensures c.in-Ok.ensures;
-        devices = ap (λ (console : ConsoleState). with_console old console) c.forget_lines.ensures;
-      })
+    (record {
+      walked = machine_of c.serve.new.self bytes_left keys_left;
+      console = c.serve.new.part;
+      served = subst (λ (m : Parts). Serves console_machine c.args.device (machine_of m bytes keys) c.self.inside.console c.in_ok-done.done (machine_of c.serve.new.self bytes_left keys_left) c.serve.new.part) c.set_attention.ensures c.in_ok-done.ensures.served;
+      machine = served_on c.serve.new.self c.attend_where.new.machine c.print_written.new.machine c.args.device c.attention.result _ _ _ bytes_left keys_left c.attention.ensures c.attend_where.ensures c.in-Ok.ensures;
+      devices = ap (λ (console : ConsoleState). with_console old console) c.forget_lines.ensures;
+    })
