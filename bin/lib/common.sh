@@ -38,11 +38,37 @@ wrong_use() {
     exit 2
 }
 
-# the statuses of a command that builds and runs, for its usage text
+# check_paths COUNT WORD..: refuses at once what a program of so many paths would refuse after its build
+check_paths() {
+    wanted_paths=$1
+    shift
+    paths=0
+    are_options=true
+    for word in "$@"; do
+        case $are_options$word in
+        true--) are_options=false ;;
+        true-?*) wrong_use ;;
+        *) paths=$((paths + 1)) ;;
+        esac
+    done
+    [ "$paths" -eq "$wanted_paths" ] || wrong_use
+    check_texts "$@"
+}
+
+# the programs read their words as texts
+check_texts() {
+    command -v iconv > /dev/null || return 0
+    printf '%s' "$*" | iconv -f UTF-8 -t UTF-8 > /dev/null 2>&1 || {
+        say "a path is no UTF-8 text: name the file by another path, as a link to it"
+        wrong_use
+    }
+}
+
+# the statuses of a command that builds and runs, for its usage text; 1 is said of what is named, or of directory and script
 build_statuses() {
     cat <<END
   0   it ended well
-  1   the directory or the script is refused; standard error says where
+  1   ${1-the directory or the script} is refused; standard error says where
   2   a wrong use, or a question for this text
   3   a file failed
   4   the host had no memory

@@ -1,10 +1,10 @@
 -- Laws of images, part by part.
-use Rattle.std.specs.Prelude.{ℕ, zero, suc, ◌+◌, ◌≡◌, ◌<◌, ◌≤◌, refl, List, [], ◌∷◌, ◌++◌, length, drop, slice_index_or}
+use Rattle.std.specs.Prelude.{ℕ, zero, suc, ◌+◌, ◌≡◌, ◌<◌, refl, List, [], ◌∷◌, ◌++◌, length, drop, slice_index_or}
 use Rattle.std.proofs.Common.{sym, ◌∙◌, ap, arith, append_assoc}
 use Rattle.std.specs.Prelude.{Option, None, Some}
 use Rattle.std.proofs.Common.{append-nil}
 use Rattle.s370_num.specs.Host.{AppendsFront}
-use Rattle.ckd_track.specs.Track.{Record, TrackFormat, no_record}
+use Rattle.ckd_track.specs.Track.{Record, no_record}
 use Rattle.ckd_volume.specs.Front.{Cylinder, no_track}
 use Rattle.ckd_image.specs.Image.{record_bytes, records_bytes, track_bytes, tracks_bytes, cylinders_bytes, tracks_total, cylinders_total}
 

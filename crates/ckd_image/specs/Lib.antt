@@ -1,2 +1,4 @@
 pub mod Image
 pub mod Faults
+pub mod Reading
+pub mod Parts

@@ -85,7 +85,7 @@ fn records_of(cylinder: &Cylinder) -> u32
 
 /// How many records a volume has.
 #[tactic(auto, using(crate::proofs::Parts::cylinders_total_on))]
-fn total_of(volume: &Volume) -> u32
+pub fn total_of(volume: &Volume) -> u32
     ensures { result ≡ cylinders_total volume.now.cylinders }
 {
     let mut total = 0;

@@ -1,5 +1,5 @@
 //! A cylinder: the tracks that the heads of the arm reach without a seek.
-ghost use Rattle.std.specs.Prelude.{◌≡◌, ◌<◌, ◌/◌, ◌%◌, [], ◌∷◌, length, Option, Some, None, IfOk, IsSome, ◌↔◌};
+ghost use Rattle.std.specs.Prelude.{◌≡◌, ◌<◌, ◌/◌, ◌%◌, [], ◌∷◌, length, Option, Some, None, IfOk, IfSome, IsSome, ◌↔◌};
 ghost use Rattle.ckd_volume.specs.Volume.{blank_tracks, home_of};
 ghost use Rattle.ckd_volume.specs.Front.{track_at};
 
@@ -80,6 +80,7 @@ impl Cylinder {
     pub(crate) fn head_mut(&mut self, head: usize) -> Option<&mut Track>
         ensures* writes_back { sem 𝓛 (LendsHead self.entry head result) }
         ensures some { IsSome result ↔ (head < 19) }
+        ensures value { IfSome result (λ track. track.now ≡ track_at self.old head) }
     {
         self.tracks.get_mut(head)
     }

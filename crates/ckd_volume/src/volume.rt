@@ -1,5 +1,6 @@
 //! A volume: its serial number, and its cylinders.
-ghost use Rattle.std.specs.Prelude.{◌≡◌, ◌<◌, ◌≤◌, ◌+◌, ◌↔◌, Err, [], length, slice_index_or, IfOk, OnErr, IsSome};
+ghost use Rattle.std.specs.Prelude.{◌≡◌, ◌<◌, ◌≤◌, ◌+◌, ◌↔◌, Err, [], length, slice_index_or, IfOk, IfSome, OnErr, IsSome};
+ghost use Rattle.ckd_volume.specs.Front.{track_at};
 ghost use Rattle.ckd_volume.specs.Volume.{blank_cylinders, IsCount};
 ghost use Rattle.ckd_volume.specs.declared.volume.VolumeError.TheVariants as errors;
 
@@ -112,6 +113,7 @@ impl Volume {
     pub fn track_mut(&mut self, cylinder: usize, head: usize) -> Option<&mut Track>
         ensures* writes_back { sem 𝓛 (LendsTrackOf self.entry cylinder head result) }
         ensures some { IsSome result ↔ ((cylinder < length self.old.cylinders) × (head < 19)) }
+        ensures value { IfSome result (λ track. track.now ≡ track_at (slice_index_or self.old.cylinders cylinder []) head) }
     {
         let there = self.cylinders.get_mut(cylinder)?;
         there.head_mut(head)

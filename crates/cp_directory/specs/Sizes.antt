@@ -1,6 +1,6 @@
 -- Sizes of storage.
 use Rattle.std.specs.Prelude.{ℕ, ◌+◌, ◌-◌, ◌*◌, ◌/◌, ◌%◌, ◌==◌, ◌&&◌, Bool, false, not, if◌then◌else◌, nat_le, List, [], ◌∷◌, length, take, slice_index, Option, Some, None}
-use Rattle.std.specs.Option.{option_map}
+use Rattle.std.specs.Option.{option_map, option_and_then}
 use Rattle.std.specs.List.{list_all}
 use Rattle.cp_text.specs.Numbers.{is_digit}
 
@@ -33,3 +33,7 @@ is_size kilobytes = kilobytes % 4 == 0 && nat_le 8 kilobytes && nat_le kilobytes
 -- the pages of so many kilobytes, where a storage may have them
 abbrev pub pages_of : ℕ → Option ℕ
 pages_of kilobytes = if is_size kilobytes then Some (kilobytes / 4) else None
+
+-- the pages of the storage that a word spells, where there may be one
+abbrev pub storage_of : List ℕ → Option ℕ
+storage_of word = option_and_then pages_of (kilobytes_of word)

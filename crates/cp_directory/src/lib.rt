@@ -28,6 +28,7 @@ pub use directory::{Directory, User};
 pub use faults::DirError;
 pub use name::UserName;
 pub use reader::{read_directory, reads_grammar};
+pub use spelling::storage_of;
 pub use storage::StorageSize;
 
 #[cfg(test)]

@@ -3,7 +3,7 @@ ghost use Rattle.std.specs.Prelude.{◌≡◌, map, min};
 ghost use Rattle.std.specs.Option.{option_map};
 ghost use Rattle.std.specs.List.{list_all};
 ghost use Rattle.cp_text.specs.Numbers.{is_digit};
-ghost use Rattle.cp_directory.specs.Sizes.{is_number, kilobytes_of, kilobytes_by, pages_of, number, unit_of};
+ghost use Rattle.cp_directory.specs.Sizes.{is_number, kilobytes_of, kilobytes_by, pages_of, number, storage_of, unit_of};
 ghost use Rattle.cp_directory.specs.Statements.{stated_by, user_of, user_stated, well_formed};
 ghost use Rattle.cp_directory.specs.Spelled.{kilobytes, kilobytes_in, stated, stated_result};
 
@@ -119,6 +119,15 @@ fn all_digits(digits: &[u8]) -> bool
     ensures { result ≡ list_all is_digit digits.now }
 {
     digits.iter().all(|c| is_digit(*c))
+}
+
+/// The storage that a word spells as the operand of a user's statement does, where it is written so and a user may have it.
+///
+/// `storage_of(b"8K")` is a storage of two pages; `8k` and `6K` are none.
+pub fn storage_of(word: &[u8]) -> Option<StorageSize>
+    ensures { result ≡ storage_of word.now }
+{
+    size_of(read_size(word)?)
 }
 
 /// The size that is spelled, where a storage may have it.

@@ -99,6 +99,7 @@ fn reads_sizes(rt: HostRuntime) -> Result<(), Fail> {
             Err(error) => Err(error),
         };
         assert_eq!(rt; got, want, "{size:?}");
+        assert_eq!(rt; storage_of(size).map(|storage| storage.pages()), want.ok());
     }
     Ok(())
 }

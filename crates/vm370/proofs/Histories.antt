@@ -5,10 +5,11 @@ use Rattle.std.specs.Io.KnownBytes.{Appends, Keeps}
 use Rattle.std.proofs.KnownBytes.{Appends-trans, Appends-nil, Appends-kept}
 use Rattle.std.proofs.Math.Seq.{take-length, take-append-add}
 use Rattle.s370_num.specs.Host.{AppendsFront}
-use Rattle.cp_core.specs.System.{SystemView, Step, IsApplied, IsTold, IsSupplied, IsStep, IsHistory}
+use Rattle.cp_core.specs.System.{SystemView, Step, IsStep, IsHistory}
 use Rattle.cp_core.specs.declared.events.Event.{Event}
 use Rattle.cp_core.specs.declared.events.Reply.{Reply}
-use Rattle.vm370.specs.Script.{Said, said}
+use Rattle.cp_script.specs.Script.{Said}
+use Rattle.vm370.specs.Script.{as_said}
 use Rattle.vm370.specs.Session.{IsPlayed, IsPartly, IsSpentOn, events_of, names_of, transcript}
 use Rattle.vm370.specs.Transcript.{ended, event_lines}
 
@@ -24,7 +25,7 @@ transcript_append names (x ∷ xs) ys =
 
 events_append : (xs ys : List Step) → events_of (xs ++ ys) ≡ events_of xs ++ events_of ys
 events_append [] ys = refl
-events_append (x ∷ xs) ys = ap (λ (l : List Said). said x.event ∷ l) (events_append xs ys)
+events_append (x ∷ xs) ys = ap (λ (l : List Said). as_said x.event ∷ l) (events_append xs ys)
 
 front_after : (a b c : Option (List ℕ)) (xs ys : List ℕ) → Appends a b xs → AppendsFront b c ys → AppendsFront a c (xs ++ ys)
 front_after a b c xs ys h k = (length xs + k.0, omega (arith, length-append xs ys, k.1), rw (take-append-add xs ys k.0) (Appends-trans a b c xs (take k.0 ys) h k.2))
@@ -93,13 +94,8 @@ partly_none xs old new a left = record {
   written = (0, omega arith, Appends-nil a);
 }
 
--- what was done by a copy of an event was done by the event
-pub step_of : (event copy : Event) (reply : Reply) (old new : SystemView) → copy ≡ event → IsApplied old copy reply new → IsTold old copy reply new → IsSupplied old copy reply new → IsStep old (record { event = event; reply = reply; seen = new })
-step_of event copy reply old new same applied told supplied =
-    subst (λ (e : Event). IsStep old (record { event = e; reply = reply; seen = new })) same (record { applied = applied; told = told; supplied = supplied })
-
 -- one event was applied, and a beginning of its lines was written
-pub partly_one : (event : Event) (reply : Reply) (old new : SystemView) (a b : Option (List ℕ)) → IsStep old (record { event = event; reply = reply; seen = new }) → AppendsFront a b (ended (event_lines (names_of old) event reply)) → IsPartly (said event ∷ []) old new a b
+pub partly_one : (event : Event) (reply : Reply) (old new : SystemView) (a b : Option (List ℕ)) → IsStep old (record { event = event; reply = reply; seen = new }) → AppendsFront a b (ended (event_lines (names_of old) event reply)) → IsPartly (as_said event ∷ []) old new a b
 partly_one event reply old new a b h w = record {
   steps = record { event = event; reply = reply; seen = new } ∷ [];
   rest = [];
@@ -110,10 +106,10 @@ partly_one event reply old new a b h w = record {
   written = rw (append-nil (ended (event_lines (names_of old) event reply))) w;
 }
 
-pub partly_silent : (event : Event) (reply : Reply) (old new : SystemView) (a : Option (List ℕ)) → IsStep old (record { event = event; reply = reply; seen = new }) → IsPartly (said event ∷ []) old new a a
+pub partly_silent : (event : Event) (reply : Reply) (old new : SystemView) (a : Option (List ℕ)) → IsStep old (record { event = event; reply = reply; seen = new }) → IsPartly (as_said event ∷ []) old new a a
 partly_silent event reply old new a h = partly_one event reply old new a a h (0, omega arith, Appends-nil a)
 
-pub played_one : (event : Event) (reply : Reply) (old new : SystemView) (a b : Option (List ℕ)) → IsStep old (record { event = event; reply = reply; seen = new }) → Appends a b (ended (event_lines (names_of old) event reply)) → IsPlayed (said event ∷ []) old new a b
+pub played_one : (event : Event) (reply : Reply) (old new : SystemView) (a b : Option (List ℕ)) → IsStep old (record { event = event; reply = reply; seen = new }) → Appends a b (ended (event_lines (names_of old) event reply)) → IsPlayed (as_said event ∷ []) old new a b
 played_one event reply old new a b h w = record {
   steps = record { event = event; reply = reply; seen = new } ∷ [];
   named = refl;

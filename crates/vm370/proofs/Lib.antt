@@ -1,4 +1,4 @@
-pub mod Grammars
 pub mod Endings
 pub mod Lists
 pub mod Histories
+pub mod Devices

@@ -1,5 +1,4 @@
 pub mod Script
-pub mod Grammar
 pub mod Transcript
 pub mod Options
 pub mod Faults

@@ -5,10 +5,12 @@ use Rattle.s370_num.specs.Host.{AppendsFront, IsCounted}
 use Rattle.s370_num.specs.declared.host.HostFault.{HostFault}
 use Rattle.s370_num.specs.declared.host.HostFault.TheVariants as faults
 use Rattle.cp_core.specs.System.{SystemView, Step, IsHistory, machine_at}
-use Rattle.vm370.specs.Script.{Said, said, script_of}
+use Rattle.cp_script.specs.Users.{KnownUser}
+use Rattle.cp_script.specs.Script.{Said, script_of}
+use Rattle.vm370.specs.Script.{as_said, known_users}
 use Rattle.vm370.specs.Transcript.{ended, event_lines}
-use Rattle.vm370.specs.declared.script.ScriptError.{ScriptError}
-use Rattle.vm370.specs.declared.script.ScriptError.TheVariants as refusals
+use Rattle.cp_script.specs.declared.reader.ScriptError.{ScriptError}
+use Rattle.cp_script.specs.declared.reader.ScriptError.TheVariants as refusals
 use Rattle.vm370.specs.declared.session.SessionError.{SessionError}
 use Rattle.vm370.specs.declared.session.SessionError.TheVariants as errors
 
@@ -16,9 +18,13 @@ use Rattle.vm370.specs.declared.session.SessionError.TheVariants as errors
 abbrev pub names_of : SystemView → List (List ℕ)
 names_of s = map (λ user. user.name) s.users
 
+-- the users whom a script may name
+abbrev pub users_of : SystemView → List KnownUser
+users_of s = known_users s.users
+
 -- the events of these steps, as a script names them
 abbrev pub events_of : List Step → List Said
-events_of steps = map (λ step. said step.event) steps
+events_of steps = map (λ step. as_said step.event) steps
 
 -- the transcript of events and their replies
 abbrev pub transcript : List (List ℕ) → List Step → List ℕ
@@ -35,7 +41,7 @@ pub record IsSession (old new : SystemView) (reader_old reader_new writer_old wr
   pub text : List ℕ
   pub read : IsRead reader_old reader_new text
   pub steps : List Step
-  pub named : script_of (names_of old) text ≡ Ok (events_of steps)
+  pub named : script_of (users_of old) text ≡ Ok (events_of steps)
   pub history : IsHistory old steps new
   pub written : Appends writer_old writer_new (transcript (names_of old) steps)
 
@@ -52,17 +58,17 @@ pub record IsCut (old new : SystemView) (reader_old reader_new writer_old writer
   pub read : IsRead reader_old reader_new text
   pub steps : List Step
   pub rest : List Said
-  pub named : script_of (names_of old) text ≡ Ok (events_of steps ++ rest)
+  pub named : script_of (users_of old) text ≡ Ok (events_of steps ++ rest)
   pub last : SystemView
   pub history : IsHistory old steps last
   pub left : (new ≡ last) ⊎ IsSpentOn last new rest
   pub written : AppendsFront writer_old writer_new (transcript (names_of old) steps)
 
 -- the script was refused, first at this line
-pub record IsRefused (names : List (List ℕ)) (reader_old reader_new : Option (List ℕ)) (line : ℕ) : Type 0 where
+pub record IsRefused (users : List KnownUser) (reader_old reader_new : Option (List ℕ)) (line : ℕ) : Type 0 where
   pub text : List ℕ
   pub read : IsRead reader_old reader_new text
-  pub refused : script_of names text ≡ Err line
+  pub refused : script_of users text ≡ Err line
 
 -- these events were applied, and their transcript was written
 pub record IsPlayed (events : List Said) (old new : SystemView) (before after : Option (List ℕ)) : Type 0 where

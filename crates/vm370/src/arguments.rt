@@ -72,7 +72,7 @@ fn options_in<'a>(matches: &ArgMatches<'a>) -> Option<Options<'a>>
 }
 
 /// The first text that the words give for an argument.
-fn text_of<'a>(matches: &ArgMatches<'a>, id: &str) -> Option<&'a str>
+pub fn text_of<'a>(matches: &ArgMatches<'a>, id: &str) -> Option<&'a str>
     ensures { option_map (λ s. s.now) result ≡ first_of id.now (rows_of (found_of matches.now)) }
 {
     matches.get_str(id)
@@ -96,7 +96,7 @@ fn matched<'a, S: AsStr>(
 }
 
 /// What is told of an error of `clap`.
-fn refusal(alloc: Global, error: &ClapError) -> UsageError
+pub fn refusal(alloc: Global, error: &ClapError) -> UsageError
     ensures { kind_of error.now ≡ OutOfMemory → result ≡ UsageError.Memory }
 {
     if error.kind() == ErrorKind::OutOfMemory {

@@ -6,7 +6,7 @@
 //!
 //! A script's bytes name events exactly where they are a text of the grammar of docs/FORMATS.md, and
 //! any other text is refused at its first line that the grammar does not have
-//! ([`script::reads_grammar`] carries that law, [`script::read_script`] keeps it). The lines that the
+//! ([`cp_script::reads_grammar`] carries that law, [`cp_script::read_script`] keeps it). The lines that the
 //! transcript has for an event are those of that document, in its order
 //! ([`transcript::print_event`]).
 #![tactic(auto)]
@@ -14,6 +14,5 @@
 pub mod arguments;
 pub mod faults;
 pub mod program;
-pub mod script;
 pub mod session;
 pub mod transcript;

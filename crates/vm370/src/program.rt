@@ -40,7 +40,7 @@ const FRAMES: u32 = 64;
 /// How many slots for pages it has.
 const SLOTS: u32 = 256;
 
-/// How the program ended. Only [`program`] makes one, so that a `main` which returns it has no other exit status to give.
+/// How a program ended. Only [`finish`] makes one, so that a `main` which returns it has no other exit status to give.
 #[derive(Drop)]
 pub struct Ended {
     ended: Result<(), Failure>,
@@ -57,7 +57,11 @@ impl Termination for Ended {
 /// The whole program: what it is started with names a directory and a script, and the transcript of that script is
 /// written. A failure is told on standard error.
 pub fn program<R: AllocGlobal + Files + Env + Print + Eprint>(rt: &R) -> Ended {
-    let ended = run(rt);
+    finish(rt, run(rt))
+}
+
+/// The end of a program: a failure is told on standard error, and gives the exit status.
+pub fn finish<R: AllocGlobal + Eprint>(rt: &R, ended: Result<(), Failure>) -> Ended {
     if let Err(failure) = &ended {
         tell(rt, failure);
     }
@@ -73,18 +77,14 @@ fn tell<R: AllocGlobal + Eprint>(rt: &R, failure: &Failure) {
         let _ = rt.eprintln(&line);
     }
 }
+
 /// Reads the words and both files, and writes the transcript. A wrong use is told here.
 fn run<R: AllocGlobal + Files + Env + Print + Eprint>(rt: &R) -> Result<(), Failure> {
     let alloc = rt.alloc();
-    let words = words(rt)?;
+    let words = words(rt, PROGRAM)?;
     let options = match arguments(alloc, PROGRAM, words.as_slice()) {
         Ok(options) => options,
-        Err(UsageError::Memory) => return Err(Failure::Memory),
-        Err(UsageError::Usage(text)) => {
-            let _ = rt.eprint(&text);
-            let _ = rt.eprint(USAGE_NOTE);
-            return Err(Failure::Usage);
-        }
+        Err(error) => return Err(wrong_use(rt, &error, USAGE_NOTE)),
     };
     let mut system = boot(rt, options.directory)?;
     let mut script = open(rt, options.script)?;
@@ -95,21 +95,33 @@ fn run<R: AllocGlobal + Files + Env + Print + Eprint>(rt: &R) -> Result<(), Fail
     Ok(session(alloc, &mut system, &mut script, &mut transcript)?)
 }
 
-/// The words that the program was started with, of which the first is its name. Words that are no UTF-8 are a wrong use,
+/// What words that name no options are as a failure. A wrong use is told here, by its text and then this note.
+pub fn wrong_use<R: Eprint>(rt: &R, error: &UsageError, note: &str) -> Failure {
+    match error {
+        UsageError::Memory => Failure::Memory,
+        UsageError::Usage(text) => {
+            let _ = rt.eprint(text);
+            let _ = rt.eprint(note);
+            Failure::Usage
+        }
+    }
+}
+
+/// The words that a program was started with, of which the first is its name. Words that are no UTF-8 are a wrong use,
 /// which is told here: no file can be opened by such a name.
-fn words<R: AllocGlobal + Env + Eprint>(rt: &R) -> Result<Vec<String>, Failure> {
+pub fn words<R: AllocGlobal + Env + Eprint>(rt: &R, program: &str) -> Result<Vec<String>, Failure> {
     match env::args(rt) {
         Ok(typed) => {
             let alloc = rt.alloc();
             let mut words: Vec<String> = typed.collect(alloc)?;
             if let Some(name) = words.first_mut() {
-                *name = String::from_str(alloc, PROGRAM)?;
+                *name = String::from_str(alloc, program)?;
             }
             Ok(words)
         }
         Err(error) if error.kind() == io::ErrorKind::InvalidData => {
             let _ = rt.eprintln(
-                "vm370: a word of the command line is no UTF-8 text, and so names no file here",
+                "a word of the command line is no UTF-8 text, and so names no file here",
             );
             Err(Failure::Usage)
         }
@@ -118,7 +130,7 @@ fn words<R: AllocGlobal + Env + Eprint>(rt: &R) -> Result<Vec<String>, Failure> 
 }
 
 /// The file at a path, to be read. One that can't be opened has failed once.
-fn open<R: Files>(rt: &R, path: &str) -> Result<Counted<R::File>, Failure> {
+pub fn open<R: Files>(rt: &R, path: &str) -> Result<Counted<R::File>, Failure> {
     match fs::open(rt, path) {
         Ok(file) => Ok(Counted::new(file)),
         Err(_) => Err(Failure::File(1)),

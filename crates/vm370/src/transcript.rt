@@ -43,8 +43,8 @@ fn print_said(
     print_line(out, name, &text)
 }
 
-/// Adds `u: text` and its end.
-fn print_line(out: &mut Vec<u8>, name: &[u8], text: &[u8]) -> Result<(), AllocError>
+/// Adds the line `u: text`.
+pub fn print_line(out: &mut Vec<u8>, name: &[u8], text: &[u8]) -> Result<(), AllocError>
     ensures { OnOk result (out.new.items ≡ out.old.items ++ ended (told_line name.now text.now ∷ [])) }
 {
     out.extend_from_slice(name)?;
@@ -70,8 +70,8 @@ fn print_ending(
     }
 }
 
-/// Adds `= u units REASON` and its end.
-fn print_ran(alloc: Global, out: &mut Vec<u8>, name: &[u8], ran: Ran) -> Result<(), AllocError>
+/// Adds the line `= u units REASON`.
+pub fn print_ran(alloc: Global, out: &mut Vec<u8>, name: &[u8], ran: Ran) -> Result<(), AllocError>
     ensures { OnOk result (out.new.items ≡ out.old.items ++ ended (ran_line name.now ran ∷ [])) }
 {
     let units = ran.units.to_string(alloc)?;

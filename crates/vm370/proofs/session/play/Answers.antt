@@ -1,6 +1,6 @@
 use Rattle.std.proofs.Common.{◌≡◌, ◌+◌, ap, ◌∙◌, map, take, drop, List, [], ◌∷◌, ◌++◌, arith}
 use Rattle.std.proofs.lemmas.List.{take_all}
-use Rattle.vm370.specs.Script.{said, Said}
+use Rattle.cp_script.specs.Script.{said, Said}
 use Rattle.vm370.proofs.Lists.{map_take_more, map_around}
 use Rattle.vm370.proofs.Histories.{not_both, on_err, played_more, partly_more, partly_rest, partly_all}
 use Rattle.vm370.proofs.session.play.Goals as goal

@@ -1,5 +1,5 @@
 use Rattle.std.proofs.Common.{◌≡◌, true, map, take}
-use Rattle.vm370.specs.Script.{said}
+use Rattle.cp_script.specs.Script.{said}
 use Rattle.vm370.specs.Session.{IsPlayed}
 use Rattle.vm370.proofs.session.play.Given as goal
 

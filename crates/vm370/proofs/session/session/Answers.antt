@@ -1,9 +1,9 @@
 use Rattle.std.proofs.Common.{◌≡◌, ℕ, Err, Ok, Result, List, ap, ◌∙◌}
 use Rattle.std.specs.Prelude.{IsErrAnd}
-use Rattle.vm370.specs.Script.{IsRefusal, Said}
+use Rattle.cp_script.specs.Script.{IsRefusal, Said}
 use Rattle.vm370.specs.Session.{refusal_error}
-use Rattle.vm370.specs.declared.script.ScriptError.{ScriptError}
-use Rattle.vm370.specs.declared.script.ScriptError.TheVariants as refusals
+use Rattle.cp_script.specs.declared.reader.ScriptError.{ScriptError}
+use Rattle.cp_script.specs.declared.reader.ScriptError.TheVariants as refusals
 use Rattle.vm370.specs.declared.session.SessionError.{SessionError}
 use Rattle.vm370.specs.declared.session.SessionError.TheVariants as errors
 use Rattle.vm370.proofs.session.session.Goals as goal

@@ -1,0 +1,252 @@
+//! The words of the program: its machine's storage, its script and its volumes.
+ghost use Rattle.std.specs.Prelude.{◌≡◌, ◌≤◌, IfOk, IfSome, OnOk, Option, Some, None, codes, false, length, map, true};
+ghost use Rattle.std.specs.Option.{option_map};
+ghost use Rattle.clap.specs.Words.{all_of, app_of, found_of, one_of, rows_of, rule_of};
+ghost use Rattle.bare370.specs.Options.{HasNoFault, IsFlag, IsNamed, command_of, rows_named, save_rule, script_rule, storage_named, storage_rule, texts_of, volume_rule};
+
+use clap::{Arg, ArgAction, ArgMatches, Command};
+use cp_directory::{StorageSize, storage_of};
+use std::alloc::{AllocError, Global};
+use std::convert::AsStr;
+use vm370::arguments::{UsageError, refusal, text_of};
+
+/// The most volumes that a machine has.
+pub const MOST_VOLUMES: usize = 16;
+
+/// What the words of the program name: `bare370 [--save] STORAGE SCRIPT [VOLUME]...`.
+#[derive(Debug, Drop)]
+pub struct BareOptions<'a> {
+    /// The images of the volumes are written back at the end.
+    pub save: bool,
+    /// The size of the machine's storage.
+    pub storage: StorageSize,
+    /// The path of the script.
+    pub script: &'a str,
+    /// The paths of the volumes' images, at most [`MOST_VOLUMES`].
+    pub volumes: Vec<&'a str>,
+}
+
+/// What the words name, the first of which is the name that the program was started by; `program` is
+/// its name in a text for the person who wrote them. Words are read as `clap` reads
+/// them: `--` before the paths is allowed, and `--help` is a request for the text of
+/// [`UsageError::Usage`]. The storage is written as in a directory.
+pub fn bare_arguments<'a, S: AsStr>(
+    alloc: Global,
+    program: &'a str,
+    words: &'a [S],
+) -> Result<BareOptions<'a>, UsageError>
+    ensures ok { IfOk result (IsNamed (rows_named program.entry.now (map S.text words.entry.now))) }
+    ensures few { IfOk result (λ options. length options.volumes.items ≤ MOST_VOLUMES) }
+    ensures taken { OnOk result (HasNoFault program.entry.now (map S.text words.entry.now)) }
+{
+    let matches = matched(alloc, program, words)?;
+    options_in(alloc, &matches)
+}
+
+/// The options that were found in the words.
+fn options_in<'a>(alloc: Global, matches: &ArgMatches<'a>) -> Result<BareOptions<'a>, UsageError>
+    ensures ok { IfOk result (IsNamed (rows_of (found_of matches.now))) }
+    ensures few { IfOk result (λ options. length options.volumes.items ≤ MOST_VOLUMES) }
+{
+    let Some(script) = text_of(matches, "SCRIPT") else {
+        return Err(usage(alloc, "a path is missing\n"));
+    };
+    let Some(storage) = storage_in(matches) else {
+        return Err(usage(
+            alloc,
+            "STORAGE is 8K to 4096K in steps of 4K, or 1M to 4M\n",
+        ));
+    };
+    let volumes = paths_of(alloc, matches, "VOLUME")?;
+    if volumes.len() > MOST_VOLUMES {
+        return Err(usage(alloc, "a machine has at most 16 volumes\n"));
+    }
+    Ok(BareOptions {
+        save: is_given(matches, "save"),
+        storage,
+        script,
+        volumes,
+    })
+}
+
+/// A wrong use, told by this text.
+fn usage(alloc: Global, text: &str) -> UsageError {
+    match String::from_str(alloc, text) {
+        Ok(text) => UsageError::Usage(text),
+        Err(_) => UsageError::Memory,
+    }
+}
+
+/// The size of the storage, where it is written so and a machine may have it.
+fn storage_in(matches: &ArgMatches<'_>) -> Option<StorageSize>
+    ensures { result ≡ storage_named (rows_of (found_of matches.now)) }
+{
+    storage_of(text_of(matches, "STORAGE")?.as_bytes())
+}
+
+/// Whether the words have this flag.
+fn is_given(matches: &ArgMatches<'_>, id: &str) -> bool
+    ensures { IsFlag (one_of id.now (rows_of (found_of matches.now))) result }
+{
+    matches.get_flag(id)
+}
+
+/// The texts that the words give for an argument, in order.
+fn paths_of<'a>(
+    alloc: Global,
+    matches: &ArgMatches<'a>,
+    id: &str,
+) -> Result<Vec<&'a str>, AllocError>
+    ensures { IfOk result (λ paths. map (λ path. path.now) paths.items ≡ texts_of (all_of id.now (rows_of (found_of matches.now)))) }
+{
+    match texts_in(matches, id) {
+        Some(paths) => copied(alloc, paths),
+        None => Ok(Vec::new(alloc)),
+    }
+}
+
+/// The texts that the words give for an argument, where they give any.
+fn texts_in<'b, 'a>(matches: &'b ArgMatches<'a>, id: &str) -> Option<&'b [&'a str]>
+    ensures { option_map (λ texts. map (λ text. text.now) texts.now) result ≡ all_of id.now (rows_of (found_of matches.now)) }
+{
+    matches.get_strs(id)
+}
+
+/// The same texts, in a list of their own.
+fn copied<'a>(alloc: Global, texts: &[&'a str]) -> Result<Vec<&'a str>, AllocError>
+    ensures { IfOk result (λ all. map (λ text. text.now) all.items ≡ map (λ text. text.now) texts.now) }
+{
+    texts.iter().copied().collect(alloc)
+}
+
+/// What `clap` finds in the words.
+fn matched<'a, S: AsStr>(
+    alloc: Global,
+    program: &'a str,
+    words: &'a [S],
+) -> Result<ArgMatches<'a>, UsageError>
+    ensures ok { IfOk result (λ m. rows_of (found_of m) ≡ rows_named program.entry.now (map S.text words.entry.now)) }
+    ensures taken { OnOk result (HasNoFault program.entry.now (map S.text words.entry.now)) }
+{
+    let command = command(alloc, program)?;
+    match command.try_get_matches_from(words) {
+        Ok(matches) => Ok(matches),
+        Err(error) => Err(refusal(alloc, &error)),
+    }
+}
+
+/// The program's words, as `clap` is told of them.
+fn command<'a>(alloc: Global, program: &'a str) -> Result<Command<'a>, AllocError>
+    ensures { IfOk result (λ c. app_of c ≡ command_of program.entry.now) }
+{
+    let command = Command::new(alloc, program)
+        .about("Runs one System/370 machine, and prints what its terminal shows")
+        .arg(save(alloc))?
+        .arg(storage(alloc))?
+        .arg(script(alloc))?
+        .arg(volumes(alloc))?;
+    Ok(command)
+}
+
+/// `--save`
+fn save<'a>(alloc: Global) -> Arg<'a>
+    ensures rule { rule_of result ≡ save_rule }
+    ensures local { result.global ≡ false }
+{
+    Arg::new(alloc, "save")
+        .long("save")
+        .action(ArgAction::SetTrue)
+        .help("Writes the images of the volumes back at the end")
+}
+
+/// The first word, which is the size of the storage.
+fn storage<'a>(alloc: Global) -> Arg<'a>
+    ensures rule { rule_of result ≡ storage_rule }
+    ensures local { result.global ≡ false }
+{
+    Arg::new(alloc, "STORAGE")
+        .required(true)
+        .help("The size of the machine's storage, as 8K or 1M")
+}
+
+/// The second word, which is the path of the script.
+fn script<'a>(alloc: Global) -> Arg<'a>
+    ensures rule { rule_of result ≡ script_rule }
+    ensures local { result.global ≡ false }
+{
+    Arg::new(alloc, "SCRIPT").required(true).help(
+        "What happens to the machine, one event a line (docs/FORMATS.md)",
+    )
+}
+
+/// The words after them, which are the paths of images.
+fn volumes<'a>(alloc: Global) -> Arg<'a>
+    ensures rule { rule_of result ≡ volume_rule }
+    ensures local { result.global ≡ false }
+{
+    Arg::new(alloc, "VOLUME").action(ArgAction::Append).help(
+        "The images of the disks 190, 191 and so on (docs/FORMATS.md)",
+    )
+}
+
+#[cfg(test)]
+mod tests {
+    use super::*;
+    use std::test::Fail;
+
+    const NAME: &str = "bare370";
+
+    /// The pages of storage, how many volumes, and whether they are saved; nothing for a wrong use.
+    fn told(alloc: Global, words: &[&str]) -> Result<Option<(u32, usize, bool)>, AllocError> {
+        match bare_arguments(alloc, NAME, words) {
+            Ok(options) => Ok(Some((options.storage.pages(), options.volumes.len(), options.save))),
+            Err(UsageError::Usage(_)) => Ok(None),
+            Err(UsageError::Memory) => Err(AllocError),
+        }
+    }
+
+    #[test]
+    fn reads_storage_script_and_volumes(rt: HostRuntime) -> Result<(), Fail> {
+        for (words, wanted) in [
+            (["bare370", "8K", "script"].as_slice(), Some((2, 0, false))),
+            (
+                ["bare370", "--save", "4M", "script", "a", "b"].as_slice(),
+                Some((1024, 2, true)),
+            ),
+            (
+                ["bare370", "12K", "script", "a", "--save"].as_slice(),
+                Some((3, 1, true)),
+            ),
+            (
+                ["bare370", "--", "8K", "--script", "-v"].as_slice(),
+                Some((2, 1, false)),
+            ),
+            (
+                [
+                    "bare370", "8K", "s", "0", "1", "2", "3", "4", "5", "6", "7", "8", "9", "a",
+                    "b", "c", "d", "e", "f",
+                ]
+                .as_slice(),
+                Some((2, 16, false)),
+            ),
+            // a volume too many
+            (
+                [
+                    "bare370", "8K", "s", "0", "1", "2", "3", "4", "5", "6", "7", "8", "9", "a",
+                    "b", "c", "d", "e", "f", "g",
+                ]
+                .as_slice(),
+                None,
+            ),
+            (["bare370"].as_slice(), None),
+            (["bare370", "8K"].as_slice(), None),
+            (["bare370", "9K", "script"].as_slice(), None),
+            (["bare370", "8k", "script"].as_slice(), None),
+            (["bare370", "--frames", "8K", "script"].as_slice(), None),
+            (["bare370", "--help"].as_slice(), None),
+        ] {
+            assert_eq!(rt; told(rt.alloc(), words)?, wanted);
+        }
+        Ok(())
+    }
+}

@@ -1,0 +1,59 @@
+//! The program `bare370 [--save] STORAGE SCRIPT [VOLUME]...`: its words, its files, its session, and what it says of a failure.
+//!
+//! The transcript goes to standard output. A failure is one line on standard error, and its kind is the
+//! exit status.
+use crate::arguments::bare_arguments;
+use crate::session::bare_session;
+use bare_machine::Bare;
+use s370_num::host::Counted;
+use s370_store::PlainStorage;
+use s370_subchannels::Subchannels;
+use std::io;
+use std::rt::{Env, Files};
+use vm370::faults::Failure;
+use vm370::program::{Ended, finish, open, words, wrong_use};
+
+/// The program's name, as it tells it.
+const PROGRAM: &str = "bare370";
+
+/// What is told after a usage text: an example, and the exit statuses.
+const USAGE_NOTE: &str = "
+Example:
+  printf 'LINE BARE LOGON\\nLINE BARE DISPLAY PSW\\n' > script
+  bare370 8K script
+
+The transcript goes to standard output, a fault as one line to standard error. Exit statuses:
+  0  the script was done to its end
+  1  an image or the script was refused; the line tells where
+  2  wrong words, or --help
+  3  a file could not be opened, read or written
+  4  there was not memory enough
+";
+
+/// The whole program: what it is started with names a storage and a script, and the transcript of that script is written. A
+/// failure is told on standard error.
+pub fn bare_program<R: AllocGlobal + Files + Env + Print + Eprint>(rt: &R) -> Ended {
+    finish(rt, run(rt))
+}
+
+/// Reads the words and the script, and writes the transcript. A wrong use is told here.
+fn run<R: AllocGlobal + Files + Env + Print + Eprint>(rt: &R) -> Result<(), Failure> {
+    let alloc = rt.alloc();
+    let words = words(rt, PROGRAM)?;
+    let options = match bare_arguments(alloc, PROGRAM, words.as_slice()) {
+        Ok(options) => options,
+        Err(error) => return Err(wrong_use(rt, &error, USAGE_NOTE)),
+    };
+    if options.save || !options.volumes.is_empty() {
+        let _ = rt.eprintln("bare370: machines have no disks yet, so name no VOLUME and no --save");
+        return Err(Failure::Usage);
+    }
+    let storage = PlainStorage::new(alloc, options.storage.blocks())?;
+    let mut machine = Bare::new(alloc, storage, Subchannels::new(alloc));
+    let mut script = open(rt, options.script)?;
+    let Ok(output) = io::BufWriter::new(alloc, io::writer(rt)) else {
+        return Err(Failure::Memory);
+    };
+    let mut transcript = Counted::new(output);
+    Ok(bare_session(alloc, &mut machine, &mut script, &mut transcript)?)
+}

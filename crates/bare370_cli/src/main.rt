@@ -1,0 +1,9 @@
+//! The program `bare370 [--save] STORAGE SCRIPT [VOLUME]...` (docs/COMMANDS.md, docs/FORMATS.md).
+#![tactic(auto)]
+
+use bare370::bare_program;
+use vm370::program::Ended;
+
+fn main(rt: HostRuntime) -> Ended {
+    bare_program(&rt)
+}

@@ -1,0 +1,24 @@
+-- What the reader's values say.
+use Rattle.ckd_track.specs.Track.{Record}
+use Rattle.ckd_volume.specs.Volume.{VolumeFormat, blank_cylinders}
+use Rattle.ckd_text.specs.Text as said
+use Rattle.ckd_text.specs.Text.{Stated, Placed}
+use Rattle.ckd_text.specs.declared.statement.Header.{Header}
+use Rattle.ckd_text.specs.declared.statement.Place.{Place}
+use Rattle.ckd_text.specs.declared.statement.StatedRecord.{StatedRecord}
+use Rattle.ckd_text.specs.declared.statement.Statement.{Statement}
+use Rattle.ckd_text.specs.declared.statement.Statement.TheVariants.{Home, Add}
+
+-- a volume without records
+abbrev pub blank_of : Header → VolumeFormat
+blank_of header = record { volser = header.serial; cylinders = blank_cylinders 0 header.cylinders }
+
+abbrev pub placed : Place → Placed
+placed place = record { cylinder = place.cylinder; head = place.head; rest = place.rest.now }
+
+abbrev pub record_in : StatedRecord → Record
+record_in r = record { id = r.id; key = r.key.items; content = r.content.items }
+
+abbrev pub stated : Statement → Stated
+stated (Home cylinder head home) = said.Home cylinder head home
+stated (Add cylinder head r) = said.Add cylinder head (record_in r)

@@ -1,0 +1,130 @@
+//! The reader of volume texts: line by line.
+ghost use Rattle.std.specs.Prelude.{◌≡◌, ◌<◌, ◌≤◌, ◌+◌, IfOk, IfErr, OnOk, OnErr, Some, None, Ok, length};
+ghost use Rattle.cp_text.specs.Lines.{lines_of, read_lines};
+ghost use Rattle.ckd_text.specs.Grammar.{ReadsGrammar};
+ghost use Rattle.ckd_text.specs.Stated.{record_in, stated};
+ghost use Rattle.ckd_text.specs.Text as said;
+ghost use Rattle.ckd_text.specs.Text.{first_of, line_step, told, volume_of, with_stated, IsRefusal};
+
+use crate::statement::{StatedRecord, Statement, read_header, read_statement};
+use ckd_volume::Volume;
+use cp_text::lines::cut_line;
+use std::alloc::Global;
+use thiserror::Error;
+
+/// Why no volume is made of a text.
+#[derive(Clone, Copy, Debug, PartialEq, Eq, Drop, Error)]
+pub enum TextError {
+    /// A growth was refused.
+    #[error("no memory for the volume")]
+    Memory,
+    /// The first line, counted from 1, that is refused.
+    #[error("line {0} of the text is misspelled, or the volume has no place for what it states")]
+    Line(u64),
+}
+
+/// The volume has no such track, or the track no room for the record.
+#[derive(Clone, Copy, Debug, Drop)]
+struct NoPlace;
+
+/// The volume that a text states (docs/FORMATS.md, "Volume texts"). The whole text is judged: where a line is refused,
+/// the first such line is told, and an empty text is refused in its line 1.
+pub fn make_volume(alloc: Global, text: &[u8]) -> Result<Volume, TextError>
+    ensures ok { IfOk result (λ volume. volume_of text.now ≡ Ok volume) }
+    ensures err { IfErr result (IsRefusal (volume_of text.now)) }
+{
+    if text.is_empty() {
+        return Err(TextError::Line(1));
+    }
+    let (first, lines) = cut_line(text);
+    let volume = match blank_volume(alloc, first) {
+        Ok(volume) => volume,
+        Err(error) => return Err(error),
+    };
+    filled(alloc, volume, lines)
+}
+
+/// What is made is what the grammar of volume texts says, nothing else is accepted, and the line that is told is the first
+/// wrong one.
+pub fn reads_grammar()
+    ensures { ReadsGrammar }
+{}
+
+/// The volume without records that the first line states.
+fn blank_volume(alloc: Global, line: &[u8]) -> Result<Volume, TextError>
+    ensures ok { IfOk result (λ volume. first_of line.now ≡ Some volume) }
+    ensures err { IfErr result (IsRefusal (told 1 (first_of line.now))) }
+{
+    let Some(header) = read_header(line) else {
+        return Err(TextError::Line(1));
+    };
+    // its number of cylinders is one that a volume may have, so that no other error is left
+    match Volume::blank(alloc, header.serial, header.cylinders) {
+        Ok(volume) => Ok(volume),
+        Err(_) => Err(TextError::Memory),
+    }
+}
+
+/// The volume with what the lines from the second on state.
+fn filled(alloc: Global, blank: Volume, lines: &[u8]) -> Result<Volume, TextError>
+    ensures ok { IfOk result (λ volume. read_lines line_step 2 blank (lines_of lines.now) ≡ Ok volume) }
+    ensures err { IfErr result (IsRefusal (read_lines line_step 2 blank (lines_of lines.now))) }
+{
+    let mut volume = blank;
+    let mut rest = lines;
+    let mut number = 2;
+    while !rest.is_empty() {
+        let (line, after) = cut_line(rest);
+        match read_statement(alloc, line) {
+            Ok(Some(statement)) => {
+                if fill(&mut volume, &statement).is_err() {
+                    return Err(TextError::Line(number));
+                }
+            }
+            Ok(None) => return Err(TextError::Line(number)),
+            Err(_) => return Err(TextError::Memory),
+        }
+        rest = after;
+        number += 1;
+    }
+    Ok(volume)
+}
+
+/// Puts what a line states into the volume.
+fn fill(volume: &mut Volume, statement: &Statement) -> Result<(), NoPlace>
+    ensures ok { OnOk result (with_stated volume.old (stated statement.now) ≡ Some volume.new) }
+    ensures err { OnErr result (with_stated volume.old (stated statement.now) ≡ None) }
+{
+    match statement {
+        Statement::Home(cylinder, head, home) => set_home(volume, *cylinder, *head, *home),
+        Statement::Add(cylinder, head, record) => add(volume, *cylinder, *head, record),
+    }
+}
+
+/// Gives a track another home address.
+fn set_home(volume: &mut Volume, cylinder: u32, head: u32, home: [u8; 5]) -> Result<(), NoPlace>
+    ensures ok { OnOk result (with_stated volume.old (said.Home cylinder head home) ≡ Some volume.new) }
+    ensures err { OnErr result (with_stated volume.old (said.Home cylinder head home) ≡ None) }
+{
+    match volume.track_mut(cylinder as usize, head as usize) {
+        Some(track) => {
+            track.set_home(home);
+            Ok(())
+        }
+        None => Err(NoPlace),
+    }
+}
+
+/// Adds a record to a track.
+fn add(volume: &mut Volume, cylinder: u32, head: u32, wanted: &StatedRecord) -> Result<(), NoPlace>
+    ensures ok { OnOk result (with_stated volume.old (said.Add cylinder head (record_in wanted.now)) ≡ Some volume.new) }
+    ensures err { OnErr result (with_stated volume.old (said.Add cylinder head (record_in wanted.now)) ≡ None) }
+{
+    match volume.track_mut(cylinder as usize, head as usize) {
+        Some(track) => match track.push(wanted.id, &wanted.key, &wanted.content) {
+            Ok(()) => Ok(()),
+            Err(_) => Err(NoPlace),
+        },
+        None => Err(NoPlace),
+    }
+}

@@ -1,0 +1,15 @@
+use Rattle.std.proofs.Common.{◌≡◌, ◌≤◌, ◌+◌, All, length, map}
+use Rattle.cp_text.specs.Lines.{lines_of, read_lines}
+use Rattle.cp_script.specs.Script.{IsOfDevice, IsOfUser, line_step, said, script_of}
+use Rattle.cp_script.proofs.reader.read_script.Given as goal
+
+abbrev pub invariant-loop-rest : goal.invariant-loop-rest
+invariant-loop-rest l = record {
+  so_far : script_of l.users l.text ≡ read_lines (line_step l.users) l.number (map said l.events.items) (lines_of l.rest);
+  users : All (IsOfUser l.users) l.events.items;
+  devices : All (IsOfDevice l.users) l.events.items;
+  numbered : l.number + length l.rest ≤ length l.text + 1;
+}
+
+abbrev pub decreases-loop-rest : goal.decreases-loop-rest
+decreases-loop-rest l = length l.rest

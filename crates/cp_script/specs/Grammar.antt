@@ -1,0 +1,77 @@
+-- The grammar of scripts, as a relation between a text and events.
+use Rattle.std.specs.Prelude.{◌≡◌, ℕ, ◌+◌, ◌≤◌, ◌⊎◌, true, false, List, [], ◌∷◌, ◌++◌, length, codes, Some, Ok, Err}
+use Rattle.cp_text.specs.Lines.{lines_of}
+use Rattle.cp_text.specs.Words.{NoBlank}
+use Rattle.cp_text.specs.Numbers.{decimal_of, hexadecimal_of}
+use Rattle.cp_users.specs.Users.{user_of}
+use Rattle.cp_script.specs.Users.{KnownUser, has_device, names_of}
+use Rattle.cp_script.specs.Script.{Said, Run, Line, Tick, Serve, is_ignored, script_of}
+
+-- a word that is the name of this user
+pub record IsName (names : List (List ℕ)) (user : ℕ) (name : List ℕ) : Type 0 where
+  pub whole : NoBlank name
+  pub found : user_of names name ≡ Some user
+
+-- `RUN u n`: one blank between the words, n of 1 to 7 decimal digits and 1 to 1,000,000
+pub record SaysRun (names : List (List ℕ)) (line : List ℕ) (user units : ℕ) : Type 0 where
+  pub name : List ℕ
+  pub digits : List ℕ
+  pub spelled : line ≡ codes "RUN" ++ 32 ∷ (name ++ 32 ∷ digits)
+  pub named : IsName names user name
+  pub number : decimal_of 7 digits ≡ Some units
+  pub least : 1 ≤ units
+  pub most : units ≤ 1000000
+
+-- `LINE u text`: the text is the rest after one blank, which an empty text may lack
+pub record SaysLine (names : List (List ℕ)) (line : List ℕ) (user : ℕ) (text : List ℕ) : Type 0 where
+  pub name : List ℕ
+  pub named : IsName names user name
+  pub spelled : (line ≡ codes "LINE" ++ 32 ∷ (name ++ 32 ∷ text)) ⊎ ((text ≡ []) × (line ≡ codes "LINE" ++ 32 ∷ name))
+
+-- `TICK u`: one blank between the words
+pub record SaysTick (names : List (List ℕ)) (line : List ℕ) (user : ℕ) : Type 0 where
+  pub name : List ℕ
+  pub spelled : line ≡ codes "TICK" ++ 32 ∷ name
+  pub named : IsName names user name
+
+-- `SERVE u addr`: one blank between the words, addr of three hexadecimal digits, of a device which that user has
+pub record SaysServe (users : List KnownUser) (line : List ℕ) (user device : ℕ) : Type 0 where
+  pub name : List ℕ
+  pub digits : List ℕ
+  pub spelled : line ≡ codes "SERVE" ++ 32 ∷ (name ++ 32 ∷ digits)
+  pub named : IsName (names_of users) user name
+  pub number : hexadecimal_of 3 3 digits ≡ Some device
+  pub had : has_device users user device ≡ true
+
+-- a line says an event
+abbrev pub Says : List KnownUser → List ℕ → Said → Type 0
+Says users line (Run user units) = SaysRun (names_of users) line user units
+Says users line (Line user text) = SaysLine (names_of users) line user text
+Says users line (Tick user) = SaysTick (names_of users) line user
+Says users line (Serve user device) = SaysServe users line user device
+
+-- the lines are a script of these events: each line is ignored, or says the next event
+abbrev pub IsScript : List KnownUser → List (List ℕ) → List Said → Type 0
+IsScript users [] events = events ≡ []
+IsScript users (line ∷ lines) events =
+    ((is_ignored line ≡ true) × IsScript users lines events)
+    ⊎ ((is_ignored line ≡ false) × (e : Said) × (es : List Said) × (events ≡ e ∷ es) × Says users line e × IsScript users lines es)
+
+-- this line, counted from 1, is the first that no script has: those before it are a script, and it says no event
+pub record IsFirstBad (users : List KnownUser) (lines : List (List ℕ)) (number : ℕ) : Type 0 where
+  pub before : List (List ℕ)
+  pub bad : List ℕ
+  pub after : List (List ℕ)
+  pub split : lines ≡ before ++ bad ∷ after
+  pub numbered : number ≡ length before + 1
+  pub events : List Said
+  pub accepted : IsScript users before events
+  pub counted : is_ignored bad ≡ false
+  pub refused : (e : Said) → Says users bad e → ⊥
+
+-- what is read is in the grammar, what is in the grammar is read, and the line that is told is the first bad one
+abbrev pub ReadsGrammar : Type 0
+ReadsGrammar = (users : List KnownUser) (text : List ℕ) →
+    ((events : List Said) → script_of users text ≡ Ok events → IsScript users (lines_of text) events)
+    × ((events : List Said) → IsScript users (lines_of text) events → script_of users text ≡ Ok events)
+    × ((number : ℕ) → script_of users text ≡ Err number → IsFirstBad users (lines_of text) number)

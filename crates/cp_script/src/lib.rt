@@ -1,0 +1,21 @@
+//! Scripts: which texts say what happens to machines, and the events that they say.
+//!
+//! A script's bytes name events exactly where they are a text of the grammar of docs/FORMATS.md, and
+//! any other text is refused at its first line that the grammar does not have ([`reads_grammar`]
+//! carries that law, [`read_script`] keeps it). A script is judged for the users that there are and
+//! the devices that each of them has, which whoever reads it tells ([`ScriptUser`]); what the events do
+//! is no matter of this crate.
+//!
+//! ```text
+//! let users = [ScriptUser { name: b"A", devices: &[0x191] }];
+//! let events = read_script(alloc, &users, b"RUN A 1\nSERVE A 191\n")?;
+//! ```
+#![tactic(auto)]
+
+mod event;
+mod reader;
+mod user;
+
+pub use event::ScriptEvent;
+pub use reader::{ScriptError, read_script, reads_grammar};
+pub use user::ScriptUser;

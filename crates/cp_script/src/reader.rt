@@ -1,0 +1,407 @@
+//! The script: which texts are scripts, and the events that a script names.
+ghost use Rattle.std.specs.Prelude.{◌≡◌, ℕ, ◌<◌, ◌≤◌, ◌+◌, ◌∷◌, List, Option, Some, None, IfOk, IfErr, IfSome, OnOk, All, Ok, Err, length, map};
+ghost use Rattle.std.specs.Option.{option_map};
+ghost use Rattle.cp_text.specs.Lines.{lines_of};
+ghost use Rattle.cp_script.specs.Grammar.{ReadsGrammar};
+ghost use Rattle.cp_script.specs.Script.{IsOfDevice, IsOfUser, IsRefusal, is_ignored, line_step, run_of, said, said_of, script_of, serve_of, tick_of, typed_of};
+ghost use Rattle.cp_script.specs.Users.{names_of};
+
+use crate::event::ScriptEvent;
+use crate::user::{ScriptUser, has_device};
+use cp_text::lines::cut_line;
+use cp_text::numbers::{decimal_of, hexadecimal_of};
+use cp_text::words::cut_word;
+use cp_users::{MOST_USERS, user_of};
+use std::alloc::Global;
+use thiserror::Error;
+
+/// The most decimal digits of a number in a script.
+const DIGITS: usize = 7;
+
+/// The hexadecimal digits of a device's address.
+const DEVICE_DIGITS: usize = 3;
+
+/// The most units of one `RUN`.
+const MOST_UNITS: u32 = 1_000_000;
+
+/// Why a script is refused.
+#[derive(Clone, Copy, Debug, PartialEq, Eq, Drop, Error)]
+pub enum ScriptError {
+    /// There was no memory for the events.
+    #[error("no memory for the script's events")]
+    Memory,
+    /// The first line, counted from 1, that is no line of a script.
+    #[error("line {0} of the script names an unknown user or device, or is misspelled")]
+    Line(u64),
+}
+
+/// The events that a script names, in the order of its lines. The whole text is judged: where one of
+/// its lines is no line of a script, the first such line is told. The events borrow their texts from
+/// the script.
+pub fn read_script<'a>(
+    alloc: Global,
+    users: &[ScriptUser<'_>],
+    text: &'a [u8],
+) -> Result<Vec<ScriptEvent<'a>>, ScriptError>
+    requires { length users.now ≤ MOST_USERS }
+    ensures ok { IfOk result (λ events. script_of users.now text.now ≡ Ok (map said events.items)) }
+    ensures users { IfOk result (λ events. All (IsOfUser users.now) events.items) }
+    ensures devices { IfOk result (λ events. All (IsOfDevice users.now) events.items) }
+    ensures err { IfErr result (IsRefusal (script_of users.now text.now)) }
+{
+    let mut events = Vec::new(alloc);
+    let mut rest = text;
+    let mut number = 1;
+    while !rest.is_empty() {
+        let (line, after) = cut_line(rest);
+        read_line(users, number, line, &mut events)?;
+        rest = after;
+        number += 1;
+    }
+    Ok(events)
+}
+
+/// Adds what a line of this number names to the events before it.
+fn read_line<'a>(
+    users: &[ScriptUser<'_>],
+    number: u64,
+    line: &'a [u8],
+    events: &mut Vec<ScriptEvent<'a>>,
+) -> Result<(), ScriptError>
+    requires { length users.now ≤ MOST_USERS }
+    ensures ok { OnOk result (line_step users.now number (map said events.old.items) line.now ≡ Ok (map said events.new.items)) }
+    ensures users { All (IsOfUser users.now) events.old.items → OnOk result (All (IsOfUser users.now) events.new.items) }
+    ensures devices { All (IsOfDevice users.now) events.old.items → OnOk result (All (IsOfDevice users.now) events.new.items) }
+    ensures err { IfErr result (IsRefusal (line_step users.now number (map said events.old.items) line.now)) }
+{
+    if is_ignored(line) {
+        return Ok(());
+    }
+    let Some(event) = read_event(users, line) else {
+        return Err(ScriptError::Line(number));
+    };
+    if events.push(event).is_err() {
+        return Err(ScriptError::Memory);
+    }
+    Ok(())
+}
+
+/// Whether a line is empty or a comment.
+fn is_ignored(line: &[u8]) -> bool
+    ensures { result ≡ is_ignored line.now }
+{
+    match line {
+        [] => true,
+        [first, ..] => *first == b'*',
+    }
+}
+
+/// The event that a line names, by its first word.
+fn read_event<'a>(users: &[ScriptUser<'_>], line: &'a [u8]) -> Option<ScriptEvent<'a>>
+    requires { length users.now ≤ MOST_USERS }
+    ensures users { IfSome result (IsOfUser users.now) }
+    ensures devices { IfSome result (IsOfDevice users.now) }
+    ensures said { option_map said result ≡ said_of users.now line.now }
+{
+    let (verb, operands) = cut_word(line);
+    let operands = operands?;
+    if verb == b"RUN".as_slice() {
+        read_run(users, operands)
+    } else if verb == b"LINE".as_slice() {
+        read_typed(users, operands)
+    } else if verb == b"TICK".as_slice() {
+        read_tick(users, operands)
+    } else if verb == b"SERVE".as_slice() {
+        read_serve(users, operands)
+    } else {
+        None
+    }
+}
+
+/// `RUN u n`, after its first word.
+fn read_run<'a>(users: &[ScriptUser<'_>], operands: &'a [u8]) -> Option<ScriptEvent<'a>>
+    requires { length users.now ≤ MOST_USERS }
+    ensures users { IfSome result (IsOfUser users.now) }
+    ensures devices { IfSome result (IsOfDevice users.now) }
+    ensures said { option_map said result ≡ run_of (names_of users.now) operands.now }
+{
+    let (name, digits) = cut_word(operands);
+    let user = user_of(users, name)?;
+    let units = decimal_of(DIGITS, digits?)?;
+    if 1 <= units && units <= MOST_UNITS {
+        Some(ScriptEvent::Run(user, units))
+    } else {
+        None
+    }
+}
+
+/// `LINE u text`, after its first word; an empty text may lack the blank before it.
+fn read_typed<'a>(users: &[ScriptUser<'_>], operands: &'a [u8]) -> Option<ScriptEvent<'a>>
+    requires { length users.now ≤ MOST_USERS }
+    ensures users { IfSome result (IsOfUser users.now) }
+    ensures devices { IfSome result (IsOfDevice users.now) }
+    ensures said { option_map said result ≡ typed_of (names_of users.now) operands.now }
+{
+    let (name, text) = cut_word(operands);
+    let user = user_of(users, name)?;
+    match text {
+        Some(text) => Some(ScriptEvent::Line(user, text)),
+        None => Some(ScriptEvent::Line(user, &[])),
+    }
+}
+
+/// `TICK u`, after its first word: nothing follows the name.
+fn read_tick<'a>(users: &[ScriptUser<'_>], operands: &'a [u8]) -> Option<ScriptEvent<'a>>
+    requires { length users.now ≤ MOST_USERS }
+    ensures users { IfSome result (IsOfUser users.now) }
+    ensures devices { IfSome result (IsOfDevice users.now) }
+    ensures said { option_map said result ≡ tick_of (names_of users.now) operands.now }
+{
+    let (name, more) = cut_word(operands);
+    if more.is_some() {
+        return None;
+    }
+    let user = user_of(users, name)?;
+    Some(ScriptEvent::Tick(user))
+}
+
+/// `SERVE u addr`, after its first word: the device is one that the user has.
+fn read_serve<'a>(users: &[ScriptUser<'_>], operands: &'a [u8]) -> Option<ScriptEvent<'a>>
+    requires { length users.now ≤ MOST_USERS }
+    ensures users { IfSome result (IsOfUser users.now) }
+    ensures devices { IfSome result (IsOfDevice users.now) }
+    ensures said { option_map said result ≡ serve_of users.now operands.now }
+{
+    let (name, digits) = cut_word(operands);
+    let user = user_of(users, name)?;
+    let address = hexadecimal_of(DEVICE_DIGITS, DEVICE_DIGITS, digits?)? as u16;
+    if has_device(users, user, address) {
+        Some(ScriptEvent::Serve(user, address))
+    } else {
+        None
+    }
+}
+
+/// A script is read as its events, nothing else is accepted, and a text that is no script is refused
+/// at its first bad line.
+pub fn reads_grammar()
+    ensures { ReadsGrammar }
+{}
+
+#[cfg(test)]
+mod tests {
+    use super::*;
+    use std::test::Fail;
+
+    /// What a text is read as where its users are A, who has two devices, and B, who has none.
+    fn read<'a>(alloc: Global, text: &'a [u8]) -> Result<Vec<ScriptEvent<'a>>, ScriptError> {
+        let users = [
+            ScriptUser {
+                name: b"A",
+                devices: &[0x009, 0x1AF],
+            },
+            ScriptUser {
+                name: b"B",
+                devices: &[],
+            },
+        ];
+        read_script(alloc, &users, text)
+    }
+
+    /// What an event says: the number of its user; its kind; what is typed; and the units of a run or the device that
+    /// is served.
+    type Said<'a> = (u8, Kind, &'a [u8], u32);
+
+    /// Which kind of event it is.
+    #[derive(Clone, Copy, Debug, PartialEq, Eq)]
+    enum Kind {
+        Run,
+        Line,
+        Tick,
+        Serve,
+    }
+
+    /// What the events of a text say.
+    fn said<'a>(alloc: Global, text: &'a [u8]) -> Result<Vec<Said<'a>>, Fail> {
+        let mut all = Vec::new(alloc);
+        for event in read(alloc, text)? {
+            let user = event.user().number();
+            match event {
+                ScriptEvent::Run(_, units) => all.push((user, Kind::Run, b"".as_slice(), units))?,
+                ScriptEvent::Line(_, typed) => all.push((user, Kind::Line, typed, 0))?,
+                ScriptEvent::Tick(_) => all.push((user, Kind::Tick, b"".as_slice(), 0))?,
+                ScriptEvent::Serve(_, device) => {
+                    all.push((user, Kind::Serve, b"".as_slice(), u32::from(device)))?;
+                }
+            }
+        }
+        Ok(all)
+    }
+
+    #[test]
+    fn reads_a_whole_script(rt: HostRuntime) -> Result<(), Fail> {
+        let text =
+            b"LINE A LOGON\nLINE A STORE 1000 0A07\nLINE A STORE 60 0000000000000200\nLINE A STORE PSW 00000000 00001000\nLINE A BEGIN\nRUN A 1\nLINE A #CP DISPLAY 20\nLINE A #CP DISPLAY PSW\n";
+        let wanted = [
+            (0, Kind::Line, b"LOGON".as_slice(), 0),
+            (0, Kind::Line, b"STORE 1000 0A07".as_slice(), 0),
+            (0, Kind::Line, b"STORE 60 0000000000000200".as_slice(), 0),
+            (0, Kind::Line, b"STORE PSW 00000000 00001000".as_slice(), 0),
+            (0, Kind::Line, b"BEGIN".as_slice(), 0),
+            (0, Kind::Run, b"".as_slice(), 1),
+            (0, Kind::Line, b"#CP DISPLAY 20".as_slice(), 0),
+            (0, Kind::Line, b"#CP DISPLAY PSW".as_slice(), 0),
+        ];
+        assert_eq!(rt; said(rt.alloc(), text)?.as_slice(), wanted.as_slice());
+        Ok(())
+    }
+
+    #[test]
+    fn reads_the_example_of_the_formats(rt: HostRuntime) -> Result<(), Fail> {
+        let text =
+            b"* A logs on and runs; B gets an empty line.\nLINE A LOGON\n\nRUN A 0000100\nLINE B\n";
+        let wanted = [
+            (0, Kind::Line, b"LOGON".as_slice(), 0),
+            (0, Kind::Run, b"".as_slice(), 100),
+            (1, Kind::Line, b"".as_slice(), 0),
+        ];
+        assert_eq!(rt; said(rt.alloc(), text)?.as_slice(), wanted.as_slice());
+        Ok(())
+    }
+
+    #[test]
+    fn reads_texts_that_name_nothing(rt: HostRuntime) -> Result<(), Fail> {
+        for text in [
+            b"".as_slice(),
+            b"\n\n".as_slice(),
+            b"*".as_slice(),
+            b"* RUN C 0\n*".as_slice(),
+        ] {
+            assert!(rt; read(rt.alloc(), text)?.is_empty(), "{text:?}");
+        }
+        Ok(())
+    }
+
+    #[test]
+    fn reads_one_event(rt: HostRuntime) -> Result<(), Fail> {
+        for (text, wanted) in [
+            (b"RUN B 1".as_slice(), (1, Kind::Run, b"".as_slice(), 1)),
+            (
+                b"RUN A 0000001\n".as_slice(),
+                (0, Kind::Run, b"".as_slice(), 1),
+            ),
+            (
+                b"RUN A 1000000\n".as_slice(),
+                (0, Kind::Run, b"".as_slice(), 1_000_000),
+            ),
+            (b"LINE B".as_slice(), (1, Kind::Line, b"".as_slice(), 0)),
+            (b"LINE B ".as_slice(), (1, Kind::Line, b"".as_slice(), 0)),
+            (
+                b"LINE B x y ".as_slice(),
+                (1, Kind::Line, b"x y ".as_slice(), 0),
+            ),
+            (
+                b"LINE B  x".as_slice(),
+                (1, Kind::Line, b" x".as_slice(), 0),
+            ),
+            (
+                b"LINE B x\r\n".as_slice(),
+                (1, Kind::Line, b"x\r".as_slice(), 0),
+            ),
+            (
+                b"LINE A \t\xC1\xFF".as_slice(),
+                (0, Kind::Line, b"\t\xC1\xFF".as_slice(), 0),
+            ),
+            (
+                b"SERVE A 009\n".as_slice(),
+                (0, Kind::Serve, b"".as_slice(), 0x009),
+            ),
+            (
+                b"SERVE A 1AF".as_slice(),
+                (0, Kind::Serve, b"".as_slice(), 0x1AF),
+            ),
+            (b"TICK A".as_slice(), (0, Kind::Tick, b"".as_slice(), 0)),
+            (
+                b"*\n\nTICK B\n".as_slice(),
+                (1, Kind::Tick, b"".as_slice(), 0),
+            ),
+        ] {
+            assert_eq!(rt;
+                said(rt.alloc(), text)?.as_slice(),
+                [wanted].as_slice(),
+                "{text:?}"
+            );
+        }
+        Ok(())
+    }
+
+    #[test]
+    fn tells_the_first_bad_line(rt: HostRuntime) {
+        for (text, line) in [
+            // another verb, also in lower case
+            (b"STOP A".as_slice(), 1),
+            (b"RUN A 1\nHALT A 1\nSTOP A\n".as_slice(), 2),
+            (b"run A 1".as_slice(), 1),
+            (b"* comment\n\nLine A x".as_slice(), 3),
+            // an unknown user
+            (b"RUN C 1".as_slice(), 1),
+            (b"LINE a LOGON".as_slice(), 1),
+            (b"RUN A 1\n\n*\nLINE AB x\n".as_slice(), 4),
+            // more than one blank, or one too many
+            (b"LINE  A x".as_slice(), 1),
+            (b"RUN A  1".as_slice(), 1),
+            (b"RUN A 1 ".as_slice(), 1),
+            (b"\n RUN A 1".as_slice(), 2),
+            (b" ".as_slice(), 1),
+            (b" * comment".as_slice(), 1),
+            // words missing or left over
+            (b"RUN".as_slice(), 1),
+            (b"RUN A".as_slice(), 1),
+            (b"LINE".as_slice(), 1),
+            (b"LINE ".as_slice(), 1),
+            (b"LINE A\nRUN A 1 1".as_slice(), 2),
+            (b"TICK".as_slice(), 1),
+            (b"TICK ".as_slice(), 1),
+            (b"TICK A\nTICK A ".as_slice(), 2),
+            (b"TICK A 1".as_slice(), 1),
+            (b"TICK  A".as_slice(), 1),
+            (b"TICK C".as_slice(), 1),
+            (b"Tick A".as_slice(), 1),
+            (b"TICK A\r\n".as_slice(), 1),
+            // a device that the user does not have, or another spelling of one
+            (b"SERVE A 00C".as_slice(), 1),
+            (b"SERVE A 009\nSERVE B 009".as_slice(), 2),
+            (b"SERVE C 009".as_slice(), 1),
+            (b"SERVE A 9".as_slice(), 1),
+            (b"SERVE A 0009".as_slice(), 1),
+            (b"SERVE A 1af".as_slice(), 1),
+            (b"SERVE A 009 ".as_slice(), 1),
+            (b"SERVE  A 009".as_slice(), 1),
+            (b"SERVE A".as_slice(), 1),
+            (b"SERVE".as_slice(), 1),
+            // numbers
+            (b"RUN A 0".as_slice(), 1),
+            (b"LINE A\nRUN A 0000000".as_slice(), 2),
+            (b"RUN A 1000001".as_slice(), 1),
+            (b"RUN A 9999999".as_slice(), 1),
+            (b"RUN A 00000001".as_slice(), 1),
+            (b"RUN A 10000000".as_slice(), 1),
+            (b"RUN A +1".as_slice(), 1),
+            (b"RUN A 1x".as_slice(), 1),
+            (b"RUN A ".as_slice(), 1),
+            // CR, tab, bytes above 7F
+            (b"RUN A 1\r\n".as_slice(), 1),
+            (b"\n\r\n".as_slice(), 2),
+            (b"RUN\tA 1".as_slice(), 1),
+            (b"RUN A 1\t".as_slice(), 1),
+            (b"RUN \xC1 1".as_slice(), 1),
+            (b"RUN A 1\n\xFF".as_slice(), 2),
+        ] {
+            match read(rt.alloc(), text) {
+                Ok(_) => panic!(&rt; "{text:?} is read"),
+                Err(ScriptError::Memory) => {}
+                Err(ScriptError::Line(told)) => assert_eq!(rt; told, line, "{text:?}"),
+            }
+        }
+    }
+}
