@@ -1,6 +1,6 @@
 -- The parts of the devices of one machine: console, card reader, card punch and line printer, each at its address or without
 -- one, and the disks.
-use Rattle.std.specs.Prelude.{ℕ, ◌==◌, Bool, false, if◌then◌else◌, List, [], ◌∷◌, ◌++◌, Option, Some, None}
+use Rattle.std.specs.Prelude.{ℕ, ◌<◌, ◌==◌, Bool, false, if◌then◌else◌, List, [], ◌∷◌, ◌++◌, length, Option, Some, None}
 use Rattle.std.specs.Option.{option_map}
 use Rattle.std.specs.List.{position}
 use Rattle.unit_record.specs.declared.output.Target.{Target}
@@ -64,3 +64,12 @@ kind_at d device =
     else if is_there d.places.punch device then Some kinds.Punch
     else if is_there d.places.printer device then Some kinds.Printer
     else option_map kinds.Disk (position (is_disk_at device) d.disks)
+
+-- Where it is a disk, there is a disk of its index.
+abbrev pub IsAttached : DevicesValue → Option Kind → Type 0
+IsAttached d (Some (kinds.Disk index)) = index < length d.disks
+IsAttached d (Some kinds.Console) = Unit {0}
+IsAttached d (Some kinds.Reader) = Unit {0}
+IsAttached d (Some kinds.Punch) = Unit {0}
+IsAttached d (Some kinds.Printer) = Unit {0}
+IsAttached d None = Unit {0}

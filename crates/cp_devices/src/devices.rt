@@ -1,8 +1,8 @@
 //! The parts of the devices of one machine.
-ghost use Rattle.std.specs.Prelude.{◌≡◌, length, slice_get, IfOk, OnErr};
+ghost use Rattle.std.specs.Prelude.{◌≡◌, ◌<◌, length, slice_get, IfOk, IfSome, OnErr};
 ghost use Rattle.std.specs.Option.{option_copied, option_map};
 ghost use Rattle.std.specs.List.{position};
-ghost use Rattle.cp_devices.specs.Devices.{devices_new, with_disk, kind_at, is_disk_at};
+ghost use Rattle.cp_devices.specs.Devices.{devices_new, with_disk, kind_at, is_disk_at, IsAttached};
 ghost use Rattle.cp_devices.specs.Resets.{devices_reset, devices_cleared};
 
 use crate::disks::{AttachedDisk, clear_each, reset_each};
@@ -60,7 +60,8 @@ impl Devices {
 
     /// What has this address, if anything has.
     pub fn kind_at(&self, device: u16) -> Option<Kind>
-        ensures { result ≡ kind_at self.now device }
+        ensures kind { result ≡ kind_at self.now device }
+        ensures inside { IsAttached self.now result }
     {
         let places = self.places;
         if is_there(places.console, device) {
@@ -72,13 +73,17 @@ impl Devices {
         } else if is_there(places.printer, device) {
             Some(Kind::Printer)
         } else {
-            self.disk_at(device).map(Kind::Disk)
+            match self.disk_at(device) {
+                None => None,
+                Some(index) => Some(Kind::Disk(index)),
+            }
         }
     }
 
     /// The index of the first disk with this address.
     fn disk_at(&self, device: u16) -> Option<usize>
-        ensures { result ≡ position (is_disk_at device) self.now.disks }
+        ensures index { result ≡ position (is_disk_at device) self.now.disks }
+        ensures inside { IfSome result (λ index. index < length self.now.disks) }
     {
         self.disks
             .iter()
