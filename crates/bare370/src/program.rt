@@ -3,15 +3,14 @@
 //! The transcript goes to standard output. A failure is one line on standard error, and its kind is the
 //! exit status.
 use crate::arguments::bare_arguments;
-use crate::session::bare_session;
-use bare_machine::Bare;
+use crate::ended::{BareFailure, Ended, finish};
+use crate::images::{read_volumes, save_volumes};
+use crate::session::{bare_session, machine_of};
 use s370_num::host::Counted;
-use s370_store::PlainStorage;
-use s370_subchannels::Subchannels;
 use std::io;
 use std::rt::{Env, Files};
 use vm370::faults::Failure;
-use vm370::program::{Ended, finish, open, words, wrong_use};
+use vm370::program::{open, words, wrong_use};
 
 /// The program's name, as it tells it.
 const PROGRAM: &str = "bare370";
@@ -30,30 +29,31 @@ The transcript goes to standard output, a fault as one line to standard error. E
   4  there was not memory enough
 ";
 
-/// The whole program: what it is started with names a storage and a script, and the transcript of that script is written. A
-/// failure is told on standard error.
+/// The whole program: what it is started with names a storage, a script and volumes, and the transcript of that script is
+/// written. A failure is told on standard error.
 pub fn bare_program<R: AllocGlobal + Files + Env + Print + Eprint>(rt: &R) -> Ended {
     finish(rt, run(rt))
 }
 
-/// Reads the words and the script, and writes the transcript. A wrong use is told here.
-fn run<R: AllocGlobal + Files + Env + Print + Eprint>(rt: &R) -> Result<(), Failure> {
+/// Reads the words, the images and the script, writes the transcript, and saves the volumes where that is asked for. A wrong
+/// use is told here.
+fn run<R: AllocGlobal + Files + Env + Print + Eprint>(rt: &R) -> Result<(), BareFailure> {
     let alloc = rt.alloc();
     let words = words(rt, PROGRAM)?;
     let options = match bare_arguments(alloc, PROGRAM, words.as_slice()) {
         Ok(options) => options,
-        Err(error) => return Err(wrong_use(rt, &error, USAGE_NOTE)),
+        Err(error) => return Err(wrong_use(rt, &error, USAGE_NOTE).into()),
     };
-    if options.save || !options.volumes.is_empty() {
-        let _ = rt.eprintln("bare370: machines have no disks yet, so name no VOLUME and no --save");
-        return Err(Failure::Usage);
-    }
-    let storage = PlainStorage::new(alloc, options.storage.blocks())?;
-    let mut machine = Bare::new(alloc, storage, Subchannels::new(alloc));
+    let volumes = read_volumes(rt, options.volumes.as_slice())?;
+    let mut machine = machine_of(alloc, options.storage.blocks(), volumes)?;
     let mut script = open(rt, options.script)?;
     let Ok(output) = io::BufWriter::new(alloc, io::writer(rt)) else {
-        return Err(Failure::Memory);
+        return Err(BareFailure::Session(Failure::Memory));
     };
     let mut transcript = Counted::new(output);
-    Ok(bare_session(alloc, &mut machine, &mut script, &mut transcript)?)
+    bare_session(alloc, &mut machine, &mut script, &mut transcript)?;
+    if options.save {
+        save_volumes(rt, &machine, options.volumes.as_slice())?;
+    }
+    Ok(())
 }

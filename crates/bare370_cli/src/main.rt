@@ -1,8 +1,7 @@
 //! The program `bare370 [--save] STORAGE SCRIPT [VOLUME]...` (docs/COMMANDS.md, docs/FORMATS.md).
 #![tactic(auto)]
 
-use bare370::bare_program;
-use vm370::program::Ended;
+use bare370::{Ended, bare_program};
 
 fn main(rt: HostRuntime) -> Ended {
     bare_program(&rt)

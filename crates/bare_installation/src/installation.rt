@@ -1,0 +1,243 @@
+//! A machine with its devices, and nobody else.
+ghost use Rattle.std.specs.Prelude.{◌≡◌, ◌≤◌, [], true, IfOk, OnOk, length};
+ghost use Rattle.s370_store.specs.Plain.{plain_bytes, plain_keys};
+ghost use Rattle.cp_panel.specs.Machine.{unused};
+ghost use Rattle.cp_panel.specs.Run.{run};
+ghost use Rattle.cp_panel.specs.Tick.{ticked};
+ghost use Rattle.cp_devices.specs.Lines.{IsLine};
+ghost use Rattle.cp_devices.specs.Serve.{IsServedAt};
+ghost use Rattle.bare_installation.specs.Installation.{IsTyped, is_logged_on, noted, printed_file, punched, received, with_deck, world_of};
+
+use crate::alone::Alone;
+use crate::files::FileKind;
+use cp_console::responses::Response;
+use cp_devices::{Devices, Told};
+use cp_panel::{LineError, Machine, MachineRan, Mode};
+use s370_channel::ChannelError;
+use s370_intr::RealCpu;
+use s370_num::DevAddr;
+use s370_store::{PlainStorage, Supply};
+use s370_subchannels::Subchannels;
+use std::alloc::{AllocError, Global};
+use std::marker::Model;
+use unit_record::{Card, Deck, Sender, Target};
+
+/// One System/370 with its panel, its own storage and its devices. Its user is `BARE`.
+#[derive(Drop)]
+pub struct Installation {
+    machine: Machine,
+    devices: Devices,
+    storage: PlainStorage,
+    files: Vec<FileKind>,
+}
+
+impl Model for Installation {
+    ghost use Rattle.std.specs.Prelude.{◌≤◌, length};
+    ghost use Rattle.s370_store.specs.Plain.{plain_bytes, plain_keys};
+    ghost use Rattle.cp_devices.specs.Equipped.{equipped};
+    ghost use Rattle.bare_installation.specs.Installation.{Installation as Whole};
+
+    ghost Value = { Whole };
+
+    ghost view = { λ i. record { equipped = equipped i.machine i.devices (plain_bytes i.storage) (plain_keys i.storage); files = i.files.items } };
+
+    ghost invariant = { λ i. 8192 ≤ length (plain_bytes i.storage) };
+}
+
+impl Installation {
+    /// A machine that is off, with this storage of at least 8 KiB, which is cleared, these subchannels, which are reset, and
+    /// the parts of their devices.
+    pub fn new(
+        alloc: Global,
+        mut storage: PlainStorage,
+        subchannels: Subchannels,
+        devices: Devices,
+    ) -> Installation
+        requires { 8192 ≤ length (plain_bytes storage) }
+        ensures machine { result.equipped.machine ≡ unused (plain_bytes storage) (plain_keys storage) subchannels }
+        ensures devices { result.equipped.devices ≡ devices }
+        ensures files { result.files ≡ [] }
+    {
+        Supply::clear(&mut storage);
+        Installation {
+            machine: Machine::new(alloc, subchannels),
+            devices,
+            storage,
+            files: Vec::new(alloc),
+        }
+    }
+
+    /// Lets the machine run for at most so many units. This takes no memory.
+    pub fn units(&mut self, count: u32) -> MachineRan
+        ensures machine { run count self.old.equipped.machine ≡ record { machine = self.new.equipped.machine; units = result.ran.units; reason = result.ran.reason; notice = result.notice } }
+        ensures devices { self.new.equipped.devices ≡ self.old.equipped.devices }
+        ensures files { self.new.files ≡ self.old.files }
+    {
+        self.machine
+            .run::<RealCpu, PlainStorage>(&mut self.storage, count)
+    }
+
+    /// A tick of the interval timer, which steps where the machine runs. This takes no memory.
+    pub fn tick(&mut self)
+        ensures machine { self.new.equipped.machine ≡ ticked self.old.equipped.machine }
+        ensures devices { self.new.equipped.devices ≡ self.old.equipped.devices }
+        ensures files { self.new.files ≡ self.old.files }
+    {
+        match self.machine.tick(&mut self.storage) {
+            Ok(()) => {}
+            // Every page of its storage is present.
+            Err(_) => unreachable!(),
+        }
+    }
+
+    /// Serves the device of this address: the channel program that was started runs as a whole, and its status is pending.
+    /// Tells whether there was one; else nothing has happened. Where memory is refused, nothing is said of the machine.
+    pub fn serve(&mut self, device: DevAddr) -> Result<bool, AllocError>
+        ensures served { IfOk result (λ done. IsServedAt device self.old.equipped done self.new.equipped) }
+        ensures files { self.new.files ≡ self.old.files }
+    {
+        match self
+            .devices
+            .serve(&mut self.machine, &mut self.storage, device)
+        {
+            Ok(done) => Ok(done),
+            Err(ChannelError::Memory) => Err(AllocError),
+            // Every page of its storage is present.
+            Err(ChannelError::Absent(_)) => unreachable!(),
+        }
+    }
+
+    /// A deck that the operator gives to the reader; no cards are no deck. Where memory is refused, nothing is said of the
+    /// machine.
+    pub fn deck(&mut self, cards: Vec<Card>) -> Result<(), AllocError>
+        ensures { OnOk result (self.new ≡ with_deck cards.items self.old) }
+    {
+        if cards.is_empty() {
+            return Ok(());
+        }
+        let number = self.files.len() as u64 + 1;
+        self.devices.deck(Deck::new(number, Sender::System, cards))?;
+        self.files.push(FileKind::Deck)?;
+        Ok(())
+    }
+
+    /// A line that is typed, and what is told. Where memory is refused, nothing is said of the machine.
+    pub fn line(&mut self, alloc: Global, typed: &[u8]) -> Result<Told, AllocError>
+        ensures { IfOk result (λ told. IsTyped typed.now self.old told self.new) }
+    {
+        let punched = self.devices.punch().closed().len();
+        let printed = self.devices.printer().closed().len();
+        let first = self.answer(alloc, typed)?;
+        let told = self.receive(first)?;
+        self.note(alloc, punched, printed)?;
+        Ok(told)
+    }
+
+    /// What a line does in the small world of one user.
+    fn answer(&mut self, alloc: Global, typed: &[u8]) -> Result<Told, AllocError>
+        ensures line { IfOk result (λ told. IsLine (world_of self.old) typed.now self.old.equipped told self.new.equipped) }
+        ensures files { self.new.files ≡ self.old.files }
+    {
+        let world = Alone {
+            on: is_logged_on(self.machine.mode()),
+            files: self.files.as_slice(),
+        };
+        match self
+            .devices
+            .line(alloc, &mut self.machine, &mut self.storage, &world, typed)
+        {
+            Ok(told) => Ok(told),
+            Err(LineError::Memory) => Err(AllocError),
+            // Every page of its storage is present.
+            Err(LineError::FramesOut) => unreachable!(),
+        }
+    }
+
+    /// A message to itself is printed.
+    fn receive(&mut self, told: Told) -> Result<Told, AllocError>
+        ensures told { IfOk result (λ last. last ≡ (received told self.old.equipped).told) }
+        ensures after { OnOk result (self.new.equipped ≡ (received told self.old.equipped).equipped) }
+        ensures files { self.new.files ≡ self.old.files }
+    {
+        match told {
+            Told::Sent(_, line) => {
+                self.machine.make_room(1)?;
+                self.machine.print(&Response::Written(line));
+                Ok(Told::Said(Response::Sent))
+            }
+            other => Ok(other),
+        }
+    }
+
+    /// Each file that was closed, of so many punched and printed ones before, gets its number.
+    fn note(
+        &mut self,
+        alloc: Global,
+        punched_before: usize,
+        printed_before: usize,
+    ) -> Result<(), AllocError>
+        ensures { OnOk result (self.new ≡ noted punched_before printed_before self.old) }
+    {
+        let has_printed = self.devices.printer().closed().len() > printed_before;
+        if self.devices.punch().closed().len() > punched_before {
+            self.note_punched(alloc, punched_before)?;
+        }
+        if has_printed {
+            self.files.push(FileKind::Printer)?;
+        }
+        Ok(())
+    }
+
+    /// The punched file of this index gets its number, and goes where it is for.
+    fn note_punched(&mut self, alloc: Global, index: usize) -> Result<(), AllocError>
+        ensures { OnOk result (self.new ≡ punched true index self.old) }
+    {
+        let number = self.files.len() as u64 + 1;
+        match self.devices.punch().closed().get(index) {
+            Some(file) => match file.target() {
+                Target::User(_) => {
+                    let deck = self
+                        .devices
+                        .deck_of_punched(alloc, index, number, Sender::User(0))?;
+                    self.devices.deck(deck)?;
+                }
+                Target::System => {}
+            },
+            None => {}
+        }
+        self.files.push(FileKind::Punch)?;
+        Ok(())
+    }
+
+    /// The machine without its devices and storage.
+    pub fn machine(&self) -> &Machine
+        ensures mode { result.now.mode ≡ self.now.equipped.machine.mode }
+        ensures output { result.now.output ≡ self.now.equipped.machine.output }
+    {
+        &self.machine
+    }
+
+    /// The parts of its devices.
+    pub fn devices(&self) -> &Devices
+        ensures { result.now ≡ self.now.equipped.devices }
+    {
+        &self.devices
+    }
+
+    /// What each file was so far: the one with number 1 stands first.
+    pub fn files(&self) -> &[FileKind]
+        ensures { result.now ≡ self.now.files }
+    {
+        self.files.as_slice()
+    }
+}
+
+/// Whether the user of a machine in this mode is logged on.
+fn is_logged_on(mode: Mode) -> bool
+    ensures { result ≡ is_logged_on mode }
+{
+    match mode {
+        Mode::Off => false,
+        Mode::Stopped | Mode::Running => true,
+    }
+}
