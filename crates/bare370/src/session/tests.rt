@@ -5,62 +5,11 @@ use ckd_volume::Volume;
 use s370_num::host::Bytes;
 use std::test::Fail;
 
-/// What a script makes of a machine of 8K without disks that is off.
-fn told(alloc: Global, script: &[u8]) -> Result<Vec<u8>, Fail> {
-    let mut machine = machine_of(alloc, 4, Vec::new(alloc))?;
-    told_by(alloc, &mut machine, script)
-}
-
 /// What a script makes of a machine.
 fn told_by(alloc: Global, machine: &mut Installation, script: &[u8]) -> Result<Vec<u8>, Fail> {
     let mut told = Vec::new(alloc);
     bare_session(alloc, machine, &mut Bytes::new(script), &mut told)?;
     Ok(told)
-}
-
-#[test]
-fn writes_the_transcript(rt: HostRuntime) -> Result<(), Fail> {
-    for (script, transcript) in [
-        (b"".as_slice(), b"".as_slice()),
-        // a supervisor call, and what it leaves
-        (
-            b"LINE BARE LOGON\nLINE BARE STORE 1000 0A07\nLINE BARE STORE 60 0000000000000200\nLINE BARE STORE PSW 00000000 00001000\nLINE BARE BEGIN\nRUN BARE 1\nLINE BARE #CP DISPLAY 20\nLINE BARE #CP DISPLAY PSW\n",
-            b"BARE: LOGON OK\nBARE: STORED\nBARE: STORED\nBARE: STORED\n= BARE 1 COUNT\nBARE: 000020 00000007 40001002 00000000 00000000\nBARE: PSW 00000000 00000200\n",
-        ),
-        // a wait that nothing ends
-        (
-            b"LINE BARE LOGON\nLINE BARE STORE PSW 00020000 00000000\nLINE BARE BEGIN\nRUN BARE 5\nRUN BARE 5\n",
-            b"BARE: LOGON OK\nBARE: STORED\nBARE: STOPPED DISABLED WAIT\n= BARE 0 DISABLEDWAIT\n= BARE 0 STOPPED\n",
-        ),
-        // a line is written on the console
-        (
-            b"LINE BARE LOGON\nLINE BARE STORE 100 9C000009\nLINE BARE STORE 800 0900084000000005\nLINE BARE STORE 840 C8C5D3D3D6\nLINE BARE STORE 48 00000800\nLINE BARE STORE PSW 00000000 00000100\nLINE BARE BEGIN\nRUN BARE 1\nSERVE BARE 009\nSERVE BARE 009\n",
-            b"BARE: LOGON OK\nBARE: STORED\nBARE: STORED\nBARE: STORED\nBARE: STORED\nBARE: STORED\n= BARE 1 COUNT\nBARE: HELLO\n= BARE SERVED 009\n= BARE IDLE 009\n",
-        ),
-        // a line is printed
-        (
-            b"LINE BARE LOGON\nLINE BARE STORE 100 9C00000E\nLINE BARE STORE 800 0900084000000005\nLINE BARE STORE 840 C8C5D3D3D6\nLINE BARE STORE 48 00000800\nLINE BARE STORE PSW 00000000 00000100\nLINE BARE BEGIN\nRUN BARE 1\nSERVE BARE 00E\nLINE BARE #CP CLOSE 00E\n",
-            b"BARE: LOGON OK\nBARE: STORED\nBARE: STORED\nBARE: STORED\nBARE: STORED\nBARE: STORED\n= BARE 1 COUNT\n= BARE SERVED 00E\nBARE: FILE 0001 CLOSED\n== PRT 0001 BARE\n09 HELLO\n",
-        ),
-        // files are listed and purged, users counted, and the machine is reset
-        (
-            b"LINE BARE LOGON\nDECK BARE 1\nA CARD\nLINE BARE QUERY FILES\nLINE BARE PURGE 1\nLINE BARE QUERY FILES\nLINE BARE QUERY USERS\nLINE BARE EXTERNAL\nLINE BARE SYSTEM RESET\n",
-            b"BARE: LOGON OK\nBARE: FILE 0001 FROM SYSTEM CARDS 1\nBARE: PURGED\nBARE: NO FILES\nBARE: USERS 1\nBARE: SYSTEM RESET\n",
-        ),
-        // commands that are refused, and a message to itself
-        (
-            b"LINE BARE LOGON\nLINE BARE SPOOL 00E TO BARE\nLINE BARE SPOOL 00D TO NOBODY\nLINE BARE CLOSE 00D\nLINE BARE CLOSE 009\nLINE BARE IPL 00E\nLINE BARE PURGE 7\nLINE BARE MSG SYSTEM HI\nLINE BARE MSG BARE HI\nLINE BARE IPL 00C\nRUN BARE 1\n",
-            b"BARE: LOGON OK\nBARE: DEVICE NOT FOUND\nBARE: USER NOT FOUND\nBARE: NO FILE\nBARE: DEVICE NOT FOUND\nBARE: DEVICE NOT FOUND\nBARE: FILE NOT FOUND\nBARE: USER NOT FOUND\nBARE: SENT\nBARE: MSG FROM BARE: HI\nBARE: IPL FAILED\n= BARE 0 STOPPED\n",
-        ),
-        // a card that is punched comes to the reader
-        (
-            b"LINE BARE LOGON\nLINE BARE STORE 100 9C00000D\nLINE BARE STORE 800 0100084000000050\nLINE BARE STORE 840 C1C2C3\nLINE BARE STORE 48 00000800\nLINE BARE STORE PSW 00000000 00000100\nLINE BARE SPOOL 00D TO BARE\nLINE BARE BEGIN\nRUN BARE 1\nSERVE BARE 00D\nLINE BARE #CP CLOSE 00D\nLINE BARE #CP QUERY FILES\n",
-            b"BARE: LOGON OK\nBARE: STORED\nBARE: STORED\nBARE: STORED\nBARE: STORED\nBARE: STORED\nBARE: SPOOLED\n= BARE 1 COUNT\n= BARE SERVED 00D\nBARE: FILE 0001 CLOSED\nBARE: FILE 0001 FROM BARE CARDS 1\n",
-        ),
-    ] {
-        assert_eq!(rt; told(rt.alloc(), script)?.as_slice(), transcript);
-    }
-    Ok(())
 }
 
 /// A volume of ten cylinders with these records on its first track.
