@@ -17,8 +17,6 @@ mod faults;
 mod header;
 mod laws;
 mod reader;
-#[cfg(test)]
-mod tests;
 mod writer;
 
 pub use faults::ImageError;

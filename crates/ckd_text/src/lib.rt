@@ -18,8 +18,6 @@ mod map;
 pub mod mkvol;
 mod reader;
 mod statement;
-#[cfg(test)]
-mod tests;
 pub mod trackmap;
 
 pub use host::Ended;

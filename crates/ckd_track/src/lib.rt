@@ -12,8 +12,6 @@
 #![tactic(auto)]
 
 mod entry;
-#[cfg(test)]
-mod tests;
 mod track;
 
 pub use entry::Record;

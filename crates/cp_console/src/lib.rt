@@ -29,6 +29,3 @@ mod reading;
 pub mod responses;
 
 pub use operands::StoredBytes;
-
-#[cfg(test)]
-mod tests;

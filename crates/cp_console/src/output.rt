@@ -68,7 +68,9 @@ impl ConsoleOutput {
     pub fn is_empty(&self) -> bool
         ensures { result ≡ (length self.now.lines == 0) }
     {
-        self.lines.is_empty()
+        // All its fields: what is added to them is seen here.
+        let ConsoleOutput { lines } = self;
+        lines.is_empty()
     }
 
     /// A line that was printed, as the response that it says.
@@ -76,18 +78,5 @@ impl ConsoleOutput {
         ensures { option_map text_of result ≡ slice_get self.now.lines line }
     {
         self.lines.get(line).copied()
-    }
-}
-
-#[cfg(test)]
-mod tests {
-    use super::*;
-
-    // All that the output of a console keeps.
-    #[test]
-    fn output_has_no_other_parts(rt: HostRuntime) {
-        let output = ConsoleOutput::new(rt.alloc());
-        let ConsoleOutput { lines } = &output;
-        assert!(rt; lines.is_empty());
     }
 }

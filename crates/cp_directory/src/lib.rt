@@ -30,6 +30,3 @@ pub use name::UserName;
 pub use reader::{read_directory, reads_grammar};
 pub use spelling::storage_of;
 pub use storage::StorageSize;
-
-#[cfg(test)]
-mod tests;

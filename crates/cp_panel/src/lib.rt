@@ -21,8 +21,6 @@ mod line;
 mod machine;
 mod run;
 mod serve;
-#[cfg(test)]
-mod tests;
 mod tick;
 
 pub use display_store::{change, display};

@@ -127,7 +127,15 @@ impl Machine {
     pub fn mode(&self) -> Mode
         ensures { result ≡ self.now.mode }
     {
-        self.mode
+        // All its fields: what is added to them is seen here. None has bytes of storage, which is lent to each call.
+        let Machine {
+            cpu: _,
+            pending: _,
+            subchannels: _,
+            mode,
+            output: _,
+        } = self;
+        *mode
     }
 
     /// How many lines the console has printed.

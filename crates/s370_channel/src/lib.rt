@@ -22,8 +22,6 @@ mod moving;
 mod pieces;
 mod running;
 mod starting;
-#[cfg(test)]
-mod tests;
 mod words;
 
 pub use guest::{Guest, fetch_block, fetch_word};

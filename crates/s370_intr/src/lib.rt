@@ -18,8 +18,6 @@ mod next;
 mod pending;
 mod psw_swap;
 mod run;
-#[cfg(test)]
-mod tests;
 mod timer;
 mod unit;
 

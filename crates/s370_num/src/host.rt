@@ -113,6 +113,3 @@ pub fn read_all<R: HostReader>(alloc: Global, reader: &mut R) -> Result<Vec<u8>,
         all.extend_from_slice(&buf[..count])?;
     }
 }
-
-#[cfg(test)]
-mod tests;

@@ -5,8 +5,6 @@
 mod length;
 mod program;
 mod psw;
-#[cfg(test)]
-mod tests;
 
 pub use length::Ilc;
 pub use program::ProgramCode;

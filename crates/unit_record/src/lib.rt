@@ -26,8 +26,6 @@ mod printer;
 mod punch;
 mod reader;
 mod record;
-#[cfg(test)]
-mod tests;
 
 pub use closing::{Closed, close_both};
 pub use console::{Arrival, Console};

@@ -1,6 +1,6 @@
 //! Words with values from worked examples.
 
-use super::*;
+use s370_channel::{Ccw, Csw};
 use s370_num::AccessKey;
 use s370_walk::{ChannelStatus, Command, Ending, Flags, UnitStatus};
 use std::test::Fail;

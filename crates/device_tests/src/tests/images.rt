@@ -1,5 +1,5 @@
 //! The image of a small volume, byte for byte, and images that are none.
-use super::*;
+use ckd_image::{ImageError, image, read_image, write_image};
 use ckd_volume::Volume;
 use s370_num::host::Bytes;
 use std::alloc::Global;

@@ -1,6 +1,6 @@
 //! Tracks that are just full, and what is refused.
 
-use super::*;
+use ckd_track::{Track, TrackFull};
 use std::alloc::Global;
 use std::process::Abort;
 use std::test::Fail;

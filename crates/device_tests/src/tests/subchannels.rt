@@ -1,11 +1,11 @@
 //! Devices that are added, asked and interrupt, with what the standard's channel words hold.
-use super::{DeviceState, Status, Subchannels, answer};
 use s370_num::{AccessKey, ConditionCode, DevAddr};
 use s370_psw::Psw;
 use s370_rows::IoOperation;
 use s370_store::{
     Access, Page, PagedStorage, PlainStorage, Range, Storage, load_doubleword, store_doubleword,
 };
+use s370_subchannels::{DeviceState, Status, Subchannels, answer};
 use std::process::Abort;
 use std::test::Fail;
 

@@ -1,6 +1,6 @@
 //! Interruptions whose words are known. The locations stand here as the manual's numbers (GA22-7000, "Assigned Storage
 //! Locations").
-use super::{Class, Pending, Ran, RealCpu, Reason, instruct, run_units, swap};
+use s370_intr::{Class, Pending, Ran, RealCpu, Reason, instruct, run_units, swap};
 use s370_num::{AccessKey, DevAddr};
 use s370_psw::{Ilc, Psw};
 use s370_rows::Cpu;

@@ -1,19 +1,12 @@
-use crate::host::failing::Failing;
-use crate::host::{Bytes, Counted, HostFault, HostFile, HostWriter, read_all, write_all};
+//! Host files that fail.
+use crate::failure_of;
+use s370_num::host::failing::Failing;
+use s370_num::host::{Bytes, Counted, HostFault, HostFile, HostWriter, read_all, write_all};
 use std::io::BufWriter;
 use std::test::Fail;
 
 // More than one read takes.
 const LONG: usize = 5000;
-
-// The number of the failure that a call ended with; another end is the test's.
-fn number_of<T: Drop>(ended: Result<T, HostFault>) -> Result<u64, Fail> {
-    match ended {
-        Err(HostFault::Device(number)) => Ok(number),
-        Err(fault) => Err(Fail::from(fault)),
-        Ok(_) => Err(Fail::from("no call failed")),
-    }
-}
 
 #[test]
 fn passes_all_bytes_on(rt: HostRuntime) -> Result<(), Fail> {
@@ -35,7 +28,7 @@ fn tells_a_read_that_failed(rt: HostRuntime) -> Result<(), Fail> {
     let text = vec![in rt.alloc(); b'x'; LONG]?;
     let mut reader = Failing::new(Bytes::new(&text), 1);
     let first = read_all(rt.alloc(), &mut reader);
-    assert_eq!(rt; number_of(first)?, 1);
+    assert_eq!(rt; failure_of(first), Some(1));
     let rest = read_all(rt.alloc(), &mut reader)?;
     assert_eq!(rt; rest.len(), LONG - 4096);
     assert_eq!(rt; reader.failures(), 1);
@@ -46,7 +39,7 @@ fn tells_a_read_that_failed(rt: HostRuntime) -> Result<(), Fail> {
 fn tells_a_write_that_failed(rt: HostRuntime) -> Result<(), Fail> {
     let mut writer = Failing::new(Vec::new(rt.alloc()), 1);
     write_all(&mut writer, b"one ")?;
-    assert_eq!(rt; number_of(write_all(&mut writer, b"two "))?, 1);
+    assert_eq!(rt; failure_of(write_all(&mut writer, b"two ")), Some(1));
     write_all(&mut writer, b"three")?;
     writer.flush()?;
     assert_eq!(rt; writer.failures(), 1);
@@ -62,7 +55,7 @@ fn counts_the_failures_of_std(rt: HostRuntime) -> Result<(), Fail> {
         let passing = BufWriter::with_capacity(rt.alloc(), 0, room.as_mut_slice())?;
         let mut writer = Counted::new(passing);
         for k in 1..3 {
-            assert_eq!(rt; number_of(write_all(&mut writer, b"HELLO"))?, k);
+            assert_eq!(rt; failure_of(write_all(&mut writer, b"HELLO")), Some(k));
         }
         assert_eq!(rt; writer.failures(), 2);
     }
@@ -80,7 +73,7 @@ fn tells_a_flush_that_failed(rt: HostRuntime) -> Result<(), Fail> {
     let held_back = BufWriter::new(rt.alloc(), room.as_mut_slice())?;
     let mut writer = Failing::new(Counted::new(held_back), u64::MAX);
     write_all(&mut writer, b"HELLO")?;
-    assert_eq!(rt; number_of(writer.flush())?, 1);
+    assert_eq!(rt; failure_of(writer.flush()), Some(1));
     Ok(())
 }
 

@@ -1,8 +1,8 @@
 //! Volumes that are made of texts.
-use super::arguments::{UsageError, image_path, volume_paths};
-use super::faults::{Failure, fault_line, outcome, status};
-use super::*;
 use ckd_image::ImageError;
+use ckd_text::arguments::{UsageError, image_path, volume_paths};
+use ckd_text::faults::{Failure, fault_line, outcome, status};
+use ckd_text::{TextError, make_volume, track_map};
 use std::alloc::Global;
 use std::test::Fail;
 

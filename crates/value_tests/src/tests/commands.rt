@@ -1,8 +1,8 @@
 //! Lines, commands and responses as an operator meets them.
-use crate::commands::{Change, Command, CommandError, Place, read_command};
-use crate::lines::{Asked, ConsoleText, asked_of};
-use crate::printing::{file_line, message_line, reply};
-use crate::responses::Response;
+use cp_console::commands::{Change, Command, CommandError, Place, read_command};
+use cp_console::lines::{Asked, ConsoleText, asked_of};
+use cp_console::printing::{file_line, message_line, reply};
+use cp_console::responses::Response;
 use s370_num::{Addr24, Register, StorageKey, Word};
 use std::test::Fail;
 

@@ -1,8 +1,9 @@
-use super::{EXCEPTION, REJECTED, alone, gives};
-use crate::{Deck, Reader, Sender};
+//! Decks of a reader.
+use crate::{EXCEPTION, REJECTED, alone, gives};
 use s370_walk::{Answer, Device};
 use std::alloc::{AllocError, Global};
 use std::test::Fail;
+use unit_record::{Deck, Reader, Sender};
 
 /// A deck whose cards have these bytes in all columns.
 fn deck(alloc: Global, label: u64, bytes: &[u8]) -> Result<Deck, AllocError> {

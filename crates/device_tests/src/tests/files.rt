@@ -1,7 +1,8 @@
-use super::{REJECTED, alone, asked, write};
-use crate::{Printer, Punch, Target};
+//! What is punched and printed, and the files that are closed.
+use crate::{REJECTED, alone, asked, write};
 use s370_walk::{Answer, Device};
 use std::test::Fail;
+use unit_record::{Printer, Punch, Target};
 
 #[test]
 fn cards_have_80_columns(rt: HostRuntime) -> Result<(), Fail> {

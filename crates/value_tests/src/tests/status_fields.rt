@@ -1,5 +1,5 @@
 //! The bits of a program status word, as the manual counts them from the left, and the numbers of program interruptions.
-use super::{Ilc, ProgramCode, Psw};
+use s370_psw::{Ilc, ProgramCode, Psw};
 
 /// The fields of a program status word.
 #[derive(Clone, Copy, Debug, PartialEq)]

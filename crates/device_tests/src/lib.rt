@@ -1,18 +1,26 @@
-//! What no clause says: that calls succeed with ample memory. And values that were worked out by hand from the rules.
-mod consoles;
-mod files;
-mod readers;
+//! Tests of devices and of what interrupts a processor, in a crate of their own: a crate with tests is proved a second time
+//! for them.
+#![tactic(auto)]
 
 use s370_walk::{Answer, Command, Device, Flags, Order, UnitStatus};
 use std::alloc::AllocError;
 
+#[cfg(test)]
+mod tests;
+
+/// A command that the device rejects.
+pub const REJECTED: Answer = Answer::Refused(UnitStatus { bits: 0x02 });
+
+/// A command that ends with a unit exception.
+pub const EXCEPTION: Answer = Answer::Refused(UnitStatus { bits: 0x01 });
+
 /// A command that is alone in its program.
-fn alone(code: u8) -> Order {
+pub fn alone(code: u8) -> Order {
     asked(code, true, 0)
 }
 
 /// A command, first in its program or not, and the flags of its word.
-fn asked(code: u8, first: bool, flags: u8) -> Order {
+pub fn asked(code: u8, first: bool, flags: u8) -> Order {
     Order {
         command: Command { code },
         first,
@@ -21,7 +29,7 @@ fn asked(code: u8, first: bool, flags: u8) -> Order {
 }
 
 /// A whole command that takes bytes.
-fn write<D: Device>(device: &mut D, code: u8, bytes: &[u8]) -> Result<Answer, AllocError> {
+pub fn write<D: Device>(device: &mut D, code: u8, bytes: &[u8]) -> Result<Answer, AllocError> {
     let answer = device.command(alone(code))?;
     for byte in bytes {
         device.take(*byte);
@@ -31,7 +39,7 @@ fn write<D: Device>(device: &mut D, code: u8, bytes: &[u8]) -> Result<Answer, Al
 }
 
 /// Whether these are the next bytes that it gives.
-fn gives<D: Device>(device: &mut D, bytes: &[u8]) -> bool {
+pub fn gives<D: Device>(device: &mut D, bytes: &[u8]) -> bool {
     let mut same = true;
     for byte in bytes {
         same = device.give() == *byte && same;
@@ -39,7 +47,3 @@ fn gives<D: Device>(device: &mut D, bytes: &[u8]) -> bool {
     let _status = device.finish();
     same
 }
-
-const REJECTED: Answer = Answer::Refused(UnitStatus { bits: 0x02 });
-
-const EXCEPTION: Answer = Answer::Refused(UnitStatus { bits: 0x01 });

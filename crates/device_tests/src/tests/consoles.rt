@@ -1,7 +1,8 @@
-use super::{EXCEPTION, REJECTED, alone, asked, gives, write};
-use crate::{Arrival, Console};
+//! Lines of a console, typed and waiting.
+use crate::{EXCEPTION, REJECTED, alone, asked, gives, write};
 use s370_walk::{Answer, Device};
 use std::test::Fail;
+use unit_record::{Arrival, Console};
 
 #[test]
 fn sixteen_lines_wait(rt: HostRuntime) -> Result<(), Fail> {

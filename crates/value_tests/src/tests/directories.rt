@@ -1,4 +1,5 @@
-use super::*;
+//! Directories and their faults.
+use cp_directory::{DirError, Directory, StorageSize, UserName, read_directory, storage_of};
 use cp_users::{UserNo, name_of, user_of};
 use std::alloc::{AllocError, Global};
 use std::test::Fail;
