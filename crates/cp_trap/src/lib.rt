@@ -16,8 +16,6 @@
 
 mod reflection;
 mod simulation;
-#[cfg(test)]
-mod tests;
 mod virtual_cpu;
 
 pub use reflection::reflect;

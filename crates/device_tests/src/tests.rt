@@ -2,6 +2,7 @@
 mod channel_words;
 mod consoles;
 mod files;
+mod guests;
 mod images;
 mod interruptions;
 mod readers;

@@ -10,15 +10,11 @@
 //! absent is written over [`Supply`], a storage that brings its absent pages.
 #![tactic(auto)]
 
-#[cfg(test)]
-mod examples;
 mod paged;
 mod place;
 mod plain;
 mod protection;
 mod supply;
-#[cfg(test)]
-mod tests;
 mod words;
 
 ghost use Rattle.std.specs.Prelude.{◌≡◌, ℕ, ◌+◌, ◌*◌, ◌<◌, ◌≤◌, List, [], ◌∷◌, Bool, length, slice_index, slice_range, slice_set};

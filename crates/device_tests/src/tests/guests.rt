@@ -1,5 +1,5 @@
 //! Guests of two pages: the first has the program status words, the second the program.
-use super::VirtualCpu;
+use cp_trap::VirtualCpu;
 use s370_intr::{Pending, Ran, Reason, instruct, run_units};
 use s370_num::{AccessKey, StorageKey};
 use s370_psw::{Ilc, Psw};

@@ -3,10 +3,10 @@ ghost use Rattle.std.specs.Prelude.{◌≡◌, ◌≢◌, ℕ, ◌+◌, ◌<◌,
 ghost use Rattle.std.proofs.Common.{◌∙◌};
 ghost use Rattle.s370_store.specs.Access.{put};
 
-use crate::place::put_at;
-use crate::protection::{Listed, test_range};
-use crate::{Access, Fault, Keyed, Range, Storage, store_byte, store_doubleword};
 use s370_num::{AccessKey, StorageKey};
+use s370_store::{
+    Access, Fault, Keyed, Listed, Range, Storage, put_at, store_byte, store_doubleword, test_range,
+};
 
 /// Two users' storages side by side: a page and the keys of its two blocks each.
 #[derive(Drop)]

@@ -1,8 +1,12 @@
 //! Access by table, from the rule; and each body of the trait once.
 
-use super::*;
-use crate::examples::{Shared, stamp_for};
+use crate::{Shared, stamp_for};
 use s370_num::{AccessKey, StorageKey};
+use s370_store::{
+    Access, Fault, Keyed, Page, PagedStorage, PlainStorage, Range, Storage, check_two, load_byte,
+    load_doubleword, load_halfword, load_word, store_byte, store_doubleword, store_halfword,
+    store_word,
+};
 use std::alloc::{AllocError, Global};
 use std::test::Fail;
 
