@@ -14,8 +14,8 @@ use unit_record::Card;
 /// The address that is loaded from.
 const DEVICE: u16 = 0x190;
 
-/// The blocks of 2048 bytes of storage: 4 MiB.
-const BLOCKS: u32 = 2048;
+/// The blocks of 2048 bytes of storage: 16K.
+const BLOCKS: u32 = 8;
 
 /// How many bytes of storage are compared.
 const COMPARED: u32 = 0x4000;
