@@ -14,11 +14,11 @@ use unit_record::Card;
 /// The address that is loaded from.
 const DEVICE: u16 = 0x190;
 
-/// The blocks of 2048 bytes of storage: 16K.
+/// The blocks of 2048 bytes of storage: 16K, of which each byte is compared; no loading names a higher one.
 const BLOCKS: u32 = 8;
 
-/// How many bytes of storage are compared.
-const COMPARED: u32 = 0x4000;
+/// How many bytes that is.
+const SIZE: u32 = 0x4000;
 
 /// What a line tells.
 #[derive(Clone, Copy)]
@@ -144,7 +144,7 @@ fn load(alloc: Global, machine: &mut Installation) -> Result<&'static str> {
 
 /// The storage that a list tells.
 fn image_of(alloc: Global, list: &str) -> Result<Vec<u8>> {
-    let mut image = vec![in alloc; 0u8; COMPARED as usize]?;
+    let mut image = vec![in alloc; 0u8; SIZE as usize]?;
     if list == "-" {
         return Ok(image);
     }
