@@ -1,3 +1,4 @@
 pub mod Blanks
 pub mod Finding
 pub mod Ends
+pub mod Moves

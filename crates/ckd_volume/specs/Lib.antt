@@ -10,4 +10,5 @@ pub mod Table
 pub mod Volume
 pub mod Lending
 pub mod Unit
+pub mod Moves
 pub mod LendingVolume

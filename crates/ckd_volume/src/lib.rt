@@ -23,9 +23,8 @@ mod panel;
 mod parts;
 mod read;
 mod search;
+mod slices;
 mod table;
-#[cfg(test)]
-mod tests;
 mod unit;
 mod volume;
 mod write;

@@ -177,6 +177,26 @@ impl Device for Unit {
         self.panel.take(byte);
     }
 
+    #[tactic(auto, using(crate::proofs::Moves::done_giving, crate::proofs::Moves::done_taking))]
+    fn ready(&self) -> u32 {
+        self.panel.ready()
+    }
+
+    #[tactic(auto, using(crate::proofs::Moves::given_slice, crate::proofs::Moves::after_giving_slice))]
+    fn give_bytes(&mut self, into: &mut [u8]) {
+        if self.panel.has(into.len()) {
+            return self.panel.give_slice(into);
+        }
+        'bytes: for slot in into.iter_mut() {
+            *slot = self.give();
+        }
+    }
+
+    #[tactic(auto, using(crate::proofs::Moves::after_taking_slice))]
+    fn take_bytes(&mut self, from: &[u8]) {
+        self.panel.take_slice(from);
+    }
+
     fn finish(&mut self) -> UnitStatus {
         if self.panel.is_seeking() {
             return self.seek();

@@ -1,30 +1,8 @@
 //! Commands whose outcome was worked out by hand, and volumes that are refused.
-use super::*;
+use crate::two_records;
+use ckd_volume::{Unit, Volume, VolumeError};
 use s370_walk::{Answer, Command, Device, Flags, Order};
-use std::alloc::Global;
-use std::process::Abort;
 use std::test::Fail;
-
-/// A unit over two cylinders whose head stands on the first track of the second, which has two records.
-fn two_records(rt: &impl Abort, alloc: Global) -> Result<Unit, Fail> {
-    let mut volume = Volume::blank(alloc, *b"TEST01", 2)?;
-    if let Some(track) = volume.track_mut(1, 0) {
-        track.push([0, 1, 0, 0, 1], &[], b"ONE")?;
-        track.push([0, 1, 0, 0, 2], b"KEY", b"TWO")?;
-    }
-    assert!(rt; 1 < volume.count());
-    let arm = Arm {
-        cylinder: 1,
-        head: 0,
-        home: 1,
-        writable: true,
-        sense: Sense {
-            first: 0,
-            second: 0,
-        },
-    };
-    Ok(Unit::new(alloc, volume, arm)?)
-}
 
 /// Carries out a command with these bytes, and tells the status of its end or its refusal.
 fn obey(unit: &mut Unit, code: u8, first: bool, bytes: &[u8]) -> Result<u8, Fail> {
@@ -46,7 +24,7 @@ fn obey(unit: &mut Unit, code: u8, first: bool, bytes: &[u8]) -> Result<u8, Fail
 /// read that passes the index after a search that passed it is refused too.
 #[test]
 fn the_second_index_point(rt: HostRuntime) -> Result<(), Fail> {
-    let mut unit = two_records(&rt, rt.alloc())?;
+    let mut unit = two_records(rt.alloc())?;
     let absent = [0u8, 1, 0, 0, 9];
     let last = [0u8, 1, 0, 0, 2];
     let steps = [
@@ -71,7 +49,7 @@ fn the_second_index_point(rt: HostRuntime) -> Result<(), Fail> {
 /// After the two records there is room for data of 13,165 - (135 + 3) - 135 bytes behind the first one, and no more.
 #[test]
 fn a_record_that_just_fits(rt: HostRuntime) -> Result<(), Fail> {
-    let mut unit = two_records(&rt, rt.alloc())?;
+    let mut unit = two_records(rt.alloc())?;
     let mut bytes = vec![in rt.alloc(); 0xE7u8; 8 + 12893]?;
     bytes[5] = 0;
     for (length, status) in [(12893u16, 2), (12892, 0)] {
