@@ -11,22 +11,27 @@ use s370_store::{
     test_range,
 };
 
-/// The block from which instructions were fetched last, as long as they may still be fetched from it: the frame in which
-/// its page stands, and the protection key with which they may.
+/// The block from which instructions were fetched last, as long as they may still be fetched from it with the protection
+/// key that is remembered beside it, and its page stands in a frame.
+///
+/// The two are one number, so that one comparison tells whether both are the same.
 #[derive(Clone, Copy)]
 struct Near {
-    block: u32,
-    frame: u16,
-    key: u8,
+    tag: u32,
 }
 
 impl Near {
-    /// No block: no address lies in the block of this number.
-    const NOTHING: Near = Near {
-        block: u32::MAX,
-        frame: 0,
-        key: 0,
-    };
+    /// No block: no block and key have this number.
+    const NOTHING: Near = Near { tag: u32::MAX };
+}
+
+/// The number of the block of an address and a protection key together.
+#[inline(always)]
+fn tag_of(start: u32, key: AccessKey) -> u32
+    ensures tag { result ≡ start / 2048 * 16 + key }
+    ensures key { key < 16 }
+{
+    start / BLOCK_SIZE * 16 + u32::from(key.get())
 }
 
 /// One user's pages, of which those that stand in frames are present, and his storage keys.
@@ -114,9 +119,8 @@ impl<'a> Dat<'a> {
     fn near_to(&self, start: u32, key: AccessKey) -> Near
         ensures { IsSettled (lent_bytes self.now) (lent_keys self.now) (lent_pool self.now).owners (user_of self.now) result }
     {
-        let block = start / BLOCK_SIZE;
         let range = Range {
-            start: block * BLOCK_SIZE,
+            start: start / BLOCK_SIZE * BLOCK_SIZE,
             count: 1,
         };
         let keys = Listed { keys: self.keys };
@@ -128,25 +132,24 @@ impl<'a> Dat<'a> {
             return Near::NOTHING;
         }
         match self.frames.frame_at(self.user, range.start) {
-            Some(frame) => Near {
-                block,
-                frame: frame.0,
-                key: key.get(),
+            Some(_) => Near {
+                tag: tag_of(start, key),
             },
             None => Near::NOTHING,
         }
     }
 
-    /// Whether these bytes lie in the block that is settled.
+    /// Whether these bytes lie in the block that is settled for this key.
     #[inline(always)]
-    fn is_near(&self, start: u32, count: u32) -> bool
-        requires { count ≤ 256 }
-        ensures { result ≡ true → (start / 2048 ≡ self.now.near.block) × (start % 2048 + count ≤ 2048) }
+    fn is_near(&self, range: Range, key: AccessKey) -> bool
+        requires { range.count ≤ 256 }
+        ensures near { result ≡ true → (range.start / 2048 * 16 + key ≡ self.now.near.tag) × (range.start % 2048 + range.count ≤ 2048) }
+        ensures key { key < 16 }
     {
-        if start / BLOCK_SIZE != self.near.block {
+        if tag_of(range.start, key) != self.near.tag {
             return false;
         }
-        start % BLOCK_SIZE + count <= BLOCK_SIZE
+        range.start % BLOCK_SIZE + range.count <= BLOCK_SIZE
     }
 }
 
@@ -179,9 +182,11 @@ impl<'a> Storage for Dat<'a> {
 
     #[inline(always)]
     fn check(&self, range: Range, access: Access, key: AccessKey) -> Result<(), Fault> {
+        // A look at an instruction is one at six bytes, and that at page 0 before each unit one at one byte. Operands that
+        // lie elsewhere are tested without a look at the settled block, which would cost more than it saves.
         if let Access::Fetch = access {
-            if self.is_near(range.start, range.count) {
-                if key.get() == self.near.key {
+            if range.count == 6 || range.count == 1 {
+                if self.is_near(range, key) {
                     return Ok(());
                 }
             }
@@ -208,19 +213,14 @@ impl<'a> Storage for Dat<'a> {
 
     #[inline(always)]
     fn settle(&mut self, start: u32, key: AccessKey) {
-        if start / BLOCK_SIZE != self.near.block || key.get() != self.near.key {
+        if tag_of(start, key) != self.near.tag {
             self.near = self.near_to(start, key);
         }
     }
 
     #[inline(always)]
     fn load(&self, start: u32, into: &mut [u8]) {
-        if self.is_near(start, into.len() as u32) {
-            self.frames
-                .load_in(FrameNo(self.near.frame), self.user, start, into);
-        } else {
-            self.frames.load(self.user, start, into);
-        }
+        self.frames.load(self.user, start, into);
     }
 
     #[inline(always)]

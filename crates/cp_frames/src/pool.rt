@@ -248,21 +248,6 @@ impl Frames {
         }
     }
 
-    /// Copies bytes of one page out, which is known to stand in this frame.
-    #[inline(always)]
-    pub(crate) fn load_in(&self, frame: FrameNo, user: UserNo, start: u32, into: &mut [u8])
-        requires within { start + length into.old ≤ length (bytes_of self.now user) }
-        requires one_page { start % 4096 + length into.old ≤ 4096 }
-        requires there { frame_of self.now.owners user (start / 4096) ≡ Some frame.0 }
-        ensures { into.new ≡ slice_range (bytes_of self.now user) start (start + length into.old) }
-    {
-        copy_out(
-            &self.frames[frame.0 as usize],
-            (start % PAGE_SIZE) as usize,
-            into,
-        );
-    }
-
     /// Copies bytes of one page out.
     #[inline(always)]
     fn load_part(&self, user: UserNo, start: u32, into: &mut [u8])
