@@ -8,9 +8,9 @@
 #![tactic(auto)]
 
 use anyhow::{Context, Result, bail};
+use bare_installation::Installation;
 use bare370::session::{FIRST_DISK, MOST_DISKS};
 use bare370::{bare_session, machine_of};
-use bare_installation::Installation;
 use ckd_image::image;
 use ckd_text::make_volume;
 use ckd_volume::Volume;
@@ -51,7 +51,9 @@ fn transcript<R: AllocGlobal + Files>(rt: &R, folder: &str) -> Result<Vec<u8>> {
 fn size<R: AllocGlobal + Files>(rt: &R, folder: &str) -> Result<StorageSize> {
     let told = contents(rt, folder, "storage")?;
     let digits = match &told {
-        Some(text) => text.strip_suffix(b"\n".as_slice()).context("a line is cut")?,
+        Some(text) => text
+            .strip_suffix(b"\n".as_slice())
+            .context("a line is cut")?,
         None => STORAGE,
     };
     storage_of(digits).context("no machine has such a storage")
@@ -84,7 +86,10 @@ fn compare_disks<R: AllocGlobal + Files>(
             continue;
         };
         let index = usize::from(address - FIRST_DISK);
-        let disk = machine.devices().disk(index).context("there is no such disk")?;
+        let disk = machine
+            .devices()
+            .disk(index)
+            .context("there is no such disk")?;
         if image(alloc, disk.volume())? != image(alloc, &make_volume(alloc, &text)?)? {
             bail!("{folder}: the disk {address:X} has another image at the end");
         }
