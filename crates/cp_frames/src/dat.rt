@@ -182,8 +182,8 @@ impl<'a> Storage for Dat<'a> {
 
     #[inline(always)]
     fn check(&self, range: Range, access: Access, key: AccessKey) -> Result<(), Fault> {
-        // A look at an instruction is one at six bytes, and that at page 0 before each unit one at one byte. Operands that
-        // lie elsewhere are tested without a look at the settled block, which would cost more than it saves.
+        // An instruction is looked at in six bytes, and page 0 before each unit in one. Other operands are not compared with
+        // the settled block: where they lie elsewhere that costs more than it saves where they lie there.
         if let Access::Fetch = access {
             if range.count == 6 || range.count == 1 {
                 if self.is_near(range, key) {
