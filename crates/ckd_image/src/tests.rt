@@ -65,6 +65,26 @@ fn each_beginning_is_truncated(rt: HostRuntime) -> Result<(), Fail> {
     Ok(())
 }
 
+/// An image of version 1 is read, no beginning of it is, and what was read is written as version 2.
+#[test]
+fn version_1_becomes_version_2(rt: HostRuntime) -> Result<(), Fail> {
+    let small = small_image(rt.alloc())?;
+    let mut bytes = small_image(rt.alloc())?;
+    assert!(rt; 126 < bytes.len());
+    bytes[3] = b'1';
+    bytes.truncate(126);
+    for end in 0..bytes.len() {
+        assert_eq!(rt;
+            fault_of(rt.alloc(), &bytes[..end]),
+            Some(ImageError::Truncated),
+            "{end}"
+        );
+    }
+    let read = read_image(rt.alloc(), &mut Bytes::new(&bytes))?;
+    assert!(rt; image(rt.alloc(), &read)? == small);
+    Ok(())
+}
+
 /// A header that differs from that of a small image in one byte, or in the number of cylinders.
 #[test]
 fn headers_that_are_none(rt: HostRuntime) -> Result<(), Fail> {
