@@ -157,6 +157,11 @@ fn failures(rt: HostRuntime) -> Result<(), Fail> {
             1,
         ),
         (
+            Failure::Image(ImageError::BadTotal),
+            "fault: image BadTotal",
+            1,
+        ),
+        (
             Failure::Image(ImageError::BadTrack(807, 18)),
             "fault: image BadTrack 807 18",
             1,
