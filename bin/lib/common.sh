@@ -19,6 +19,7 @@ refused_source=74
 no_marker=75
 not_copied=76
 no_emulator=77
+wrong_image=78
 
 say() {
     printf '%s: %s\n' "$name" "$*" >&2
