@@ -30,8 +30,24 @@ pub fn machine_of(
         subchannels.add(device)?;
     }
     let mut machine = Installation::new(alloc, storage, subchannels, devices);
-    machine.line(alloc, b"LOGON")?;
+    log_on(alloc, &mut machine)?;
     Ok(machine)
+}
+
+/// The user logs on.
+fn log_on(alloc: Global, machine: &mut Installation) -> Result<()> {
+    match machine.line(alloc, b"LOGON")? {
+        Told::Said(Response::LogonOk) => Ok(()),
+        _ => bail!("the user can't log on"),
+    }
+}
+
+/// The machine runs from where it is.
+pub fn begin(alloc: Global, machine: &mut Installation) -> Result<()> {
+    match machine.line(alloc, b"BEGIN")? {
+        Told::Silent => Ok(()),
+        _ => bail!("the machine can't begin"),
+    }
 }
 
 /// Stores the bytes that digits spell from an address on.

@@ -1,5 +1,5 @@
 //! Scripts of four disks: what the instructions that ask a device are answered, and what interrupts.
-use crate::panel::{condition_code, display, machine_of, store};
+use crate::panel::{begin, condition_code, display, machine_of, store};
 use anyhow::{Context, Result, bail};
 use bare_installation::Installation;
 use ckd_volume::{Arm, Sense, Unit, Volume};
@@ -72,7 +72,7 @@ fn machine(alloc: Global) -> Result<Installation> {
     for (place, digits) in STORED {
         store(alloc, &mut machine, place, digits)?;
     }
-    machine.line(alloc, b"BEGIN")?;
+    begin(alloc, &mut machine)?;
     Ok(machine)
 }
 
