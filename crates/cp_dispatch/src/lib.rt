@@ -1,0 +1,25 @@
+//! The dispatcher: which user has the next slice of the processor, and which program of a channel is served next.
+//!
+//! Its one theorem: nobody who is ready waits for ever. Users stand in a queue by their logging on, started programs in a
+//! line by their starts. A turn takes the first who is ready, who then goes to the end ([`Policy::slice`],
+//! [`Policy::serve`]); so whoever has j others before has one of the next j + 1 turns, whoever comes or goes meanwhile
+//! ([`is_fair`] carries that law).
+//!
+//! It is told who logs on and off, and which programs are started and ended. Only [`Policy::new`] takes memory.
+//!
+//! ```text
+//! let mut policy = Policy::new(alloc, 64, 0)?;
+//! policy.join(UserNo::new(0));
+//! let mut ready = Ready::nobody();
+//! ready.set(UserNo::new(0), true);
+//! let next = policy.slice(&ready); // Some(UserNo::new(0))
+//! ```
+#![tactic(auto)]
+
+mod policy;
+mod program;
+mod ready;
+
+pub use policy::{Policy, is_fair};
+pub use program::Program;
+pub use ready::Ready;

@@ -1,0 +1,199 @@
+//! The policy: the queue of users and the line of programs.
+ghost use Rattle.std.specs.Prelude.{◌≡◌, ◌<◌, ◌≤◌, [], IfOk, length};
+ghost use Rattle.std.specs.List.{position};
+ghost use Rattle.std.specs.Vec.{vec_capacity};
+ghost use Rattle.cp_dispatch.specs.Turns.{BringsForward, IsDealt, at_end, without};
+ghost use Rattle.cp_dispatch.specs.Policy.{IsFairPolicy, always, is_of, is_ready, same_user};
+
+use crate::program::Program;
+use crate::ready::Ready;
+use cp_users::UserNo;
+use s370_num::DevAddr;
+use std::alloc::{AllocError, Global};
+use std::marker::Model;
+
+/// Who is dealt the slices, and which programs are served: the users who are logged on and the programs that were
+/// started, each in the order in which they are dealt.
+#[derive(Drop)]
+pub struct Policy {
+    users: Vec<UserNo>,
+    programs: Vec<Program>,
+    most_users: usize,
+    most_programs: usize,
+}
+
+impl Model for Policy {
+    ghost use Rattle.std.specs.Prelude.{◌≤◌};
+    ghost use Rattle.std.specs.Vec.{vec_capacity};
+    ghost use Rattle.cp_dispatch.specs.Policy.{IsQueue, Lines};
+
+    ghost Value = { Lines };
+
+    ghost view = { λ p. record { users = p.users.items; programs = p.programs.items; most_users = p.most_users; most_programs = p.most_programs } };
+
+    ghost invariant = { λ p. IsQueue p.users.items p.most_users × (p.most_users ≤ vec_capacity p.users) × (p.most_programs ≤ vec_capacity p.programs) };
+}
+
+impl Policy {
+    /// A policy for so many users, of whom nobody is logged on, and so many programs, of which none was started. No other
+    /// call takes memory.
+    pub fn new(alloc: Global, users: usize, programs: usize) -> Result<Policy, AllocError>
+        ensures { IfOk result (λ policy. policy ≡ record { users = []; programs = []; most_users = users; most_programs = programs }) }
+    {
+        Ok(Policy {
+            users: Vec::with_capacity(alloc, users)?,
+            programs: Vec::with_capacity(alloc, programs)?,
+            most_users: users,
+            most_programs: programs,
+        })
+    }
+
+    /// A user logs on, and stands at the end of the queue.
+    pub fn join(&mut self, user: UserNo)
+        requires { user < self.old.most_users }
+        ensures { self.new ≡ record self.old { users = at_end (same_user user) user self.old.users } }
+    {
+        put_user(&mut self.users, user);
+    }
+
+    /// A user logs off, and stands in the queue no more.
+    pub fn leave(&mut self, user: UserNo)
+        ensures { self.new ≡ record self.old { users = without (same_user user) self.old.users } }
+    {
+        take_out_user(&mut self.users, user);
+    }
+
+    /// The program of a user's device is started, and stands at the end of the line, also where it stood in it before.
+    pub fn started(&mut self, user: UserNo, device: DevAddr)
+        requires { length (without (is_of user device) self.old.programs) < self.old.most_programs }
+        ensures { self.new ≡ record self.old { programs = at_end (is_of user device) (record { user = user; device = device }) self.old.programs } }
+    {
+        put_program(&mut self.programs, user, device);
+    }
+
+    /// The program of a user's device has ended or was withdrawn, and stands in the line no more.
+    pub fn ended(&mut self, user: UserNo, device: DevAddr)
+        ensures { self.new ≡ record self.old { programs = without (is_of user device) self.old.programs } }
+    {
+        take_out_program(&mut self.programs, user, device);
+    }
+
+    /// Deals a slice: to the first user in the queue who is ready, if there is one. Those before go to the end in order, and
+    /// behind them the user who has the slice.
+    pub fn slice(&mut self, ready: &Ready) -> Option<UserNo>
+        ensures dealt { IsDealt (is_ready ready.now) self.old.users result self.new.users }
+        ensures forward { BringsForward (is_ready ready.now) self.old.users result self.new.users }
+        ensures rest { self.new ≡ record self.old { users = self.new.users } }
+    {
+        let Some(place) = place_of_ready(&self.users, ready) else {
+            return None;
+        };
+        let user = self.users[place];
+        self.users.rotate_left(place + 1);
+        Some(user)
+    }
+
+    /// Deals a serve: to the first program in the line, if there is one, which goes to the end.
+    pub fn serve(&mut self) -> Option<Program>
+        ensures dealt { IsDealt always self.old.programs result self.new.programs }
+        ensures forward { BringsForward always self.old.programs result self.new.programs }
+        ensures rest { self.new ≡ record self.old { programs = self.new.programs } }
+    {
+        if self.programs.is_empty() {
+            return None;
+        }
+        let program = self.programs[0];
+        self.programs.rotate_left(1);
+        Some(program)
+    }
+
+    /// The users who are logged on, in the order in which they are dealt slices.
+    pub fn users(&self) -> &[UserNo]
+        ensures { result.now ≡ self.now.users }
+    {
+        &self.users
+    }
+
+    /// The programs that were started, in the order in which they are served.
+    pub fn programs(&self) -> &[Program]
+        ensures { result.now ≡ self.now.programs }
+    {
+        &self.programs
+    }
+}
+
+/// The place of the first user who is ready.
+fn place_of_ready(users: &[UserNo], ready: &Ready) -> Option<usize>
+    ensures { result ≡ position (is_ready ready.now) users.now }
+{
+    users.iter().position(|user| ready.has(*user))
+}
+
+/// Takes a user out of the queue.
+fn take_out_user(users: &mut Vec<UserNo>, user: UserNo)
+    ensures items { users.new.items ≡ without (same_user user) users.old.items }
+    ensures capacity { vec_capacity users.new ≡ vec_capacity users.old }
+{
+    if let Some(place) = place_of_user(users, user) {
+        users.remove(place);
+    }
+}
+
+/// Puts a user at the end of the queue.
+fn put_user(users: &mut Vec<UserNo>, user: UserNo)
+    requires { length (without (same_user user) users.old.items) < vec_capacity users.old }
+    ensures items { users.new.items ≡ at_end (same_user user) user users.old.items }
+    ensures capacity { vec_capacity users.old ≤ vec_capacity users.new }
+{
+    take_out_user(users, user);
+    if users.push(user).is_err() {
+        unreachable!();
+    }
+}
+
+/// Takes the program of a user's device out of the line.
+fn take_out_program(programs: &mut Vec<Program>, user: UserNo, device: DevAddr)
+    ensures items { programs.new.items ≡ without (is_of user device) programs.old.items }
+    ensures capacity { vec_capacity programs.new ≡ vec_capacity programs.old }
+{
+    if let Some(place) = place_of_program(programs, user, device) {
+        programs.remove(place);
+    }
+}
+
+/// Puts the program of a user's device at the end of the line.
+fn put_program(programs: &mut Vec<Program>, user: UserNo, device: DevAddr)
+    requires { length (without (is_of user device) programs.old.items) < vec_capacity programs.old }
+    ensures items { programs.new.items ≡ at_end (is_of user device) (record { user = user; device = device }) programs.old.items }
+    ensures capacity { vec_capacity programs.old ≤ vec_capacity programs.new }
+{
+    take_out_program(programs, user, device);
+    if programs.push(Program { user, device }).is_err() {
+        unreachable!();
+    }
+}
+
+/// The place of a user.
+fn place_of_user(users: &[UserNo], user: UserNo) -> Option<usize>
+    ensures { result ≡ position (same_user user) users.now }
+{
+    users.iter().position(|other| user == *other)
+}
+
+/// The place of the program of a user's device.
+fn place_of_program(programs: &[Program], user: UserNo, device: DevAddr) -> Option<usize>
+    ensures { result ≡ position (is_of user device) programs.now }
+{
+    programs
+        .iter()
+        .position(|program| program.is_of(user, device))
+}
+
+/// Whoever is ready throughout has a turn, of the slices and of the serves: with j others before, one of the next j + 1. So of as
+/// many slices as there are users logged on each who is ready has one.
+pub fn is_fair()
+    ensures { IsFairPolicy }
+{}
+
+#[cfg(test)]
+mod tests;
