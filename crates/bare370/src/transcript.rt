@@ -158,7 +158,7 @@ fn print_response(alloc: Global, out: &mut Vec<u8>, response: &Response) -> Resu
     print_line(out, BARE, &text)
 }
 
-/// The files that were closed for the operator, in the order of their numbers: a headline, and then each entry of a printer
+/// The files that were closed for the operator, in the order of their numbers: a first line, and then each entry of a printer
 /// (its command code and its text), or each card.
 pub fn print_files(alloc: Global, machine: &Installation) -> Result<Vec<u8>, AllocError> {
     let mut text = Vec::new(alloc);

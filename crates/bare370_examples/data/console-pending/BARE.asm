@@ -1,0 +1,12 @@
+* Writes a line; tests the console; tests it again.
+         ORG   X'48'
+         DC    A(LINE)
+         ORG   X'100'
+BEGIN    SIO   X'009'
+         TIO   X'009'
+         TIO   X'009'
+         ORG   X'800'
+LINE     CCW   9,TEXT,X'00',5
+         ORG   X'840'
+TEXT     DC    C'HELLO'
+         END   BEGIN
