@@ -50,11 +50,18 @@ fn loading_of(fields: &str) -> Option<Loading<'_>> {
 pub fn difference(alloc: Global, fields: &str) -> Result<Option<String>> {
     let loading = loading_of(fields).context("a loading has four fields")?;
     let mut machine = machine(alloc, &loading)?;
+    let wanted = match loading.end {
+        "OK" => End::Loaded,
+        _ => End::Failed,
+    };
     let end = load(alloc, &mut machine)?;
-    if end != loading.end {
-        return Ok(Some(format!(in alloc; "it is {end}")?));
+    if end != wanted {
+        return Ok(Some(format!(in alloc; "it is {end:?}")?));
     }
-    let first = if end == "OK" { 0 } else { 8 };
+    let first = match end {
+        End::Loaded => 0,
+        End::Failed | End::Running => 8,
+    };
     storage_difference(alloc, &mut machine, first, loading.storage)
 }
 
@@ -130,13 +137,24 @@ fn cards_of(alloc: Global, list: &str) -> Result<Vec<Card>> {
     Ok(cards)
 }
 
-/// Loads the machine, and tells how that ended. What was loaded stops at once, in a disabled wait.
-fn load(alloc: Global, machine: &mut Installation) -> Result<&'static str> {
+/// How a loading ends.
+#[derive(Clone, Copy, Debug, PartialEq, Eq)]
+enum End {
+    /// What was loaded stops at once, in a disabled wait.
+    Loaded,
+    /// Nothing is loaded.
+    Failed,
+    /// What was loaded does not stop.
+    Running,
+}
+
+/// Loads the machine, and tells how that ended.
+fn load(alloc: Global, machine: &mut Installation) -> Result<End> {
     match machine.line(alloc, b"IPL 190")? {
-        Told::Said(Response::IplFailed) => Ok("FAILED"),
+        Told::Said(Response::IplFailed) => Ok(End::Failed),
         Told::Silent => match machine.units(1).notice {
-            Some(Response::StoppedDisabledWait) => Ok("OK"),
-            _ => Ok("running"),
+            Some(Response::StoppedDisabledWait) => Ok(End::Loaded),
+            _ => Ok(End::Running),
         },
         _ => bail!("nothing can be loaded"),
     }

@@ -45,6 +45,7 @@ fn log_on(alloc: Global, machine: &mut Installation) -> Result<()> {
 /// The machine runs from where it is.
 pub fn begin(alloc: Global, machine: &mut Installation) -> Result<()> {
     match machine.line(alloc, b"BEGIN")? {
+        Told::Said(Response::NotLoggedOn) => bail!("nobody is logged on"),
         Told::Silent => Ok(()),
         _ => bail!("the machine can't begin"),
     }
