@@ -1,1 +1,2 @@
 pub mod Installation
+pub mod Life

@@ -1,5 +1,5 @@
 //! A machine with its devices, and nobody else.
-ghost use Rattle.std.specs.Prelude.{◌≡◌, ◌≤◌, [], true, IfOk, OnOk, length};
+ghost use Rattle.std.specs.Prelude.{◌≡◌, ◌≤◌, [], true, IfOk, OnOk, length, slice_get};
 ghost use Rattle.s370_store.specs.Plain.{plain_bytes, plain_keys};
 ghost use Rattle.cp_panel.specs.Machine.{unused};
 ghost use Rattle.cp_panel.specs.Run.{run};
@@ -7,15 +7,17 @@ ghost use Rattle.cp_panel.specs.Tick.{ticked};
 ghost use Rattle.cp_devices.specs.Lines.{IsLine};
 ghost use Rattle.cp_devices.specs.Serve.{IsServedAt};
 ghost use Rattle.bare_installation.specs.Installation.{IsTyped, is_logged_on, noted, printed_file, punched, received, with_deck, world_of};
+ghost use Rattle.bare_installation.specs.Life.{EachIsLife, IsApplied};
 
 use crate::alone::Alone;
+use crate::events::{Event, Reply};
 use crate::files::FileKind;
 use cp_console::responses::Response;
 use cp_devices::{Devices, Told};
 use cp_panel::{LineError, Machine, MachineRan, Mode};
 use s370_channel::ChannelError;
 use s370_intr::RealCpu;
-use s370_num::DevAddr;
+use s370_num::{DevAddr, StorageKey};
 use s370_store::{PlainStorage, Supply};
 use s370_subchannels::Subchannels;
 use std::alloc::{AllocError, Global};
@@ -64,6 +66,31 @@ impl Installation {
             devices,
             storage,
             files: Vec::new(alloc),
+        }
+    }
+
+    /// What an event does to the machine, and what is told. Where memory is refused, nothing is said of the machine.
+    pub fn apply(&mut self, alloc: Global, event: Event<'_>) -> Result<Reply, AllocError>
+        ensures { IfOk result (λ reply. IsApplied self.old event.entry reply self.new) }
+    {
+        match event {
+            Event::Run(count) => Ok(Reply::Ran(self.units(count))),
+            Event::Line(typed) => match self.line(alloc, typed) {
+                Ok(told) => Ok(Reply::Told(told)),
+                Err(error) => Err(error),
+            },
+            Event::Serve(device) => match self.serve(device) {
+                Ok(done) => Ok(Reply::Served(done)),
+                Err(error) => Err(error),
+            },
+            Event::Tick => {
+                self.tick();
+                Ok(Reply::Done)
+            }
+            Event::Deck(cards) => {
+                self.deck(copy_of(alloc, cards)?)?;
+                Ok(Reply::Done)
+            }
         }
     }
 
@@ -211,10 +238,27 @@ impl Installation {
 
     /// The machine without its devices and storage.
     pub fn machine(&self) -> &Machine
+        ensures cpu { result.now.cpu ≡ self.now.equipped.machine.core.processor.cpu }
+        ensures pending { result.now.pending ≡ self.now.equipped.machine.core.pending }
+        ensures subchannels { result.now.subchannels ≡ self.now.equipped.machine.core.subchannels }
         ensures mode { result.now.mode ≡ self.now.equipped.machine.mode }
         ensures output { result.now.output ≡ self.now.equipped.machine.output }
     {
         &self.machine
+    }
+
+    /// The bytes of storage.
+    pub fn storage(&self) -> &[u8]
+        ensures { result.now ≡ self.now.equipped.machine.core.processor.bytes }
+    {
+        self.storage.bytes()
+    }
+
+    /// The key in storage of a block of 2048 bytes, `None` past storage.
+    pub fn key(&self, block: u32) -> Option<StorageKey>
+        ensures { result ≡ slice_get self.now.equipped.machine.core.processor.keys block }
+    {
+        self.storage.keys().get(block as usize).copied()
     }
 
     /// The parts of its devices.
@@ -230,6 +274,20 @@ impl Installation {
     {
         self.files.as_slice()
     }
+}
+
+/// Whatever happens to a machine with its devices: it is what its own events leave, in order, with each message and each deck
+/// for its own user right after the line that sent or closed it.
+pub fn each_is_life()
+    ensures { EachIsLife }
+{}
+
+/// The same cards once more.
+fn copy_of(alloc: Global, cards: &[Card]) -> Result<Vec<Card>, AllocError>
+    ensures { IfOk result (λ copy. copy.items ≡ cards.now) }
+{
+    let copy = cards.to_vec(alloc)?;
+    Ok(copy)
 }
 
 /// Whether the user of a machine in this mode is logged on.

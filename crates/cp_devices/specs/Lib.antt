@@ -7,3 +7,4 @@ pub mod Loading
 pub mod World
 pub mod Requests
 pub mod Lines
+pub mod Life
