@@ -170,7 +170,6 @@ fn move_padded<S: Storage>(storage: &mut S, to: u32, from: u32, pad: u8, count: 
 }
 
 /// One part of the long move.
-#[inline(always)]
 fn move_part<S: Storage>(
     cpu: &mut Cpu,
     storage: &mut S,
@@ -211,7 +210,6 @@ fn move_part<S: Storage>(
 }
 
 /// 0E MVCL: move long; a part of at most 256 bytes.
-#[inline(always)]
 pub fn move_long_row<S: Storage>(
     cpu: &mut Cpu,
     storage: &mut S,
