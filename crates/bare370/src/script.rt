@@ -1,13 +1,14 @@
 //! The script of a machine of its own: events, and decks of cards.
 ghost use Rattle.std.specs.Prelude.{◌≤◌, IfOk, length};
 
-use bare_installation::BARE;
+use bare_installation::{BARE, Event, Installation, Reply};
 use cp_script::{ScriptError, ScriptEvent, ScriptUser, read_script};
 use cp_text::lines::cut_line;
 use cp_text::numbers::decimal_of;
 use cp_text::words::cut_word;
+use s370_num::DevAddr;
 use s370_num::ebcdic::ebcdic_of;
-use std::alloc::Global;
+use std::alloc::{AllocError, Global};
 use unit_record::Card;
 
 /// The most cards of a deck.
@@ -17,13 +18,33 @@ const COLUMNS: usize = 80;
 /// What stands for a character that has no byte, and after the last one.
 const BLANK: u8 = 0x40;
 
-/// What a script says that happens.
+/// What a script says that happens to the machine.
 #[derive(Drop)]
 pub enum Step<'a> {
-    /// An event of the machine.
-    Event(ScriptEvent<'a>),
+    /// It is let run for at most so many units.
+    Run(u32),
+    /// A line is typed.
+    Line(&'a [u8]),
+    /// Its interval timer ticks.
+    Tick,
+    /// The device of this address is served.
+    Serve(u16),
     /// The operator gives a deck of these cards.
     Deck(Vec<Card>),
+}
+
+impl<'a> Step<'a> {
+    /// Lets it happen to the machine, and says what is told.
+    pub fn happen(&self, alloc: Global, machine: &mut Installation) -> Result<Reply, AllocError> {
+        let event = match self {
+            Step::Run(units) => Event::Run(*units),
+            Step::Line(typed) => Event::Line(typed),
+            Step::Tick => Event::Tick,
+            Step::Serve(device) => Event::Serve(DevAddr::new(*device)),
+            Step::Deck(cards) => Event::Deck(cards.as_slice()),
+        };
+        machine.apply(alloc, event)
+    }
 }
 
 /// The steps of a script for a machine with these devices. The whole text is judged: its first line that is wrong is told.
@@ -72,11 +93,21 @@ fn read_event<'a>(
         Err(ScriptError::Line(_)) => return Err(ScriptError::Line(number)),
     };
     for event in events {
-        if steps.push(Step::Event(event)).is_err() {
+        if steps.push(step_of(event)).is_err() {
             return Err(ScriptError::Memory);
         }
     }
     Ok(())
+}
+
+/// The step of an event of a script whose only user is this machine's.
+fn step_of(event: ScriptEvent<'_>) -> Step<'_> {
+    match event {
+        ScriptEvent::Run(_, units) => Step::Run(units),
+        ScriptEvent::Line(_, typed) => Step::Line(typed),
+        ScriptEvent::Tick(_) => Step::Tick,
+        ScriptEvent::Serve(_, device) => Step::Serve(device),
+    }
 }
 
 /// How many cards the deck has that a line names: `DECK BARE k`, of 1 to 1000.

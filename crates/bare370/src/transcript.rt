@@ -1,11 +1,9 @@
 //! The transcript of a machine of its own: the lines of an event, and the files at the end.
 use crate::script::Step;
-use bare_installation::{BARE, FileKind, Installation};
+use bare_installation::{BARE, FileKind, Installation, Reply};
 use cp_console::printing;
 use cp_console::responses::Response;
 use cp_devices::Told;
-use cp_script::ScriptEvent;
-use s370_num::DevAddr;
 use s370_num::ebcdic::printable;
 use std::alloc::{AllocError, Global};
 use unit_record::{Deck, File, Sender, Target};
@@ -18,66 +16,24 @@ pub fn print_step(
     machine: &mut Installation,
     step: &Step<'_>,
 ) -> Result<Vec<u8>, AllocError> {
-    match step {
-        Step::Event(event) => print_event(alloc, machine, event),
-        Step::Deck(cards) => {
-            machine.deck(cards.as_slice().to_vec(alloc)?)?;
-            Ok(Vec::new(alloc))
+    let mut text = Vec::new(alloc);
+    let before = machine.machine().printed();
+    match step.happen(alloc, machine) {
+        Ok(Reply::Ran(told)) => {
+            print_console(alloc, &mut text, machine, before)?;
+            print_ran(alloc, &mut text, BARE, told.ran)?;
         }
-    }
-}
-
-/// Lets an event happen to the machine, and makes its lines.
-fn print_event(
-    alloc: Global,
-    machine: &mut Installation,
-    event: &ScriptEvent<'_>,
-) -> Result<Vec<u8>, AllocError> {
-    match *event {
-        ScriptEvent::Run(_, units) => print_run(alloc, machine, units),
-        ScriptEvent::Line(_, typed) => print_typed(alloc, machine, typed),
-        ScriptEvent::Tick(_) => {
-            machine.tick();
-            Ok(Vec::new(alloc))
+        Ok(Reply::Told(told)) => {
+            print_told(alloc, &mut text, machine, told)?;
+            print_console(alloc, &mut text, machine, before)?;
         }
-        ScriptEvent::Serve(_, device) => print_serve(alloc, machine, device),
+        Ok(Reply::Served(done)) => {
+            print_console(alloc, &mut text, machine, before)?;
+            print_served(alloc, &mut text, step, done)?;
+        }
+        Ok(Reply::Done) => {}
+        Err(error) => return Err(error),
     }
-}
-
-/// The lines of a run.
-fn print_run(alloc: Global, machine: &mut Installation, units: u32) -> Result<Vec<u8>, AllocError> {
-    let mut text = Vec::new(alloc);
-    let before = machine.machine().printed();
-    let told = machine.units(units);
-    print_console(alloc, &mut text, machine, before)?;
-    print_ran(alloc, &mut text, BARE, told.ran)?;
-    Ok(text)
-}
-
-/// The lines of a line that is typed.
-fn print_typed(
-    alloc: Global,
-    machine: &mut Installation,
-    typed: &[u8],
-) -> Result<Vec<u8>, AllocError> {
-    let mut text = Vec::new(alloc);
-    let before = machine.machine().printed();
-    print_answer(alloc, &mut text, machine, typed)?;
-    print_console(alloc, &mut text, machine, before)?;
-    Ok(text)
-}
-
-/// The lines of a device that is served.
-fn print_serve(
-    alloc: Global,
-    machine: &mut Installation,
-    device: u16,
-) -> Result<Vec<u8>, AllocError> {
-    let mut text = Vec::new(alloc);
-    let before = machine.machine().printed();
-    let done = machine.serve(DevAddr::new(device))?;
-    print_console(alloc, &mut text, machine, before)?;
-    print_served(alloc, &mut text, device, done)?;
     Ok(text)
 }
 
@@ -85,26 +41,28 @@ fn print_serve(
 fn print_served(
     alloc: Global,
     out: &mut Vec<u8>,
-    device: u16,
+    step: &Step<'_>,
     done: bool,
 ) -> Result<(), AllocError> {
+    let Step::Serve(device) = step else {
+        return Ok(());
+    };
     let word = if done { "SERVED" } else { "IDLE" };
     let line = format!(in alloc; "= BARE {word} {device:03X}\n")?;
     out.extend_from_slice(line.as_bytes())
 }
 
-/// Types a line, and adds the answer, where there is one that is not printed on the console.
-fn print_answer(
+/// Adds what was told to a line, where it is not printed on the console.
+fn print_told(
     alloc: Global,
     out: &mut Vec<u8>,
-    machine: &mut Installation,
-    typed: &[u8],
+    machine: &Installation,
+    told: Told,
 ) -> Result<(), AllocError> {
-    match machine.line(alloc, typed) {
-        Ok(Told::Said(response)) => print_said(alloc, out, response),
-        Ok(Told::Files) => print_queue(alloc, out, machine),
-        Ok(Told::Silent) | Ok(Told::Sent(_, _)) => Ok(()),
-        Err(error) => Err(error),
+    match told {
+        Told::Said(response) => print_said(alloc, out, response),
+        Told::Files => print_queue(alloc, out, machine),
+        Told::Silent | Told::Sent(_, _) => Ok(()),
     }
 }
 

@@ -1,0 +1,128 @@
+//! Measures what an installation costs, and claims nothing: its boot, a LOGON, a page that comes into a frame, and turns.
+//!
+//! `bench_installation` boots four users of 4 MiB each on 64 frames, and `bench_installation 64 4096` boots 64 of them on 4096
+//! frames. What was done goes to standard output, and what each part took, by processor time, to standard error.
+#![tactic(auto)]
+
+mod users;
+
+use anyhow::{Result, bail};
+use cp_core::{Sizes, System};
+use cp_directory::read_directory;
+use cp_text::numbers::decimal_of;
+use std::env;
+use std::process::ExitCode;
+use std::rt::Env;
+use std::time::{CpuClock, Duration};
+use users::{begin, directory_of, each_runs, each_types};
+
+/// How many units a turn has.
+const TURN: u32 = 100;
+/// How many turns each user has.
+const TURNS: u32 = 200;
+/// How many units store into one page and go on to the next.
+const UNITS_A_PAGE: u32 = 3;
+
+/// How large the installation is.
+#[derive(Clone, Copy)]
+struct Asked {
+    /// How many users there are, 1 to 64.
+    users: u8,
+    /// How many frames they share.
+    frames: u32,
+}
+
+impl Asked {
+    /// How many pages each user touches beside its first: as many as have frames, and no more than it has.
+    fn pages(self) -> u32 {
+        let share = self.frames / u32::from(self.users.max(1));
+        share.saturating_sub(1).min(1000)
+    }
+}
+
+/// The words of the command line: how many users and frames, each of which may be missing.
+fn words_of(rt: &(impl Env + AllocGlobal)) -> Result<Asked> {
+    let mut numbers = [4, 64];
+    for (number, word) in numbers.iter_mut().zip(env::args(rt)?.skip(1)) {
+        match decimal_of(4, word.as_bytes()) {
+            Some(given) => *number = given,
+            None => bail!("usage: bench_installation [USERS [FRAMES]]"),
+        }
+    }
+    let [users, frames] = numbers;
+    match u8::try_from(users) {
+        Ok(users) if 1 <= users && users <= 64 => Ok(Asked { users, frames }),
+        _ => bail!("there are 1 to 64 users"),
+    }
+}
+
+/// Tells how long something took that was done so many times since this processor time.
+fn tell(rt: &(impl CpuClock + Eprint), start: Duration, what: &str, times: u32) -> Result<()> {
+    let taken = rt.process_cpu_time()?.checked_sub(start);
+    let nanos = taken.unwrap_or(Duration::ZERO).as_nanos() / u128::from(times.max(1));
+    eprintln!(rt; "{what}: {nanos} ns each, {times} of them")?;
+    Ok(())
+}
+
+/// Times what each user does in turns.
+fn time_turns(rt: &(impl CpuClock + Eprint), system: &mut System, users: u8) -> Result<u64> {
+    let mut done = 0u64;
+    let start = rt.process_cpu_time()?;
+    for _ in 0..TURNS {
+        done = done.wrapping_add(each_runs(system, users, TURN)?);
+    }
+    tell(rt, start, "turn of 100 units", TURNS * u32::from(users))?;
+    Ok(done)
+}
+
+/// Times pages that are touched by each user, for the first time or once more.
+fn time_pages(
+    rt: &(impl CpuClock + Eprint + AllocGlobal),
+    system: &mut System,
+    asked: Asked,
+    what: &str,
+) -> Result<u64> {
+    let (users, pages) = (asked.users, asked.pages());
+    begin(rt.alloc(), system, users, pages)?;
+    let start = rt.process_cpu_time()?;
+    let done = each_runs(system, users, pages.wrapping_mul(UNITS_A_PAGE))?;
+    tell(rt, start, what, pages.wrapping_mul(u32::from(users)))?;
+    Ok(done)
+}
+
+fn main(rt: HostRuntime) -> Result<ExitCode> {
+    let asked = words_of(&rt)?;
+    let text = directory_of(rt.alloc(), asked.users)?;
+    let directory = read_directory(rt.alloc(), text.as_bytes())?;
+    let Some(sizes) = Sizes::new(asked.frames, 0) else {
+        bail!("there are 16 to 4096 frames");
+    };
+    let start = rt.process_cpu_time()?;
+    let mut system = System::boot(rt.alloc(), directory, sizes)?;
+    tell(&rt, start, "boot", 1)?;
+    let start = rt.process_cpu_time()?;
+    each_types(&mut system, asked.users, b"LOGON")?;
+    tell(&rt, start, "LOGON", u32::from(asked.users))?;
+    let first = time_pages(
+        &rt,
+        &mut system,
+        asked,
+        "page that comes into a frame, with three units",
+    )?;
+    let again = time_pages(
+        &rt,
+        &mut system,
+        asked,
+        "page that is there, with three units",
+    )?;
+    let turns = time_turns(&rt, &mut system, asked.users)?;
+    let start = rt.process_cpu_time()?;
+    each_types(&mut system, asked.users, b"#CP LOGOFF")?;
+    tell(&rt, start, "LOGOFF", u32::from(asked.users))?;
+    let start = rt.process_cpu_time()?;
+    each_types(&mut system, asked.users, b"LOGON")?;
+    tell(&rt, start, "LOGON once more", u32::from(asked.users))?;
+    let (users, frames) = (asked.users, asked.frames);
+    println!(&rt; "{users} users on {frames} frames: {first}, {again} and {turns} units")?;
+    Ok(ExitCode::SUCCESS)
+}
