@@ -8,7 +8,7 @@ use clap::{Arg, ArgAction, ArgMatches, Command};
 use cp_directory::{StorageSize, storage_of};
 use std::alloc::{AllocError, Global};
 use std::convert::AsStr;
-use vm370::arguments::{UsageError, refusal, text_of};
+use vm370::arguments::{UsageError, refusal, text_of, usage};
 
 /// The most volumes that a machine has.
 pub const MOST_VOLUMES: usize = 16;
@@ -67,14 +67,6 @@ fn options_in<'a>(alloc: Global, matches: &ArgMatches<'a>) -> Result<BareOptions
         script,
         volumes,
     })
-}
-
-/// A wrong use, told by this text.
-fn usage(alloc: Global, text: &str) -> UsageError {
-    match String::from_str(alloc, text) {
-        Ok(text) => UsageError::Usage(text),
-        Err(_) => UsageError::Memory,
-    }
 }
 
 /// The size of the storage, where it is written so and a machine may have it.

@@ -1,7 +1,18 @@
 -- What the words of the program name, as those of a simple command of `clap`.
-use Rattle.std.specs.Prelude.{◌≡◌, ◌&&◌, ℕ, Bool, true, List, [], codes, Some, is_some}
+use Rattle.std.specs.Prelude.{◌≡◌, ◌≤◌, ◌&&◌, ℕ, Bool, true, List, [], codes, Option, Some, None, is_some}
 use Rattle.clap.specs.Words.{App, Row, Rule, fault_of, first_of, matches_of, new_app, new_rule, takes, with_rule}
+use Rattle.clap.specs.declared.builder.action.ArgAction.TheVariants.{Set}
+use Rattle.cp_text.specs.Numbers.{decimal_of}
+use Rattle.cp_core.specs.Sizes.{SystemSizes}
 use Rattle.vm370.specs.declared.arguments.Options.{Options}
+
+-- `--frames N`
+abbrev pub frames_rule : Rule
+frames_rule = record (new_rule (codes "frames")) { long = Some (codes "frames"); action = Some Set }
+
+-- `--slots N`
+abbrev pub slots_rule : Rule
+slots_rule = record (new_rule (codes "slots")) { long = Some (codes "slots"); action = Some Set }
 
 -- the first word after the program's name: the directory
 abbrev pub directory_rule : Rule
@@ -11,9 +22,9 @@ directory_rule = record (new_rule (codes "DIRECTORY")) { required = true }
 abbrev pub script_rule : Rule
 script_rule = record (new_rule (codes "SCRIPT")) { required = true }
 
--- `PROGRAM DIRECTORY SCRIPT`
+-- `PROGRAM [--frames N] [--slots N] DIRECTORY SCRIPT`
 abbrev pub command_of : List ℕ → App
-command_of program = with_rule (with_rule (new_app program) directory_rule) script_rule
+command_of program = with_rule (with_rule (with_rule (with_rule (new_app program) frames_rule) slots_rule) directory_rule) script_rule
 
 -- what the words give for the arguments of this program, in their order
 unfoldable pub rows_named : List ℕ → List (List ℕ) → List Row
@@ -31,7 +42,20 @@ HasNoFault program words = fault_of (command_of program) words ≡ []
 abbrev pub gives_paths : List Row → Bool
 gives_paths rows = is_some (first_of (codes "DIRECTORY") rows) && is_some (first_of (codes "SCRIPT") rows)
 
+-- the number that an option spells in at most 7 decimal digits, and this one where the option is not given
+abbrev pub number_or : ℕ → Option (List ℕ) → Option ℕ
+number_or default None = Some default
+number_or default (Some text) = decimal_of 7 text
+
+-- so many frames and slots are named: 64 and 256 where they are not given, and no more than 4096 and 65,536
+pub record IsSized (rows : List Row) (sizes : SystemSizes) : Type 0 where
+  pub frames : number_or 64 (first_of (codes "frames") rows) ≡ Some sizes.frames
+  pub slots : number_or 256 (first_of (codes "slots") rows) ≡ Some sizes.slots
+  pub most_frames : sizes.frames ≤ 4096
+  pub most_slots : sizes.slots ≤ 65536
+
 -- the options are what these words give
 pub record IsNamed (rows : List Row) (options : Options) : Type 0 where
+  pub sizes : IsSized rows options.sizes
   pub directory : first_of (codes "DIRECTORY") rows ≡ Some options.directory.now
   pub script : first_of (codes "SCRIPT") rows ≡ Some options.script.now

@@ -1,20 +1,32 @@
-//! The words of the program: which files it is to read.
-ghost use Rattle.std.specs.Prelude.{◌≡◌, IfOk, IfErr, IfSome, OnOk, IsSome, map, option_map, true};
-ghost use Rattle.clap.specs.Words.{app_of, first_of, found_of, rows_of};
+//! The words of the program: how much it has, and which files it is to read.
+ghost use Rattle.std.specs.Prelude.{◌≡◌, IfOk, IfErr, IfSome, OnOk, IsSome, Some, codes, map, option_map, false, true};
+ghost use Rattle.clap.specs.Words.{app_of, first_of, found_of, rows_of, rule_of};
 ghost use Rattle.clap.specs.Values.{kind_of};
 ghost use Rattle.clap.specs.declared.error.kind.ErrorKind.TheVariants.{OutOfMemory};
 ghost use Rattle.vm370.specs.declared.arguments.UsageError.TheVariants.{Memory};
-ghost use Rattle.vm370.specs.Options.{HasNoFault, IsNamed, command_of, gives_paths, is_taken, rows_named};
+ghost use Rattle.cp_core.specs.Sizes.{SystemSizes};
+ghost use Rattle.vm370.specs.Options.{HasNoFault, IsNamed, IsSized, command_of, directory_rule, frames_rule, gives_paths, is_taken, number_or, rows_named, script_rule, slots_rule};
 
 use clap::error::ErrorKind;
-use clap::{Arg, ArgMatches, Command, Error as ClapError};
+use clap::{Arg, ArgAction, ArgMatches, Command, Error as ClapError};
+use cp_core::Sizes;
+use cp_text::numbers::decimal_of;
 use std::alloc::{AllocError, Global};
 use std::convert::AsStr;
 use thiserror::Error;
 
-/// What the words of the program name: `vm370 DIRECTORY SCRIPT`.
-#[derive(Debug, Drop)]
+/// How many frames the machine has where the words name no number.
+const FRAMES: u32 = 64;
+/// How many slots for pages it has where the words name no number.
+const SLOTS: u32 = 256;
+/// The most digits of a number of frames or slots.
+const MOST_DIGITS: usize = 7;
+
+/// What the words of the program name: `vm370 [--frames N] [--slots N] DIRECTORY SCRIPT`.
+#[derive(Drop)]
 pub struct Options<'a> {
+    /// How many frames and slots the machine has.
+    pub sizes: Sizes,
     /// The path of the directory.
     pub directory: &'a str,
     /// The path of the script.
@@ -52,23 +64,65 @@ pub fn arguments<'a, S: AsStr>(
 ) -> Result<Options<'a>, UsageError>
     ensures ok { IfOk result (IsNamed (rows_named program.entry.now (map S.text words.entry.now))) }
     ensures taken { OnOk result (HasNoFault program.entry.now (map S.text words.entry.now)) }
-    ensures err { is_taken program.entry.now (map S.text words.entry.now) ≡ true → gives_paths (rows_named program.entry.now (map S.text words.entry.now)) ≡ true → IfErr result (λ error. error ≡ UsageError.Memory) }
+    ensures err { (sizes : SystemSizes) → is_taken program.entry.now (map S.text words.entry.now) ≡ true →
+        gives_paths (rows_named program.entry.now (map S.text words.entry.now)) ≡ true →
+        IsSized (rows_named program.entry.now (map S.text words.entry.now)) sizes →
+        IfErr result (λ error. error ≡ UsageError.Memory) }
 {
     let matches = matched(alloc, program, words)?;
-    match options_in(&matches) {
-        Some(options) => Ok(options),
-        None => Err(UsageError::Usage(String::from_str(alloc, "a path is missing\n")?)),
+    let Some(sizes) = sizes_in(&matches) else {
+        return Err(usage(
+            alloc,
+            "there are at most 4096 frames and 65536 slots, each a decimal number\n",
+        ));
+    };
+    match paths_in(&matches) {
+        Some((directory, script)) => Ok(Options {
+            sizes,
+            directory,
+            script,
+        }),
+        None => Err(usage(alloc, "a path is missing\n")),
     }
 }
 
-/// The options, where both paths are given.
-fn options_in<'a>(matches: &ArgMatches<'a>) -> Option<Options<'a>>
-    ensures some { IfSome result (IsNamed (rows_of (found_of matches.now))) }
+/// A wrong use, told by this text.
+pub fn usage(alloc: Global, text: &str) -> UsageError {
+    match String::from_str(alloc, text) {
+        Ok(text) => UsageError::Usage(text),
+        Err(_) => UsageError::Memory,
+    }
+}
+
+/// How many frames and slots are named, where there may be so many.
+fn sizes_in(matches: &ArgMatches<'_>) -> Option<Sizes>
+    ensures some { IfSome result (IsSized (rows_of (found_of matches.now))) }
+    ensures none { (sizes : SystemSizes) → IsSized (rows_of (found_of matches.now)) sizes → IsSome result }
+{
+    let frames = number_in(matches, "frames", FRAMES)?;
+    let slots = number_in(matches, "slots", SLOTS)?;
+    Sizes::new(frames, slots)
+}
+
+/// The number that the words give for an option, and this one where they give none.
+fn number_in(matches: &ArgMatches<'_>, id: &str, default: u32) -> Option<u32>
+    ensures { result ≡ number_or default (first_of id.now (rows_of (found_of matches.now))) }
+{
+    match text_of(matches, id) {
+        Some(text) => decimal_of(MOST_DIGITS, text.as_bytes()),
+        None => Some(default),
+    }
+}
+
+/// The paths of the directory and of the script, where both are given.
+fn paths_in<'a>(matches: &ArgMatches<'a>) -> Option<(&'a str, &'a str)>
+    ensures directory { IfSome result (λ paths. first_of (codes "DIRECTORY") (rows_of (found_of matches.now)) ≡ Some paths.0.now) }
+    ensures script { IfSome result (λ paths. first_of (codes "SCRIPT") (rows_of (found_of matches.now)) ≡ Some paths.1.now) }
     ensures none { gives_paths (rows_of (found_of matches.now)) ≡ true → IsSome result }
 {
     let directory = text_of(matches, "DIRECTORY")?;
     let script = text_of(matches, "SCRIPT")?;
-    Some(Options { directory, script })
+    Some((directory, script))
 }
 
 /// The first text that the words give for an argument.
@@ -112,17 +166,59 @@ pub fn refusal(alloc: Global, error: &ClapError) -> UsageError
 fn command<'a>(alloc: Global, program: &'a str) -> Result<Command<'a>, AllocError>
     ensures { IfOk result (λ c. app_of c ≡ command_of program.entry.now) }
 {
-    let directory = Arg::new(alloc, "DIRECTORY")
-        .required(true)
-        .help("The users and the storage of each (docs/FORMATS.md)");
-    let script = Arg::new(alloc, "SCRIPT").required(true).help(
-        "What happens to their machines, one event a line (docs/FORMATS.md)",
-    );
     let command = Command::new(alloc, program)
         .about("Runs many System/370 machines at once, and prints what their terminals show")
-        .arg(directory)?
-        .arg(script)?;
+        .arg(frames(alloc))?
+        .arg(slots(alloc))?
+        .arg(directory(alloc))?
+        .arg(script(alloc))?;
     Ok(command)
+}
+
+/// `--frames N`
+fn frames<'a>(alloc: Global) -> Arg<'a>
+    ensures rule { rule_of result ≡ frames_rule }
+    ensures local { result.global ≡ false }
+{
+    Arg::new(alloc, "frames")
+        .long("frames")
+        .action(ArgAction::Set)
+        .help(
+            "How many frames of 4096 bytes the users share, 16 to 4096; 64 where no number is given",
+        )
+}
+
+/// `--slots N`
+fn slots<'a>(alloc: Global) -> Arg<'a>
+    ensures rule { rule_of result ≡ slots_rule }
+    ensures local { result.global ≡ false }
+{
+    Arg::new(alloc, "slots")
+        .long("slots")
+        .action(ArgAction::Set)
+        .help(
+            "How many slots there are for pages that are in no frame, at most 65536; 256 where no number is given",
+        )
+}
+
+/// The first word, which is the path of the directory.
+fn directory<'a>(alloc: Global) -> Arg<'a>
+    ensures rule { rule_of result ≡ directory_rule }
+    ensures local { result.global ≡ false }
+{
+    Arg::new(alloc, "DIRECTORY")
+        .required(true)
+        .help("The users and the storage of each (docs/FORMATS.md)")
+}
+
+/// The second word, which is the path of the script.
+fn script<'a>(alloc: Global) -> Arg<'a>
+    ensures rule { rule_of result ≡ script_rule }
+    ensures local { result.global ≡ false }
+{
+    Arg::new(alloc, "SCRIPT").required(true).help(
+        "What happens to their machines, one event a line (docs/FORMATS.md)",
+    )
 }
 
 #[cfg(test)]
@@ -132,33 +228,52 @@ mod tests {
 
     const NAME: &str = "vm370";
 
-    /// The paths that the words name, or nothing for a wrong use; want of memory stands apart.
-    fn paths<'a>(
+    /// What the words name, or nothing for a wrong use; want of memory stands apart.
+    fn named<'a>(
         alloc: Global,
         words: &'a [&'a str],
-    ) -> Result<Option<(&'a str, &'a str)>, AllocError> {
+    ) -> Result<Option<(Option<Sizes>, &'a str, &'a str)>, AllocError> {
         match arguments(alloc, NAME, words) {
-            Ok(options) => Ok(Some((options.directory, options.script))),
+            Ok(options) => Ok(Some((Some(options.sizes), options.directory, options.script))),
             Err(UsageError::Usage(_)) => Ok(None),
             Err(UsageError::Memory) => Err(AllocError),
         }
     }
 
     #[test]
-    fn reads_two_paths(rt: HostRuntime) -> Result<(), Fail> {
-        for (words, directory, script) in [
+    fn reads_sizes_and_paths(rt: HostRuntime) -> Result<(), Fail> {
+        for (words, frames, slots, directory, script) in [
             (
                 ["vm370", "users", "first.script"].as_slice(),
+                64,
+                256,
                 "users",
                 "first.script",
             ),
             (
                 ["vm370", "--", "-users", "--script"].as_slice(),
+                64,
+                256,
                 "-users",
                 "--script",
             ),
+            (
+                ["vm370", "--frames", "16", "--slots", "0", "u", "s"].as_slice(),
+                16,
+                0,
+                "u",
+                "s",
+            ),
+            (
+                ["vm370", "u", "--slots=0065536", "s", "--frames=4096"].as_slice(),
+                4096,
+                65536,
+                "u",
+                "s",
+            ),
         ] {
-            let (first, second) = paths(rt.alloc(), words)?.ok_or("refused")?;
+            let (sizes, first, second) = named(rt.alloc(), words)?.ok_or("refused")?;
+            assert_eq!(rt; sizes, Sizes::new(frames, slots));
             assert_eq!(rt; first, directory);
             assert_eq!(rt; second, script);
         }
@@ -172,9 +287,16 @@ mod tests {
             ["vm370", "users"].as_slice(),
             ["vm370", "users", "script", "more"].as_slice(),
             ["vm370", "--unknown", "users", "script"].as_slice(),
+            ["vm370", "--frames", "4097", "users", "script"].as_slice(),
+            ["vm370", "--slots", "65537", "users", "script"].as_slice(),
+            ["vm370", "--frames", "+16", "users", "script"].as_slice(),
+            ["vm370", "--frames", "00000016", "users", "script"].as_slice(),
+            ["vm370", "--frames=", "users", "script"].as_slice(),
+            ["vm370", "--frames", "16", "--frames", "16", "u", "s"].as_slice(),
+            ["vm370", "users", "script", "--slots"].as_slice(),
             ["vm370", "--help"].as_slice(),
         ] {
-            assert!(rt; paths(rt.alloc(), words)?.is_none());
+            assert!(rt; named(rt.alloc(), words)?.is_none());
         }
         Ok(())
     }
@@ -185,7 +307,7 @@ mod tests {
         match arguments(rt.alloc(), NAME, words.as_slice()) {
             Err(UsageError::Usage(text)) => {
                 assert!(rt;
-                    text.contains("Usage: vm370 <DIRECTORY> <SCRIPT>"),
+                    text.contains("Usage: vm370 [OPTIONS] <DIRECTORY> <SCRIPT>"),
                     "{text}"
                 );
                 Ok(())

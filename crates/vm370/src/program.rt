@@ -1,4 +1,4 @@
-//! The program `vm370 DIRECTORY SCRIPT`: its words, its files, its session, and what it says of a failure.
+//! The program `vm370 [--frames N] [--slots N] DIRECTORY SCRIPT`: its words, its files, its session, and what it says of a failure.
 //!
 //! The transcript goes to standard output. A failure is one line on standard error, and its kind is the
 //! exit status.
@@ -33,12 +33,6 @@ The transcript goes to standard output, a fault as one line to standard error. E
   3  a file could not be opened, read or written
   4  there was not memory enough
 ";
-
-/// How many frames the machine has.
-const FRAMES: u32 = 64;
-
-/// How many slots for pages it has.
-const SLOTS: u32 = 256;
 
 /// How a program ended. Only [`finish`] makes one, so that a `main` which returns it has no other exit status to give.
 #[derive(Drop)]
@@ -86,7 +80,7 @@ fn run<R: AllocGlobal + Files + Env + Print + Eprint>(rt: &R) -> Result<(), Fail
         Ok(options) => options,
         Err(error) => return Err(wrong_use(rt, &error, USAGE_NOTE)),
     };
-    let mut system = boot(rt, options.directory)?;
+    let mut system = boot(rt, options.directory, options.sizes)?;
     let mut script = open(rt, options.script)?;
     let Ok(output) = io::BufWriter::new(alloc, io::writer(rt)) else {
         return Err(Failure::Memory);
@@ -137,13 +131,10 @@ pub fn open<R: Files>(rt: &R, path: &str) -> Result<Counted<R::File>, Failure> {
     }
 }
 
-/// The system that the directory at a path states.
-fn boot<R: AllocGlobal + Files>(rt: &R, path: &str) -> Result<System, Failure> {
+/// The system that the directory at a path states, with so many frames and slots.
+fn boot<R: AllocGlobal + Files>(rt: &R, path: &str, sizes: Sizes) -> Result<System, Failure> {
     let alloc = rt.alloc();
     let text = read_all(alloc, &mut open(rt, path)?)?;
     let directory = read_directory(alloc, &text)?;
-    let Some(sizes) = Sizes::new(FRAMES, SLOTS) else {
-        unreachable!();
-    };
     Ok(System::boot(alloc, directory, sizes)?)
 }

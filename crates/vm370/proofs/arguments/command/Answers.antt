@@ -1,0 +1,12 @@
+use Rattle.std.proofs.Common.{◌≡◌, rules}
+use Rattle.clap.specs.Words.{app_of, new_app}
+use Rattle.vm370.proofs.Rules.{one_more}
+use Rattle.vm370.proofs.arguments.command.Goals as goal
+
+pub returns : goal.returns
+returns c =
+    let none : app_of c.about.result ≡ new_app c.args.program.now = search rules in
+    let first = one_more _ _ _ _ _ (c.in_ok-arg.ensures.shape c.frames.ensures.local) none c.frames.ensures.rule in
+    let second = one_more _ _ _ _ _ (c.in_ok-arg-2.ensures.shape c.slots.ensures.local) first c.slots.ensures.rule in
+    let third = one_more _ _ _ _ _ (c.in_ok-arg-3.ensures.shape c.directory.ensures.local) second c.directory.ensures.rule in
+    one_more _ _ _ _ _ (c.in_ok-command.ensures.shape c.script.ensures.local) third c.script.ensures.rule
