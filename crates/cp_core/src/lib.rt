@@ -26,6 +26,3 @@ pub use boot::Sizes;
 pub use cp_frames::{FRAME_SIZE, FrameNo};
 pub use events::{BootError, CpError, Ended, Event, Reply};
 pub use system::{System, each_is_bare};
-
-#[cfg(test)]
-mod tests;

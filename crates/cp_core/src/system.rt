@@ -62,7 +62,14 @@ impl System {
     pub fn is_spent(&self) -> bool
         ensures { result ≡ self.now.is_spent }
     {
-        self.is_spent
+        // All its fields: what is added to them is seen here. Storage of guests is in the frames alone.
+        let System {
+            directory: _,
+            machines: _,
+            frames: _,
+            is_spent,
+        } = self;
+        *is_spent
     }
 
     /// Ends the system for want of memory.

@@ -158,7 +158,9 @@ impl UserMachine {
     fn key(&self, block: u32) -> Option<StorageKey>
         ensures { result ≡ slice_get self.now.keys block }
     {
-        self.keys.get(block as usize).copied()
+        // All its fields: what is added to them is seen here.
+        let UserMachine { machine: _, keys } = self;
+        keys.get(block as usize).copied()
     }
 
     fn printed(&self) -> usize

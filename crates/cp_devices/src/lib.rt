@@ -20,8 +20,6 @@ mod places;
 mod request;
 mod serve;
 mod spooling;
-#[cfg(test)]
-mod tests;
 mod world;
 
 pub use devices::Devices;

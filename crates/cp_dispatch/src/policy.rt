@@ -194,6 +194,3 @@ fn place_of_program(programs: &[Program], user: UserNo, device: DevAddr) -> Opti
 pub fn is_fair()
     ensures { IsFairPolicy }
 {}
-
-#[cfg(test)]
-mod tests;

@@ -1,4 +1,7 @@
-use super::*;
+//! Turns that are dealt to users and programs.
+use cp_dispatch::{Policy, Program, Ready};
+use cp_users::UserNo;
+use s370_num::DevAddr;
 use std::test::Fail;
 
 /// Those of three users who are ready.

@@ -1,0 +1,192 @@
+//! What no script shows of a system, beside the transcripts of `vm370_examples`: too few frames, the machine of nobody, what a
+//! console keeps, and a frame that is lent.
+//!
+//! It fails at the first thing that is otherwise, and tells it.
+#![tactic(auto)]
+
+use anyhow::{Result, bail};
+use cp_console::responses::Response;
+use cp_core::{BootError, CpError, Event, FrameNo, Sizes, System};
+use cp_directory::read_directory;
+use cp_users::UserNo;
+use s370_store::Page;
+use std::alloc::Global;
+
+/// The fewest frames that a system may have.
+const FEWEST_FRAMES: u32 = 16;
+
+/// User A.
+fn a() -> UserNo {
+    UserNo::new(0)
+}
+
+/// User B.
+fn b() -> UserNo {
+    UserNo::new(1)
+}
+
+/// A user whom the directory does not have.
+fn nobody() -> UserNo {
+    UserNo::new(2)
+}
+
+/// An error where something is otherwise than it has to be.
+fn see(holds: bool, what: &str) -> Result<()> {
+    if !holds {
+        bail!("it is not so: {what}");
+    }
+    Ok(())
+}
+
+/// A system of two users with two pages each on so many frames, or why it is not booted.
+fn booted(alloc: Global, frames: u32) -> Result<Result<System, BootError>> {
+    let directory = read_directory(alloc, b"USER A PW 8K\nUSER B PW 8K\n")?;
+    let Some(sizes) = Sizes::new(frames, 0) else {
+        bail!("{frames} frames are too many");
+    };
+    Ok(System::boot(alloc, directory, sizes))
+}
+
+/// The error of an event that was refused. A system for which memory was refused has to answer nothing else from then on.
+fn refused(system: &mut System, error: CpError) -> Result<()> {
+    if error == CpError::Memory {
+        see(system.is_spent(), "want of memory ends the system")?;
+        let later = system.apply(Event::Run(a(), 1));
+        see(
+            later == Err(CpError::Spent),
+            "a system that has ended says so",
+        )?;
+    }
+    Err(error)?
+}
+
+/// Lets a user's machine run.
+fn run(system: &mut System, user: UserNo, units: u32) -> Result<()> {
+    match system.apply(Event::Run(user, units)) {
+        Ok(_) => Ok(()),
+        Err(error) => refused(system, error),
+    }
+}
+
+/// Types lines of a user.
+fn type_lines(system: &mut System, user: UserNo, lines: &[&str]) -> Result<()> {
+    for line in lines {
+        match system.apply(Event::Line(user, line.as_bytes())) {
+            Ok(_) => {}
+            Err(error) => refused(system, error)?,
+        }
+    }
+    Ok(())
+}
+
+fn too_few_frames(alloc: Global) -> Result<()> {
+    for frames in [0, FEWEST_FRAMES - 1] {
+        let refused = match booted(alloc, frames)? {
+            Ok(_) => false,
+            Err(error) => error == BootError::TooFewFrames,
+        };
+        see(refused, "a system has sixteen frames")?;
+    }
+    Ok(())
+}
+
+fn machine_of_nobody(system: &mut System) -> Result<()> {
+    for answer in [
+        system.apply(Event::Run(nobody(), 1)),
+        system.apply(Event::Line(nobody(), b"LOGON")),
+        system.apply(Event::Tick(nobody())),
+    ] {
+        see(answer == Err(CpError::NoSuchUser), "nobody has no events")?;
+    }
+    see(!system.is_spent(), "such an event does not end the system")?;
+    see(
+        system.registers(nobody()).is_none(),
+        "nobody has no registers",
+    )?;
+    see(system.psw(nobody()).is_none(), "nobody has no PSW")?;
+    see(
+        system.storage(nobody(), 0).is_none(),
+        "nobody has no storage",
+    )?;
+    see(
+        system.console_output(nobody(), 0).is_none(),
+        "nobody has no console",
+    )
+}
+
+/// A's console keeps what its panel shows: the address past storage, the store and the stop.
+fn kept_lines(system: &mut System) -> Result<()> {
+    let typed = [
+        "LOGON",
+        "FOO",
+        "DISPLAY G16",
+        "DISPLAY 2000",
+        "STORE PSW 00020000 00000000",
+        "BEGIN",
+    ];
+    type_lines(system, a(), &typed)?;
+    run(system, a(), 5)?;
+    see(system.printed(a()) == Some(3), "A has three lines")?;
+    let last = system.console_output(a(), 2);
+    see(
+        last == Some(Response::StoppedDisabledWait),
+        "the last is the stop",
+    )?;
+    see(
+        system.console_output(a(), 3).is_none(),
+        "there is none after it",
+    )?;
+    see(system.printed(b()) == Some(0), "B has no lines")
+}
+
+/// A's first page is lent: what is written to its frame is what A loads, and B's storage stays.
+fn a_lent_frame(system: &mut System) -> Result<()> {
+    let places = [
+        "LOGON",
+        "STORE 100 58100FFE",
+        "STORE FFE ABCD",
+        "STORE PSW 00000000 00000100",
+        "BEGIN",
+    ];
+    type_lines(system, a(), &places)?;
+    type_lines(system, b(), &["LOGON", "STORE FFE 99"])?;
+    for (user, page) in [(a(), 1), (a(), 2), (nobody(), 0)] {
+        let frame = system.frame_of(user, Page(page));
+        see(frame.is_none(), "such a page stands in no frame")?;
+    }
+    write_to_first_page(system, a())?;
+    run(system, a(), 1)?;
+    let loaded = system.registers(a()).map(|general| general[1]);
+    see(loaded == Some(0xEECD_0000), "A has loaded what was written")?;
+    for address in 0..8192 {
+        let byte = if address == 0xFFE { 0x99 } else { 0 };
+        see(
+            system.storage(b(), address) == Some(byte),
+            "B has what it stored",
+        )?;
+    }
+    Ok(())
+}
+
+/// Writes EE to the byte at FFE of a user, in the frame where its first page stands.
+fn write_to_first_page(system: &mut System, user: UserNo) -> Result<()> {
+    let Some(frame) = system.frame_of(user, Page(0)) else {
+        bail!("the first page stands in no frame");
+    };
+    match system.frame_mut(frame) {
+        Some(bytes) => bytes[0xFFE] = 0xEE,
+        None => bail!("the frame is none of the system"),
+    }
+    let past = system.frame_mut(FrameNo(FEWEST_FRAMES as u16));
+    see(past.is_none(), "no frame lies past the last")
+}
+
+fn main(rt: HostRuntime) -> Result<()> {
+    let alloc = rt.alloc();
+    too_few_frames(alloc)?;
+    machine_of_nobody(&mut booted(alloc, FEWEST_FRAMES)??)?;
+    kept_lines(&mut booted(alloc, FEWEST_FRAMES)??)?;
+    a_lent_frame(&mut booted(alloc, FEWEST_FRAMES)??)?;
+    println!(rt; "frames, nobody, lines and a lent frame are as they have to be")?;
+    Ok(())
+}
