@@ -1,5 +1,5 @@
 -- A frequent instruction that is done: its row, its rights, and the unit that it makes.
-use Rattle.std.proofs.Common.{◌≡◌, ℕ, Bool, true, false, Option, Some, None, Result, Ok, Err, refl, sym, ◌∙◌, ap, subst}
+use Rattle.std.proofs.Common.{◌≡◌, ℕ, Bool, true, false, List, Option, Some, None, Result, Ok, Err, refl, sym, ◌∙◌, ap, subst}
 use Rattle.std.specs.Prelude.{◌&&◌, if◌then◌else◌}
 use Rattle.s370_psw.specs.declared.ProgramCode.{ProgramCode}
 use Rattle.s370_rows.specs.declared.cpu.Cpu.{Cpu}
@@ -10,11 +10,13 @@ use Rattle.s370_rows.specs.declared.ending.Refusal.TheVariants.{Program as Suppr
 use Rattle.s370_rows.specs.declared.instruction.Instruction.{Instruction}
 use Rattle.s370_rows.specs.declared.place.Place.{Place}
 use Rattle.s370_rows.specs.Branches.{branches}
+use Rattle.s370_rows.specs.Registers.{Ended}
 use Rattle.s370_rows.specs.State.{State}
-use Rattle.s370_rows.specs.Rows.{Row, Left, Outcome, MeetsRow, unless, outcome_of, after, fault_of}
+use Rattle.s370_rows.specs.Rows.{Left, MeetsRow, Outcome, Row, Stored, after, fault_of, outcome_of, over, unless}
 use Rattle.s370_cpu.specs.declared.conclude.Stop.TheVariants.{Done as DoneStop}
+use Rattle.s370_bytes.specs.Long.{long_moved}
 use Rattle.s370_cpu.specs.Laws.{rights_of}
-use Rattle.s370_cpu.specs.Quick.{GoesOn, MeetsQuick, done_of}
+use Rattle.s370_cpu.specs.Quick.{GoesOn, MeetsQuick, done_of, part_of}
 use Rattle.s370_cpu.specs.Table.{row_of, unit}
 use Rattle.s370_cpu.specs.Unit.{Carries, MeetsUnit, Stopped, place_at, stopped}
 use Rattle.s370_cpu.proofs.Units.{carried_meets, whole_meets}
@@ -59,6 +61,26 @@ branches_go_on false target = tt
 pub no_overflow : (b c : Bool) (code : ProgramCode) → c ≡ false → GoesOn (if b && c then Interrupted code else Done)
 no_overflow true c code e = rw e tt
 no_overflow false c code e = tt
+
+-- a part of a long move goes on, or is the last
+part_quiet : (m : State) (b : Bool) (x y : Cpu) (ss : List Stored) → rights_of (record m { cpu = x }) ≡ rights_of m → rights_of (record m { cpu = y }) ≡ rights_of m → (let e : Ended = if b then (record { ending = Done; cpu = x }) else (record { ending = Again; cpu = y }) in IsQuiet m (record { ending = e.ending; cpu = e.cpu; stores = ss; keyed = None }))
+part_quiet m true x y ss h k = record { goes_on = tt; rights = h }
+part_quiet m false x y ss h k = record { goes_on = tt; rights = k }
+
+either_quiet : (m : State) (b : Bool) (r s : Row) → LeavesQuiet m r.leaves → LeavesQuiet m s.leaves → LeavesQuiet m (if b then r else s).leaves
+either_quiet m true r s h k = h
+either_quiet m false r s h k = k
+
+over_quiet : (m : State) (cpu : Cpu) → rights_of (record m { cpu = cpu }) ≡ rights_of m → LeavesQuiet m (Ok (over (record { ending = Done; cpu = cpu })))
+over_quiet m cpu h = record { goes_on = tt; rights = h }
+
+pub long_quiet : (m : State) (i : Instruction) → LeavesQuiet m (long_moved m i).leaves
+long_quiet m i = search (either_quiet, over_quiet, part_quiet)
+
+-- what was done, or left undone, and which
+pub quick_if : (r : Row) (present : ℕ → Bool) (m : State) (did : Bool) (answer : Option Ending) (m' : State) → LeavesQuiet m r.leaves → (did ≡ true → MeetsRow r present m (Ok Again) m') → (did ≡ false → m' ≡ m) → answer ≡ part_of did → MeetsQuick r present m answer m'
+quick_if r present m true answer m' h d s a = rw a (quick_done r present m Again m' h (d refl))
+quick_if r present m false answer m' h d s a = rw a (s refl)
 
 -- ---- the unit
 

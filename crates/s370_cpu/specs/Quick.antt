@@ -1,5 +1,5 @@
 -- What an instruction may answer that is done only where nothing keeps it from being done.
-use Rattle.std.specs.Prelude.{◌≡◌, ℕ, Bool, Option, Some, None, Result, Ok, Err}
+use Rattle.std.specs.Prelude.{◌≡◌, ℕ, Bool, true, false, Option, Some, None, Result, Ok, Err}
 use Rattle.s370_rows.specs.declared.ending.Ending.{Ending}
 use Rattle.s370_rows.specs.declared.ending.Ending.TheVariants.{Done, Branch, Again, Interrupted, SupervisorCall, InputOutput}
 use Rattle.s370_rows.specs.declared.ending.Refusal.{Refusal}
@@ -20,6 +20,11 @@ GoesOn (InputOutput operation device) = ⊥
 abbrev pub done_of : Result Ending Refusal → Option Ending
 done_of (Ok ending) = Some ending
 done_of (Err refusal) = None
+
+-- a part that was done
+abbrev pub part_of : Bool → Option Ending
+part_of true = Some Again
+part_of false = None
 
 -- the row, where the processor goes on after it and nobody's rights change; or nothing is changed
 abbrev pub MeetsQuick : Row → (ℕ → Bool) → State → Option Ending → State → Type 0

@@ -6,7 +6,7 @@ ghost use Rattle.s370_cpu.specs.declared.conclude.Stop.TheVariants as stops;
 ghost use Rattle.s370_cpu.specs.Fetch.{fetched, instruction_at};
 ghost use Rattle.s370_cpu.specs.FetchRows.{word_operation};
 ghost use Rattle.s370_cpu.specs.Laws.{rights_of};
-ghost use Rattle.s370_cpu.specs.Quick.{GoesOn, MeetsQuick, done_of};
+ghost use Rattle.s370_cpu.specs.Quick.{GoesOn, MeetsQuick, done_of, part_of};
 ghost use Rattle.s370_cpu.specs.Table.{row_of, unit};
 ghost use Rattle.s370_cpu.specs.Unit.{Carries, MeetsUnit, place_at, stopped};
 ghost use Rattle.s370_rows.specs.declared.arithmetic.Arithmetic.TheVariants as operations;
@@ -17,8 +17,8 @@ use crate::fetch_rows::{test_byte_row, word_row};
 use crate::opcodes::Branching;
 use crate::register_rows::{branch_to, load_address, register_operation};
 use crate::store_rows::store_word_row;
-use s370_bytes::move_row;
-use s370_num::Addr24;
+use s370_bytes::{move_long_quickly, move_row};
+use s370_num::{AccessKey, Addr24};
 use s370_rows::{Arithmetic, ByteTest, Cpu, Ending, Instruction, Place, Refusal};
 use s370_store::{Storage, load_byte};
 
@@ -42,13 +42,23 @@ pub fn step_quickly<S: Storage>(cpu: &mut Cpu, storage: &mut S) -> bool
     ensures present { S.present storage.new ≡ S.present storage.old }
     ensures rest { S.Keeps storage.old storage.new }
 {
-    storage.settle(cpu.psw.address().get(), cpu.psw.key());
-    step_settled_quickly(cpu, storage)
+    // What is read once stays in a register, whatever the storage does to settle.
+    let start = cpu.psw.address().get();
+    let key = cpu.psw.key();
+    storage.settle(start, key);
+    step_settled_quickly(cpu, storage, start, key)
 }
 
 /// As [`step_quickly`], once the storage knows what is going to be fetched.
 #[inline(always)]
-fn step_settled_quickly<S: Storage>(cpu: &mut Cpu, storage: &mut S) -> bool
+fn step_settled_quickly<S: Storage>(
+    cpu: &mut Cpu,
+    storage: &mut S,
+    start: u32,
+    key: AccessKey,
+) -> bool
+    requires here { start ≡ cpu.old.psw.address }
+    requires key { key ≡ cpu.old.psw.key }
     ensures done { let before = state_of cpu.old (S.bytes storage.old) (S.keys storage.old) in
         let after = state_of cpu.new (S.bytes storage.new) (S.keys storage.new) in
         result ≡ true → MeetsUnit (unit before) (S.present storage.old) before stops.Done after }
@@ -62,12 +72,12 @@ fn step_settled_quickly<S: Storage>(cpu: &mut Cpu, storage: &mut S) -> bool
     ensures present { S.present storage.new ≡ S.present storage.old }
     ensures rest { S.Keeps storage.old storage.new }
 {
-    let start = cpu.psw.address().get();
-    if !may_fetch_longest(cpu, storage, start) {
+    if !may_fetch_longest(cpu, storage, start, key) {
         return false;
     }
     // One jump, behind which all is compiled for the one operation code.
     match load_byte(storage, start) {
+        0x0E => carry_quickly(cpu, storage, start, 0x0E),
         0x18 => carry_quickly(cpu, storage, start, 0x18),
         0x41 => carry_quickly(cpu, storage, start, 0x41),
         0x46 => carry_quickly(cpu, storage, start, 0x46),
@@ -182,6 +192,7 @@ fn perform_quickly<S: Storage>(
     ensures rest { S.Keeps storage.old storage.new }
 {
     match opcode {
+        0x0E => part_of(move_long_quickly(cpu, storage, i)),
         0x18 => Some(register_operation(Arithmetic::Load, cpu, i)),
         0x41 => Some(load_address(cpu, i)),
         0x46 => Some(branch_to(Branching::Count, cpu, place, i)),
@@ -204,6 +215,14 @@ fn done_of(outcome: Result<Ending, Refusal>) -> Option<Ending>
         Ok(ending) => Some(ending),
         Err(_) => None,
     }
+}
+
+/// How a row ended of which a part was done.
+#[inline(always)]
+fn part_of(did: bool) -> Option<Ending>
+    ensures { result ≡ part_of did }
+{
+    if did { Some(Ending::Again) } else { None }
 }
 
 /// 5A A, where no overflow interrupts.
