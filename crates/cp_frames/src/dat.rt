@@ -1,5 +1,6 @@
 //! One user's storage, lent from the frames.
-ghost use Rattle.std.specs.Prelude.{◌≡◌, ◌+◌, ◌*◌, ◌/◌, ◌<◌, ◌≤◌, ◌↔◌, ◌%◌, true, length, IfOk, IfSome, IfNone, OnOk, OnErr, All, IsSome, Some, None, false};
+ghost use Rattle.std.specs.Prelude.{◌≡◌, ◌+◌, ◌*◌, ◌/◌, ◌<◌, ◌≤◌, ◌↔◌, ◌%◌, true, length, IfOk, IfSome, IfNone, OnOk, OnErr, All, IsSome, Some, None, false, [], ◌∷◌};
+ghost use Rattle.s370_store.specs.Access.{IsVerdict, tested};
 ghost use Rattle.cp_frames.specs.Layout.{bytes_of, frame_of, number_of, free_count, IsBrought, IsZeroPage};
 ghost use Rattle.cp_frames.specs.Settled.{IsSettled};
 
@@ -151,6 +152,41 @@ impl<'a> Dat<'a> {
         }
         range.start % BLOCK_SIZE + range.count <= BLOCK_SIZE
     }
+
+    /// Tests an access by size, keys and table.
+    #[inline(always)]
+    fn check_here(&self, range: Range, access: Access, key: AccessKey) -> Result<(), Fault>
+        requires { range.count ≤ 256 }
+        ensures { IsVerdict (length (lent_bytes self.now)) (lent_keys self.now) (is_lent_page self.now) key (tested access range ∷ []) result }
+    {
+        test_range(self.size, &Listed { keys: self.keys }, range, access, key)?;
+        let Range { start, count } = range;
+        if count == 0 {
+            return Ok(());
+        }
+        match self.frames.frame_at(self.user, start) {
+            Some(_) => {}
+            None => return Err(Fault::Absent(page_of(start))),
+        }
+        if start % BLOCK_SIZE + count <= BLOCK_SIZE {
+            return Ok(());
+        }
+        let last = start + (count - 1);
+        match self.frames.frame_apart(self.user, last) {
+            Some(_) => {}
+            None => return Err(Fault::Absent(page_of(last))),
+        }
+        Ok(())
+    }
+
+    /// As `check_here`, out of line: then the place of the slot is made once, after it.
+    #[inline(never)]
+    fn check_apart(&self, range: Range, access: Access, key: AccessKey) -> Result<(), Fault>
+        requires { range.count ≤ 256 }
+        ensures { IsVerdict (length (lent_bytes self.now)) (lent_keys self.now) (is_lent_page self.now) key (tested access range ∷ []) result }
+    {
+        self.check_here(range, access, key)
+    }
 }
 
 /// The page of an address, for a page that is absent.
@@ -182,33 +218,17 @@ impl<'a> Storage for Dat<'a> {
 
     #[inline(always)]
     fn check(&self, range: Range, access: Access, key: AccessKey) -> Result<(), Fault> {
-        // An instruction is looked at in six bytes, and page 0 before each unit in one. Other operands are not compared with
-        // the settled block: where they lie elsewhere that costs more than it saves where they lie there.
+        // An instruction is looked at in six bytes. Operands are not compared with the settled block: where they lie
+        // elsewhere that costs more than it saves where they lie there.
         if let Access::Fetch = access {
-            if range.count == 6 || range.count == 1 {
+            if range.count == 6 {
                 if self.is_near(range, key) {
                     return Ok(());
                 }
+                return self.check_apart(range, access, key);
             }
         }
-        test_range(self.size, &Listed { keys: self.keys }, range, access, key)?;
-        let Range { start, count } = range;
-        if count == 0 {
-            return Ok(());
-        }
-        match self.frames.frame_at(self.user, start) {
-            Some(_) => {}
-            None => return Err(Fault::Absent(page_of(start))),
-        }
-        if start % BLOCK_SIZE + count <= BLOCK_SIZE {
-            return Ok(());
-        }
-        let last = start + (count - 1);
-        match self.frames.frame_apart(self.user, last) {
-            Some(_) => {}
-            None => return Err(Fault::Absent(page_of(last))),
-        }
-        Ok(())
+        self.check_here(range, access, key)
     }
 
     #[inline(always)]

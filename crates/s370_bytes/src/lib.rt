@@ -18,7 +18,7 @@ pub use combine::{Combine, combine_row, move_row};
 pub use compare::compare_row;
 pub use decimal::{binary_row, decimal_row};
 pub use digits::{Layout, layout_row};
-pub use long::{compare_long_row, move_long_row};
+pub use long::{compare_long_row, move_long_quickly, move_long_row};
 pub use masks::{compare_characters_row, insert_characters_row, store_characters_row};
 pub use multiple::{
     load_multiple_row, load_registers, store_multiple_row, store_registers, words_range,

@@ -1,5 +1,6 @@
 //! The long move and the long comparison, a part of at most 256 bytes at a time.
-ghost use Rattle.std.specs.Prelude.{◌≡◌, ℕ, ◌+◌, ◌^◌, ◌<◌, ◌≤◌, length, min, slice_range, replicate};
+ghost use Rattle.std.specs.Prelude.{◌≡◌, ℕ, ◌+◌, ◌^◌, ◌<◌, ◌≤◌, Ok, true, false, length, min, slice_range, replicate};
+ghost use Rattle.s370_rows.specs.declared.ending.Ending.TheVariants as endings;
 ghost use Rattle.s370_store.specs.Access.{IsGranted, put};
 ghost use Rattle.s370_rows.specs.State.{state_of};
 ghost use Rattle.s370_rows.specs.Rows.{MeetsRow};
@@ -241,6 +242,80 @@ pub fn move_long_row<S: Storage>(
         return Ok(Ending::Done);
     }
     move_part(cpu, storage, r1, r2)
+}
+
+/// One part of the long move that has all its bytes, and is not the last. Where they can't be moved, nothing changes.
+#[inline(always)]
+fn move_whole_part<S: Storage>(cpu: &mut Cpu, storage: &mut S, r1: Register, r2: Register) -> bool
+    requires first { r1 < 15 }
+    requires second { r2 < 15 }
+    requires more { 256 < (operand_of cpu.old r1).count }
+    requires whole { 256 ≤ (operand_of cpu.old r2).count }
+    ensures done { let before = state_of cpu.old (S.bytes storage.old) (S.keys storage.old) in
+        let after = state_of cpu.new (S.bytes storage.new) (S.keys storage.new) in
+        result ≡ true → MeetsRow (part_moved before r1 r2) (S.present storage.old) before (Ok endings.Again) after }
+    ensures still { let before = state_of cpu.old (S.bytes storage.old) (S.keys storage.old) in
+        let after = state_of cpu.new (S.bytes storage.new) (S.keys storage.new) in
+        result ≡ false → after ≡ before }
+    ensures size { length (S.bytes storage.new) ≡ length (S.bytes storage.old) }
+    ensures present { S.present storage.new ≡ S.present storage.old }
+    ensures rest { S.Keeps storage.old storage.new }
+{
+    let first = Operand::of(cpu, r1);
+    let second = Operand::of(cpu, r2);
+    let to = first.address.get();
+    let from = second.address.get();
+    let target = Range {
+        start: to,
+        count: 256,
+    };
+    let source = Range {
+        start: from,
+        count: 256,
+    };
+    match grant_two(cpu, storage, target, Access::Store, source, Access::Fetch) {
+        Ok(()) => {}
+        Err(_) => return false,
+    }
+    storage.copy(from, to, 256);
+    first.past(256).set(cpu, r1);
+    second.past(256).set(cpu, r2);
+    true
+}
+
+/// 0E MVCL, where a part of 256 bytes is moved and more are left. Else nothing changes.
+#[inline(never)]
+pub fn move_long_quickly<S: Storage>(cpu: &mut Cpu, storage: &mut S, i: Instruction) -> bool
+    ensures done { let before = state_of cpu.old (S.bytes storage.old) (S.keys storage.old) in
+        let after = state_of cpu.new (S.bytes storage.new) (S.keys storage.new) in
+        result ≡ true → MeetsRow (long_moved before i) (S.present storage.old) before (Ok endings.Again) after }
+    ensures still { let before = state_of cpu.old (S.bytes storage.old) (S.keys storage.old) in
+        let after = state_of cpu.new (S.bytes storage.new) (S.keys storage.new) in
+        result ≡ false → after ≡ before }
+    ensures size { length (S.bytes storage.new) ≡ length (S.bytes storage.old) }
+    ensures present { S.present storage.new ≡ S.present storage.old }
+    ensures rest { S.Keeps storage.old storage.new }
+{
+    let r1 = i.r1();
+    let r2 = i.r2();
+    if r1.number() % 2 != 0 {
+        return false;
+    }
+    if r2.number() % 2 != 0 {
+        return false;
+    }
+    let first = Operand::of(cpu, r1);
+    let second = Operand::of(cpu, r2);
+    if first.count <= 256 {
+        return false;
+    }
+    if second.count < 256 {
+        return false;
+    }
+    if destroys(first, second) {
+        return false;
+    }
+    move_whole_part(cpu, storage, r1, r2)
 }
 
 /// The lesser of two counts.

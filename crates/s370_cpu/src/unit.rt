@@ -93,7 +93,7 @@ fn step_settled<S: Storage>(cpu: &mut Cpu, storage: &mut S) -> Stop
     ensures rest { S.Keeps storage.old storage.new }
 {
     let start = cpu.psw.address().get();
-    if !may_fetch_longest(cpu, storage, start) {
+    if !may_fetch_longest(cpu, storage, start, cpu.psw.key()) {
         return step_apart(cpu, storage);
     }
     // The most frequent instructions have one jump of their own, behind which all is compiled for the one operation code.

@@ -9,7 +9,15 @@ use Rattle.s370_intr.specs.declared.next.Reason.TheVariants.{Stopped, Count, EcM
 use Rattle.s370_psw.specs.Fields.{Fields}
 use Rattle.s370_subchannels.specs.declared.subchannel.Status.{Status}
 use Rattle.s370_subchannels.specs.Subchannels.{first_status}
-use Rattle.s370_intr.specs.Units.{Core, look, offered, unit_at, enabled_of, is_any, Needs, NeedsAt}
+use Rattle.s370_rows.specs.declared.cpu.Cpu.{Cpu}
+use Rattle.s370_rows.specs.State.{State}
+use Rattle.s370_subchannels.specs.declared.subchannel.Subchannel.{Subchannel}
+use Rattle.s370_cpu.specs.declared.conclude.Stop.TheVariants.{Done}
+use Rattle.s370_cpu.specs.Laws.{Rights, rights_of}
+use Rattle.s370_cpu.specs.Table.{unit}
+use Rattle.s370_cpu.specs.Unit.{Ran}
+use Rattle.s370_intr.specs.InputOutput.{configuration_of}
+use Rattle.s370_intr.specs.Units.{Core, core_of, followed, look, offered, unit_at, with_configuration, enabled_of, is_any, Needs, NeedsAt}
 use Rattle.s370_intr.specs.Run.{Run, run, looked, one_more, AllNeeded, RunNeeds, IsLacking, IsCut, TellsRun}
 
 abbrev pub all_done : ℕ → Core → Run
@@ -135,3 +143,33 @@ tells_cut k n first c new l is_short e less same kept h =
     let lacking : IsLacking (Needs c) (length c.processor.bytes) is_short = subst (λ (x : Next). IsLacking (NeedsAt x c) (length c.processor.bytes) is_short) same h in
     let cut : IsCut n first (record { core = c; units = k; reason = FramesOut }) is_short = record { done = e; fewer = less; lacking = lacking } in
     subst (λ (x : Core). IsCut n first (record { core = x; units = k; reason = FramesOut }) is_short) (sym kept) cut
+
+-- ---- an instruction that is done, and changes no rights
+
+first_status_same : (psw psw' : Fields) (list : List Subchannel) → psw'.system_mask ≡ psw.system_mask → first_status psw' list ≡ first_status psw list
+first_status_same psw psw' [] e = refl
+first_status_same psw psw' (s ∷ ss) e = rw (e, first_status_same psw psw' ss e) refl
+
+offered_same : (o : Option Status) (psw psw' : Fields) → psw'.wait ≡ psw.wait → psw'.system_mask ≡ psw.system_mask → offered o psw' ≡ offered o psw
+offered_same None psw psw' w e = rw (w, e) refl
+offered_same (Some status) psw psw' w e = refl
+
+enabled_same : (cpu cpu' : Cpu) (pending : Pending) → cpu'.control ≡ cpu.control → cpu'.psw.system_mask ≡ cpu.psw.system_mask → enabled_of cpu' pending ≡ enabled_of cpu pending
+enabled_same cpu cpu' pending c e = rw (c, e) refl
+
+said_same : (extended extended' : Bool) (taken taken' : Pending) (other other' : Next) → extended' ≡ extended → taken' ≡ taken → other' ≡ other → (if extended' then Stops EcMode else (if is_any taken' then Accepts taken' else other')) ≡ (if extended then Stops EcMode else (if is_any taken then Accepts taken else other))
+said_same extended extended' taken taken' other other' x t o = rw (x, t, o) refl
+
+-- the look before the next unit says the same
+pub looks_same : (m m' : State) (pending : Pending) (list : List Subchannel) → rights_of m' ≡ rights_of m → look (core_of m' pending list) ≡ look (core_of m pending list)
+looks_same m m' pending list e =
+    let psw = m.cpu.psw in
+    let psw' = m'.cpu.psw in
+    let mask : psw'.system_mask ≡ psw.system_mask = ap (λ (r : Rights). r.system_mask) e in
+    let wait : psw'.wait ≡ psw.wait = ap (λ (r : Rights). r.wait) e in
+    let control : m'.cpu.control ≡ m.cpu.control = ap (λ (r : Rights). r.control) e in
+    let status = ap (λ (o : Option Status). offered o psw') (first_status_same psw psw' list mask) ∙ offered_same (first_status psw list) psw psw' wait mask in
+    said_same psw.extended psw'.extended (enabled_of m.cpu pending) (enabled_of m'.cpu pending) _ _ (ap (λ (r : Rights). r.extended) e) (enabled_same m.cpu m'.cpu pending control mask) status
+
+pub done_unit : (m m' : State) (pending : Pending) (list : List Subchannel) → (unit m).ran ≡ record { stop = Done; state = m' } → core_of m' pending list ≡ unit_at Instructs (core_of m pending list)
+done_unit m m' pending list e = sym (ap (λ (r : Ran). with_configuration (core_of m pending list) (followed r.stop (configuration_of r.state list))) e)

@@ -1,6 +1,9 @@
 //! Units, one after another.
-ghost use Rattle.std.specs.Prelude.{◌≡◌, ℕ, ◌≤◌, List, length, Result};
+ghost use Rattle.std.specs.Prelude.{◌≡◌, ℕ, ◌≤◌, List, length, Result, true, false};
 ghost use Rattle.s370_rows.specs.State.{state_of};
+ghost use Rattle.s370_cpu.specs.Laws.{rights_of};
+ghost use Rattle.s370_cpu.specs.Table.{unit};
+ghost use Rattle.s370_cpu.specs.declared.conclude.Stop.TheVariants as stops;
 ghost use Rattle.s370_intr.specs.Units.{NeedsAt, core_of};
 ghost use Rattle.s370_intr.specs.declared.next.Next.TheVariants as next;
 ghost use Rattle.s370_intr.specs.Run.{AllNeeded, RunNeeds, SuppliesUnit, TellsRun};
@@ -8,8 +11,9 @@ ghost use Rattle.s370_intr.specs.Run.{AllNeeded, RunNeeds, SuppliesUnit, TellsRu
 use crate::next::{Next, Reason, look};
 use crate::pending::Pending;
 use crate::unit::{Processor, accept, accept_status, instruct_saving};
+use s370_cpu::step_quickly;
 use s370_rows::Cpu;
-use s370_store::{FramesOut, Supply};
+use s370_store::{FramesOut, Storage, Supply};
 use s370_subchannels::{Status, Subchannels};
 
 /// How many units a run did, and why it did no more.
@@ -129,6 +133,28 @@ fn supplied<P: Processor, S: Supply>(
     }
 }
 
+/// An instruction, where the look says so, and where it is one of those that are done in one go. Else nothing changes.
+#[inline(always)]
+fn instruct_quickly<S: Storage>(look: Next, cpu: &mut Cpu, storage: &mut S) -> bool
+    ensures instructs { result ≡ true → look ≡ next.Instructs }
+    ensures done { let before = state_of cpu.old (S.bytes storage.old) (S.keys storage.old) in
+        let after = state_of cpu.new (S.bytes storage.new) (S.keys storage.new) in
+        result ≡ true → (unit before).ran ≡ record { stop = stops.Done; state = after } }
+    ensures still { let before = state_of cpu.old (S.bytes storage.old) (S.keys storage.old) in
+        let after = state_of cpu.new (S.bytes storage.new) (S.keys storage.new) in
+        result ≡ false → after ≡ before }
+    ensures rights { let before = state_of cpu.old (S.bytes storage.old) (S.keys storage.old) in
+        let after = state_of cpu.new (S.bytes storage.new) (S.keys storage.new) in
+        rights_of after ≡ rights_of before }
+    ensures size { length (S.bytes storage.new) ≡ length (S.bytes storage.old) }
+    ensures rest { S.Keeps storage.old storage.new }
+{
+    match look {
+        Next::Instructs => step_quickly(cpu, storage),
+        _ => false,
+    }
+}
+
 /// At most so many units of a running processor. This takes no memory.
 pub fn run_units<P: Processor, S: Supply>(
     cpu: &mut Cpu,
@@ -146,8 +172,12 @@ pub fn run_units<P: Processor, S: Supply>(
     ensures size { length (S.Storage.bytes storage.new) ≡ length (S.Storage.bytes storage.old) }
 {
     let mut spare = *cpu;
+    let mut next = look(cpu, *pending, subchannels);
     for units in 0..count {
-        let next = look(cpu, *pending, subchannels);
+        // After such an instruction a look would say what it said before.
+        if instruct_quickly(next, cpu, storage) {
+            continue;
+        }
         match next {
             Next::Stops(reason) => return Ran { units, reason },
             _ => {}
@@ -161,6 +191,7 @@ pub fn run_units<P: Processor, S: Supply>(
                 };
             }
         }
+        next = look(cpu, *pending, subchannels);
     }
     Ran {
         units: count,

@@ -7,4 +7,4 @@ pub returns-in-Ok-clause-found : goal.returns-in-Ok-clause-found
 returns-in-Ok-clause-found g c e =
     let m = state_of c.args.cpu.now (g.S.Storage.bytes c.args.storage.now) (g.S.Storage.keys c.args.storage.now) in
     let even : c.args.start % 2 ≡ 0 = omega (arith, c.if-start-ne0.false) in
-    fetch_finds m c.args.start even (rw (← c.key.ensures) c.in-Ok.ensures.0)
+    fetch_finds m c.args.start even (rw (← c.requires) c.in-Ok.ensures.0)

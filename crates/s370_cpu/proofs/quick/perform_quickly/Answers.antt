@@ -1,0 +1,102 @@
+use Rattle.std.proofs.Common.{ℕ, Ok, Some, refl, sym, ◌∙◌, ap, subst}
+use Rattle.s370_rows.specs.Registers.{Ended}
+use Rattle.s370_rows.specs.State.{state_of}
+use Rattle.s370_rows.specs.Rows.{judged, outcome_of}
+use Rattle.s370_cpu.specs.Opcodes.{opcode_at}
+use Rattle.s370_cpu.specs.Quick.{MeetsQuick}
+use Rattle.s370_cpu.specs.Table.{row_named, untested}
+use Rattle.s370_cpu.proofs.Frequent.{branches_go_on, long_quiet, quick_done, quick_if, quick_of}
+use Rattle.s370_cpu.proofs.quick.perform_quickly.Goals as goal
+
+pub returns-in-14-clause-row : goal.returns-in-14-clause-row
+unfolding opcode_at
+returns-in-14-clause-row g c =
+    let m = state_of c.args.cpu.now (g.S.Storage.bytes c.args.storage.now) (g.S.Storage.keys c.args.storage.now) in
+    let present = g.S.Storage.present c.args.storage.now in
+    let after = state_of c.move_long_quickly.new.cpu (g.S.Storage.bytes c.move_long_quickly.new.storage) (g.S.Storage.keys c.move_long_quickly.new.storage) in
+    subst (λ (code : ℕ). MeetsQuick (row_named (opcode_at code) m c.args.place c.args.i) present m c.part_of.result after) (sym (c.requires.same ∙ c.in-14.is))
+    (quick_if (row_named (opcode_at 14) m c.args.place c.args.i) present m c.move_long_quickly.result c.part_of.result after (long_quiet m c.args.i) c.move_long_quickly.ensures.done c.move_long_quickly.ensures.still c.part_of.ensures)
+
+pub returns-in-24-clause-row : goal.returns-in-24-clause-row
+unfolding opcode_at
+returns-in-24-clause-row g c =
+    let m = state_of c.args.cpu.now (g.S.Storage.bytes c.args.storage.now) (g.S.Storage.keys c.args.storage.now) in
+    let present = g.S.Storage.present c.args.storage.now in
+    let after = state_of c.register_operation.new.cpu (g.S.Storage.bytes c.args.storage.now) (g.S.Storage.keys c.args.storage.now) in
+    subst (λ (code : ℕ). MeetsQuick (row_named (opcode_at code) m c.args.place c.args.i) present m (Some c.register_operation.result) after) (sym (c.requires.same ∙ c.in-24.is))
+    (quick_done (row_named (opcode_at 24) m c.args.place c.args.i) present m c.register_operation.result after (record { goes_on = tt; rights = refl })
+    (ap (λ (e : Ended). outcome_of m (judged m (untested (Ok e)))) c.register_operation.ensures))
+
+pub returns-in-65-clause-row : goal.returns-in-65-clause-row
+unfolding opcode_at
+returns-in-65-clause-row g c =
+    let m = state_of c.args.cpu.now (g.S.Storage.bytes c.args.storage.now) (g.S.Storage.keys c.args.storage.now) in
+    let present = g.S.Storage.present c.args.storage.now in
+    let after = state_of c.load_address.new.cpu (g.S.Storage.bytes c.args.storage.now) (g.S.Storage.keys c.args.storage.now) in
+    subst (λ (code : ℕ). MeetsQuick (row_named (opcode_at code) m c.args.place c.args.i) present m (Some c.load_address.result) after) (sym (c.requires.same ∙ c.in-65.is))
+    (quick_done (row_named (opcode_at 65) m c.args.place c.args.i) present m c.load_address.result after (record { goes_on = tt; rights = refl })
+    (ap (λ (e : Ended). outcome_of m (judged m (untested (Ok e)))) c.load_address.ensures))
+
+pub returns-in-70-clause-row : goal.returns-in-70-clause-row
+unfolding opcode_at
+returns-in-70-clause-row g c =
+    let m = state_of c.args.cpu.now (g.S.Storage.bytes c.args.storage.now) (g.S.Storage.keys c.args.storage.now) in
+    let present = g.S.Storage.present c.args.storage.now in
+    let after = state_of c.branch_to.new.cpu (g.S.Storage.bytes c.args.storage.now) (g.S.Storage.keys c.args.storage.now) in
+    subst (λ (code : ℕ). MeetsQuick (row_named (opcode_at code) m c.args.place c.args.i) present m (Some c.branch_to.result) after) (sym (c.requires.same ∙ c.in-70.is))
+    (quick_done (row_named (opcode_at 70) m c.args.place c.args.i) present m c.branch_to.result after (record { goes_on = branches_go_on _ _; rights = refl })
+    (ap (λ (e : Ended). outcome_of m (judged m (untested (Ok e)))) c.branch_to.ensures))
+
+pub returns-in-71-clause-row : goal.returns-in-71-clause-row
+unfolding opcode_at
+returns-in-71-clause-row g c =
+    let m = state_of c.args.cpu.now (g.S.Storage.bytes c.args.storage.now) (g.S.Storage.keys c.args.storage.now) in
+    let present = g.S.Storage.present c.args.storage.now in
+    let after = state_of c.branch_to-in-71.new.cpu (g.S.Storage.bytes c.args.storage.now) (g.S.Storage.keys c.args.storage.now) in
+    subst (λ (code : ℕ). MeetsQuick (row_named (opcode_at code) m c.args.place c.args.i) present m (Some c.branch_to-in-71.result) after) (sym (c.requires.same ∙ c.in-71.is))
+    (quick_done (row_named (opcode_at 71) m c.args.place c.args.i) present m c.branch_to-in-71.result after (record { goes_on = branches_go_on _ _; rights = refl })
+    (ap (λ (e : Ended). outcome_of m (judged m (untested (Ok e)))) c.branch_to-in-71.ensures))
+
+pub returns-in-80-clause-row : goal.returns-in-80-clause-row
+unfolding opcode_at
+returns-in-80-clause-row g c =
+    let m = state_of c.args.cpu.now (g.S.Storage.bytes c.args.storage.now) (g.S.Storage.keys c.args.storage.now) in
+    let present = g.S.Storage.present c.args.storage.now in
+    let after = state_of c.args.cpu.now (g.S.Storage.bytes c.store_word_row.new.storage) (g.S.Storage.keys c.store_word_row.new.storage) in
+    subst (λ (code : ℕ). MeetsQuick (row_named (opcode_at code) m c.args.place c.args.i) present m c.done_of.result after) (sym (c.requires.same ∙ c.in-80.is))
+    (quick_of (row_named (opcode_at 80) m c.args.place c.args.i) present m c.store_word_row.result c.done_of.result after (record { goes_on = tt; rights = refl }) c.store_word_row.ensures.row c.done_of.ensures)
+
+pub returns-in-88-clause-row : goal.returns-in-88-clause-row
+unfolding opcode_at
+returns-in-88-clause-row g c =
+    let m = state_of c.args.cpu.now (g.S.Storage.bytes c.args.storage.now) (g.S.Storage.keys c.args.storage.now) in
+    let present = g.S.Storage.present c.args.storage.now in
+    let after = state_of c.word_row.new.cpu (g.S.Storage.bytes c.args.storage.now) (g.S.Storage.keys c.args.storage.now) in
+    subst (λ (code : ℕ). MeetsQuick (row_named (opcode_at code) m c.args.place c.args.i) present m c.done_of-in-88.result after) (sym (c.requires.same ∙ c.in-88.is))
+    (quick_of (row_named (opcode_at 88) m c.args.place c.args.i) present m c.word_row.result c.done_of-in-88.result after (record { goes_on = tt; rights = refl }) c.word_row.ensures c.done_of-in-88.ensures)
+
+pub returns-in-90-clause-row : goal.returns-in-90-clause-row
+unfolding opcode_at
+returns-in-90-clause-row g c =
+    let m = state_of c.args.cpu.now (g.S.Storage.bytes c.args.storage.now) (g.S.Storage.keys c.args.storage.now) in
+    let present = g.S.Storage.present c.args.storage.now in
+    let after = state_of c.add_quickly.new.cpu (g.S.Storage.bytes c.args.storage.now) (g.S.Storage.keys c.args.storage.now) in
+    subst (λ (code : ℕ). MeetsQuick (row_named (opcode_at code) m c.args.place c.args.i) present m c.add_quickly.result after) (sym (c.requires.same ∙ c.in-90.is)) c.add_quickly.ensures
+
+pub returns-in-149-clause-row : goal.returns-in-149-clause-row
+unfolding opcode_at
+returns-in-149-clause-row g c =
+    let m = state_of c.args.cpu.now (g.S.Storage.bytes c.args.storage.now) (g.S.Storage.keys c.args.storage.now) in
+    let present = g.S.Storage.present c.args.storage.now in
+    let after = state_of c.test_byte_row.new.cpu (g.S.Storage.bytes c.args.storage.now) (g.S.Storage.keys c.args.storage.now) in
+    subst (λ (code : ℕ). MeetsQuick (row_named (opcode_at code) m c.args.place c.args.i) present m c.done_of-in-149.result after) (sym (c.requires.same ∙ c.in-149.is))
+    (quick_of (row_named (opcode_at 149) m c.args.place c.args.i) present m c.test_byte_row.result c.done_of-in-149.result after (record { goes_on = tt; rights = refl }) c.test_byte_row.ensures c.done_of-in-149.ensures)
+
+pub returns-in-210-clause-row : goal.returns-in-210-clause-row
+unfolding opcode_at
+returns-in-210-clause-row g c =
+    let m = state_of c.args.cpu.now (g.S.Storage.bytes c.args.storage.now) (g.S.Storage.keys c.args.storage.now) in
+    let present = g.S.Storage.present c.args.storage.now in
+    let after = state_of c.move_row.new.cpu (g.S.Storage.bytes c.move_row.new.storage) (g.S.Storage.keys c.move_row.new.storage) in
+    subst (λ (code : ℕ). MeetsQuick (row_named (opcode_at code) m c.args.place c.args.i) present m c.done_of-in-210.result after) (sym (c.requires.same ∙ c.in-210.is))
+    (quick_of (row_named (opcode_at 210) m c.args.place c.args.i) present m c.move_row.result c.done_of-in-210.result after (record { goes_on = tt; rights = refl }) c.move_row.ensures.row c.done_of-in-210.ensures)

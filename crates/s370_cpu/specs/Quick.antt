@@ -1,0 +1,33 @@
+-- What an instruction may answer that is done only where nothing keeps it from being done.
+use Rattle.std.specs.Prelude.{◌≡◌, ℕ, Bool, true, false, Option, Some, None, Result, Ok, Err}
+use Rattle.s370_rows.specs.declared.ending.Ending.{Ending}
+use Rattle.s370_rows.specs.declared.ending.Ending.TheVariants.{Done, Branch, Again, Interrupted, SupervisorCall, InputOutput}
+use Rattle.s370_rows.specs.declared.ending.Refusal.{Refusal}
+use Rattle.s370_rows.specs.State.{State}
+use Rattle.s370_rows.specs.Rows.{Row, MeetsRow}
+use Rattle.s370_cpu.specs.Laws.{rights_of}
+
+-- the processor goes on after it, and nothing else follows
+abbrev pub GoesOn : Ending → Type 0
+GoesOn Done = Unit {0}
+GoesOn (Branch a) = Unit {0}
+GoesOn Again = Unit {0}
+GoesOn (Interrupted code) = ⊥
+GoesOn (SupervisorCall n) = ⊥
+GoesOn (InputOutput operation device) = ⊥
+
+-- how a row ended that was not refused
+abbrev pub done_of : Result Ending Refusal → Option Ending
+done_of (Ok ending) = Some ending
+done_of (Err refusal) = None
+
+-- a part that was done
+abbrev pub part_of : Bool → Option Ending
+part_of true = Some Again
+part_of false = None
+
+-- the row, where the processor goes on after it and nobody's rights change; or nothing is changed
+abbrev pub MeetsQuick : Row → (ℕ → Bool) → State → Option Ending → State → Type 0
+MeetsQuick r present old None new = new ≡ old
+MeetsQuick r present old (Some ending) new =
+    MeetsRow r present old (Ok ending) new × GoesOn ending × (rights_of new ≡ rights_of old)

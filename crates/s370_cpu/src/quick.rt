@@ -1,0 +1,239 @@
+//! The most frequent instructions, each done in one go where nothing keeps it from being done.
+ghost use Rattle.std.specs.Prelude.{◌≡◌, ℕ, Ok, true, false, length, slice_index};
+ghost use Rattle.s370_store.specs.Access.{IsGranted};
+ghost use Rattle.s370_rows.specs.State.{state_of};
+ghost use Rattle.s370_cpu.specs.declared.conclude.Stop.TheVariants as stops;
+ghost use Rattle.s370_cpu.specs.Fetch.{fetched, instruction_at};
+ghost use Rattle.s370_cpu.specs.FetchRows.{word_operation};
+ghost use Rattle.s370_cpu.specs.Laws.{rights_of};
+ghost use Rattle.s370_cpu.specs.Quick.{GoesOn, MeetsQuick, done_of, part_of};
+ghost use Rattle.s370_cpu.specs.Table.{row_of, unit};
+ghost use Rattle.s370_cpu.specs.Unit.{Carries, MeetsUnit, place_at, stopped};
+ghost use Rattle.s370_rows.specs.declared.arithmetic.Arithmetic.TheVariants as operations;
+
+use crate::execute::EXECUTE;
+use crate::fetch::{length_of, load_known, may_fetch_longest};
+use crate::fetch_rows::{test_byte_row, word_row};
+use crate::opcodes::Branching;
+use crate::register_rows::{branch_to, load_address, register_operation};
+use crate::store_rows::store_word_row;
+use s370_bytes::{move_long_quickly, move_row};
+use s370_num::{AccessKey, Addr24};
+use s370_rows::{Arithmetic, ByteTest, Cpu, Ending, Instruction, Place, Refusal};
+use s370_store::{Storage, load_byte};
+
+/// Does one instruction of a running processor, if it is one of the most frequent, if it is done, and if the processor then
+/// goes on with the next one. Else nothing changes.
+///
+/// `true` says that it was done. So a loop over instructions has no stop to tell from others, and what it has looked at
+/// before (all that only the supervisor state can change) it need not look at again.
+#[inline(always)]
+pub fn step_quickly<S: Storage>(cpu: &mut Cpu, storage: &mut S) -> bool
+    ensures done { let before = state_of cpu.old (S.bytes storage.old) (S.keys storage.old) in
+        let after = state_of cpu.new (S.bytes storage.new) (S.keys storage.new) in
+        result ≡ true → MeetsUnit (unit before) (S.present storage.old) before stops.Done after }
+    ensures still { let before = state_of cpu.old (S.bytes storage.old) (S.keys storage.old) in
+        let after = state_of cpu.new (S.bytes storage.new) (S.keys storage.new) in
+        result ≡ false → after ≡ before }
+    ensures rights { let before = state_of cpu.old (S.bytes storage.old) (S.keys storage.old) in
+        let after = state_of cpu.new (S.bytes storage.new) (S.keys storage.new) in
+        rights_of after ≡ rights_of before }
+    ensures size { length (S.bytes storage.new) ≡ length (S.bytes storage.old) }
+    ensures present { S.present storage.new ≡ S.present storage.old }
+    ensures rest { S.Keeps storage.old storage.new }
+{
+    // What is read once stays in a register, whatever the storage does to settle.
+    let start = cpu.psw.address().get();
+    let key = cpu.psw.key();
+    storage.settle(start, key);
+    step_settled_quickly(cpu, storage, start, key)
+}
+
+/// As [`step_quickly`], once the storage knows what is going to be fetched.
+#[inline(always)]
+fn step_settled_quickly<S: Storage>(
+    cpu: &mut Cpu,
+    storage: &mut S,
+    start: u32,
+    key: AccessKey,
+) -> bool
+    requires here { start ≡ cpu.old.psw.address }
+    requires key { key ≡ cpu.old.psw.key }
+    ensures done { let before = state_of cpu.old (S.bytes storage.old) (S.keys storage.old) in
+        let after = state_of cpu.new (S.bytes storage.new) (S.keys storage.new) in
+        result ≡ true → MeetsUnit (unit before) (S.present storage.old) before stops.Done after }
+    ensures still { let before = state_of cpu.old (S.bytes storage.old) (S.keys storage.old) in
+        let after = state_of cpu.new (S.bytes storage.new) (S.keys storage.new) in
+        result ≡ false → after ≡ before }
+    ensures rights { let before = state_of cpu.old (S.bytes storage.old) (S.keys storage.old) in
+        let after = state_of cpu.new (S.bytes storage.new) (S.keys storage.new) in
+        rights_of after ≡ rights_of before }
+    ensures size { length (S.bytes storage.new) ≡ length (S.bytes storage.old) }
+    ensures present { S.present storage.new ≡ S.present storage.old }
+    ensures rest { S.Keeps storage.old storage.new }
+{
+    if !may_fetch_longest(cpu, storage, start, key) {
+        return false;
+    }
+    // One jump, behind which all is compiled for the one operation code.
+    match load_byte(storage, start) {
+        0x0E => carry_quickly(cpu, storage, start, 0x0E),
+        0x18 => carry_quickly(cpu, storage, start, 0x18),
+        0x41 => carry_quickly(cpu, storage, start, 0x41),
+        0x46 => carry_quickly(cpu, storage, start, 0x46),
+        0x47 => carry_quickly(cpu, storage, start, 0x47),
+        0x50 => carry_quickly(cpu, storage, start, 0x50),
+        0x58 => carry_quickly(cpu, storage, start, 0x58),
+        0x5A => carry_quickly(cpu, storage, start, 0x5A),
+        0x95 => carry_quickly(cpu, storage, start, 0x95),
+        0xD2 => carry_quickly(cpu, storage, start, 0xD2),
+        _ => false,
+    }
+}
+
+/// Goes on with the instruction of this operation code, which stands at the instruction address, once one look was enough
+/// for its fetch.
+#[inline(always)]
+fn carry_quickly<S: Storage>(cpu: &mut Cpu, storage: &mut S, start: u32, opcode: u8) -> bool
+    requires here { start ≡ cpu.old.psw.address }
+    requires found { let m = state_of cpu.old (S.bytes storage.old) (S.keys storage.old) in
+        (fetched m start).result ≡ Ok (instruction_at (S.bytes storage.old) start) }
+    requires granted { IsGranted (length (S.bytes storage.old)) (S.present storage.old) start 6 }
+    requires known { opcode ≡ slice_index (S.bytes storage.old) start }
+    ensures done { let before = state_of cpu.old (S.bytes storage.old) (S.keys storage.old) in
+        let after = state_of cpu.new (S.bytes storage.new) (S.keys storage.new) in
+        result ≡ true → MeetsUnit (unit before) (S.present storage.old) before stops.Done after }
+    ensures still { let before = state_of cpu.old (S.bytes storage.old) (S.keys storage.old) in
+        let after = state_of cpu.new (S.bytes storage.new) (S.keys storage.new) in
+        result ≡ false → after ≡ before }
+    ensures rights { let before = state_of cpu.old (S.bytes storage.old) (S.keys storage.old) in
+        let after = state_of cpu.new (S.bytes storage.new) (S.keys storage.new) in
+        rights_of after ≡ rights_of before }
+    ensures size { length (S.bytes storage.new) ≡ length (S.bytes storage.old) }
+    ensures present { S.present storage.new ≡ S.present storage.old }
+    ensures rest { S.Keeps storage.old storage.new }
+{
+    if opcode == EXECUTE {
+        return false;
+    }
+    let first = load_known(storage, start, opcode);
+    let ilc = length_of(opcode);
+    let next = cpu.psw.address().wrapping_add(2 * ilc.get() as u32);
+    finish_quickly(cpu, storage, Place { next, ilc }, opcode, first)
+}
+
+/// Goes on with the instruction that is carried out, of this operation code.
+#[inline(always)]
+fn finish_quickly<S: Storage>(
+    cpu: &mut Cpu,
+    storage: &mut S,
+    place: Place,
+    opcode: u8,
+    i: Instruction,
+) -> bool
+    requires same { i.opcode ≡ opcode }
+    requires carried { Carries (state_of cpu.old (S.bytes storage.old) (S.keys storage.old)) place.ilc i }
+    requires next { let m = state_of cpu.old (S.bytes storage.old) (S.keys storage.old) in
+        place ≡ place_at m place.ilc }
+    ensures done { let before = state_of cpu.old (S.bytes storage.old) (S.keys storage.old) in
+        let after = state_of cpu.new (S.bytes storage.new) (S.keys storage.new) in
+        result ≡ true → MeetsUnit (unit before) (S.present storage.old) before stops.Done after }
+    ensures still { let before = state_of cpu.old (S.bytes storage.old) (S.keys storage.old) in
+        let after = state_of cpu.new (S.bytes storage.new) (S.keys storage.new) in
+        result ≡ false → after ≡ before }
+    ensures rights { let before = state_of cpu.old (S.bytes storage.old) (S.keys storage.old) in
+        let after = state_of cpu.new (S.bytes storage.new) (S.keys storage.new) in
+        rights_of after ≡ rights_of before }
+    ensures size { length (S.bytes storage.new) ≡ length (S.bytes storage.old) }
+    ensures present { S.present storage.new ≡ S.present storage.old }
+    ensures rest { S.Keeps storage.old storage.new }
+{
+    let Place { next, ilc } = place;
+    match perform_quickly(cpu, storage, Place { next, ilc }, opcode, i) {
+        Some(ending) => {
+            go_on(cpu, Place { next, ilc }, ending);
+            true
+        }
+        None => false,
+    }
+}
+
+/// Sets the address that an instruction leaves.
+#[inline(always)]
+fn go_on(cpu: &mut Cpu, place: Place, ending: Ending)
+    requires { GoesOn ending }
+    ensures { stopped (Ok ending) place cpu.old ≡ record { stop = stops.Done; cpu = cpu.new } }
+{
+    match ending {
+        Ending::Done => cpu.psw.set_address(place.next),
+        Ending::Branch(address) => cpu.psw.set_address(Addr24::wrapping(address)),
+        Ending::Again => {}
+        Ending::Interrupted(_) | Ending::SupervisorCall(_) | Ending::InputOutput(_, _) => {
+            unreachable!()
+        }
+    }
+}
+
+/// Carries out a frequent instruction, but for its address, if nothing keeps it from being done.
+#[inline(always)]
+fn perform_quickly<S: Storage>(
+    cpu: &mut Cpu,
+    storage: &mut S,
+    place: Place,
+    opcode: u8,
+    i: Instruction,
+) -> Option<Ending>
+    requires same { i.opcode ≡ opcode }
+    ensures row { let before = state_of cpu.old (S.bytes storage.old) (S.keys storage.old) in
+        let after = state_of cpu.new (S.bytes storage.new) (S.keys storage.new) in
+        MeetsQuick (row_of before place i) (S.present storage.old) before result after }
+    ensures size { length (S.bytes storage.new) ≡ length (S.bytes storage.old) }
+    ensures present { S.present storage.new ≡ S.present storage.old }
+    ensures rest { S.Keeps storage.old storage.new }
+{
+    match opcode {
+        0x0E => part_of(move_long_quickly(cpu, storage, i)),
+        0x18 => Some(register_operation(Arithmetic::Load, cpu, i)),
+        0x41 => Some(load_address(cpu, i)),
+        0x46 => Some(branch_to(Branching::Count, cpu, place, i)),
+        0x47 => Some(branch_to(Branching::Condition, cpu, place, i)),
+        0x50 => done_of(store_word_row(cpu, storage, i)),
+        0x58 => done_of(word_row(Arithmetic::Load, cpu, storage, i)),
+        0x5A => add_quickly(cpu, storage, i),
+        0x95 => done_of(test_byte_row(ByteTest::CompareLogical, cpu, storage, i)),
+        0xD2 => done_of(move_row(cpu, storage, i)),
+        _ => None,
+    }
+}
+
+/// How a row ended that was not refused.
+#[inline(always)]
+fn done_of(outcome: Result<Ending, Refusal>) -> Option<Ending>
+    ensures { result ≡ done_of outcome }
+{
+    match outcome {
+        Ok(ending) => Some(ending),
+        Err(_) => None,
+    }
+}
+
+/// How a row ended of which a part was done.
+#[inline(always)]
+fn part_of(did: bool) -> Option<Ending>
+    ensures { result ≡ part_of did }
+{
+    if did { Some(Ending::Again) } else { None }
+}
+
+/// 5A A, where no overflow interrupts.
+#[inline(always)]
+fn add_quickly<S: Storage>(cpu: &mut Cpu, storage: &S, i: Instruction) -> Option<Ending>
+    ensures { let before = state_of cpu.old (S.bytes storage.now) (S.keys storage.now) in
+        let after = state_of cpu.new (S.bytes storage.now) (S.keys storage.now) in
+        MeetsQuick (word_operation operations.Add before i) (S.present storage.now) before result after }
+{
+    if cpu.psw.program_mask() >= 8 {
+        return None;
+    }
+    done_of(word_row(Arithmetic::Add, cpu, storage, i))
+}
