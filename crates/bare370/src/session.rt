@@ -128,6 +128,3 @@ fn play<W: HostWriter>(
     writer.flush()?;
     Ok(())
 }
-
-#[cfg(test)]
-mod tests;

@@ -17,8 +17,6 @@
 #![tactic(auto)]
 
 mod bare;
-#[cfg(test)]
-mod tests;
 
 pub use bare::Bare;
 pub use cp_panel::{MachineRan, Mode};

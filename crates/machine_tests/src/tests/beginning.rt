@@ -1,5 +1,5 @@
-//! What a machine has at its beginning. What machines do is shown by the scripts of `bare370_examples`.
-use super::{Bare, Mode, Pending};
+//! What a machine has at its beginning.
+use bare_machine::{Bare, Mode, Pending};
 use s370_num::{AccessKey, StorageKey};
 use s370_store::{Access, Keyed, PlainStorage, Range, Storage};
 use s370_subchannels::Subchannels;
