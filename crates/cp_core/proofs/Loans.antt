@@ -12,7 +12,7 @@ use Rattle.cp_panel.specs.Machine.{Machine}
 use Rattle.cp_core.specs.UserMachines.{UserParts, machine_of, Fits}
 use Rattle.cp_core.specs.System.{SystemView, machines_of, nobody}
 use Rattle.cp_core.specs.Loan.{with_page, written_page, written_frame}
-use Rattle.cp_core.specs.Whole.{IsWhole, no_machine}
+use Rattle.cp_core.specs.Whole.{IsIdle, IsSystem, IsWhole, no_machine}
 
 -- a page that is written leaves the size of its storage
 same_size : (bytes : List ℕ) (page : ℕ) (written : List ℕ) → length (put_page bytes page written) ≡ length bytes
@@ -42,9 +42,20 @@ whole_page seats pool users (Some there) written whole =
           (same_sizes pool.storages user k bytes (same_size (bytes_of pool user) there.page.0 written)) (whole.fits k less);
     }
 
+idle_page : (pool : Pool) (o : Option UserPage) (written : List ℕ) → IsIdle pool.supply → IsIdle (pool_page pool o written).supply
+idle_page pool None written idle = idle
+idle_page pool (Some there) written idle = idle
+
 -- each user has a machine and a storage that fits it, whatever is written
-pub whole_written : (seats : List UserParts) (pool : Pool) (users : List DirectoryUser) (frame : ℕ) (written : List ℕ) → IsWhole seats pool.storages users → IsWhole seats (pool_frame pool frame written).storages users
-whole_written seats pool users frame written whole = whole_page seats pool users (get_or pool.owners frame None) written whole
+whole_written : (seats : List UserParts) (pool : Pool) (users : List DirectoryUser) (frame : ℕ) (written : List ℕ) → IsWhole seats pool.storages users → IsWhole seats (pool_frame pool frame written).storages users
+whole_written seats pool users frame written whole = whole_page seats pool users (get_or pool.supply.owners frame None) written whole
+
+-- and between events nothing of the frames but bytes has changed
+pub system_written : (seats : List UserParts) (pool : Pool) (users : List DirectoryUser) (frame : ℕ) (written : List ℕ) → IsSystem seats pool users → IsSystem seats (pool_frame pool frame written) users
+system_written seats pool users frame written system = record {
+  whole = whole_written seats pool users frame written system.whole;
+  idle = idle_page pool (get_or pool.supply.owners frame None) written system.idle;
+}
 
 set_written : (seats : List UserParts) (storages : List (List ℕ)) (user page : ℕ) (written : List ℕ)
     → machines_of seats (set storages user (put_page (get_or storages user []) page written)) ≡ set (machines_of seats storages) user (with_page (get_or (machines_of seats storages) user nobody) page written)
@@ -56,7 +67,7 @@ set_written (seat ∷ seats) (bytes ∷ storages) (suc user) page written = ap (
 
 -- a system as it is seen, by its frames
 abbrev pub seen : List UserParts → List DirectoryUser → Bool → Pool → SystemView
-seen seats users is_spent pool = record { machines = machines_of seats pool.storages; users = users; owners = pool.owners; pins = pool.pins; is_spent = is_spent }
+seen seats users is_spent pool = record { machines = machines_of seats pool.storages; users = users; owners = pool.supply.owners; pins = pool.supply.pins; is_spent = is_spent }
 
 seen_page : (seats : List UserParts) (users : List DirectoryUser) (is_spent : Bool) (pool : Pool) (o : Option UserPage) (written : List ℕ)
     → seen seats users is_spent (pool_page pool o written) ≡ written_page (seen seats users is_spent pool) o written
@@ -67,7 +78,7 @@ seen_page seats users is_spent pool (Some there) written =
 -- what is written to a frame of the pool is written to that frame of the system
 pub seen_written : (seats : List UserParts) (users : List DirectoryUser) (is_spent : Bool) (pool : Pool) (frame : ℕ) (written : List ℕ)
     → seen seats users is_spent (pool_frame pool frame written) ≡ written_frame (seen seats users is_spent pool) frame written
-seen_written seats users is_spent pool frame written = seen_page seats users is_spent pool (get_or pool.owners frame None) written
+seen_written seats users is_spent pool frame written = seen_page seats users is_spent pool (get_or pool.supply.owners frame None) written
 
 -- which of two is chosen by an order
 pub past : (a b : ℕ) (x y : Option ℕ) → b ≤ a → (if nat_lt a b then x else y) ≡ y

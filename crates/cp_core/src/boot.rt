@@ -78,7 +78,7 @@ impl System {
             Ok(pages) => pages,
             Err(_) => return Err(BootError::Memory),
         };
-        match Frames::new(alloc, sizes.frames(), pages) {
+        match Frames::new(alloc, sizes.frames(), 0, pages) {
             Ok(frames) => Ok(System {
                 directory,
                 machines,

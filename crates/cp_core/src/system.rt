@@ -32,13 +32,13 @@ pub struct System {
 
 impl Model for System {
     ghost use Rattle.cp_core.specs.System.{SystemView, machines_of};
-    ghost use Rattle.cp_core.specs.Whole.{IsWhole};
+    ghost use Rattle.cp_core.specs.Whole.{IsSystem};
 
     ghost Value = { SystemView };
 
-    ghost view = { λ s. record { machines = machines_of s.machines.items s.frames.storages; users = s.directory; owners = s.frames.owners; pins = s.frames.pins; is_spent = s.is_spent } };
+    ghost view = { λ s. record { machines = machines_of s.machines.items s.frames.storages; users = s.directory; owners = s.frames.supply.owners; pins = s.frames.supply.pins; is_spent = s.is_spent } };
 
-    ghost invariant = { λ s. IsWhole s.machines.items s.frames.storages s.directory };
+    ghost invariant = { λ s. IsSystem s.machines.items s.frames s.directory };
 }
 
 impl System {

@@ -10,6 +10,7 @@ ghost use Rattle.cp_panel.specs.Run.{TellsRun};
 ghost use Rattle.cp_panel.specs.Panel.{line, line_needs, line_room, switches};
 ghost use Rattle.cp_panel.specs.Tick.{TickNeeds, ticked};
 ghost use Rattle.cp_core.specs.UserMachines.{Fits, IsShort, machine_of};
+ghost use Rattle.cp_core.specs.Whole.{IsIdle};
 
 use cp_console::responses::Response;
 use cp_frames::{Dat, Frames};
@@ -53,34 +54,42 @@ impl UserMachine {
 
     /// Lets the machine run for at most so many units. This takes no memory.
     pub fn run(&mut self, frames: &mut Frames, user: UserNo, count: u32) -> MachineRan
-        requires { Fits self.old (bytes_of frames.old user) }
+        requires fits { Fits self.old (bytes_of frames.old user) }
+        requires idle { IsIdle frames.old.supply }
         ensures told { let before = machine_of self.old (bytes_of frames.old user) in
             let after = machine_of self.new (bytes_of frames.new user) in
-            TellsRun count before (record { machine = after; units = result.ran.units; reason = result.ran.reason; notice = result.notice }) (IsShort frames.new.owners user) }
+            TellsRun count before (record { machine = after; units = result.ran.units; reason = result.ran.reason; notice = result.notice }) (IsShort frames.new.supply.owners user) }
         ensures supply { let before = machine_of self.old (bytes_of frames.old user) in
-            (pages : List ℕ) × IsFilled user frames.old.owners pages frames.new.owners × AllNeeded (RunNeeds before.core result.ran.units result.ran.reason) pages }
-        ensures pins { frames.new.pins ≡ frames.old.pins }
+            (pages : List ℕ) × IsFilled user frames.old.supply.owners pages frames.new.supply.owners × AllNeeded (RunNeeds before.core result.ran.units result.ran.reason) pages }
+        ensures pins { frames.new.supply.pins ≡ frames.old.supply.pins }
         ensures others { frames.new.storages ≡ slice_set frames.old.storages user (bytes_of frames.new user) }
         ensures fits { Fits self.new (bytes_of frames.new user) }
+        ensures idle { IsIdle frames.new.supply }
     {
-        run_over(&mut self.machine, frames, &mut self.keys, user, count)
+        let ran = run_over(&mut self.machine, frames, &mut self.keys, user, count);
+        frames.unpin_all();
+        ran
     }
 
     /// A tick of the interval timer. Where there is no room for the page that it needs, nothing has happened. This takes
     /// no memory.
     pub fn tick(&mut self, frames: &mut Frames, user: UserNo) -> Result<(), FramesOut>
-        requires { Fits self.old (bytes_of frames.old user) }
+        requires fits { Fits self.old (bytes_of frames.old user) }
+        requires idle { IsIdle frames.old.supply }
         ensures ok { OnOk result (machine_of self.new (bytes_of frames.new user) ≡ ticked (machine_of self.old (bytes_of frames.old user))) }
         ensures err { OnErr result (machine_of self.new (bytes_of frames.new user) ≡ machine_of self.old (bytes_of frames.old user)) }
         ensures frames { let before = machine_of self.old (bytes_of frames.old user) in
-            OnErr result (IsLacking (TickNeeds before) (length before.core.processor.bytes) (IsShort frames.new.owners user)) }
+            OnErr result (IsLacking (TickNeeds before) (length before.core.processor.bytes) (IsShort frames.new.supply.owners user)) }
         ensures supply { let before = machine_of self.old (bytes_of frames.old user) in
-            (pages : List ℕ) × IsFilled user frames.old.owners pages frames.new.owners × AllNeeded (TickNeeds before) pages }
-        ensures pins { frames.new.pins ≡ frames.old.pins }
+            (pages : List ℕ) × IsFilled user frames.old.supply.owners pages frames.new.supply.owners × AllNeeded (TickNeeds before) pages }
+        ensures pins { frames.new.supply.pins ≡ frames.old.supply.pins }
         ensures others { frames.new.storages ≡ slice_set frames.old.storages user (bytes_of frames.new user) }
         ensures fits { Fits self.new (bytes_of frames.new user) }
+        ensures idle { IsIdle frames.new.supply }
     {
-        tick_over(&mut self.machine, frames, &mut self.keys, user)
+        let ticked = tick_over(&mut self.machine, frames, &mut self.keys, user);
+        frames.unpin_all();
+        ticked
     }
 
     /// A line that is typed, and the response, if there is one. Where it is not obeyed nothing has happened.
@@ -90,7 +99,8 @@ impl UserMachine {
         user: UserNo,
         typed: &[u8],
     ) -> Result<Option<Response>, LineError>
-        requires { Fits self.old (bytes_of frames.old user) }
+        requires fits { Fits self.old (bytes_of frames.old user) }
+        requires idle { IsIdle frames.old.supply }
         ensures ok { let before = machine_of self.old (bytes_of frames.old user) in
             let after = machine_of self.new (bytes_of frames.new user) in
             IfOk result (λ reply. line typed.now before ≡ record { machine = after; reply = reply }) }
@@ -98,16 +108,19 @@ impl UserMachine {
         ensures memory { let before = machine_of self.old (bytes_of frames.old user) in
             result ≡ Err errors.Memory → self.old.parts.room < line_room typed.now before }
         ensures frames { let before = machine_of self.old (bytes_of frames.old user) in
-            result ≡ Err errors.FramesOut → IsLacking (Touches (line_needs typed.now before)) (length before.core.processor.bytes) (IsShort frames.new.owners user) }
+            result ≡ Err errors.FramesOut → IsLacking (Touches (line_needs typed.now before)) (length before.core.processor.bytes) (IsShort frames.new.supply.owners user) }
         ensures cleared { let before = machine_of self.old (bytes_of frames.old user) in
-            switches typed.now before ≡ true → ((frames.new.owners ≡ cleared_of user frames.old.owners) × ((page : ℕ) → is_there frames.new.owners user page ≡ false)) }
+            switches typed.now before ≡ true → ((frames.new.supply.owners ≡ cleared_of user frames.old.supply.owners) × ((page : ℕ) → is_there frames.new.supply.owners user page ≡ false)) }
         ensures supply { let before = machine_of self.old (bytes_of frames.old user) in
-            switches typed.now before ≡ false → ((pages : List ℕ) × IsFilled user frames.old.owners pages frames.new.owners × AllNeeded (Touches (line_needs typed.now before)) pages) }
-        ensures pins { frames.new.pins ≡ frames.old.pins }
+            switches typed.now before ≡ false → ((pages : List ℕ) × IsFilled user frames.old.supply.owners pages frames.new.supply.owners × AllNeeded (Touches (line_needs typed.now before)) pages) }
+        ensures pins { frames.new.supply.pins ≡ frames.old.supply.pins }
         ensures others { frames.new.storages ≡ slice_set frames.old.storages user (bytes_of frames.new user) }
         ensures fits { Fits self.new (bytes_of frames.new user) }
+        ensures idle { IsIdle frames.new.supply }
     {
-        line_over(&mut self.machine, frames, &mut self.keys, user, typed)
+        let reply = line_over(&mut self.machine, frames, &mut self.keys, user, typed);
+        frames.unpin_all();
+        reply
     }
 }
 
@@ -121,12 +134,14 @@ fn run_over(
 ) -> MachineRan
     requires large { 8192 ≤ length (bytes_of frames.old user) }
     requires keyed { length (bytes_of frames.old user) ≤ 2048 * length keys.old }
+    requires slots { frames.old.supply.slots ≡ [] }
     ensures told { let before = parts_with machine.old (bytes_of frames.old user) keys.old in
         let after = parts_with machine.new (bytes_of frames.new user) keys.new in
-        TellsRun count before (record { machine = after; units = result.ran.units; reason = result.ran.reason; notice = result.notice }) (IsShort frames.new.owners user) }
+        TellsRun count before (record { machine = after; units = result.ran.units; reason = result.ran.reason; notice = result.notice }) (IsShort frames.new.supply.owners user) }
     ensures supply { let before = parts_with machine.old (bytes_of frames.old user) keys.old in
-        (pages : List ℕ) × IsFilled user frames.old.owners pages frames.new.owners × AllNeeded (RunNeeds before.core result.ran.units result.ran.reason) pages }
-    ensures pins { frames.new.pins ≡ frames.old.pins }
+        (pages : List ℕ) × IsFilled user frames.old.supply.owners pages frames.new.supply.owners × AllNeeded (RunNeeds before.core result.ran.units result.ran.reason) pages }
+    ensures marks { length frames.new.supply.pins ≡ length frames.old.supply.pins }
+    ensures slots { frames.new.supply.slots ≡ [] }
     ensures others { frames.new.storages ≡ slice_set frames.old.storages user (bytes_of frames.new user) }
     ensures size { length (bytes_of frames.new user) ≡ length (bytes_of frames.old user) }
 {
@@ -143,6 +158,7 @@ fn tick_over(
 ) -> Result<(), FramesOut>
     requires large { 8192 ≤ length (bytes_of frames.old user) }
     requires keyed { length (bytes_of frames.old user) ≤ 2048 * length keys.old }
+    requires slots { frames.old.supply.slots ≡ [] }
     ensures ok { let before = parts_with machine.old (bytes_of frames.old user) keys.old in
         let after = parts_with machine.new (bytes_of frames.new user) keys.new in
         OnOk result (after ≡ ticked before) }
@@ -150,10 +166,11 @@ fn tick_over(
         let after = parts_with machine.new (bytes_of frames.new user) keys.new in
         OnErr result (after ≡ before) }
     ensures frames { let before = parts_with machine.old (bytes_of frames.old user) keys.old in
-        OnErr result (IsLacking (TickNeeds before) (length (bytes_of frames.old user)) (IsShort frames.new.owners user)) }
+        OnErr result (IsLacking (TickNeeds before) (length (bytes_of frames.old user)) (IsShort frames.new.supply.owners user)) }
     ensures supply { let before = parts_with machine.old (bytes_of frames.old user) keys.old in
-        (pages : List ℕ) × IsFilled user frames.old.owners pages frames.new.owners × AllNeeded (TickNeeds before) pages }
-    ensures pins { frames.new.pins ≡ frames.old.pins }
+        (pages : List ℕ) × IsFilled user frames.old.supply.owners pages frames.new.supply.owners × AllNeeded (TickNeeds before) pages }
+    ensures marks { length frames.new.supply.pins ≡ length frames.old.supply.pins }
+    ensures slots { frames.new.supply.slots ≡ [] }
     ensures others { frames.new.storages ≡ slice_set frames.old.storages user (bytes_of frames.new user) }
     ensures size { length (bytes_of frames.new user) ≡ length (bytes_of frames.old user) }
 {
@@ -170,6 +187,7 @@ fn line_over(
     typed: &[u8],
 ) -> Result<Option<Response>, LineError>
     requires keyed { length (bytes_of frames.old user) ≤ 2048 * length keys.old }
+    requires slots { frames.old.supply.slots ≡ [] }
     ensures ok { let before = parts_with machine.old (bytes_of frames.old user) keys.old in
         let after = parts_with machine.new (bytes_of frames.new user) keys.new in
         IfOk result (λ reply. line typed.now before ≡ record { machine = after; reply = reply }) }
@@ -179,12 +197,13 @@ fn line_over(
     ensures memory { let before = parts_with machine.old (bytes_of frames.old user) keys.old in
         result ≡ Err errors.Memory → machine.old.room < line_room typed.now before }
     ensures frames { let before = parts_with machine.old (bytes_of frames.old user) keys.old in
-        result ≡ Err errors.FramesOut → IsLacking (Touches (line_needs typed.now before)) (length (bytes_of frames.old user)) (IsShort frames.new.owners user) }
+        result ≡ Err errors.FramesOut → IsLacking (Touches (line_needs typed.now before)) (length (bytes_of frames.old user)) (IsShort frames.new.supply.owners user) }
     ensures cleared { let before = parts_with machine.old (bytes_of frames.old user) keys.old in
-        switches typed.now before ≡ true → ((frames.new.owners ≡ cleared_of user frames.old.owners) × ((page : ℕ) → is_there frames.new.owners user page ≡ false)) }
+        switches typed.now before ≡ true → ((frames.new.supply.owners ≡ cleared_of user frames.old.supply.owners) × ((page : ℕ) → is_there frames.new.supply.owners user page ≡ false)) }
     ensures supply { let before = parts_with machine.old (bytes_of frames.old user) keys.old in
-        switches typed.now before ≡ false → ((pages : List ℕ) × IsFilled user frames.old.owners pages frames.new.owners × AllNeeded (Touches (line_needs typed.now before)) pages) }
-    ensures pins { frames.new.pins ≡ frames.old.pins }
+        switches typed.now before ≡ false → ((pages : List ℕ) × IsFilled user frames.old.supply.owners pages frames.new.supply.owners × AllNeeded (Touches (line_needs typed.now before)) pages) }
+    ensures marks { length frames.new.supply.pins ≡ length frames.old.supply.pins }
+    ensures slots { frames.new.supply.slots ≡ [] }
     ensures others { frames.new.storages ≡ slice_set frames.old.storages user (bytes_of frames.new user) }
     ensures size { length (bytes_of frames.new user) ≡ length (bytes_of frames.old user) }
 {

@@ -6,7 +6,7 @@ use Rattle.s370_store.specs.Access.{put}
 use Rattle.cp_frames.specs.declared.numbers.UserPage.{UserPage}
 use Rattle.cp_frames.specs.Layout.{frame_of, storages_of, IsWhole}
 use Rattle.cp_frames.proofs.PageParts.{IsStored, part_read, part_stored}
-use Rattle.std.proofs.lemmas.List.{take-append-drop, take-set-le, drop-set-add, set-append_left, get_or-take, get_or-drop, length-take-le, take-append-le, take_all}
+use Rattle.std.proofs.lemmas.List.{take-append-drop, take-set-le, drop-set-add, set-append_left, get_or_append_left, get_or-take, get_or-drop, length-take-le, take-append-le, take_all}
 
 -- those before a frame, and that frame with those after it, the first of which is another now
 pub set_high : (frames : List (List ℕ)) (m : ℕ) (frame : List ℕ) → take m frames ++ set (drop m frames) 0 frame ≡ set frames m frame
@@ -35,6 +35,15 @@ items_are frames made n h =
 
 length-part : (xs : List ℕ) (a n : ℕ) → a + n ≤ length xs → length (slice_range xs a (a + n)) ≡ n
 length-part xs a n h = let e : a + n - a ≡ n = omega arith in rw e (length-take-le n (drop a xs) (rw length-drop (omega arith)))
+
+-- frames are the first of the places
+pub copied_among : (frames slots : List (List ℕ)) (source target from to count : ℕ) → source < length frames → target < length frames →
+    set frames target (put (get_or frames target []) (to % 4096) (slice_range (get_or frames source []) (from % 4096) (from % 4096 + count))) ++ slots
+    ≡ set (frames ++ slots) target (put (get_or (frames ++ slots) target []) (to % 4096) (slice_range (get_or (frames ++ slots) source []) (from % 4096) (from % 4096 + count)))
+copied_among frames slots source target from to count lt less =
+    let first : get_or (frames ++ slots) source [] ≡ get_or frames source [] = get_or_append_left frames slots [] source lt in
+    let second : get_or (frames ++ slots) target [] ≡ get_or frames target [] = get_or_append_left frames slots [] target less in
+    rw (first, second) (sym (set-append_left frames slots target (put (get_or frames target []) (to % 4096) (slice_range (get_or frames source []) (from % 4096) (from % 4096 + count))) less))
 
 -- a part of one page that is copied into another, or the same
 pub copied : (items : List (List ℕ)) (owners : List (Option UserPage)) (sizes : List ℕ) (user from to source target count : ℕ) → IsWhole items owners sizes → user < length sizes →

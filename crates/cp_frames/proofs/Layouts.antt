@@ -1,15 +1,15 @@
 -- What a change of an owner or a byte does to each user's storage.
-use Rattle.std.proofs.Common.{replicate, ◌≡◌, ◌≢◌, ℕ, zero, suc, ◌+◌, ◌-◌, ◌*◌, ◌/◌, ◌%◌, ◌<◌, ◌≤◌, List, [], ◌∷◌, length, get_or, Bool, true, false, cond, map, Option, Some, None, refl, zero-add, get_or-set_other, get_or-set_same, sym, ◌∙◌, ap, arith}
+use Rattle.std.proofs.Common.{replicate, ◌≡◌, ◌≢◌, ℕ, zero, suc, ◌+◌, ◌-◌, ◌*◌, ◌/◌, ◌%◌, ◌<◌, ◌≤◌, List, [], ◌∷◌, length, get_or, Bool, true, false, cond, map, ◌++◌, Option, Some, None, refl, zero-add, get_or-set_other, get_or-set_same, sym, ◌∙◌, ap, arith}
 use Rattle.std.proofs.Math.Decide.{dec_lt}
 use Rattle.std.specs.Prelude.{◌==◌, if◌then◌else◌}
 use Rattle.std.proofs.Math.ListN.{set, length-set, get_or-map, length-map}
 use Rattle.std.specs.List.{position_from, range_with_len}
 use Rattle.std.proofs.lemmas.List.FromFn.{fill_by_all, get_or-map-range_with_len, length-map-range_with_len}
-use Rattle.std.proofs.lemmas.List.{get_or_past}
+use Rattle.std.proofs.lemmas.List.{get_or_past, get_or_append_left, set-append_left, set_past}
 use Rattle.std.proofs.lemmas.Bool.Decides.{nat_tests}
 use Rattle.std.proofs.lemmas.Grind.{common_steps}
 use Rattle.cp_frames.specs.declared.numbers.UserPage.{UserPage}
-use Rattle.cp_frames.specs.Layout.{owned, is_page, frame_of, byte_in, byte_at, storage_of, storages_of, Holds, IsWhole, without, cleared_of, Pool, IsZeroPage, put_page, written_page, written_frame}
+use Rattle.cp_frames.specs.Layout.{owned, is_page, frame_of, byte_in, byte_at, storage_of, storages_of, Holds, IsWhole, without, cleared_of, Pool, FrameSupply, IsZeroPage, put_page, written_page, written_frame}
 
 pub dec_eq : (m n : ℕ) → Dec (m ≡ n)
 dec_eq m n = elim (dec_lt m n) [
@@ -119,7 +119,7 @@ cleared_by old frame page lt zeros = record { zeros = λ k. rw get_or-set_same (
 not_page : (user page other_user other : ℕ) → ((user ≡ other_user) → page ≡ other → ⊥) → is_page other_user other (Some (owned user page)) ≡ false
 not_page user page other_user other differ = grind (arith, nat_tests, common_steps)
 
-is_this_page : (user page : ℕ) → is_page user page (Some (owned user page)) ≡ true
+pub is_this_page : (user page : ℕ) → is_page user page (Some (owned user page)) ≡ true
 is_this_page user page = grind (arith, nat_tests, common_steps)
 
 no_page : (user page : ℕ) (owners : List (Option UserPage)) (frame : ℕ) → get_or owners frame None ≡ None → is_page user page (get_or owners frame None) ≡ false
@@ -354,19 +354,28 @@ absent-zero bytes owners sizes user page nowhere address e =
       | no past ↦ get_or_past storage address 0 (omega arith)
     ]
 
-written-view_at : (bytes : List (List ℕ)) (owners : List (Option UserPage)) (sizes : List ℕ) (frame : ℕ) (written : List ℕ) (pins : List Bool) (o : Option UserPage) → IsWhole bytes owners sizes → get_or owners frame None ≡ o →
-    let before : Pool = record { storages = storages_of bytes owners sizes; owners = owners; pins = pins } in
-    let after : Pool = record { storages = storages_of (set bytes frame written) owners sizes; owners = owners; pins = pins } in
+written-view_at : (bytes : List (List ℕ)) (owners : List (Option UserPage)) (sizes : List ℕ) (frame : ℕ) (written : List ℕ) (supply : FrameSupply) (o : Option UserPage) → IsWhole bytes owners sizes → get_or owners frame None ≡ o →
+    let before : Pool = record { storages = storages_of bytes owners sizes; supply = supply } in
+    let after : Pool = record { storages = storages_of (set bytes frame written) owners sizes; supply = supply } in
     after ≡ written_page before o written
-written-view_at bytes owners sizes frame written pins None whole is =
-    ap (λ (ss : List (List ℕ)). let g : Pool = record { storages = ss; owners = owners; pins = pins } in g) (storages-unwritten bytes owners sizes frame written is)
-written-view_at bytes owners sizes frame written pins (Some page) whole is =
+written-view_at bytes owners sizes frame written supply None whole is =
+    ap (λ (ss : List (List ℕ)). let g : Pool = record { storages = ss; supply = supply } in g) (storages-unwritten bytes owners sizes frame written is)
+written-view_at bytes owners sizes frame written supply (Some page) whole is =
     let lt : frame < length bytes = elim (dec_lt frame (length owners)) [ yes h ↦ omega (arith, whole.room) | no past ↦ let none = get_or_past owners frame None (omega arith) in cc ] in
-    ap (λ (ss : List (List ℕ)). let g : Pool = record { storages = ss; owners = owners; pins = pins } in g) (storages-written bytes owners sizes frame page written whole lt is)
+    ap (λ (ss : List (List ℕ)). let g : Pool = record { storages = ss; supply = supply } in g) (storages-written bytes owners sizes frame page written whole lt is)
 
 -- the view after a write to a frame
-pub written-view : (bytes : List (List ℕ)) (owners : List (Option UserPage)) (sizes : List ℕ) (frame : ℕ) (written : List ℕ) (pins : List Bool) → IsWhole bytes owners sizes →
-    let before : Pool = record { storages = storages_of bytes owners sizes; owners = owners; pins = pins } in
-    let after : Pool = record { storages = storages_of (set bytes frame written) owners sizes; owners = owners; pins = pins } in
+pub written-view : (frames slots : List (List ℕ)) (owners slot_owners : List (Option UserPage)) (sizes : List ℕ) (frame : ℕ) (written : List ℕ) (supply : FrameSupply) → IsWhole (frames ++ slots) (owners ++ slot_owners) sizes →
+    length frames ≡ length owners → supply.owners ≡ owners →
+    let before : Pool = record { storages = storages_of (frames ++ slots) (owners ++ slot_owners) sizes; supply = supply } in
+    let after : Pool = record { storages = storages_of (set frames frame written ++ slots) (owners ++ slot_owners) sizes; supply = supply } in
     after ≡ written_frame before frame written
-written-view bytes owners sizes frame written pins whole = written-view_at bytes owners sizes frame written pins (get_or owners frame None) whole refl
+written-view frames slots owners slot_owners sizes frame written supply whole room is =
+    let before : Pool = record { storages = storages_of (frames ++ slots) (owners ++ slot_owners) sizes; supply = supply } in
+    let over : List (List ℕ) → Pool = λ bytes. record { storages = storages_of bytes (owners ++ slot_owners) sizes; supply = supply } in
+    elim (dec_lt frame (length frames)) [
+      | yes lt ↦ (let at : get_or (owners ++ slot_owners) frame None ≡ get_or supply.owners frame None = get_or_append_left owners slot_owners None frame (omega arith) ∙ ap (λ (os : List (Option UserPage)). get_or os frame None) (sym is) in
+          ap over (sym (set-append_left frames slots frame written lt)) ∙ written-view_at (frames ++ slots) (owners ++ slot_owners) sizes frame written supply (get_or supply.owners frame None) whole at)
+      | no past ↦ (let none : get_or supply.owners frame None ≡ None = ap (λ (os : List (Option UserPage)). get_or os frame None) is ∙ get_or_past owners frame None (omega arith) in
+          ap (λ (fs : List (List ℕ)). over (fs ++ slots)) (set_past frames frame written (omega arith)) ∙ ap (λ o. written_page before o written) (sym none))
+    ]

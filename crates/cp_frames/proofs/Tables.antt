@@ -1,4 +1,4 @@
--- What the table of frames tells.
+-- What a table of places tells.
 use Rattle.std.proofs.Common.{replicate, ◌≡◌, ◌≢◌, ℕ, zero, suc, ◌+◌, ◌*◌, ◌/◌, ◌<◌, ◌≤◌, List, [], length, get_or, Bool, true, false, cond, Option, Some, None, refl, get_or-set_other, get_or-set_same, sym, ◌∙◌, ap, arith}
 use Rattle.std.proofs.Math.Decide.{dec_lt}
 use Rattle.std.specs.Prelude.{IfSome, IsSome, All, ◌==◌}
@@ -7,98 +7,77 @@ use Rattle.std.proofs.lemmas.List.{get_or-replicate, get_or_past}
 use Rattle.std.proofs.lemmas.Bool.Decides.{nat_tests}
 use Rattle.std.proofs.lemmas.Grind.{common_steps}
 use Rattle.cp_frames.specs.declared.numbers.UserPage.{UserPage}
-use Rattle.cp_frames.specs.Layout.{owned, cleared_of, frame_of, is_page, storages_of, held, IsWhole, IsTabled, IsSound}
+use Rattle.cp_frames.specs.Layout.{owned, cleared_of, frame_of, is_page, storages_of, held, told, Holds, IsWhole, IsTabled}
 use Rattle.cp_frames.proofs.Layouts.{length-bytes_of, frame_of-cleared, frame_of_other-cleared, dec_eq, user_with, frame_of-brought, frame_of_other-brought, frame_of-none, frame_found}
 
--- the place of a page's slot
+-- the number of a page's entry
 pub record IsPlace (sizes table : List ℕ) (user page : ℕ) : Type 0 where
   pub of_user : user < length sizes
   pub of_page : page < 1024
   pub low : user < 64
   pub room : user * 1024 + page < length table
 
-pub place : (bytes : List (List ℕ)) (owners : List (Option UserPage)) (sizes table : List ℕ) (user page address : ℕ) → IsWhole bytes owners sizes → IsTabled owners sizes table →
-    address < length (get_or (storages_of bytes owners sizes) user []) → page ≡ address / 4096 → IsPlace sizes table user page
-place bytes owners sizes table user page address whole tabled lt e =
-    let in_user = user_with bytes owners sizes user address lt in
+pub place : (nowhere : ℕ) (bytes : List (List ℕ)) (all owners : List (Option UserPage)) (sizes table : List ℕ) (user page address : ℕ) → IsWhole bytes all sizes → IsTabled nowhere owners sizes table →
+    address < length (get_or (storages_of bytes all sizes) user []) → page ≡ address / 4096 → IsPlace sizes table user page
+place nowhere bytes all owners sizes table user page address whole tabled lt e =
+    let in_user = user_with bytes all sizes user address lt in
     let small = whole.small user in
-    record { of_user = in_user.0; of_page = omega (arith, in_user.1, small); low = omega (arith, in_user.0, tabled.users); room = omega (arith, in_user.0, in_user.1, small, tabled.slots) }
+    record { of_user = in_user.0; of_page = omega (arith, in_user.1, small); low = omega (arith, in_user.0, tabled.users); room = omega (arith, in_user.0, in_user.1, small, tabled.entries) }
 
-held_some : (slot : ℕ) (o : Option ℕ) → held slot ≡ o → IsSome o → o ≡ Some slot
-held_some slot None e some = cc
-held_some slot (Some frame) e some =
+held_some : (nowhere slot : ℕ) (o : Option ℕ) → held nowhere slot ≡ o → IsSome o → o ≡ Some slot
+held_some nowhere slot None e some = cc
+held_some nowhere slot (Some frame) e some =
     let at : (b : Bool) → cond b None (Some slot) ≡ Some frame → Some frame ≡ Some slot = elim [ true ↦ λ h. cc | false ↦ λ h. sym h ] in
-    at (slot == 65535) e
+    at (slot == nowhere) e
 
-held_small : (slot : ℕ) → slot < 65535 → held slot ≡ Some slot
-held_small slot lt = grind (arith, nat_tests, common_steps)
+pub held_nowhere : (nowhere : ℕ) → held nowhere nowhere ≡ None
+held_nowhere nowhere = let t : (nowhere == nowhere) ≡ true = grind (arith, nat_tests) in rw t refl
 
--- the frame of a page that stands in one
-pub slot_is : (owners : List (Option UserPage)) (sizes table : List ℕ) (user page : ℕ) → IsTabled owners sizes table → IsPlace sizes table user page → IsSome (frame_of owners user page) →
+pub held_small : (nowhere slot : ℕ) → slot < nowhere → held nowhere slot ≡ Some slot
+held_small nowhere slot lt = grind (arith, nat_tests, common_steps)
+
+-- the place of a page that stands in one
+pub slot_is : (nowhere : ℕ) (owners : List (Option UserPage)) (sizes table : List ℕ) (user page : ℕ) → IsTabled nowhere owners sizes table → IsPlace sizes table user page → IsSome (frame_of owners user page) →
     frame_of owners user page ≡ Some (get_or table (user * 1024 + page) 0)
-slot_is owners sizes table user page tabled at some = held_some (get_or table (user * 1024 + page) 0) (frame_of owners user page) (tabled.agrees user page at.of_user at.of_page) some
-
--- the table where a page is brought
-pub tabled-brought : (owners : List (Option UserPage)) (sizes table : List ℕ) (user page frame : ℕ) → IsTabled owners sizes table → IsPlace sizes table user page →
-    frame_of owners user page ≡ None → frame < length owners → get_or owners frame None ≡ None →
-    IsTabled (set owners frame (Some (owned user page))) sizes (set table (user * 1024 + page) frame)
-tabled-brought owners sizes table user page frame tabled at nowhere within free =
-    let wanted : UserPage = owned user page in
-    let after = set owners frame (Some wanted) in
-    let slots = set table (user * 1024 + page) frame in
-    let differs : (g p : ℕ) → g < length sizes → p < 1024 → ((user ≡ g) → page ≡ p → ⊥) → user * 1024 + page ≢ g * 1024 + p → held (get_or slots (g * 1024 + p) 0) ≡ frame_of after g p =
-    λ g p in_user in_page d ne. (let other : g * 1024 + p ≢ user * 1024 + page = λ e. ne (sym e) in
-    (rw get_or-set_other (tabled.agrees g p in_user in_page)) ∙ sym (frame_of_other-brought owners user page frame g p free d)) in
-    record {
-      few = rw length-set tabled.few;
-      users = tabled.users;
-      slots = rw length-set tabled.slots;
-      agrees = λ g p in_user in_page. elim (dec_eq user g) [
-        | yes e ↦ elim (dec_eq page p) [
-          | yes f ↦ rw (← e, ← f) (let room = at.room in (rw get_or-set_same (held_small frame (omega (arith, tabled.few)))) ∙ sym (frame_of-brought owners user page frame nowhere within))
-          | no f ↦ differs g p in_user in_page (λ _ q. f q) (λ q. f (omega arith))
-        ]
-        | no e ↦ differs g p in_user in_page (λ q _. e q) (λ q. e (omega (arith, at.of_page)))
-      ];
-    }
+slot_is nowhere owners sizes table user page tabled at some = held_some nowhere (get_or table (user * 1024 + page) 0) (frame_of owners user page) (tabled.agrees user page at.of_user at.of_page) some
 
 -- the table where a user's pages have left
-pub tabled-cleared : (owners : List (Option UserPage)) (sizes table after : List ℕ) (user : ℕ) → IsTabled owners sizes table → length after ≡ length table →
-    ((page : ℕ) → page < 1024 → user * 1024 + 1024 ≤ length table → get_or after (user * 1024 + page) 0 ≡ 65535) →
+pub tabled-cleared : (nowhere : ℕ) (owners : List (Option UserPage)) (sizes table after : List ℕ) (user : ℕ) → IsTabled nowhere owners sizes table → length after ≡ length table →
+    ((page : ℕ) → page < 1024 → user * 1024 + 1024 ≤ length table → get_or after (user * 1024 + page) 0 ≡ nowhere) →
     ((slot : ℕ) → slot / 1024 ≢ user → get_or after slot 0 ≡ get_or table slot 0) →
-    IsTabled (cleared_of user owners) sizes after
-tabled-cleared owners sizes table after user tabled same own others = record {
+    IsTabled nowhere (cleared_of user owners) sizes after
+tabled-cleared nowhere owners sizes table after user tabled same own others = record {
   few = rw length-map tabled.few;
   users = tabled.users;
-  slots = same ∙ tabled.slots;
+  entries = same ∙ tabled.entries;
   agrees = λ u p in_users in_page. elim (dec_eq u user) [
-    | yes e ↦ (let blank : get_or after (u * 1024 + p) 0 ≡ 65535 = rw e (own p in_page (omega (arith, tabled.slots))) in
-        let nowhere : frame_of (cleared_of user owners) u p ≡ None = rw e (frame_of-cleared owners user p) in
-        rw (blank, nowhere) refl)
+    | yes e ↦ (let blank : get_or after (u * 1024 + p) 0 ≡ nowhere = rw e (own p in_page (omega (arith, tabled.entries))) in
+        let gone : frame_of (cleared_of user owners) u p ≡ None = rw e (frame_of-cleared owners user p) in
+        rw (blank, gone) (held_nowhere nowhere))
     | no ne ↦ (let kept : get_or after (u * 1024 + p) 0 ≡ get_or table (u * 1024 + p) 0 = others (u * 1024 + p) (λ e. ne (omega arith)) in
-        ap held kept ∙ tabled.agrees u p in_users in_page ∙ sym (frame_of_other-cleared owners user u p (λ e. ne (sym e))))
+        ap (held nowhere) kept ∙ tabled.agrees u p in_users in_page ∙ sym (frame_of_other-cleared owners user u p (λ e. ne (sym e))))
   ];
 }
 
 -- the first table
-pub tabled-none : (frames : ℕ) (sizes : List ℕ) → frames ≤ 4096 → length sizes ≤ 64 → IsTabled (replicate frames None) sizes (replicate (1024 * length sizes) 65535)
-tabled-none frames sizes few users = record {
+pub tabled-none : (nowhere places : ℕ) (sizes : List ℕ) → places ≤ nowhere → length sizes ≤ 64 → IsTabled nowhere (replicate places None) sizes (replicate (1024 * length sizes) nowhere)
+tabled-none nowhere places sizes few users = record {
   few = rw length-replicate few;
   users = users;
-  slots = length-replicate _ _;
+  entries = length-replicate _ _;
   agrees = λ g p in_user in_page.
       (let room : g * 1024 + p < 1024 * length sizes = omega arith in
-      ap held (get_or-replicate (1024 * length sizes) (g * 1024 + p) 65535 0 room) ∙ sym (frame_of-none g p frames));
+      ap (held nowhere) (get_or-replicate (1024 * length sizes) (g * 1024 + p) nowhere 0 room) ∙ held_nowhere nowhere ∙ sym (frame_of-none g p places));
 }
 
-pub held_none : (slot : ℕ) (o : Option ℕ) → slot ≡ 65535 → held slot ≡ o → None ≡ o
-held_none slot o e h = rw e at h
+pub held_none : (nowhere slot : ℕ) (o : Option ℕ) → slot ≡ nowhere → held nowhere slot ≡ o → None ≡ o
+held_none nowhere slot o e h = sym (ap (held nowhere) e ∙ held_nowhere nowhere) ∙ h
 
-pub held_other : (slot : ℕ) (o : Option ℕ) → slot ≢ 65535 → held slot ≡ o → Some slot ≡ o
-held_other slot o ne h = let f : (slot == 65535) ≡ false = grind (arith, nat_tests) in rw f at h
+pub held_other : (nowhere slot : ℕ) (o : Option ℕ) → slot ≢ nowhere → held nowhere slot ≡ o → Some slot ≡ o
+held_other nowhere slot o ne h = let f : (slot == nowhere) ≡ false = grind (arith, nat_tests) in rw f at h
 
--- the page that stands in the frame of a page
-page_is_at : (user page : ℕ) (o : Option UserPage) → is_page user page o ≡ true → o ≡ Some (owned user page)
+-- the page that stands in the place of a page
+pub page_is_at : (user page : ℕ) (o : Option UserPage) → is_page user page o ≡ true → o ≡ Some (owned user page)
 page_is_at user page None e = cc
 page_is_at user page (Some there) e =
     let g : there.user ≡ user = grind (arith, nat_tests, common_steps) in
@@ -113,36 +92,19 @@ page_is_at user page (Some there) e =
 pub page_is : (owners : List (Option UserPage)) (user page frame : ℕ) → frame_of owners user page ≡ Some frame → get_or owners frame None ≡ Some (owned user page)
 page_is owners user page frame there = page_is_at user page (get_or owners frame None) (frame_found owners user page frame there).passes
 
--- the page in a frame, and the frame of a page
-pub page_inverse : (bytes : List (List ℕ)) (owners : List (Option UserPage)) (sizes : List ℕ) (frame : ℕ) (o : Option UserPage) → IsWhole bytes owners sizes → o ≡ get_or owners frame None →
-    (p : UserPage) → ((o ≡ Some p) → frame_of owners p.user p.page.0 ≡ Some frame) × ((frame_of owners p.user p.page.0 ≡ Some frame) → o ≡ Some p)
-page_inverse bytes owners sizes frame o whole e p = (λ h. whole.once frame p (sym e ∙ h), λ h. e ∙ page_is owners p.user p.page.0 frame h)
-
-pub page_inside : (bytes : List (List ℕ)) (owners : List (Option UserPage)) (sizes : List ℕ) (frame : ℕ) (o : Option UserPage) → IsWhole bytes owners sizes → o ≡ get_or owners frame None →
-    IfSome o (λ p. p.page.0 * 4096 < length (get_or (storages_of bytes owners sizes) p.user []))
-page_inside bytes owners sizes frame None whole e = tt
-page_inside bytes owners sizes frame (Some p) whole e =
-    let small = whole.inside frame p (sym e) in
-    let long = length-bytes_of bytes owners sizes p.user in
-    omega arith
-
-none_stands : (n frame : ℕ) (page : UserPage) → get_or (replicate n None) frame None ≡ Some page → ⊥
+pub none_stands : (n frame : ℕ) (page : UserPage) → get_or (replicate n None) frame None ≡ Some page → ⊥
 none_stands zero frame page e = cc
 none_stands (suc n) zero page e = cc
 none_stands (suc n) (suc frame) page e = none_stands n frame page e
 
-small_at : (sizes : List ℕ) (user : ℕ) → All (λ pages. pages ≤ 1024) sizes → get_or sizes user 0 ≤ 1024
+-- at first all is in order
+pub small_at : (sizes : List ℕ) (user : ℕ) → All (λ pages. pages ≤ 1024) sizes → get_or sizes user 0 ≤ 1024
 small_at sizes user all = elim (dec_lt user (length sizes)) [ yes h ↦ all user 0 h | no past ↦ (let none = get_or_past sizes user 0 (omega arith) in omega arith) ]
 
--- at first all is in order
-pub sound-none : (bytes : List (List ℕ)) (owners : List (Option UserPage)) (sizes table : List ℕ) (frames : ℕ) → length bytes ≡ frames → owners ≡ replicate frames None → table ≡ replicate (1024 * length sizes) 65535 →
-    frames ≤ 4096 → length sizes ≤ 64 → All (λ pages. pages ≤ 1024) sizes → IsSound bytes owners sizes table
-sound-none bytes owners sizes table frames room e f few users small = rw (e, f) (record {
-  whole = record {
-    room = rw length-replicate room;
-    small = λ user. small_at sizes user small;
-    once = λ frame page holds. absurd (none_stands frames frame page holds);
-    inside = λ frame page holds. absurd (none_stands frames frame page holds);
-  };
-  tabled = tabled-none frames sizes few users;
-})
+pub whole-none : (bytes : List (List ℕ)) (sizes : List ℕ) (places : ℕ) → length bytes ≡ places → All (λ pages. pages ≤ 1024) sizes → IsWhole bytes (replicate places None) sizes
+whole-none bytes sizes places room small = record {
+  room = rw length-replicate room;
+  small = λ user. small_at sizes user small;
+  once = λ place page holds. absurd (none_stands places place page holds);
+  inside = λ place page holds. absurd (none_stands places place page holds);
+}

@@ -1,14 +1,23 @@
 -- What frames, and the pages that stand in them, mean: the storage of each user.
-use Rattle.std.specs.Prelude.{◌≡◌, ℕ, ◌+◌, ◌*◌, ◌/◌, ◌%◌, ◌<◌, ◌≤◌, Bool, false, ◌&&◌, ◌==◌, if◌then◌else◌, List, [], map, length, slice_index, slice_index_or, Option, Some, None, MatchOption, count_by, is_none, is_some, slice_set}
+use Rattle.std.specs.Prelude.{◌≡◌, ℕ, ◌+◌, ◌*◌, ◌/◌, ◌%◌, ◌<◌, ◌≤◌, Bool, true, false, ◌&&◌, ◌==◌, if◌then◌else◌, List, [], ◌++◌, map, length, slice_index, slice_index_or, Option, Some, None, is_some, IsSome, slice_set}
 use Rattle.std.specs.List.{position_from, range_with_len}
+use Rattle.std.specs.List.Sorted.{IsPermutation}
 use Rattle.cp_frames.specs.declared.numbers.UserPage.{UserPage}
 use Rattle.cp_frames.specs.declared.numbers.FrameNo.{FrameNo}
 
--- the storage of each user, the page that stands in each frame, and which frames are pinned
+-- the page that stands in each frame and in each slot, which frames are pinned, the frames in the order in which their
+-- pages came, and how many pages have come
+pub record FrameSupply : Type 0 where
+  pub owners : List (Option UserPage)
+  pub slots : List (Option UserPage)
+  pub pins : List Bool
+  pub order : List ℕ
+  pub page_ins : ℕ
+
+-- the storage of each user, and where its pages stand
 pub record Pool : Type 0 where
   pub storages : List (List ℕ)
-  pub owners : List (Option UserPage)
-  pub pins : List Bool
+  pub supply : FrameSupply
 
 -- a page of a user, by their numbers
 abbrev pub owned : ℕ → ℕ → UserPage
@@ -68,21 +77,38 @@ pub record IsWhole (frames : List (List ℕ)) (owners : List (Option UserPage)) 
   pub once : (frame : ℕ) (page : UserPage) → Holds owners frame page → frame_of owners page.user page.page.0 ≡ Some frame
   pub inside : (frame : ℕ) (page : UserPage) → Holds owners frame page → page.page.0 < slice_index sizes page.user
 
--- the frame that a slot of the table tells
-abbrev pub held : ℕ → Option ℕ
-held slot = if slot == 65535 then None else Some slot
+-- the place that an entry of a table tells: one number says that there is none
+abbrev pub held : ℕ → ℕ → Option ℕ
+held nowhere entry = if entry == nowhere then None else Some entry
 
--- the slot of each page tells the frame in which the page stands
-pub record IsTabled (owners : List (Option UserPage)) (sizes table : List ℕ) : Type 0 where
-  pub few : length owners ≤ 4096
+-- the table where the entry of a page tells this place
+abbrev pub told : Option UserPage → ℕ → List ℕ → List ℕ
+told None place table = table
+told (Some there) place table = slice_set table (there.user * 1024 + there.page.0) place
+
+-- the entry of each page tells the place among these in which the page stands
+pub record IsTabled (nowhere : ℕ) (owners : List (Option UserPage)) (sizes table : List ℕ) : Type 0 where
+  pub few : length owners ≤ nowhere
   pub users : length sizes ≤ 64
-  pub slots : length table ≡ 1024 * length sizes
-  pub agrees : (user page : ℕ) → user < length sizes → page < 1024 → held (slice_index table (user * 1024 + page)) ≡ frame_of owners user page
+  pub entries : length table ≡ 1024 * length sizes
+  pub agrees : (user page : ℕ) → user < length sizes → page < 1024 → held nowhere (slice_index table (user * 1024 + page)) ≡ frame_of owners user page
 
--- what is always so of frames, their owners, the users' sizes and the table
-pub record IsSound (frames : List (List ℕ)) (owners : List (Option UserPage)) (sizes table : List ℕ) : Type 0 where
-  pub whole : IsWhole frames owners sizes
-  pub tabled : IsTabled owners sizes table
+-- a pinned frame has a page, and the order has each frame once
+pub record IsOrdered (owners : List (Option UserPage)) (pins : List Bool) (order : List ℕ) : Type 0 where
+  pub frames : length owners ≤ 4096
+  pub marks : length pins ≡ length owners
+  pub used : (frame : ℕ) → slice_index_or pins frame false ≡ true → IsSome (slice_index_or owners frame None)
+  pub each : IsPermutation (range_with_len 0 (length owners)) order
+
+-- what is always so of frames with their pages, slots with theirs, the users' sizes, the tables of frames and of slots,
+-- the pins and the order: frames and slots together are places, and each page stands in one place at most
+pub record IsSound (frames slots : List (List ℕ)) (owners slot_owners : List (Option UserPage)) (sizes table slot_table : List ℕ) (pins : List Bool) (order : List ℕ) : Type 0 where
+  pub frame_room : length frames ≡ length owners
+  pub slot_room : length slots ≡ length slot_owners
+  pub whole : IsWhole (frames ++ slots) (owners ++ slot_owners) sizes
+  pub tabled : IsTabled 65535 owners sizes table
+  pub slots_tabled : IsTabled 4294967295 slot_owners sizes slot_table
+  pub ordered : IsOrdered owners pins order
 
 -- what stands in a frame when a user's pages have left
 abbrev pub without : ℕ → Option UserPage → Option UserPage
@@ -92,16 +118,6 @@ without user (Some there) = if there.user == user then None else Some there
 -- what stands in each frame when a user's pages have left
 abbrev pub cleared_of : ℕ → List (Option UserPage) → List (Option UserPage)
 cleared_of user owners = map (without user) owners
-
--- how many frames are free
-abbrev pub free_count : List (Option UserPage) → ℕ
-free_count owners = count_by is_none owners
-
--- the page stands in this frame already, or it stood nowhere and is put into this frame, which was free
-abbrev pub IsBrought : List (Option UserPage) → List (Option UserPage) → ℕ → ℕ → ℕ → Type 0
-IsBrought old new user page frame = MatchOption (frame_of old user page)
-    ((frame < length old) × (slice_index_or old frame None ≡ None) × (new ≡ slice_set old frame (Some (owned user page))))
-    (λ there. (there ≡ frame) × (new ≡ old))
 
 -- a storage after this was written over one of its pages
 abbrev pub put_page : List ℕ → ℕ → List ℕ → List ℕ
@@ -114,4 +130,4 @@ written_page pool (Some there) written = record pool { storages = slice_set pool
 
 -- what is written to a frame is the content of the page that stands in it
 abbrev pub written_frame : Pool → ℕ → List ℕ → Pool
-written_frame pool frame written = written_page pool (slice_index_or pool.owners frame None) written
+written_frame pool frame written = written_page pool (slice_index_or pool.supply.owners frame None) written

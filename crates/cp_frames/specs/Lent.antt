@@ -8,13 +8,13 @@ use Rattle.cp_frames.specs.Layout.{Pool, bytes_of, frame_of, is_there}
 abbrev pub user_of : Dat → ℕ
 user_of d = d.user
 
--- what is lent from: the storage of each user, and the page in each frame
+-- what is lent from: the storage of each user, and where its pages stand
 abbrev pub lent_pool : Dat → Pool
 lent_pool d = d.frames.now
 
 -- the frame in which one of the user's pages stands
 abbrev pub lent_frame : Dat → ℕ → Option ℕ
-lent_frame d = frame_of d.frames.now.owners d.user
+lent_frame d = frame_of d.frames.now.supply.owners d.user
 
 -- the storage of the user
 abbrev pub lent_bytes : Dat → List ℕ
@@ -26,15 +26,14 @@ lent_keys d = d.keys.now
 
 -- his pages that stand in frames
 abbrev pub is_lent_page : Dat → ℕ → Bool
-is_lent_page d = is_there d.frames.now.owners d.user
+is_lent_page d = is_there d.frames.now.supply.owners d.user
 
--- the same user of the same frames, where no page has moved, no pin changed, and each other user has the bytes he had
+-- the same user of the same frames, where no page has moved, and each other user has the bytes he had
 pub record KeepsRest (old new : Dat) : Type 0 where
   pub same_frames : new.frames.ghost_name ≡ old.frames.ghost_name
   pub same_keys : new.keys.ghost_name ≡ old.keys.ghost_name
   pub same_user : new.user ≡ old.user
-  pub same_owners : new.frames.now.owners ≡ old.frames.now.owners
-  pub same_pins : new.frames.now.pins ≡ old.frames.now.pins
+  pub same_supply : new.frames.now.supply ≡ old.frames.now.supply
   pub others : new.frames.now.storages ≡ slice_set old.frames.now.storages old.user (bytes_of new.frames.now old.user)
 
 -- the same user of the same frames, where each other user has the bytes he had
@@ -64,15 +63,14 @@ others_on before middle after user other same one two =
     two ∙ (own ∙ (first ∙ set_again before.storages user (bytes_of middle user) (bytes_of after user)))
 
 pub keeps_rest_same : (s : Dat) → KeepsRest s s
-keeps_rest_same s = record { same_frames = refl; same_keys = refl; same_user = refl; same_owners = refl; same_pins = refl; others = set_own s.frames.now.storages s.user [] }
+keeps_rest_same s = record { same_frames = refl; same_keys = refl; same_user = refl; same_supply = refl; others = set_own s.frames.now.storages s.user [] }
 
 pub keeps_rest_on : (s t u : Dat) → KeepsRest s t → KeepsRest t u → KeepsRest s u
 keeps_rest_on s t u a b = record {
   same_frames = b.same_frames ∙ a.same_frames;
   same_keys = b.same_keys ∙ a.same_keys;
   same_user = b.same_user ∙ a.same_user;
-  same_owners = b.same_owners ∙ a.same_owners;
-  same_pins = b.same_pins ∙ a.same_pins;
+  same_supply = b.same_supply ∙ a.same_supply;
   others = others_on s.frames.now t.frames.now u.frames.now s.user t.user a.same_user a.others b.others;
 }
 

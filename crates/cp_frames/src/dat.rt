@@ -1,7 +1,8 @@
 //! One user's storage, lent from the frames.
-ghost use Rattle.std.specs.Prelude.{◌≡◌, ◌+◌, ◌*◌, ◌/◌, ◌<◌, ◌≤◌, ◌↔◌, ◌%◌, true, length, IfOk, IfSome, IfNone, OnOk, OnErr, All, IsSome, Some, None, false, [], ◌∷◌};
+ghost use Rattle.std.specs.Prelude.{◌≡◌, ◌+◌, ◌*◌, ◌/◌, ◌<◌, ◌≤◌, ◌↔◌, ◌%◌, true, length, replicate, slice_index_or, slice_set, is_some, IfOk, IfSome, IfNone, OnErr, Some, None, false, [], ◌∷◌};
 ghost use Rattle.s370_store.specs.Access.{IsVerdict, tested};
-ghost use Rattle.cp_frames.specs.Layout.{bytes_of, frame_of, number_of, free_count, IsBrought, IsZeroPage};
+ghost use Rattle.cp_frames.specs.Layout.{bytes_of, frame_of, number_of, IsZeroPage};
+ghost use Rattle.cp_frames.specs.Paging.{IsBrought, IsOpen, IsRefused};
 ghost use Rattle.cp_frames.specs.Settled.{IsSettled};
 
 use crate::{FrameNo, Frames};
@@ -37,8 +38,9 @@ fn tag_of(start: u32, key: AccessKey) -> u32
 
 /// One user's pages, of which those that stand in frames are present, and his storage keys.
 ///
-/// As a `Supply` it brings a page that is absent into a free frame. It takes no page of anyone out of a frame: where each
-/// frame is taken it answers `FramesOut`, and whoever lent the frames has to free one.
+/// As a `Supply` it brings a page that is absent and pins it, so that it is not given up again before whoever lent the
+/// frames takes the pins away. Where each frame is taken, the page longest in its frame among those not pinned is given up;
+/// where there is none, or no slot for it, it answers `FramesOut`.
 #[derive(Drop)]
 pub struct Dat<'a> {
     frames: &'a mut Frames,
@@ -48,7 +50,7 @@ pub struct Dat<'a> {
     near: Near,
     ghost sized: { size ≡ length (bytes_of frames.now user) },
     ghost keyed: { size ≤ 2048 * length keys.now },
-    ghost settled: { IsSettled (bytes_of frames.now user) keys.now frames.now.owners user near },
+    ghost settled: { IsSettled (bytes_of frames.now user) keys.now frames.now.supply.owners user near },
 }
 
 impl<'a> Dat<'a> {
@@ -73,11 +75,11 @@ impl<'a> Dat<'a> {
         }
     }
 
-    /// The frame in which a page stands. A page that stands in none is all zero.
+    /// The frame in which a page stands. A page that stands in none, and in no slot, is all zero.
     pub fn frame_of(&self, page: Page) -> Option<FrameNo>
         requires { page.0 * 4096 < length (lent_bytes self.now) }
         ensures frame { number_of result ≡ lent_frame self.now page.0 }
-        ensures zero { IfNone result (IsZeroPage (lent_bytes self.now) page.0) }
+        ensures zero { IfNone result (frame_of (lent_pool self.now).supply.slots (user_of self.now) page.0 ≡ None → IsZeroPage (lent_bytes self.now) page.0) }
     {
         self.frames.frame_of(self.user, page)
     }
@@ -102,23 +104,41 @@ impl<'a> Dat<'a> {
         requires { page.0 * 4096 < length (lent_bytes self.old) }
         ensures rest { KeepsFrames self.old self.new }
         ensures storages { (lent_pool self.new).storages ≡ (lent_pool self.old).storages }
-        ensures pins { (lent_pool self.new).pins ≡ (lent_pool self.old).pins }
         ensures keys { lent_keys self.new ≡ lent_keys self.old }
-        ensures brought { IfOk result (λ frame. IsBrought (lent_pool self.old).owners (lent_pool self.new).owners (user_of self.old) page.0 frame.0) }
         ensures there { IfOk result (λ frame. lent_frame self.new page.0 ≡ Some frame.0) }
-        ensures fewer { is_lent_page self.old page.0 ≡ false → OnOk result (free_count (lent_pool self.new).owners < free_count (lent_pool self.old).owners) }
-        ensures refused { OnErr result (All IsSome (lent_pool self.old).owners) }
-        ensures absent { OnErr result (is_lent_page self.old page.0 ≡ false) }
-        ensures err { OnErr result ((lent_pool self.new).owners ≡ (lent_pool self.old).owners) }
+        ensures brought { IfOk result (λ frame. IsBrought (lent_pool self.old).supply (lent_pool self.new).supply (user_of self.old) page.0 frame.0) }
+        ensures unpinned { is_lent_page self.old page.0 ≡ false → IfOk result (λ frame. IsOpen (lent_pool self.old).supply.pins frame.0) }
+        ensures refused { OnErr result (IsRefused (lent_pool self.old).supply (user_of self.old) page.0) }
+        ensures err { OnErr result ((lent_pool self.new).supply ≡ (lent_pool self.old).supply) }
     {
         self.near = Near::NOTHING;
         self.frames.bring(self.user, page)
     }
 
+    /// Marks a frame: the page in it is not to be given up for another.
+    pub fn pin(&mut self, frame: FrameNo)
+        ensures rest { KeepsFrames self.old self.new }
+        ensures storages { (lent_pool self.new).storages ≡ (lent_pool self.old).storages }
+        ensures keys { lent_keys self.new ≡ lent_keys self.old }
+        ensures supply { (lent_pool self.new).supply ≡ record (lent_pool self.old).supply { pins = slice_set (lent_pool self.old).supply.pins frame.0 (is_some (slice_index_or (lent_pool self.old).supply.owners frame.0 None)) } }
+    {
+        self.frames.pin(frame);
+    }
+
+    /// Takes the marks from all frames.
+    pub fn unpin_all(&mut self)
+        ensures rest { KeepsFrames self.old self.new }
+        ensures storages { (lent_pool self.new).storages ≡ (lent_pool self.old).storages }
+        ensures keys { lent_keys self.new ≡ lent_keys self.old }
+        ensures supply { (lent_pool self.new).supply ≡ record (lent_pool self.old).supply { pins = replicate (length (lent_pool self.old).supply.pins) false } }
+    {
+        self.frames.unpin_all();
+    }
+
     /// The block of an address, if instructions may be fetched from it with this key and its page stands in a frame.
     #[inline(never)]
     fn near_to(&self, start: u32, key: AccessKey) -> Near
-        ensures { IsSettled (lent_bytes self.now) (lent_keys self.now) (lent_pool self.now).owners (user_of self.now) result }
+        ensures { IsSettled (lent_bytes self.now) (lent_keys self.now) (lent_pool self.now).supply.owners (user_of self.now) result }
     {
         let range = Range {
             start: start / BLOCK_SIZE * BLOCK_SIZE,
@@ -273,13 +293,15 @@ impl<'a> Keyed for Dat<'a> {
 
 impl<'a> Supply for Dat<'a> {
     ghost use Rattle.std.proofs.Common.{ap};
-    ghost use Rattle.cp_frames.specs.Lent.{lent_pool, is_lent_page};
+    ghost use Rattle.cp_frames.specs.Layout.{FrameSupply};
+    ghost use Rattle.cp_frames.specs.Lent.{lent_pool, user_of};
+    ghost use Rattle.cp_frames.specs.Paging.{unpinned_count};
     ghost use Rattle.cp_frames.specs.Supplied.{GivesBack, Supplied};
     ghost use Rattle.cp_frames.specs.Bringing.{supplied_none, supplied_on};
 
-    ghost spare = { λ d. free_count (lent_pool d).owners };
+    ghost spare = { λ d. unpinned_count (lent_pool d).supply.pins };
 
-    ghost IsShort = { λ d page. All IsSome (lent_pool d).owners × (is_lent_page d page ≡ false) };
+    ghost IsShort = { λ d page. IsRefused (lent_pool d).supply (user_of d) page };
 
     ghost Brought = { Supplied };
 
@@ -293,7 +315,10 @@ impl<'a> Supply for Dat<'a> {
 
     fn bring(&mut self, page: Page) -> Result<(), FramesOut> {
         match Dat::bring(self, page) {
-            Ok(_) => Ok(()),
+            Ok(frame) => {
+                self.pin(frame);
+                Ok(())
+            }
             Err(FramesOut) => Err(FramesOut),
         }
     }
@@ -302,5 +327,5 @@ impl<'a> Supply for Dat<'a> {
 
     ghost brought_on = { supplied_on };
 
-    ghost spare_kept = { λ s t k. ap free_count k.same_owners };
+    ghost spare_kept = { λ s t k. ap (λ (supply : FrameSupply). unpinned_count supply.pins) k.same_supply };
 }

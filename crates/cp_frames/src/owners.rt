@@ -1,4 +1,4 @@
-//! Which page stands in each frame.
+//! Which page stands in each frame, or in each slot.
 ghost use Rattle.std.specs.Prelude.{◌≡◌, ◌<◌, Some, None, false, length, slice_index_or, IsSome, IfOk, IfSome, IfNone, All, replicate};
 ghost use Rattle.cp_frames.specs.Layout.{without, cleared_of};
 
@@ -6,7 +6,7 @@ use crate::UserPage;
 use cp_users::UserNo;
 use std::alloc::{AllocError, Global};
 
-/// So many frames with no page in them.
+/// So many frames or slots with no page in them.
 pub fn free_frames(alloc: Global, count: usize) -> Result<Vec<Option<UserPage>>, AllocError>
     ensures { IfOk result (λ owners. owners.items ≡ replicate count None) }
 {
@@ -20,21 +20,28 @@ pub fn no_pins(alloc: Global, count: usize) -> Result<Vec<bool>, AllocError>
     Ok(vec![in alloc; false; count]?)
 }
 
-/// A frame with no page in it.
+/// Takes all marks away.
+pub fn clear_pins(pins: &mut Vec<bool>)
+    ensures { pins.new.items ≡ replicate (length pins.old.items) false }
+{
+    pins.fill(false);
+}
+
+/// A slot with no page in it.
 pub fn first_free(owners: &[Option<UserPage>]) -> Option<usize>
-    ensures within { IfSome result (λ frame. frame < length owners.now) }
-    ensures free { IfSome result (λ frame. slice_index_or owners.now frame None ≡ None) }
+    ensures within { IfSome result (λ slot. slot < length owners.now) }
+    ensures free { IfSome result (λ slot. slice_index_or owners.now slot None ≡ None) }
     ensures none { IfNone result (All IsSome owners.now) }
 {
-    for (frame, owner) in owners.iter().enumerate() {
+    for (slot, owner) in owners.iter().enumerate() {
         if owner.is_none() {
-            return Some(frame);
+            return Some(slot);
         }
     }
     None
 }
 
-/// Takes each page of a user out of its frame.
+/// Takes each page of a user out of its frame, or out of its slot.
 pub fn give_back(owners: &mut Vec<Option<UserPage>>, user: UserNo)
     ensures { owners.new.items ≡ cleared_of user owners.old.items }
 {
@@ -43,7 +50,7 @@ pub fn give_back(owners: &mut Vec<Option<UserPage>>, user: UserNo)
     }
 }
 
-/// What is left in a frame when a user leaves.
+/// What is left in a frame or a slot when a user leaves.
 fn kept(owner: Option<UserPage>, user: UserNo) -> Option<UserPage>
     ensures { result ≡ without user owner }
 {

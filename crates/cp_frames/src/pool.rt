@@ -1,41 +1,57 @@
-//! The frames with what stands in them.
-ghost use Rattle.std.specs.Prelude.{◌≡◌, ℕ, ◌+◌, ◌-◌, ◌*◌, ◌/◌, ◌%◌, ◌<◌, ◌≤◌, ◌↔◌, Option, Some, None, true, false, map, length, slice_index_or, slice_set, slice_get, slice_range, IsSome, IfOk, OnOk, OnErr, IfSome, IfNone, All, replicate};
+//! The frames and slots with what stands in them.
+ghost use Rattle.std.specs.Prelude.{◌≡◌, ℕ, ◌+◌, ◌-◌, ◌*◌, ◌/◌, ◌%◌, ◌<◌, ◌≤◌, ◌↔◌, ◌++◌, ◌∷◌, [], Option, Some, None, true, false, map, length, slice_index, slice_index_or, slice_set, slice_get, slice_range, IsSome, is_some, IfOk, OnOk, OnErr, IfSome, IfNone, All, replicate};
+ghost use Rattle.std.specs.List.{range_with_len};
 ghost use Rattle.s370_store.specs.Access.{put, IsGranted};
-ghost use Rattle.cp_frames.specs.Layout.{frame_of, number_of, is_there, IsBrought, IsZeroPage, cleared_of, free_count};
+ghost use Rattle.cp_frames.specs.Layout.{frame_of, number_of, is_there, IsZeroPage, cleared_of};
+ghost use Rattle.cp_frames.specs.Paging.{IsChosen, IsBrought, IsOpen, IsRefused, IsPut, counted, exchanged, filled, came};
 
 use crate::frame::{blank_frames, clear, copy_in, copy_out, copy_over};
-use crate::owners::{first_free, free_frames, give_back, no_pins};
-use crate::table::{NOWHERE, SLOTS, empty_table, forget, slot_of};
+use crate::order::{all_frames, count, free_turn, last, open_turn};
+use crate::owners::{clear_pins, first_free, free_frames, give_back, no_pins};
+use crate::table::{
+    NO_SLOT, NOWHERE, PAGES, empty_slot_table, empty_table, entry_of, forget, forget_slots, tell,
+    tell_slot,
+};
 use crate::{FRAME_SIZE, FrameNo, UserPage};
 use cp_users::UserNo;
 use s370_store::{BLOCK_SIZE, FramesOut, PAGE_SIZE, Page};
 use std::alloc::{AllocError, Global};
 use std::marker::Model;
+use std::mem::swap;
 
 /// The most bytes that are loaded or stored at once.
 const LONGEST: usize = 256;
 
-/// All frames of real storage, and which page of which user stands in each.
+/// All frames of real storage, all slots for pages that are given up, and which page of which user stands in each.
 ///
-/// A page that stands in no frame is all zero. A pin is a mark on a frame that only [`Frames::pin`] and
-/// [`Frames::unpin`] change: the page in a pinned frame is not to be given up for another.
+/// A page that stands in neither is all zero. A pin is a mark on a frame that only [`Frames::pin`], [`Frames::unpin_all`]
+/// and [`Frames::release`] change: the page in a pinned frame is not given up for another.
 #[derive(Drop)]
 pub struct Frames {
     frames: Vec<[u8; FRAME_SIZE]>,
+    slots: Vec<[u8; FRAME_SIZE]>,
     owners: Vec<Option<UserPage>>,
+    slot_owners: Vec<Option<UserPage>>,
     pins: Vec<bool>,
+    order: Vec<u16>,
+    page_ins: u64,
     sizes: Vec<u32>,
     table: Vec<u16>,
+    slot_table: Vec<u32>,
 }
 
 impl Model for Frames {
     ghost use Rattle.cp_frames.specs.Layout.{Pool, storages_of, IsSound};
+    ghost use Rattle.std.specs.Prelude.{◌++◌};
 
     ghost Value = { Pool };
 
-    ghost view = { λ f. record { storages = storages_of f.frames.items f.owners.items f.sizes.items; owners = f.owners.items; pins = f.pins.items } };
+    ghost view = { λ f. record {
+      storages = storages_of (f.frames.items ++ f.slots.items) (f.owners.items ++ f.slot_owners.items) f.sizes.items;
+      supply = record { owners = f.owners.items; slots = f.slot_owners.items; pins = f.pins.items; order = f.order.items; page_ins = f.page_ins };
+    } };
 
-    ghost invariant = { λ f. IsSound f.frames.items f.owners.items f.sizes.items f.table.items };
+    ghost invariant = { λ f. IsSound f.frames.items f.slots.items f.owners.items f.slot_owners.items f.sizes.items f.table.items f.slot_table.items f.pins.items f.order.items };
 }
 
 impl Frames {
@@ -43,27 +59,45 @@ impl Frames {
     ghost use Rattle.std.specs.Borrow.{sem};
     ghost use Rattle.cp_frames.specs.Lending.{LendsFrame};
 
-    /// So many free frames, and a storage of zeros for each user, whose pages are counted in `sizes`.
-    pub fn new(alloc: Global, frames: u16, sizes: Vec<u32>) -> Result<Frames, AllocError>
+    /// So many free frames and slots, and a storage of zeros for each user, whose pages are counted in `sizes`.
+    pub fn new(
+        alloc: Global,
+        frames: u16,
+        slots: u32,
+        sizes: Vec<u32>,
+    ) -> Result<Frames, AllocError>
         requires frames { frames ≤ 4096 }
+        requires slots { slots ≤ 65536 }
         requires users { length sizes.items ≤ 64 }
         requires pages { All (λ pages. pages ≤ 1024) sizes.items }
-        ensures owners { IfOk result (λ made. made.owners ≡ replicate frames None) }
-        ensures pins { IfOk result (λ made. made.pins ≡ replicate frames false) }
+        ensures owners { IfOk result (λ made. made.supply.owners ≡ replicate frames None) }
+        ensures slots { IfOk result (λ made. made.supply.slots ≡ replicate slots None) }
+        ensures pins { IfOk result (λ made. made.supply.pins ≡ replicate frames false) }
+        ensures page_ins { IfOk result (λ made. made.supply.page_ins ≡ 0) }
         ensures storages { IfOk result (λ made. made.storages ≡ map (λ pages. replicate (pages * 4096) 0) sizes.items) }
     {
-        let count = usize::from(frames);
-        let slots = SLOTS * sizes.len();
-        let owners = free_frames(alloc, count)?;
-        let pins = no_pins(alloc, count)?;
-        let frames = blank_frames(alloc, count)?;
-        let table = empty_table(alloc, slots)?;
+        let frame_count = usize::from(frames);
+        let slot_count = slots as usize;
+        let entries = PAGES * sizes.len();
+        let owners = free_frames(alloc, frame_count)?;
+        let slot_owners = free_frames(alloc, slot_count)?;
+        let pins = no_pins(alloc, frame_count)?;
+        let order = all_frames(alloc, frames)?;
+        let frames = blank_frames(alloc, frame_count)?;
+        let slots = blank_frames(alloc, slot_count)?;
+        let table = empty_table(alloc, entries)?;
+        let slot_table = empty_slot_table(alloc, entries)?;
         Ok(Frames {
             frames,
+            slots,
             owners,
+            slot_owners,
             pins,
+            order,
+            page_ins: 0,
             sizes,
             table,
+            slot_table,
         })
     }
 
@@ -79,19 +113,43 @@ impl Frames {
         }
     }
 
-    /// The frame in which a page of a user stands. A page that stands in none is all zero.
+    /// Pages that have come into a frame so far.
+    pub fn page_ins(&self) -> u64
+        ensures { result ≡ self.now.supply.page_ins }
+    {
+        self.page_ins
+    }
+
+    /// The frame in which a page of a user stands. A page that stands in none, and in no slot, is all zero.
     #[inline(always)]
     pub fn frame_of(&self, user: UserNo, page: Page) -> Option<FrameNo>
         requires { page.0 * 4096 < length (bytes_of self.now user) }
-        ensures frame { number_of result ≡ frame_of self.now.owners user page.0 }
-        ensures within { IfSome result (λ frame. frame.0 < length self.now.owners) }
-        ensures zero { IfNone result (IsZeroPage (bytes_of self.now user) page.0) }
+        ensures frame { number_of result ≡ frame_of self.now.supply.owners user page.0 }
+        ensures within { IfSome result (λ frame. frame.0 < length self.now.supply.owners) }
+        ensures apart { IsSome result → frame_of self.now.supply.slots user page.0 ≡ None }
+        ensures zero { IfNone result (frame_of self.now.supply.slots user page.0 ≡ None → IsZeroPage (bytes_of self.now user) page.0) }
     {
-        let slot = self.table[slot_of(user, page.0)];
-        if slot == NOWHERE {
+        let entry = self.table[entry_of(user, page.0)];
+        if entry == NOWHERE {
             None
         } else {
-            Some(FrameNo(slot))
+            Some(FrameNo(entry))
+        }
+    }
+
+    /// The slot in which a page of a user stands. A page that stands in none, and in no frame, is all zero.
+    pub fn slot_of(&self, user: UserNo, page: Page) -> Option<usize>
+        requires { page.0 * 4096 < length (bytes_of self.now user) }
+        ensures slot { result ≡ frame_of self.now.supply.slots user page.0 }
+        ensures within { IfSome result (λ slot. slot < length self.now.supply.slots) }
+        ensures apart { IsSome result → frame_of self.now.supply.owners user page.0 ≡ None }
+        ensures zero { IfNone result (frame_of self.now.supply.owners user page.0 ≡ None → IsZeroPage (bytes_of self.now user) page.0) }
+    {
+        let entry = self.slot_table[entry_of(user, page.0)];
+        if entry == NO_SLOT {
+            None
+        } else {
+            Some(entry as usize)
         }
     }
 
@@ -99,13 +157,13 @@ impl Frames {
     #[inline(always)]
     pub(crate) fn frame_at(&self, user: UserNo, start: u32) -> Option<FrameNo>
         requires { start < length (bytes_of self.now user) }
-        ensures { number_of result ≡ frame_of self.now.owners user (start / 4096) }
+        ensures { number_of result ≡ frame_of self.now.supply.owners user (start / 4096) }
     {
-        let slot = self.table[slot_of(user, start / PAGE_SIZE)];
-        if slot == NOWHERE {
+        let entry = self.table[entry_of(user, start / PAGE_SIZE)];
+        if entry == NOWHERE {
             None
         } else {
-            Some(FrameNo(slot))
+            Some(FrameNo(entry))
         }
     }
 
@@ -113,15 +171,15 @@ impl Frames {
     #[inline(never)]
     pub(crate) fn frame_apart(&self, user: UserNo, start: u32) -> Option<FrameNo>
         requires { start < length (bytes_of self.now user) }
-        ensures { number_of result ≡ frame_of self.now.owners user (start / 4096) }
+        ensures { number_of result ≡ frame_of self.now.supply.owners user (start / 4096) }
     {
         self.frame_at(user, start)
     }
 
     /// The page that stands in a frame.
     pub fn page_in(&self, frame: FrameNo) -> Option<UserPage>
-        ensures page { result ≡ slice_index_or self.now.owners frame.0 None }
-        ensures once { (p : UserPage) → (result ≡ Some p) ↔ (frame_of self.now.owners p.user p.page.0 ≡ Some frame.0) }
+        ensures page { result ≡ slice_index_or self.now.supply.owners frame.0 None }
+        ensures once { (p : UserPage) → (result ≡ Some p) ↔ (frame_of self.now.supply.owners p.user p.page.0 ≡ Some frame.0) }
         ensures inside { IfSome result (λ p. p.page.0 * 4096 < length (bytes_of self.now p.user)) }
     {
         let frame = frame.0 as usize;
@@ -133,59 +191,159 @@ impl Frames {
     }
 
     /// Brings a page into a frame, where it stands in none. No byte of any user changes.
+    ///
+    /// Where no frame is free, the page longest in its frame among those not pinned is given up. It takes a free slot, or the
+    /// slot that the wanted page leaves.
     pub fn bring(&mut self, user: UserNo, page: Page) -> Result<FrameNo, FramesOut>
         requires { page.0 * 4096 < length (bytes_of self.old user) }
         ensures storages { self.new.storages ≡ self.old.storages }
-        ensures pins { self.new.pins ≡ self.old.pins }
-        ensures there { IfOk result (λ frame. frame_of self.new.owners user page.0 ≡ Some frame.0) }
-        ensures within { IfOk result (λ frame. frame.0 < length self.new.owners) }
-        ensures brought { IfOk result (λ frame. IsBrought self.old.owners self.new.owners user page.0 frame.0) }
-        ensures fewer { frame_of self.old.owners user page.0 ≡ None → OnOk result (free_count self.new.owners < free_count self.old.owners) }
-        ensures refused { OnErr result (All IsSome self.old.owners) }
-        ensures absent { OnErr result (frame_of self.old.owners user page.0 ≡ None) }
+        ensures there { IfOk result (λ frame. frame_of self.new.supply.owners user page.0 ≡ Some frame.0) }
+        ensures within { IfOk result (λ frame. frame.0 < length self.new.supply.owners) }
+        ensures brought { IfOk result (λ frame. IsBrought self.old.supply self.new.supply user page.0 frame.0) }
+        ensures unpinned { frame_of self.old.supply.owners user page.0 ≡ None → IfOk result (λ frame. IsOpen self.old.supply.pins frame.0) }
+        ensures refused { OnErr result (IsRefused self.old.supply user page.0) }
         ensures err { OnErr result (self.new ≡ self.old) }
     {
         match self.frame_of(user, page) {
             Some(frame) => return Ok(frame),
             None => {}
         }
-        let frame = match first_free(&self.owners) {
-            Some(frame) => frame,
+        let turn = match self.next_turn() {
+            Some(turn) => turn,
             None => return Err(FramesOut),
         };
-        clear(&mut self.frames[frame]);
-        self.owners[frame] = Some(UserPage { user, page });
-        self.table[slot_of(user, page.0)] = frame as u16;
+        let frame = self.frame_in_turn(turn);
+        match self.put(frame, user, page) {
+            Ok(()) => {}
+            Err(_) => return Err(FramesOut),
+        }
+        self.come(turn);
         Ok(FrameNo(frame as u16))
     }
 
-    /// Marks a frame: the page in it is not to be given up for another. Nothing is done past the frames.
-    pub fn pin(&mut self, frame: FrameNo)
-        ensures pins { self.new.pins ≡ slice_set self.old.pins frame.0 true }
-        ensures storages { self.new.storages ≡ self.old.storages }
-        ensures owners { self.new.owners ≡ self.old.owners }
+    /// The turn of the frame that a page is to come into; none where no frame is free and all are pinned.
+    fn next_turn(&self) -> Option<usize>
+        ensures within { IfSome result (λ turn. turn < length self.now.supply.order) }
+        ensures chosen { IfSome result (λ turn. IsChosen self.now.supply turn) }
+        ensures unpinned { IfSome result (λ turn. slice_index_or self.now.supply.pins (slice_index self.now.supply.order turn) false ≡ false) }
+        ensures full { IfNone result (All IsSome self.now.supply.owners) }
+        ensures pinned { IfNone result (All (λ pinned. pinned ≡ true) self.now.supply.pins) }
     {
-        let frame = frame.0 as usize;
-        if frame < self.pins.len() {
-            self.pins[frame] = true;
+        match free_turn(&self.order, &self.owners) {
+            Some(turn) => return Some(turn),
+            None => {}
+        }
+        open_turn(&self.order, &self.pins)
+    }
+
+    /// The frame that has this turn.
+    fn frame_in_turn(&self, turn: usize) -> usize
+        requires { turn < length self.now.supply.order }
+        ensures frame { result ≡ slice_index self.now.supply.order turn }
+        ensures within { result < length self.now.supply.owners }
+        ensures marked { result < length self.now.supply.pins }
+        ensures few { length self.now.supply.owners ≤ 4096 }
+    {
+        self.order[turn] as usize
+    }
+
+    /// Puts a page that stands in no frame into this one, and what stood in it into a slot.
+    fn put(&mut self, frame: usize, user: UserNo, page: Page) -> Result<(), FramesOut>
+        requires inside { page.0 * 4096 < length (bytes_of self.old user) }
+        requires frame { frame < length self.old.supply.owners }
+        requires unpinned { slice_index_or self.old.supply.pins frame false ≡ false }
+        requires absent { frame_of self.old.supply.owners user page.0 ≡ None }
+        ensures storages { self.new.storages ≡ self.old.storages }
+        ensures put { OnOk result (IsPut self.old.supply self.new.supply user page.0 frame) }
+        ensures err { OnErr result (self.new ≡ self.old) }
+        ensures held { OnErr result (IsSome (slice_index_or self.old.supply.owners frame None)) }
+        ensures full { OnErr result (All IsSome self.old.supply.slots) }
+        ensures nowhere { OnErr result (frame_of self.old.supply.slots user page.0 ≡ None) }
+    {
+        match self.slot_of(user, page) {
+            Some(slot) => {
+                self.exchange(frame, slot);
+                return Ok(());
+            }
+            None => {}
+        }
+        if self.owners[frame].is_none() {
+            self.fill(frame, user, page);
+            return Ok(());
+        }
+        match first_free(&self.slot_owners) {
+            Some(slot) => {
+                self.exchange(frame, slot);
+                self.fill(frame, user, page);
+                Ok(())
+            }
+            None => Err(FramesOut),
         }
     }
 
-    /// Takes the mark from a frame. Nothing is done past the frames.
-    pub fn unpin(&mut self, frame: FrameNo)
-        ensures pins { self.new.pins ≡ slice_set self.old.pins frame.0 false }
+    /// Exchanges what stands in a frame and what stands in a slot.
+    fn exchange(&mut self, frame: usize, slot: usize)
+        requires frame { frame < length self.old.supply.owners }
+        requires slot { slot < length self.old.supply.slots }
+        requires unpinned { slice_index_or self.old.supply.pins frame false ≡ false }
         ensures storages { self.new.storages ≡ self.old.storages }
-        ensures owners { self.new.owners ≡ self.old.owners }
+        ensures supply { self.new.supply ≡ exchanged self.old.supply frame slot }
+    {
+        tell(&mut self.table, self.owners[frame], NOWHERE);
+        tell(&mut self.table, self.slot_owners[slot], frame as u16);
+        tell_slot(&mut self.slot_table, self.slot_owners[slot], NO_SLOT);
+        tell_slot(&mut self.slot_table, self.owners[frame], slot as u32);
+        swap(&mut self.owners[frame], &mut self.slot_owners[slot]);
+        swap(&mut self.frames[frame], &mut self.slots[slot]);
+    }
+
+    /// Puts a page that stands nowhere, and so is all zero, into a free frame.
+    fn fill(&mut self, frame: usize, user: UserNo, page: Page)
+        requires inside { page.0 * 4096 < length (bytes_of self.old user) }
+        requires frame { frame < length self.old.supply.owners }
+        requires free { slice_index_or self.old.supply.owners frame None ≡ None }
+        requires absent { frame_of self.old.supply.owners user page.0 ≡ None }
+        requires nowhere { frame_of self.old.supply.slots user page.0 ≡ None }
+        ensures storages { self.new.storages ≡ self.old.storages }
+        ensures supply { self.new.supply ≡ filled self.old.supply frame user page.0 }
+    {
+        clear(&mut self.frames[frame]);
+        self.owners[frame] = Some(UserPage { user, page });
+        self.table[entry_of(user, page.0)] = frame as u16;
+    }
+
+    /// Notes that a page has come into the frame that has this turn.
+    fn come(&mut self, turn: usize)
+        requires { turn < length self.old.supply.order }
+        ensures storages { self.new.storages ≡ self.old.storages }
+        ensures supply { self.new.supply ≡ came self.old.supply turn }
+    {
+        last(&mut self.order, turn);
+        self.page_ins = count(self.page_ins);
+    }
+
+    /// Marks a frame: the page in it is not to be given up for another. Nothing is done to a free frame, or past the frames.
+    pub fn pin(&mut self, frame: FrameNo)
+        ensures supply { self.new.supply ≡ record self.old.supply { pins = slice_set self.old.supply.pins frame.0 (is_some (slice_index_or self.old.supply.owners frame.0 None)) } }
+        ensures storages { self.new.storages ≡ self.old.storages }
     {
         let frame = frame.0 as usize;
         if frame < self.pins.len() {
-            self.pins[frame] = false;
+            self.pins[frame] = self.owners[frame].is_some();
         }
+    }
+
+    /// Takes the marks from all frames.
+    pub fn unpin_all(&mut self)
+        ensures supply { self.new.supply ≡ record self.old.supply { pins = replicate (length self.old.supply.pins) false } }
+        ensures storages { self.new.storages ≡ self.old.storages }
+    {
+        clear_pins(&mut self.pins);
     }
 
     /// Whether a frame is pinned.
     pub fn is_pinned(&self, frame: FrameNo) -> bool
-        ensures { result ≡ slice_index_or self.now.pins frame.0 false }
+        ensures { result ≡ slice_index_or self.now.supply.pins frame.0 false }
     {
         let frame = frame.0 as usize;
         if frame < self.pins.len() {
@@ -195,21 +353,24 @@ impl Frames {
         }
     }
 
-    /// Takes all pages of a user out of their frames, after which his storage is all zero.
+    /// Takes all pages of a user out of their frames and slots, after which its storage is all zero, and all marks away.
     pub fn release(&mut self, user: UserNo)
         ensures storages { self.new.storages ≡ slice_set self.old.storages user (replicate (length (bytes_of self.old user)) 0) }
-        ensures owners { self.new.owners ≡ cleared_of user self.old.owners }
-        ensures gone { (page : ℕ) → frame_of self.new.owners user page ≡ None }
-        ensures pins { self.new.pins ≡ self.old.pins }
+        ensures supply { self.new.supply ≡ record self.old.supply { owners = cleared_of user self.old.supply.owners; slots = cleared_of user self.old.supply.slots; pins = replicate (length self.old.supply.pins) false } }
+        ensures gone { (page : ℕ) → frame_of self.new.supply.owners user page ≡ None }
+        ensures gone_slots { (page : ℕ) → frame_of self.new.supply.slots user page ≡ None }
     {
         give_back(&mut self.owners, user);
+        give_back(&mut self.slot_owners, user);
         forget(&mut self.table, user.index());
+        forget_slots(&mut self.slot_table, user.index());
+        clear_pins(&mut self.pins);
     }
 
     /// A frame's bytes; None past the frames. What is written there is from then on the content of the page in the frame.
     pub fn frame_mut(&mut self, frame: FrameNo) -> Option<&mut [u8; FRAME_SIZE]>
         ensures* writes_back { sem 𝓛 (LendsFrame self.entry frame.0 result) }
-        ensures some { IsSome result ↔ (frame.0 < length self.old.owners) }
+        ensures some { IsSome result ↔ (frame.0 < length self.old.supply.owners) }
     {
         self.frames.get_mut(frame.0 as usize)
     }
@@ -221,8 +382,15 @@ impl Frames {
         if address >= self.size(user) {
             return None;
         }
-        match self.frame_of(user, Page(address / PAGE_SIZE)) {
-            Some(frame) => Some(self.frames[frame.0 as usize][(address % PAGE_SIZE) as usize]),
+        let page = Page(address / PAGE_SIZE);
+        match self.frame_of(user, page) {
+            Some(frame) => return Some(
+                self.frames[frame.0 as usize][(address % PAGE_SIZE) as usize],
+            ),
+            None => {}
+        }
+        match self.slot_of(user, page) {
+            Some(slot) => Some(self.slots[slot][(address % PAGE_SIZE) as usize]),
             None => Some(0),
         }
     }
@@ -230,7 +398,7 @@ impl Frames {
     /// Copies bytes of a user out, whose pages stand in frames.
     #[inline(always)]
     pub fn load(&self, user: UserNo, start: u32, into: &mut [u8])
-        requires granted { IsGranted (length (bytes_of self.now user)) (is_there self.now.owners user) start (length into.old) }
+        requires granted { IsGranted (length (bytes_of self.now user)) (is_there self.now.supply.owners user) start (length into.old) }
         requires short { length into.old ≤ 256 }
         ensures { into.new ≡ slice_range (bytes_of self.now user) start (start + length into.old) }
     {
@@ -254,18 +422,18 @@ impl Frames {
         requires within { start + length into.old ≤ length (bytes_of self.now user) }
         requires some { 0 < length into.old }
         requires one_page { start % 4096 + length into.old ≤ 4096 }
-        requires present { IsSome (frame_of self.now.owners user (start / 4096)) }
+        requires present { IsSome (frame_of self.now.supply.owners user (start / 4096)) }
         ensures read { into.new ≡ slice_range (bytes_of self.now user) start (start + length into.old) }
         ensures fits { length (bytes_of self.now user) ≤ 4194304 }
     {
-        let frame = self.table[slot_of(user, start / PAGE_SIZE)] as usize;
+        let frame = self.table[entry_of(user, start / PAGE_SIZE)] as usize;
         copy_out(&self.frames[frame], (start % PAGE_SIZE) as usize, into);
     }
 
     /// Copies bytes out that may lie in two pages.
     #[inline(never)]
     fn load_apart(&self, user: UserNo, start: u32, into: &mut [u8])
-        requires granted { IsGranted (length (bytes_of self.now user)) (is_there self.now.owners user) start (length into.old) }
+        requires granted { IsGranted (length (bytes_of self.now user)) (is_there self.now.supply.owners user) start (length into.old) }
         requires short { length into.old ≤ 256 }
         requires some { 0 < length into.old }
         ensures { into.new ≡ slice_range (bytes_of self.now user) start (start + length into.old) }
@@ -279,7 +447,7 @@ impl Frames {
 
     /// Copies bytes of two pages out.
     fn load_across(&self, user: UserNo, start: u32, into: &mut [u8])
-        requires granted { IsGranted (length (bytes_of self.now user)) (is_there self.now.owners user) start (length into.old) }
+        requires granted { IsGranted (length (bytes_of self.now user)) (is_there self.now.supply.owners user) start (length into.old) }
         requires short { length into.old ≤ 256 }
         requires across { 4096 - start % 4096 < length into.old }
         ensures { into.new ≡ slice_range (bytes_of self.now user) start (start + length into.old) }
@@ -293,13 +461,12 @@ impl Frames {
     /// Copies bytes of a user in, whose pages stand in frames. No other byte of any user changes.
     #[inline(always)]
     pub fn store(&mut self, user: UserNo, start: u32, from: &[u8])
-        requires granted { IsGranted (length (bytes_of self.old user)) (is_there self.old.owners user) start (length from.now) }
+        requires granted { IsGranted (length (bytes_of self.old user)) (is_there self.old.supply.owners user) start (length from.now) }
         requires short { length from.now ≤ 256 }
         ensures bytes { bytes_of self.new user ≡ put (bytes_of self.old user) start from.now }
         ensures size { length (bytes_of self.new user) ≡ length (bytes_of self.old user) }
         ensures others { self.new.storages ≡ slice_set self.old.storages user (bytes_of self.new user) }
-        ensures owners { self.new.owners ≡ self.old.owners }
-        ensures pins { self.new.pins ≡ self.old.pins }
+        ensures supply { self.new.supply ≡ self.old.supply }
     {
         if from.is_empty() {
             return;
@@ -320,15 +487,14 @@ impl Frames {
         requires within { start + length from.now ≤ length (bytes_of self.old user) }
         requires some { 0 < length from.now }
         requires one_page { start % 4096 + length from.now ≤ 4096 }
-        requires present { IsSome (frame_of self.old.owners user (start / 4096)) }
+        requires present { IsSome (frame_of self.old.supply.owners user (start / 4096)) }
         ensures bytes { bytes_of self.new user ≡ put (bytes_of self.old user) start from.now }
         ensures size { length (bytes_of self.new user) ≡ length (bytes_of self.old user) }
         ensures others { self.new.storages ≡ slice_set self.old.storages user (bytes_of self.new user) }
-        ensures owners { self.new.owners ≡ self.old.owners }
-        ensures pins { self.new.pins ≡ self.old.pins }
+        ensures supply { self.new.supply ≡ self.old.supply }
         ensures fits { length (bytes_of self.old user) ≤ 4194304 }
     {
-        let frame = self.table[slot_of(user, start / PAGE_SIZE)] as usize;
+        let frame = self.table[entry_of(user, start / PAGE_SIZE)] as usize;
         copy_in(&mut self.frames[frame], (start % PAGE_SIZE) as usize, from);
     }
 
@@ -341,16 +507,15 @@ impl Frames {
         requires short { count ≤ 256 }
         requires page_of_source { from % 4096 + count ≤ 4096 }
         requires page_of_target { to % 4096 + count ≤ 4096 }
-        requires source_present { IsSome (frame_of self.old.owners user (from / 4096)) }
-        requires target_present { IsSome (frame_of self.old.owners user (to / 4096)) }
+        requires source_present { IsSome (frame_of self.old.supply.owners user (from / 4096)) }
+        requires target_present { IsSome (frame_of self.old.supply.owners user (to / 4096)) }
         ensures bytes { bytes_of self.new user ≡ put (bytes_of self.old user) to (slice_range (bytes_of self.old user) from (from + count)) }
         ensures size { length (bytes_of self.new user) ≡ length (bytes_of self.old user) }
         ensures others { self.new.storages ≡ slice_set self.old.storages user (bytes_of self.new user) }
-        ensures owners { self.new.owners ≡ self.old.owners }
-        ensures pins { self.new.pins ≡ self.old.pins }
+        ensures supply { self.new.supply ≡ self.old.supply }
     {
-        let source = self.table[slot_of(user, from / PAGE_SIZE)] as usize;
-        let target = self.table[slot_of(user, to / PAGE_SIZE)] as usize;
+        let source = self.table[entry_of(user, from / PAGE_SIZE)] as usize;
+        let target = self.table[entry_of(user, to / PAGE_SIZE)] as usize;
         copy_over(
             &mut self.frames,
             source,
@@ -364,14 +529,13 @@ impl Frames {
     /// Copies bytes that may lie in two pages, through a buffer.
     #[inline(never)]
     fn copy_across(&mut self, user: UserNo, from: u32, to: u32, count: u32)
-        requires source { IsGranted (length (bytes_of self.old user)) (is_there self.old.owners user) from count }
-        requires target { IsGranted (length (bytes_of self.old user)) (is_there self.old.owners user) to count }
+        requires source { IsGranted (length (bytes_of self.old user)) (is_there self.old.supply.owners user) from count }
+        requires target { IsGranted (length (bytes_of self.old user)) (is_there self.old.supply.owners user) to count }
         requires short { count ≤ 256 }
         ensures bytes { bytes_of self.new user ≡ put (bytes_of self.old user) to (slice_range (bytes_of self.old user) from (from + count)) }
         ensures size { length (bytes_of self.new user) ≡ length (bytes_of self.old user) }
         ensures others { self.new.storages ≡ slice_set self.old.storages user (bytes_of self.new user) }
-        ensures owners { self.new.owners ≡ self.old.owners }
-        ensures pins { self.new.pins ≡ self.old.pins }
+        ensures supply { self.new.supply ≡ self.old.supply }
     {
         let mut buffer = [0u8; LONGEST];
         let part = &mut buffer[..count as usize];
@@ -383,14 +547,13 @@ impl Frames {
     /// written. No other byte of any user changes.
     #[inline(always)]
     pub fn copy(&mut self, user: UserNo, from: u32, to: u32, count: u32)
-        requires source { IsGranted (length (bytes_of self.old user)) (is_there self.old.owners user) from count }
-        requires target { IsGranted (length (bytes_of self.old user)) (is_there self.old.owners user) to count }
+        requires source { IsGranted (length (bytes_of self.old user)) (is_there self.old.supply.owners user) from count }
+        requires target { IsGranted (length (bytes_of self.old user)) (is_there self.old.supply.owners user) to count }
         requires short { count ≤ 256 }
         ensures bytes { bytes_of self.new user ≡ put (bytes_of self.old user) to (slice_range (bytes_of self.old user) from (from + count)) }
         ensures size { length (bytes_of self.new user) ≡ length (bytes_of self.old user) }
         ensures others { self.new.storages ≡ slice_set self.old.storages user (bytes_of self.new user) }
-        ensures owners { self.new.owners ≡ self.old.owners }
-        ensures pins { self.new.pins ≡ self.old.pins }
+        ensures supply { self.new.supply ≡ self.old.supply }
     {
         if count == 0
             || from % PAGE_SIZE + count > PAGE_SIZE
@@ -405,14 +568,13 @@ impl Frames {
     /// Copies bytes in that may lie in two pages.
     #[inline(never)]
     fn store_apart(&mut self, user: UserNo, start: u32, from: &[u8])
-        requires granted { IsGranted (length (bytes_of self.old user)) (is_there self.old.owners user) start (length from.now) }
+        requires granted { IsGranted (length (bytes_of self.old user)) (is_there self.old.supply.owners user) start (length from.now) }
         requires short { length from.now ≤ 256 }
         requires some { 0 < length from.now }
         ensures bytes { bytes_of self.new user ≡ put (bytes_of self.old user) start from.now }
         ensures size { length (bytes_of self.new user) ≡ length (bytes_of self.old user) }
         ensures others { self.new.storages ≡ slice_set self.old.storages user (bytes_of self.new user) }
-        ensures owners { self.new.owners ≡ self.old.owners }
-        ensures pins { self.new.pins ≡ self.old.pins }
+        ensures supply { self.new.supply ≡ self.old.supply }
     {
         if start % PAGE_SIZE + from.len() as u32 <= PAGE_SIZE {
             self.store_part(user, start, from);
@@ -423,14 +585,13 @@ impl Frames {
 
     /// Copies bytes into two pages.
     fn store_across(&mut self, user: UserNo, start: u32, from: &[u8])
-        requires granted { IsGranted (length (bytes_of self.old user)) (is_there self.old.owners user) start (length from.now) }
+        requires granted { IsGranted (length (bytes_of self.old user)) (is_there self.old.supply.owners user) start (length from.now) }
         requires short { length from.now ≤ 256 }
         requires across { 4096 - start % 4096 < length from.now }
         ensures bytes { bytes_of self.new user ≡ put (bytes_of self.old user) start from.now }
         ensures size { length (bytes_of self.new user) ≡ length (bytes_of self.old user) }
         ensures others { self.new.storages ≡ slice_set self.old.storages user (bytes_of self.new user) }
-        ensures owners { self.new.owners ≡ self.old.owners }
-        ensures pins { self.new.pins ≡ self.old.pins }
+        ensures supply { self.new.supply ≡ self.old.supply }
     {
         let left = FRAME_SIZE - start as usize % FRAME_SIZE;
         let (first, second) = from.split_at(left);
@@ -444,21 +605,29 @@ mod tests {
     use super::*;
     use std::test::Fail;
 
-    // All that frames keep: no field but `frames` has bytes.
+    // All that frames keep: no fields but `frames` and `slots` have bytes.
     #[test]
     fn frames_have_no_other_parts(rt: HostRuntime) -> Result<(), Fail> {
         let sizes = vec![in rt.alloc(); 2u32, 3]?;
-        let all = Frames::new(rt.alloc(), 4, sizes)?;
+        let all = Frames::new(rt.alloc(), 4, 6, sizes)?;
         let Frames {
             frames,
+            slots,
             owners,
+            slot_owners,
             pins,
+            order,
+            page_ins,
             sizes,
             table,
+            slot_table,
         } = &all;
         assert_eq!(rt; (frames.len(), owners.len(), pins.len()), (4, 4, 4));
+        assert_eq!(rt; (slots.len(), slot_owners.len()), (6, 6));
+        assert_eq!(rt; order.as_slice(), [0u16, 1, 2, 3].as_slice());
         assert_eq!(rt; sizes.as_slice(), [2u32, 3].as_slice());
-        assert_eq!(rt; table.len(), 2048);
+        assert_eq!(rt; (table.len(), slot_table.len()), (2048, 2048));
+        assert_eq!(rt; *page_ins, 0);
         Ok(())
     }
 }

@@ -1,4 +1,4 @@
-//! Two users' pages in few frames.
+//! Two users' pages in few frames, and a user's pages in fewer frames than he has pages.
 
 ghost use Rattle.std.specs.Prelude.{◌≡◌};
 
@@ -29,7 +29,7 @@ fn b() -> UserNo
 /// Frames for user A with two pages and user B with three.
 fn two_users(alloc: Global, frames: u8) -> Result<Frames, AllocError> {
     let sizes = vec![in alloc; 2u32, 3]?;
-    Frames::new(alloc, u16::from(frames), sizes)
+    Frames::new(alloc, u16::from(frames), 0, sizes)
 }
 
 /// Brings a page that is known to be one of the user's.
@@ -158,12 +158,11 @@ fn a_full_pool_and_a_user_who_leaves(rt: HostRuntime) -> Result<(), Fail> {
         None => {}
     }
     frames.pin(second);
+    assert_eq!(rt; frames.is_pinned(second), true);
     frames.release(a());
     assert_eq!(rt; frames.page_in(first), None);
     assert_eq!(rt; frames.byte(a(), 4096), Some(0));
     assert_eq!(rt; frames.byte(b(), 9), Some(8));
-    assert_eq!(rt; frames.is_pinned(second), true);
-    frames.unpin(second);
     assert_eq!(rt; frames.is_pinned(second), false);
     assert_eq!(rt; bring(&rt, &mut frames, b(), 2), Ok(first));
     assert_eq!(rt; frames.byte(b(), 8192), Some(0));
@@ -203,5 +202,52 @@ fn a_storage_that_brings_its_pages(rt: HostRuntime) -> Result<(), Fail> {
     }
     assert_eq!(rt; frame_of(&rt, &frames, a(), 1), Some(FrameNo(0)));
     assert_eq!(rt; frame_of(&rt, &frames, b(), 1), Some(FrameNo(1)));
+    Ok(())
+}
+
+/// Writes into the first byte of a page of user A, after it is brought; or says that it cannot be.
+fn touch(rt: &impl Abort, frames: &mut Frames, page: u32, byte: u8) -> Result<(), FramesOut> {
+    let frame = bring(rt, frames, a(), page)?;
+    if let Some(bytes) = frames.frame_mut(frame) {
+        bytes[0] = byte;
+    }
+    Ok(())
+}
+
+#[test]
+fn more_pages_than_frames(rt: HostRuntime) -> Result<(), Fail> {
+    let mut frames = Frames::new(rt.alloc(), 16, 15, vec![in rt.alloc(); 32u32]?)?;
+    for page in 0..31u32 {
+        assert_eq!(rt; touch(&rt, &mut frames, page, page as u8 + 1), Ok(()));
+    }
+    // The sixteen that came last stand in frames, and the others have taken the slots in turn.
+    assert_eq!(rt; frame_of(&rt, &frames, a(), 14), None);
+    assert_eq!(rt; frame_of(&rt, &frames, a(), 15), Some(FrameNo(15)));
+    assert!(rt; frames.size(a()) == 131072);
+    assert_eq!(rt; frames.slot_of(a(), Page(14)), Some(14));
+    assert_eq!(rt; frames.slot_of(a(), Page(15)), None);
+    // One slot is missing for the last page, but a page in a slot comes back, and takes the oldest page's place.
+    assert_eq!(rt; touch(&rt, &mut frames, 31, 32), Err(FramesOut));
+    assert_eq!(rt; frames.byte(a(), 0), Some(1));
+    frames.pin(FrameNo(15));
+    assert_eq!(rt; touch(&rt, &mut frames, 0, 9), Ok(()));
+    assert_eq!(rt; frame_of(&rt, &frames, a(), 0), Some(FrameNo(0)));
+    assert_eq!(rt; frame_of(&rt, &frames, a(), 16), None);
+    assert_eq!(rt; frame_of(&rt, &frames, a(), 15), Some(FrameNo(15)));
+    assert_eq!(rt; frames.page_ins(), 32);
+    for page in 1..31u32 {
+        assert_eq!(rt; frames.byte(a(), page * 4096), Some(page as u8 + 1));
+    }
+    // With each frame pinned nothing is given up.
+    for frame in 0..16u16 {
+        frames.pin(FrameNo(frame));
+    }
+    assert_eq!(rt; touch(&rt, &mut frames, 1, 1), Err(FramesOut));
+    frames.unpin_all();
+    assert_eq!(rt; touch(&rt, &mut frames, 1, 1), Ok(()));
+    frames.release(a());
+    assert_eq!(rt; frames.byte(a(), 4096), Some(0));
+    assert_eq!(rt; touch(&rt, &mut frames, 31, 32), Ok(()));
+    assert_eq!(rt; frames.page_ins(), 34);
     Ok(())
 }

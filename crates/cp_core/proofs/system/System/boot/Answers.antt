@@ -5,7 +5,7 @@ use Rattle.cp_frames.specs.declared.numbers.UserPage.{UserPage}
 use Rattle.cp_core.specs.System.{SystemView, machines_of, booted}
 use Rattle.cp_core.specs.Whole.{AreNew, IsWhole}
 use Rattle.cp_core.specs.UserMachines.{UserParts}
-use Rattle.cp_core.proofs.Boots.{blank, new_machines, whole_new}
+use Rattle.cp_core.proofs.Boots.{blank, idle_new, new_machines, whole_new}
 use Rattle.cp_core.proofs.system.System.boot.Goals as goal
 
 pub invariant_of-result : goal.invariant_of-result
@@ -14,7 +14,10 @@ invariant_of-result c =
     let seated : AreNew c.in-Ok.machines.items users = subst (AreNew c.in-Ok.machines.items) c.users.ensures.users c.in-Ok.ensures in
     let pages = c.in-Ok-pages_of.ensures.pages ∙ ap (λ (us : List DirectoryUser). map (λ (user : DirectoryUser). user.pages) us) c.users-2.ensures.users in
     let stored : c.in-Ok-new.frames.storages ≡ blank users = c.in-Ok-new.ensures.storages ∙ ap (λ (ps : List ℕ). map (λ pages. replicate (pages * 4096) 0) ps) pages in
-    rw stored (whole_new c.in-Ok.machines.items users seated c.requires)
+    record {
+      whole = rw stored (whole_new c.in-Ok.machines.items users seated c.requires);
+      idle = idle_new c.in-Ok-new.frames.supply c.frames-2.result c.in-Ok-new.ensures.pins c.in-Ok-new.ensures.slots;
+    }
 
 view_is : (machines machines' : List Machine) (users : List DirectoryUser) (owners owners' : List (Option UserPage)) (pins pins' : List Bool) → machines ≡ machines' → owners ≡ owners' → pins ≡ pins' → (let s : SystemView = record { machines = machines; users = users; owners = owners; pins = pins; is_spent = false } in s ≡ record { machines = machines'; users = users; owners = owners'; pins = pins'; is_spent = false })
 view_is machines machines' users owners owners' pins pins' a b p = rw (a, b, p) refl

@@ -1,9 +1,9 @@
 use Rattle.std.proofs.Common.{◌≡◌, List, ℕ, ◌∙◌, ap, refl, subst, sym}
 use Rattle.cp_frames.specs.Layout.{Pool}
 use Rattle.cp_core.specs.System.{SystemView}
-use Rattle.cp_core.specs.Whole.{IsWhole}
+use Rattle.cp_core.specs.Whole.{IsSystem}
 use Rattle.cp_core.specs.Loan.{written_frame}
-use Rattle.cp_core.proofs.Loans.{seen, seen_written, whole_written}
+use Rattle.cp_core.proofs.Loans.{seen, seen_written, system_written}
 use Rattle.cp_core.proofs.system.System.frame_mut.Goals as goal
 
 pub invariant_of-self-lent : goal.invariant_of-self-lent
@@ -11,9 +11,9 @@ invariant_of-self-lent c =
     let seats = c.self.inside.machines.items in
     let users = c.self.inside.directory in
     let pool = c.self.inside.frames in
-    let fits : (p q : Pool) → p ≡ q → IsWhole seats q.storages users → IsWhole seats p.storages users = λ p q e whole. subst (λ (p : Pool). IsWhole seats p.storages users) (sym e) whole in
+    let fits : (p q : Pool) → p ≡ q → IsSystem seats q users → IsSystem seats p users = λ p q e whole. subst (λ (p : Pool). IsSystem seats p users) (sym e) whole in
     λ lent. (
-      λ w. fits (c.frame_mut.follows.lender w) _ (c.frame_mut.follows.holds w) (whole_written seats pool users c.args.frame.0 w c.self.invariant),
+      λ w. fits (c.frame_mut.follows.lender w) _ (c.frame_mut.follows.holds w) (system_written seats pool users c.args.frame.0 w c.self.invariant),
       fits c.frame_mut.follows.lender-at-none pool c.frame_mut.follows.holds-at-none c.self.invariant,
     )
 

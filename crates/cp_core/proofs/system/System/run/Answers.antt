@@ -10,36 +10,36 @@ use Rattle.cp_core.proofs.system.System.run.Goals as goal
 
 pub index_mut-machine-requires : goal.index_mut-machine-requires
 index_mut-machine-requires c =
-    let inside = is_user c.self.inside.machines.items c.self.inside.frames.storages c.self.inside.directory c.args.self.now.machines c.args.user c.self.invariant (ap (λ (s : SystemView). s.machines) c.self.view_is) c.requires in
-    omega (arith, inside, c.self.invariant.seated, c.self.inside.machines.ok.0)
+    let inside = is_user c.self.inside.machines.items c.self.inside.frames.storages c.self.inside.directory c.args.self.now.machines c.args.user c.self.invariant.whole (ap (λ (s : SystemView). s.machines) c.self.view_is) c.requires in
+    omega (arith, inside, c.self.invariant.whole.seated, c.self.inside.machines.ok.0)
 
 pub overflow_cast-user : goal.overflow_cast-user
 overflow_cast-user c =
-    let inside = is_user c.self.inside.machines.items c.self.inside.frames.storages c.self.inside.directory c.args.self.now.machines c.args.user c.self.invariant (ap (λ (s : SystemView). s.machines) c.self.view_is) c.requires in
-    omega (arith, inside, c.self.invariant.few)
+    let inside = is_user c.self.inside.machines.items c.self.inside.frames.storages c.self.inside.directory c.args.self.now.machines c.args.user c.self.invariant.whole (ap (λ (s : SystemView). s.machines) c.self.view_is) c.requires in
+    omega (arith, inside, c.self.invariant.whole.few)
 
 pub new-requires : goal.new-requires
 new-requires c =
-    let inside = is_user c.self.inside.machines.items c.self.inside.frames.storages c.self.inside.directory c.args.self.now.machines c.args.user c.self.invariant (ap (λ (s : SystemView). s.machines) c.self.view_is) c.requires in
-    omega (arith, inside, c.self.invariant.few)
+    let inside = is_user c.self.inside.machines.items c.self.inside.frames.storages c.self.inside.directory c.args.self.now.machines c.args.user c.self.invariant.whole (ap (λ (s : SystemView). s.machines) c.self.view_is) c.requires in
+    omega (arith, inside, c.self.invariant.whole.few)
 
 pub run-requires : goal.run-requires
 run-requires c =
-    let inside = is_user c.self.inside.machines.items c.self.inside.frames.storages c.self.inside.directory c.args.self.now.machines c.args.user c.self.invariant (ap (λ (s : SystemView). s.machines) c.self.view_is) c.requires in
-    rw c.new.ensures (seat_fits c.self.inside.machines.items c.self.inside.frames.storages c.self.inside.directory c.args.user c.index_mut-machine.result.now c.self.invariant inside c.index_mut-machine.ensures.value)
+    let inside = is_user c.self.inside.machines.items c.self.inside.frames.storages c.self.inside.directory c.args.self.now.machines c.args.user c.self.invariant.whole (ap (λ (s : SystemView). s.machines) c.self.view_is) c.requires in
+    record { fits = rw c.new.ensures (seat_fits c.self.inside.machines.items c.self.inside.frames.storages c.self.inside.directory c.args.user c.index_mut-machine.result.now c.self.invariant.whole inside c.index_mut-machine.ensures.value); idle = c.self.invariant.idle }
 
 pub returns-clause-told : goal.returns-clause-told
 returns-clause-told c =
-    let changed = change c.self.inside.machines.items c.self.inside.frames.storages c.run.new.frames.storages c.self.inside.directory c.args.self.now.machines c.args.user c.index_mut-machine.result.now c.run.new.self c.self.invariant (ap (λ (s : SystemView). s.machines) c.self.view_is) c.requires (c.index_mut-machine.ensures.value) (rw c.new.ensures at c.run.ensures.others) in
-    transported (λ old new. TellsRun c.args.units old (record { machine = new; units = c.run.result.ran.units; reason = c.run.result.ran.reason; notice = c.run.result.notice }) (IsShort c.run.new.frames.owners c.args.user)) _ _ _ _ changed.old changed.new (rw c.new.ensures at c.run.ensures.told)
+    let changed = change c.self.inside.machines.items c.self.inside.frames.storages c.run.new.frames.storages c.self.inside.directory c.args.self.now.machines c.args.user c.index_mut-machine.result.now c.run.new.self c.self.invariant.whole (ap (λ (s : SystemView). s.machines) c.self.view_is) c.requires (c.index_mut-machine.ensures.value) (rw c.new.ensures at c.run.ensures.others) in
+    transported (λ old new. TellsRun c.args.units old (record { machine = new; units = c.run.result.ran.units; reason = c.run.result.ran.reason; notice = c.run.result.notice }) (IsShort c.run.new.frames.supply.owners c.args.user)) _ _ _ _ changed.old changed.new (rw c.new.ensures at c.run.ensures.told)
 
 pub returns-clause-supply : goal.returns-clause-supply
 returns-clause-supply c =
-    let changed = change c.self.inside.machines.items c.self.inside.frames.storages c.run.new.frames.storages c.self.inside.directory c.args.self.now.machines c.args.user c.index_mut-machine.result.now c.run.new.self c.self.invariant (ap (λ (s : SystemView). s.machines) c.self.view_is) c.requires (c.index_mut-machine.ensures.value) (rw c.new.ensures at c.run.ensures.others) in
-    let o : c.self.inside.frames.owners ≡ c.args.self.now.owners = ap (λ (s : SystemView). s.owners) c.self.view_is in
-    rw (← o) (transported (λ old new. (pages : List ℕ) × IsFilled c.args.user c.self.inside.frames.owners pages c.run.new.frames.owners × AllNeeded (RunNeeds old.core c.run.result.ran.units c.run.result.ran.reason) pages) _ _ _ _ changed.old changed.new (rw c.new.ensures at c.run.ensures.supply))
+    let changed = change c.self.inside.machines.items c.self.inside.frames.storages c.run.new.frames.storages c.self.inside.directory c.args.self.now.machines c.args.user c.index_mut-machine.result.now c.run.new.self c.self.invariant.whole (ap (λ (s : SystemView). s.machines) c.self.view_is) c.requires (c.index_mut-machine.ensures.value) (rw c.new.ensures at c.run.ensures.others) in
+    let o : c.self.inside.frames.supply.owners ≡ c.args.self.now.owners = ap (λ (s : SystemView). s.owners) c.self.view_is in
+    rw (← o) (transported (λ old new. (pages : List ℕ) × IsFilled c.args.user c.self.inside.frames.supply.owners pages c.run.new.frames.supply.owners × AllNeeded (RunNeeds old.core c.run.result.ran.units c.run.result.ran.reason) pages) _ _ _ _ changed.old changed.new (rw c.new.ensures at c.run.ensures.supply))
 
 pub returns-clause-machines : goal.returns-clause-machines
 returns-clause-machines c =
-    let changed = change c.self.inside.machines.items c.self.inside.frames.storages c.run.new.frames.storages c.self.inside.directory c.args.self.now.machines c.args.user c.index_mut-machine.result.now c.run.new.self c.self.invariant (ap (λ (s : SystemView). s.machines) c.self.view_is) c.requires (c.index_mut-machine.ensures.value) (rw c.new.ensures at c.run.ensures.others) in
+    let changed = change c.self.inside.machines.items c.self.inside.frames.storages c.run.new.frames.storages c.self.inside.directory c.args.self.now.machines c.args.user c.index_mut-machine.result.now c.run.new.self c.self.invariant.whole (ap (λ (s : SystemView). s.machines) c.self.view_is) c.requires (c.index_mut-machine.ensures.value) (rw c.new.ensures at c.run.ensures.others) in
     changed.machines

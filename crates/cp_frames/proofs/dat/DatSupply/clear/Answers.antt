@@ -17,7 +17,7 @@ returns-clause-cleared c = record {
     same_user = refl;
     others = set_now _ _ _ _ c.release.ensures.storages;
   };
-  same_pins = c.release.ensures.pins;
-  owners = c.release.ensures.owners;
+  supply = c.release.ensures.supply;
   gone = λ page. ap is_some (c.release.ensures.gone page);
+  gone_slots = λ page. ap is_some (c.release.ensures.gone_slots page);
 }

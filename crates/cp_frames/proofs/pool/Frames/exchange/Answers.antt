@@ -1,0 +1,102 @@
+use Rattle.std.proofs.Common.{◌≡◌, None, sym, arith, length, get_or, ◌<◌, ◌+◌, ◌∙◌, ap, [], false}
+use Rattle.std.proofs.lemmas.List.{get_or_read, get_or_append_left}
+use Rattle.cp_frames.specs.Layout.{told}
+use Rattle.cp_frames.proofs.Halves.{at_right}
+use Rattle.cp_frames.proofs.Told.{length-told}
+use Rattle.cp_frames.proofs.Orders.{entry_room}
+use Rattle.cp_frames.proofs.Exchanges.{exchange-kept, exchange-storages}
+use Rattle.cp_frames.proofs.Inside.{places_in, owners_in}
+use Rattle.cp_frames.proofs.pool.Frames.exchange.Goals as goal
+
+pub tell-requires : goal.tell-requires
+tell-requires c =
+    let f = c.self.inside in
+    let frame = c.args.frame in
+    let slot = c.args.slot in
+    let kept = c.self.invariant in
+    let within : frame < length f.owners.items = rw (← c.self.view_is) at c.requires.frame in
+    let slot_in : slot < length f.slot_owners.items = rw (← c.self.view_is) at c.requires.slot in
+    let given = get_or_read f.owners.items _ _ within c.index.ensures None in
+    entry_room 65535 (places_in f) (owners_in f) f.owners.items f.sizes.items f.table.items frame c.index.result.now kept.whole kept.tabled (get_or_append_left f.owners.items f.slot_owners.items None frame within ∙ sym given)
+
+pub tell-requires-2 : goal.tell-requires-2
+tell-requires-2 c =
+    let f = c.self.inside in
+    let frame = c.args.frame in
+    let slot = c.args.slot in
+    let kept = c.self.invariant in
+    let within : frame < length f.owners.items = rw (← c.self.view_is) at c.requires.frame in
+    let slot_in : slot < length f.slot_owners.items = rw (← c.self.view_is) at c.requires.slot in
+    let wanted = get_or_read f.slot_owners.items _ _ slot_in c.index-2.ensures None in
+    let room = entry_room 65535 (places_in f) (owners_in f) f.owners.items f.sizes.items f.table.items (length f.owners.items + slot) c.index-2.result.now kept.whole kept.tabled (at_right f.owners.items f.slot_owners.items slot None ∙ sym wanted) in
+    rw (c.tell.ensures, length-told) room
+
+pub tell_slot-requires : goal.tell_slot-requires
+tell_slot-requires c =
+    let f = c.self.inside in
+    let frame = c.args.frame in
+    let slot = c.args.slot in
+    let kept = c.self.invariant in
+    let within : frame < length f.owners.items = rw (← c.self.view_is) at c.requires.frame in
+    let slot_in : slot < length f.slot_owners.items = rw (← c.self.view_is) at c.requires.slot in
+    let wanted = get_or_read f.slot_owners.items _ _ slot_in c.index-3.ensures None in
+    entry_room 4294967295 (places_in f) (owners_in f) f.slot_owners.items f.sizes.items f.slot_table.items (length f.owners.items + slot) c.index-3.result.now kept.whole kept.slots_tabled (at_right f.owners.items f.slot_owners.items slot None ∙ sym wanted)
+
+pub tell_slot-requires-2 : goal.tell_slot-requires-2
+tell_slot-requires-2 c =
+    let f = c.self.inside in
+    let frame = c.args.frame in
+    let slot = c.args.slot in
+    let kept = c.self.invariant in
+    let within : frame < length f.owners.items = rw (← c.self.view_is) at c.requires.frame in
+    let slot_in : slot < length f.slot_owners.items = rw (← c.self.view_is) at c.requires.slot in
+    let given = get_or_read f.owners.items _ _ within c.index-4.ensures None in
+    let room = entry_room 4294967295 (places_in f) (owners_in f) f.slot_owners.items f.sizes.items f.slot_table.items frame c.index-4.result.now kept.whole kept.slots_tabled (get_or_append_left f.owners.items f.slot_owners.items None frame within ∙ sym given) in
+    rw (c.tell_slot.ensures, length-told) room
+
+pub invariant_of-self : goal.invariant_of-self
+invariant_of-self c =
+    let f = c.self.inside in
+    let frame = c.args.frame in
+    let slot = c.args.slot in
+    let kept = c.self.invariant in
+    let within : frame < length f.owners.items = rw (← c.self.view_is) at c.requires.frame in
+    let slot_in : slot < length f.slot_owners.items = rw (← c.self.view_is) at c.requires.slot in
+    let given = get_or_read f.owners.items _ _ within c.index.ensures None in
+    let wanted = get_or_read f.slot_owners.items _ _ slot_in c.index-2.ensures None in
+    let wanted_2 = get_or_read f.slot_owners.items _ _ slot_in c.index-3.ensures None in
+    let given_2 = get_or_read f.owners.items _ _ within c.index-4.ensures None in
+    let frame_in : frame < length f.frames.items = omega (arith, kept.frame_room) in
+    let bytes_in : slot < length f.slots.items = omega (arith, kept.slot_room) in
+    let o = c.swap.ensures.x_after ∙ get_or_read f.slot_owners.items _ _ slot_in c.index_mut-2.ensures.value None in
+    let p = c.swap.ensures.y_after ∙ get_or_read f.owners.items _ _ within c.index_mut.ensures.value None in
+    let x = c.swap-2.ensures.x_after ∙ get_or_read f.slots.items _ _ bytes_in c.index_mut-4.ensures.value [] in
+    let y = c.swap-2.ensures.y_after ∙ get_or_read f.frames.items _ _ frame_in c.index_mut-3.ensures.value [] in
+    let unpinned : get_or f.pins.items frame false ≡ false = rw (← c.self.view_is) at c.requires.unpinned in
+    let table : c.tell-2.new.table.items ≡ told (get_or f.slot_owners.items slot None) frame (told (get_or f.owners.items frame None) 65535 f.table.items) =
+    c.tell-2.ensures ∙ ap (told c.index-2.result.now frame) (c.tell.ensures ∙ ap (λ o. told o 65535 f.table.items) given)
+    ∙ ap (λ o. told o frame (told (get_or f.owners.items frame None) 65535 f.table.items)) wanted in
+    let slot_table : c.tell_slot-2.new.table.items ≡ told (get_or f.owners.items frame None) slot (told (get_or f.slot_owners.items slot None) 4294967295 f.slot_table.items) =
+    c.tell_slot-2.ensures ∙ ap (told c.index-4.result.now slot) (c.tell_slot.ensures ∙ ap (λ o. told o 4294967295 f.slot_table.items) wanted_2)
+    ∙ ap (λ o. told o slot (told (get_or f.slot_owners.items slot None) 4294967295 f.slot_table.items)) given_2 in
+    rw (o, p, x, y, table, slot_table) (exchange-kept f frame slot kept within slot_in unpinned)
+
+pub returns-clause-storages : goal.returns-clause-storages
+returns-clause-storages c =
+    let f = c.self.inside in
+    let frame = c.args.frame in
+    let slot = c.args.slot in
+    let kept = c.self.invariant in
+    let within : frame < length f.owners.items = rw (← c.self.view_is) at c.requires.frame in
+    let slot_in : slot < length f.slot_owners.items = rw (← c.self.view_is) at c.requires.slot in
+    let given = get_or_read f.owners.items _ _ within c.index.ensures None in
+    let wanted = get_or_read f.slot_owners.items _ _ slot_in c.index-2.ensures None in
+    let wanted_2 = get_or_read f.slot_owners.items _ _ slot_in c.index-3.ensures None in
+    let given_2 = get_or_read f.owners.items _ _ within c.index-4.ensures None in
+    let frame_in : frame < length f.frames.items = omega (arith, kept.frame_room) in
+    let bytes_in : slot < length f.slots.items = omega (arith, kept.slot_room) in
+    let o = c.swap.ensures.x_after ∙ get_or_read f.slot_owners.items _ _ slot_in c.index_mut-2.ensures.value None in
+    let p = c.swap.ensures.y_after ∙ get_or_read f.owners.items _ _ within c.index_mut.ensures.value None in
+    let x = c.swap-2.ensures.x_after ∙ get_or_read f.slots.items _ _ bytes_in c.index_mut-4.ensures.value [] in
+    let y = c.swap-2.ensures.y_after ∙ get_or_read f.frames.items _ _ frame_in c.index_mut-3.ensures.value [] in
+    rw (← c.self.view_is, o, p, x, y) (exchange-storages f frame slot kept within slot_in)

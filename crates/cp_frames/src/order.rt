@@ -1,0 +1,67 @@
+//! The frames in the order in which their pages came.
+ghost use Rattle.std.specs.Prelude.{◌≡◌, ◌<◌, ◌≤◌, ◌+◌, ◌++◌, ◌∷◌, [], length, slice_index, slice_index_or, take, None, true, false, IsSome, IfOk, IfSome, IfNone, All};
+ghost use Rattle.std.specs.List.{range_with_len, remove};
+ghost use Rattle.cp_frames.specs.Paging.{counted, IsLongest, IsPinned};
+
+use crate::UserPage;
+use std::alloc::{AllocError, Global};
+
+/// The frames by their numbers.
+pub fn all_frames(alloc: Global, frames: u16) -> Result<Vec<u16>, AllocError>
+    ensures { IfOk result (λ order. order.items ≡ range_with_len 0 frames) }
+{
+    let mut order = Vec::new(alloc);
+    for frame in 0..frames {
+        order.push(frame)?;
+    }
+    Ok(order)
+}
+
+/// The first turn whose frame is free.
+pub fn free_turn(order: &[u16], owners: &[Option<UserPage>]) -> Option<usize>
+    requires { All (λ frame. frame < length owners.now) order.now }
+    ensures within { IfSome result (λ turn. turn < length order.now) }
+    ensures free { IfSome result (λ turn. slice_index_or owners.now (slice_index order.now turn) None ≡ None) }
+    ensures none { IfNone result (All (λ frame. IsSome (slice_index_or owners.now frame None)) order.now) }
+{
+    for (turn, frame) in order.iter().enumerate() {
+        if owners[*frame as usize].is_none() {
+            return Some(turn);
+        }
+    }
+    None
+}
+
+/// The first turn whose frame is not pinned.
+pub fn open_turn(order: &[u16], pins: &[bool]) -> Option<usize>
+    requires { All (λ frame. frame < length pins.now) order.now }
+    ensures within { IfSome result (λ turn. turn < length order.now) }
+    ensures longest { IfSome result (IsLongest order.now pins.now) }
+    ensures none { IfNone result (All (IsPinned pins.now) order.now) }
+{
+    for (turn, frame) in order.iter().enumerate() {
+        if !pins[*frame as usize] {
+            return Some(turn);
+        }
+    }
+    None
+}
+
+/// Puts the frame that has this turn last.
+pub fn last(order: &mut [u16], turn: usize)
+    requires { turn < length order.old }
+    ensures { order.new ≡ remove order.old turn ++ slice_index order.old turn ∷ [] }
+{
+    order[turn..].rotate_left(1);
+}
+
+/// One more, which stays at its greatest value.
+pub fn count(number: u64) -> u64
+    ensures { result ≡ counted number }
+{
+    if number == u64::MAX {
+        number
+    } else {
+        number + 1
+    }
+}
