@@ -1,9 +1,7 @@
-//! Which operation codes there are, and what a base or index field of zero names.
-use super::{place, ran};
+//! Which operation codes there are.
+use super::{place, processor};
 use crate::supervised;
 use s370_cpu::Stop;
-use s370_psw::Psw;
-use s370_rows::Cpu;
 use s370_store::PlainStorage;
 use std::alloc::Global;
 use std::test::Fail;
@@ -37,13 +35,10 @@ static SUPERVISOR_STATE: [u8; 12] = [
 /// How an instruction ends at address 100 whose operands stand at address 200, where a branch stands that is never taken.
 fn end_of(alloc: Global, first: u8, problem: bool) -> Result<Stop, Fail> {
     let mut storage = PlainStorage::new(alloc, 1)?;
-    place(&mut storage, 0x100, &[first, 0x00, 0x02, 0x00, 0x02, 0x00])?;
-    place(&mut storage, 0x200, &[0x07, 0x00])?;
-    let mut cpu = Cpu {
-        general: [0; 16],
-        control: [0; 16],
-        psw: Psw::from_word(if problem { 0x00010000_00000100 } else { 0x100 }),
-    };
+    place(&mut storage, 0x100, [first, 0x00, 0x02, 0x00])?;
+    place(&mut storage, 0x104, [0x02, 0x00, 0x00, 0x00])?;
+    place(&mut storage, 0x200, [0x07, 0x00, 0x00, 0x00])?;
+    let mut cpu = processor(0x100, problem);
     Ok(supervised(&mut cpu, &mut storage))
 }
 
@@ -70,32 +65,5 @@ fn every_first_byte(rt: HostRuntime) -> Result<(), Fail> {
             assert_eq!(rt; (supervisor, problem), (1, 1), "{first}");
         }
     }
-    Ok(())
-}
-
-// Register 0 has an address, and no base or index field that is zero takes it.
-#[test]
-fn a_field_of_zero_names_no_register(rt: HostRuntime) -> Result<(), Fail> {
-    let registers = [(0, 0x00000100), (1, 0x11223344)];
-    let loaded = ran(
-        rt.alloc(),
-        0x400,
-        &registers,
-        &[],
-        &[0x58, 0x10, 0x02, 0x00],
-        (0x200, 0xAABBCCDD),
-    )?;
-    assert_eq!(rt; loaded.stop, Stop::Done);
-    assert_eq!(rt; loaded.general[1], 0xAABBCCDD);
-    let stored = ran(
-        rt.alloc(),
-        0x400,
-        &registers,
-        &[],
-        &[0x50, 0x10, 0x02, 0x00],
-        (0x200, 0xAABBCCDD),
-    )?;
-    assert_eq!(rt; stored.stop, Stop::Done);
-    assert_eq!(rt; stored.operand, 0x11223344);
     Ok(())
 }
