@@ -1,14 +1,14 @@
 -- What stands in a frame and what stands in a slot change places.
-use Rattle.std.proofs.Common.{◌≡◌, ◌≢◌, ℕ, ◌+◌, ◌*◌, ◌<◌, ◌≤◌, List, [], ◌++◌, length, get_or, Bool, true, false, Option, Some, None, refl, sym, ◌∙◌, ap, arith, length-append, set-set, subst}
+use Rattle.std.proofs.Common.{◌≡◌, ℕ, ◌+◌, ◌*◌, ◌<◌, List, [], ◌++◌, length, get_or, false, Option, Some, None, refl, sym, ◌∙◌, ap, arith, set-set}
 use Rattle.std.proofs.Math.ListN.{set, length-set}
-use Rattle.std.proofs.lemmas.List.{get_or_append_left, set-get_or}
+use Rattle.std.proofs.lemmas.List.{set-get_or}
 use Rattle.cp_frames.specs.declared.numbers.UserPage.{UserPage}
 use Rattle.cp_frames.specs.declared.pool.Frames.TheInside.{Inside}
 use Rattle.cp_frames.specs.Layout.{FrameSupply, owned, frame_of, storages_of, told, IsTabled, IsSound}
 use Rattle.cp_frames.specs.Paging.{IsGivenUp, IsPut, exchanged, filled}
 use Rattle.cp_frames.proofs.Tables.{IsPlace, page_is}
 use Rattle.cp_frames.proofs.Moves.{IsMoved, whole-moved, storages-moved, crossed}
-use Rattle.cp_frames.proofs.Halves.{at_right, crossed-moved, hold_left, hold_right, once_left, once_right, no_frame_of_slot, no_slot_of_frame}
+use Rattle.cp_frames.proofs.Halves.{crossed-moved, hold_left, hold_right, once_left, once_right, no_frame_of_slot, no_slot_of_frame}
 use Rattle.cp_frames.proofs.Told.{AreSmall, IsNew, tabled-set}
 use Rattle.cp_frames.proofs.Orders.{ordered-set, small_page}
 use Rattle.cp_frames.proofs.Inside.{IsKept, places_in, owners_in}
@@ -39,7 +39,7 @@ pub exchange-kept : (f : Inside) (frame slot : ℕ) → IsKept f → frame < len
     IsSound (set f.frames.items frame (get_or f.slots.items slot [])) (set f.slots.items slot (get_or f.frames.items frame []))
     (set f.owners.items frame (get_or f.slot_owners.items slot None)) (set f.slot_owners.items slot (get_or f.owners.items frame None)) f.sizes.items
     (told (get_or f.slot_owners.items slot None) frame (told (get_or f.owners.items frame None) 65535 f.table.items))
-    (told (get_or f.owners.items frame None) slot (told (get_or f.slot_owners.items slot None) 4294967295 f.slot_table.items)) f.pins.items f.order.items
+    (told (get_or f.owners.items frame None) slot (told (get_or f.slot_owners.items slot None) 4294967295 f.slot_table.items)) f.pins.items f.is_marked f.order.items
 exchange-kept f frame slot kept lt less unpinned = record {
   frame_room = rw (length-set, length-set) kept.frame_room;
   slot_room = rw (length-set, length-set) kept.slot_room;
@@ -47,6 +47,7 @@ exchange-kept f frame slot kept lt less unpinned = record {
   tabled = tabled-set 65535 f.owners.items f.sizes.items f.table.items frame (get_or f.slot_owners.items slot None) (once_left f.owners.items f.slot_owners.items kept.whole.once) (small_left f kept) kept.tabled lt (new_frame f slot kept);
   slots_tabled = tabled-set 4294967295 f.slot_owners.items f.sizes.items f.slot_table.items slot (get_or f.owners.items frame None) (once_right f.owners.items f.slot_owners.items kept.whole.once) (small_right f kept) kept.slots_tabled less (new_slot f frame kept lt);
   ordered = ordered-set f.owners.items f.pins.items f.order.items frame (get_or f.slot_owners.items slot None) kept.ordered unpinned;
+  unmarked = kept.unmarked;
 }
 
 pub exchange-storages : (f : Inside) (frame slot : ℕ) → IsKept f → frame < length f.owners.items → slot < length f.slot_owners.items →

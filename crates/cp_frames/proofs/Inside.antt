@@ -19,7 +19,7 @@ abbrev pub bytes_in : Inside → ℕ → List ℕ
 bytes_in f user = get_or (storages_of (places_in f) (owners_in f) f.sizes.items) user []
 
 abbrev pub IsKept : Inside → Type 0
-IsKept f = IsSound f.frames.items f.slots.items f.owners.items f.slot_owners.items f.sizes.items f.table.items f.slot_table.items f.pins.items f.order.items
+IsKept f = IsSound f.frames.items f.slots.items f.owners.items f.slot_owners.items f.sizes.items f.table.items f.slot_table.items f.pins.items f.is_marked f.order.items
 
 -- a byte of the user has a page with an entry in the table
 pub place_in : (f : Inside) (user address : ℕ) → IsKept f → address < length (bytes_in f user) → IsPlace f.sizes.items f.table.items user (address / 4096)

@@ -1,5 +1,5 @@
 -- What is so where all pages of a user have left, and at first.
-use Rattle.std.proofs.Common.{◌≡◌, ◌≢◌, ℕ, zero, suc, ◌+◌, ◌*◌, ◌/◌, ◌<◌, ◌≤◌, List, [], ◌∷◌, ◌++◌, map, length, get_or, replicate, Bool, true, false, Option, Some, None, refl, sym, ◌∙◌, ap, arith, subst, length-append}
+use Rattle.std.proofs.Common.{◌≡◌, ℕ, zero, suc, ◌+◌, ◌*◌, ◌≤◌, List, ◌∷◌, ◌++◌, map, length, get_or, replicate, Bool, true, false, Option, None, refl, sym, ◌∙◌, ap, arith, subst, length-append}
 use Rattle.std.specs.Prelude.{All}
 use Rattle.std.specs.List.{range_with_len}
 use Rattle.std.proofs.Math.ListN.{length-map, length-replicate}
@@ -7,9 +7,10 @@ use Rattle.std.proofs.lemmas.List.{map-append}
 use Rattle.std.proofs.lemmas.List.Sorted.{IsPermutation-refl}
 use Rattle.cp_frames.specs.declared.numbers.UserPage.{UserPage}
 use Rattle.cp_frames.specs.declared.pool.Frames.TheInside.{Inside}
-use Rattle.cp_frames.specs.Layout.{cleared_of, without, storages_of, IsWhole, IsTabled, IsSound}
+use Rattle.cp_frames.specs.Layout.{cleared_of, without, storages_of, ArePages, IsWhole, IsTabled, IsSound}
 use Rattle.cp_frames.proofs.Layouts.{whole-cleared, storages-none}
 use Rattle.cp_frames.proofs.Tables.{tabled-none, whole-none}
+use Rattle.cp_frames.proofs.Halves.{hold_left, once_left}
 use Rattle.cp_frames.proofs.Inside.{IsKept, places_in, owners_in}
 
 never_pinned : (n k : ℕ) → get_or (replicate n false) k false ≡ true → ⊥
@@ -20,9 +21,10 @@ never_pinned (suc n) (suc k) e = never_pinned n k e
 pub both_cleared : (user : ℕ) (owners slots : List (Option UserPage)) → cleared_of user (owners ++ slots) ≡ cleared_of user owners ++ cleared_of user slots
 both_cleared user owners slots = map-append (without user) owners slots
 
-pub released-kept : (f : Inside) (user : ℕ) (table slot_table : List ℕ) → IsKept f → IsTabled 65535 (cleared_of user f.owners.items) f.sizes.items table → IsTabled 4294967295 (cleared_of user f.slot_owners.items) f.sizes.items slot_table →
-    IsSound f.frames.items f.slots.items (cleared_of user f.owners.items) (cleared_of user f.slot_owners.items) f.sizes.items table slot_table (replicate (length f.pins.items) false) f.order.items
-released-kept f user table slot_table kept tabled slots_tabled = record {
+pub released-kept : (f : Inside) (user : ℕ) (table slot_table : List ℕ) → IsKept f → f.pins.items ≡ replicate (length f.pins.items) false →
+    IsTabled 65535 (cleared_of user f.owners.items) f.sizes.items table → IsTabled 4294967295 (cleared_of user f.slot_owners.items) f.sizes.items slot_table →
+    IsSound f.frames.items f.slots.items (cleared_of user f.owners.items) (cleared_of user f.slot_owners.items) f.sizes.items table slot_table f.pins.items f.is_marked f.order.items
+released-kept f user table slot_table kept blank tabled slots_tabled = record {
   frame_room = rw length-map kept.frame_room;
   slot_room = rw length-map kept.slot_room;
   whole = subst (λ (os : List (Option UserPage)). IsWhole (places_in f) os f.sizes.items) (both_cleared user f.owners.items f.slot_owners.items) (whole-cleared (places_in f) (owners_in f) f.sizes.items user kept.whole);
@@ -30,10 +32,19 @@ released-kept f user table slot_table kept tabled slots_tabled = record {
   slots_tabled = slots_tabled;
   ordered = record {
     frames = rw length-map kept.ordered.frames;
-    marks = rw (length-replicate, length-map) kept.ordered.marks;
-    used = λ k e. absurd (never_pinned (length f.pins.items) k e);
+    marks = rw length-map kept.ordered.marks;
+    used = λ k e. absurd (never_pinned (length f.pins.items) k (ap (λ ps. get_or ps k false) (sym blank) ∙ e));
     each = rw length-map kept.ordered.each;
   };
+  unmarked = kept.unmarked;
+}
+
+-- the pages in frames
+pub frame_pages : (f : Inside) → IsKept f → ArePages f.owners.items f.sizes.items
+frame_pages f kept = record {
+  small = kept.whole.small;
+  once = once_left f.owners.items f.slot_owners.items kept.whole.once;
+  inside = λ k p h. kept.whole.inside k p (hold_left f.owners.items f.slot_owners.items k p h);
 }
 
 pub released-storages : (f : Inside) (user : ℕ) →
@@ -47,7 +58,7 @@ none_both (suc n) m = ap (λ (xs : List (Option UserPage)). None ∷ xs) (none_b
 
 pub sound-first : (frames slots : List (List ℕ)) (owners slot_owners : List (Option UserPage)) (sizes table slot_table : List ℕ) (pins : List Bool) (order : List ℕ) (n m : ℕ) →
     length frames ≡ n → length slots ≡ m → owners ≡ replicate n None → slot_owners ≡ replicate m None → table ≡ replicate (1024 * length sizes) 65535 → slot_table ≡ replicate (1024 * length sizes) 4294967295 →
-    pins ≡ replicate n false → order ≡ range_with_len 0 n → n ≤ 4096 → m ≤ 65536 → length sizes ≤ 64 → All (λ pages. pages ≤ 1024) sizes → IsSound frames slots owners slot_owners sizes table slot_table pins order
+    pins ≡ replicate n false → order ≡ range_with_len 0 n → n ≤ 4096 → m ≤ 65536 → length sizes ≤ 64 → All (λ pages. pages ≤ 1024) sizes → IsSound frames slots owners slot_owners sizes table slot_table pins false order
 sound-first frames slots owners slot_owners sizes table slot_table pins order n m room slot_room e f g g_2 h i few many users small =
     let both : length (frames ++ slots) ≡ n + m = omega (arith, length-append frames slots) in
     rw (e, f, g, g_2, h, i) (record {
@@ -62,6 +73,7 @@ sound-first frames slots owners slot_owners sizes table slot_table pins order n 
         used = λ k e. absurd (never_pinned n k e);
         each = rw length-replicate (IsPermutation-refl (range_with_len 0 n));
       };
+      unmarked = λ _. ap (λ (k : ℕ). replicate k false) (sym (length-replicate n false));
     })
 
 pub storages-first : (places : List (List ℕ)) (owners slot_owners : List (Option UserPage)) (sizes : List ℕ) (n m : ℕ) → owners ≡ replicate n None → slot_owners ≡ replicate m None →

@@ -1,5 +1,5 @@
 -- What frames, and the pages that stand in them, mean: the storage of each user.
-use Rattle.std.specs.Prelude.{◌≡◌, ℕ, ◌+◌, ◌*◌, ◌/◌, ◌%◌, ◌<◌, ◌≤◌, Bool, true, false, ◌&&◌, ◌==◌, if◌then◌else◌, List, [], ◌++◌, map, length, slice_index, slice_index_or, Option, Some, None, is_some, IsSome, slice_set}
+use Rattle.std.specs.Prelude.{◌≡◌, ℕ, ◌+◌, ◌*◌, ◌/◌, ◌%◌, ◌<◌, ◌≤◌, Bool, true, false, nat_lt, ◌&&◌, ◌==◌, if◌then◌else◌, List, [], ◌++◌, map, length, replicate, slice_index, slice_index_or, Option, Some, None, is_some, IsSome, slice_set}
 use Rattle.std.specs.List.{position_from, range_with_len}
 use Rattle.std.specs.List.Sorted.{IsPermutation}
 use Rattle.cp_frames.specs.declared.numbers.UserPage.{UserPage}
@@ -100,15 +100,22 @@ pub record IsOrdered (owners : List (Option UserPage)) (pins : List Bool) (order
   pub used : (frame : ℕ) → slice_index_or pins frame false ≡ true → IsSome (slice_index_or owners frame None)
   pub each : IsPermutation (range_with_len 0 (length owners)) order
 
+-- each of these pages stands in one of these places at most, and is a page of its user's storage
+pub record ArePages (owners : List (Option UserPage)) (sizes : List ℕ) : Type 0 where
+  pub small : (user : ℕ) → slice_index sizes user ≤ 1024
+  pub once : (place : ℕ) (page : UserPage) → Holds owners place page → frame_of owners page.user page.page.0 ≡ Some place
+  pub inside : (place : ℕ) (page : UserPage) → Holds owners place page → page.page.0 < slice_index sizes page.user
+
 -- what is always so of frames with their pages, slots with theirs, the users' sizes, the tables of frames and of slots,
--- the pins and the order: frames and slots together are places, and each page stands in one place at most
-pub record IsSound (frames slots : List (List ℕ)) (owners slot_owners : List (Option UserPage)) (sizes table slot_table : List ℕ) (pins : List Bool) (order : List ℕ) : Type 0 where
+-- the pins, whether any may be set, and the order: frames and slots together are places, and each page stands in one place at most
+pub record IsSound (frames slots : List (List ℕ)) (owners slot_owners : List (Option UserPage)) (sizes table slot_table : List ℕ) (pins : List Bool) (marked : Bool) (order : List ℕ) : Type 0 where
   pub frame_room : length frames ≡ length owners
   pub slot_room : length slots ≡ length slot_owners
   pub whole : IsWhole (frames ++ slots) (owners ++ slot_owners) sizes
   pub tabled : IsTabled 65535 owners sizes table
   pub slots_tabled : IsTabled 4294967295 slot_owners sizes slot_table
   pub ordered : IsOrdered owners pins order
+  pub unmarked : marked ≡ false → pins ≡ replicate (length pins) false
 
 -- what stands in a frame when a user's pages have left
 abbrev pub without : ℕ → Option UserPage → Option UserPage
@@ -118,6 +125,15 @@ without user (Some there) = if there.user == user then None else Some there
 -- what stands in each frame when a user's pages have left
 abbrev pub cleared_of : ℕ → List (Option UserPage) → List (Option UserPage)
 cleared_of user owners = map (without user) owners
+
+-- whether this is one of a user's first pages, so many of them
+abbrev pub is_under : ℕ → ℕ → Option UserPage → Bool
+is_under user count None = false
+is_under user count (Some there) = (there.user == user) && nat_lt there.page.0 count
+
+-- what stands in a frame when a user's first pages have left
+abbrev pub without_under : ℕ → ℕ → Option UserPage → Option UserPage
+without_under user count o = if is_under user count o then None else o
 
 -- a storage after this was written over one of its pages
 abbrev pub put_page : List ℕ → ℕ → List ℕ → List ℕ

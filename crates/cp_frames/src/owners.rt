@@ -1,8 +1,9 @@
 //! Which page stands in each frame, or in each slot.
-ghost use Rattle.std.specs.Prelude.{◌≡◌, ◌<◌, Some, None, false, length, slice_index_or, IsSome, IfOk, IfSome, IfNone, All, replicate};
-ghost use Rattle.cp_frames.specs.Layout.{without, cleared_of};
+ghost use Rattle.std.specs.Prelude.{◌≡◌, ◌<◌, ℕ, List, Some, None, false, length, slice_index, slice_index_or, IsSome, IfOk, IfSome, IfNone, All, replicate};
+ghost use Rattle.cp_frames.specs.Layout.{without, cleared_of, ArePages, IsTabled};
 
 use crate::UserPage;
+use crate::table::{NOWHERE, entry_of, forget_slots};
 use cp_users::UserNo;
 use std::alloc::{AllocError, Global};
 
@@ -41,8 +42,44 @@ pub fn first_free(owners: &[Option<UserPage>]) -> Option<usize>
     None
 }
 
-/// Takes each page of a user out of its frame, or out of its slot.
-pub fn give_back(owners: &mut Vec<Option<UserPage>>, user: UserNo)
+/// Takes each page of a user out of its frame, by the table of the frames of his pages.
+pub fn leave(owners: &mut Vec<Option<UserPage>>, table: &mut Vec<u16>, sizes: &[u32], user: UserNo)
+    requires pages { ArePages owners.old.items sizes.now }
+    requires tabled { IsTabled 65535 owners.old.items sizes.now table.old.items }
+    ensures owners { owners.new.items ≡ cleared_of user owners.old.items }
+    ensures tabled { IsTabled 65535 owners.new.items sizes.now table.new.items }
+{
+    for page in 0..pages_of(sizes, user) {
+        let frame = table[entry_of(user, page)];
+        if frame != NOWHERE {
+            owners[frame as usize] = None;
+            table[entry_of(user, page)] = NOWHERE;
+        }
+    }
+}
+
+/// How many pages a user has: none where there is no such user.
+fn pages_of(sizes: &[u32], user: UserNo) -> u32
+    ensures { result ≡ slice_index sizes.now user }
+{
+    let user = user.index();
+    if user < sizes.len() { sizes[user] } else { 0 }
+}
+
+/// Takes each page of a user out of its slot. Where there are no slots nothing is looked at.
+pub fn leave_slots(owners: &mut Vec<Option<UserPage>>, table: &mut Vec<u32>, user: UserNo)
+    ensures owners { owners.new.items ≡ cleared_of user owners.old.items }
+    ensures tabled { (sizes : List ℕ) → IsTabled 4294967295 owners.old.items sizes table.old.items → IsTabled 4294967295 owners.new.items sizes table.new.items }
+{
+    if owners.is_empty() {
+        return;
+    }
+    give_back(owners, user);
+    forget_slots(table, user.index());
+}
+
+/// Takes each page of a user out of its slot.
+fn give_back(owners: &mut Vec<Option<UserPage>>, user: UserNo)
     ensures { owners.new.items ≡ cleared_of user owners.old.items }
 {
     for owner in owners.iter_mut() {
@@ -50,7 +87,7 @@ pub fn give_back(owners: &mut Vec<Option<UserPage>>, user: UserNo)
     }
 }
 
-/// What is left in a frame or a slot when a user leaves.
+/// What is left in a slot when a user leaves.
 fn kept(owner: Option<UserPage>, user: UserNo) -> Option<UserPage>
     ensures { result ≡ without user owner }
 {

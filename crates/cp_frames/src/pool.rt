@@ -7,10 +7,9 @@ ghost use Rattle.cp_frames.specs.Paging.{IsChosen, IsBrought, IsOpen, IsRefused,
 
 use crate::frame::{blank_frames, clear, copy_in, copy_out, copy_over};
 use crate::order::{all_frames, count, free_turn, last, open_turn};
-use crate::owners::{clear_pins, first_free, free_frames, give_back, no_pins};
+use crate::owners::{clear_pins, first_free, free_frames, leave, leave_slots, no_pins};
 use crate::table::{
-    NO_SLOT, NOWHERE, PAGES, empty_slot_table, empty_table, entry_of, forget, forget_slots, tell,
-    tell_slot,
+    NO_SLOT, NOWHERE, PAGES, empty_slot_table, empty_table, entry_of, tell, tell_slot,
 };
 use crate::{FRAME_SIZE, FrameNo, UserPage};
 use cp_users::UserNo;
@@ -33,6 +32,7 @@ pub struct Frames {
     owners: Vec<Option<UserPage>>,
     slot_owners: Vec<Option<UserPage>>,
     pins: Vec<bool>,
+    is_marked: bool,
     order: Vec<u16>,
     page_ins: u64,
     sizes: Vec<u32>,
@@ -51,7 +51,7 @@ impl Model for Frames {
       supply = record { owners = f.owners.items; slots = f.slot_owners.items; pins = f.pins.items; order = f.order.items; page_ins = f.page_ins };
     } };
 
-    ghost invariant = { λ f. IsSound f.frames.items f.slots.items f.owners.items f.slot_owners.items f.sizes.items f.table.items f.slot_table.items f.pins.items f.order.items };
+    ghost invariant = { λ f. IsSound f.frames.items f.slots.items f.owners.items f.slot_owners.items f.sizes.items f.table.items f.slot_table.items f.pins.items f.is_marked f.order.items };
 }
 
 impl Frames {
@@ -93,6 +93,7 @@ impl Frames {
             owners,
             slot_owners,
             pins,
+            is_marked: false,
             order,
             page_ins: 0,
             sizes,
@@ -330,6 +331,7 @@ impl Frames {
         let frame = frame.0 as usize;
         if frame < self.pins.len() {
             self.pins[frame] = self.owners[frame].is_some();
+            self.is_marked = true;
         }
     }
 
@@ -338,7 +340,10 @@ impl Frames {
         ensures supply { self.new.supply ≡ record self.old.supply { pins = replicate (length self.old.supply.pins) false } }
         ensures storages { self.new.storages ≡ self.old.storages }
     {
-        clear_pins(&mut self.pins);
+        if self.is_marked {
+            clear_pins(&mut self.pins);
+            self.is_marked = false;
+        }
     }
 
     /// Whether a frame is pinned.
@@ -360,11 +365,9 @@ impl Frames {
         ensures gone { (page : ℕ) → frame_of self.new.supply.owners user page ≡ None }
         ensures gone_slots { (page : ℕ) → frame_of self.new.supply.slots user page ≡ None }
     {
-        give_back(&mut self.owners, user);
-        give_back(&mut self.slot_owners, user);
-        forget(&mut self.table, user.index());
-        forget_slots(&mut self.slot_table, user.index());
-        clear_pins(&mut self.pins);
+        self.unpin_all();
+        leave(&mut self.owners, &mut self.table, &self.sizes, user);
+        leave_slots(&mut self.slot_owners, &mut self.slot_table, user);
     }
 
     /// A frame's bytes; None past the frames. What is written there is from then on the content of the page in the frame.
@@ -616,6 +619,7 @@ mod tests {
             owners,
             slot_owners,
             pins,
+            is_marked,
             order,
             page_ins,
             sizes,
@@ -627,7 +631,7 @@ mod tests {
         assert_eq!(rt; order.as_slice(), [0u16, 1, 2, 3].as_slice());
         assert_eq!(rt; sizes.as_slice(), [2u32, 3].as_slice());
         assert_eq!(rt; (table.len(), slot_table.len()), (2048, 2048));
-        assert_eq!(rt; *page_ins, 0);
+        assert_eq!(rt; (*is_marked, *page_ins), (false, 0));
         Ok(())
     }
 }

@@ -57,19 +57,6 @@ pub fn tell_slot(table: &mut Vec<u32>, owner: Option<UserPage>, slot: u32)
     }
 }
 
-/// Makes a user's entries say that his pages stand in no frame.
-pub fn forget(table: &mut Vec<u16>, user: usize)
-    requires { user < 256 }
-    ensures own { (page : ℕ) → page < 1024 → user * 1024 + 1024 ≤ length table.old.items → slice_index table.new.items (user * 1024 + page) ≡ 65535 }
-    ensures others { (entry : ℕ) → entry / 1024 ≢ user → slice_index table.new.items entry ≡ slice_index table.old.items entry }
-    ensures size { length table.new.items ≡ length table.old.items }
-{
-    let first = user * PAGES;
-    if first + PAGES <= table.len() {
-        table[first..first + PAGES].fill(NOWHERE);
-    }
-}
-
 /// Makes a user's entries say that his pages stand in no slot.
 pub fn forget_slots(table: &mut Vec<u32>, user: usize)
     requires { user < 256 }

@@ -1,8 +1,7 @@
-use Rattle.std.proofs.Common.{◌≡◌, None, Some, sym, arith, length-append, length, get_or, ◌<◌, ◌*◌, ◌++◌, ◌∙◌, ap, ◌+◌, List, Option, ℕ}
+use Rattle.std.proofs.Common.{◌≡◌, None, Some, arith, length-append, length, get_or, ◌<◌, ◌*◌, ◌∙◌}
 use Rattle.std.proofs.Math.ListN.{set, length-set}
 use Rattle.std.proofs.lemmas.List.{set-append_left, get_or_append_left}
-use Rattle.cp_frames.specs.declared.numbers.UserPage.{UserPage}
-use Rattle.cp_frames.specs.Layout.{frame_of, owned, storages_of}
+use Rattle.cp_frames.specs.Layout.{frame_of, owned}
 use Rattle.cp_frames.proofs.Layouts.{whole-brought, storages-brought, length-bytes_of, cleared_by}
 use Rattle.cp_frames.proofs.Exchanges.{table_filled}
 use Rattle.cp_frames.proofs.Halves.{from_none}
@@ -43,6 +42,7 @@ invariant_of-self c =
       tabled = rw c.entry_of.ensures (table_filled f user page frame kept at absent within free);
       slots_tabled = kept.slots_tabled;
       ordered = ordered-set f.owners.items f.pins.items f.order.items frame (Some (owned user page)) kept.ordered (free_unpinned f.owners.items f.pins.items f.order.items frame kept.ordered free);
+      unmarked = kept.unmarked;
     }
 
 pub returns-clause-storages : goal.returns-clause-storages

@@ -1,25 +1,31 @@
-use Rattle.std.proofs.Common.{◌∙◌}
+use Rattle.std.proofs.Common.{◌∙◌, ◌≡◌, ap, sym, length, replicate, false, Bool, List}
+use Rattle.std.proofs.lemmas.List.{length-replicate}
+use Rattle.cp_frames.specs.Layout.{Pool, FrameSupply, IsTabled, cleared_of}
 use Rattle.cp_frames.proofs.Layouts.{frame_of-cleared, storages-cleared, length-bytes_of}
-use Rattle.cp_frames.proofs.Tables.{tabled-cleared}
-use Rattle.cp_frames.proofs.Releases.{released-kept, released-storages}
+use Rattle.cp_frames.proofs.Releases.{frame_pages, released-kept, released-storages}
 use Rattle.cp_frames.proofs.Inside.{places_in, owners_in}
 use Rattle.cp_frames.proofs.pool.Frames.release.Goals as goal
+
+pub leave-requires-clause-pages : goal.leave-requires-clause-pages
+leave-requires-clause-pages c = rw c.deref.ensures.value (frame_pages c.self.inside c.self.invariant)
 
 pub invariant_of-self : goal.invariant_of-self
 invariant_of-self c =
     let f = c.self.inside in
-    let tabled = tabled-cleared 65535 f.owners.items f.sizes.items f.table.items c.forget.new.table.items c.args.user c.self.invariant.tabled c.forget.ensures.size (rw c.index.ensures.value at c.forget.ensures.own) (rw c.index.ensures.value at c.forget.ensures.others) in
-    let slots_tabled = tabled-cleared 4294967295 f.slot_owners.items f.sizes.items f.slot_table.items c.forget_slots.new.table.items c.args.user c.self.invariant.slots_tabled c.forget_slots.ensures.size (rw c.index-2.ensures.value at c.forget_slots.ensures.own) (rw c.index-2.ensures.value at c.forget_slots.ensures.others) in
-    rw (c.give_back.ensures, c.give_back-2.ensures, c.clear_pins.ensures) (released-kept f c.args.user c.forget.new.table.items c.forget_slots.new.table.items c.self.invariant tabled slots_tabled)
+    let pins = ap (λ (p : Pool). p.supply.pins) c.self.view_is ∙ ap (λ (s : FrameSupply). s.pins) c.unpin_all.ensures.supply in
+    let blank : f.pins.items ≡ replicate (length f.pins.items) false = pins ∙ ap (λ n. replicate n false) (sym (ap (λ (ps : List Bool). length ps) pins ∙ length-replicate (length c.args.self.now.supply.pins) false)) in
+    let tabled : IsTabled 65535 (cleared_of c.args.user f.owners.items) f.sizes.items c.leave.new.table.items = rw (c.leave.ensures.owners, c.deref.ensures.value) at c.leave.ensures.tabled in
+    let slots_tabled : IsTabled 4294967295 (cleared_of c.args.user f.slot_owners.items) f.sizes.items c.leave_slots.new.table.items = rw c.leave_slots.ensures.owners at (c.leave_slots.ensures.tabled f.sizes.items c.self.invariant.slots_tabled) in
+    rw (c.leave.ensures.owners, c.leave_slots.ensures.owners) (released-kept f c.args.user c.leave.new.table.items c.leave_slots.new.table.items c.self.invariant blank tabled slots_tabled)
 
 pub returns-clause-storages : goal.returns-clause-storages
 returns-clause-storages c =
     let f = c.self.inside in
     let long = length-bytes_of (places_in f) (owners_in f) f.sizes.items c.args.user in
-    rw (c.give_back.ensures, c.give_back-2.ensures, ← c.self.view_is, long) (released-storages f c.args.user ∙ storages-cleared (places_in f) (owners_in f) f.sizes.items c.args.user)
+    rw (c.leave.ensures.owners, c.leave_slots.ensures.owners, ← c.unpin_all.ensures.storages, ← c.self.view_is, long) (released-storages f c.args.user ∙ storages-cleared (places_in f) (owners_in f) f.sizes.items c.args.user)
 
 pub returns-clause-gone : goal.returns-clause-gone
-returns-clause-gone c page = rw c.give_back.ensures (frame_of-cleared c.self.inside.owners.items c.args.user page)
+returns-clause-gone c page = rw c.leave.ensures.owners (frame_of-cleared c.self.inside.owners.items c.args.user page)
 
 pub returns-clause-gone_slots : goal.returns-clause-gone_slots
-returns-clause-gone_slots c page = rw c.give_back-2.ensures (frame_of-cleared c.self.inside.slot_owners.items c.args.user page)
+returns-clause-gone_slots c page = rw c.leave_slots.ensures.owners (frame_of-cleared c.self.inside.slot_owners.items c.args.user page)
