@@ -72,6 +72,10 @@ fn read_event<'a>(
         Err(ScriptError::Line(_)) => return Err(ScriptError::Line(number)),
     };
     for event in events {
+        // Turns are dealt among users; here there is one machine.
+        if matches!(event, ScriptEvent::Auto(_)) {
+            return Err(ScriptError::Line(number));
+        }
         if steps.push(Step::Event(event)).is_err() {
             return Err(ScriptError::Memory);
         }

@@ -41,6 +41,8 @@ fn print_event(
             Ok(Vec::new(alloc))
         }
         ScriptEvent::Serve(_, device) => print_serve(alloc, machine, device),
+        // no script of one machine has turns
+        ScriptEvent::Auto(_) => Ok(Vec::new(alloc)),
     }
 }
 

@@ -1,4 +1,6 @@
 pub mod Endings
 pub mod Lists
 pub mod Histories
+pub mod Queues
+pub mod Sessions
 pub mod Devices
