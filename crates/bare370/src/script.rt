@@ -93,20 +93,24 @@ fn read_event<'a>(
         Err(ScriptError::Line(_)) => return Err(ScriptError::Line(number)),
     };
     for event in events {
-        if steps.push(step_of(event)).is_err() {
+        let Some(step) = step_of(event) else {
+            return Err(ScriptError::Line(number));
+        };
+        if steps.push(step).is_err() {
             return Err(ScriptError::Memory);
         }
     }
     Ok(())
 }
 
-/// The step of an event of a script whose only user is this machine's.
-fn step_of(event: ScriptEvent<'_>) -> Step<'_> {
+/// The step of an event of a script whose only user is this machine's; none of turns, which are dealt among users.
+fn step_of(event: ScriptEvent<'_>) -> Option<Step<'_>> {
     match event {
-        ScriptEvent::Run(_, units) => Step::Run(units),
-        ScriptEvent::Line(_, typed) => Step::Line(typed),
-        ScriptEvent::Tick(_) => Step::Tick,
-        ScriptEvent::Serve(_, device) => Step::Serve(device),
+        ScriptEvent::Run(_, units) => Some(Step::Run(units)),
+        ScriptEvent::Line(_, typed) => Some(Step::Line(typed)),
+        ScriptEvent::Tick(_) => Some(Step::Tick),
+        ScriptEvent::Serve(_, device) => Some(Step::Serve(device)),
+        ScriptEvent::Auto(_) => None,
     }
 }
 

@@ -18,6 +18,7 @@
 mod boot;
 mod events;
 mod loan;
+mod ready;
 mod system;
 mod user_machine;
 mod views;

@@ -16,7 +16,7 @@ use s370_psw::Psw;
 
 impl System {
     /// A user's machine but for the bytes of its storage.
-    fn machine(&self, user: UserNo) -> Option<&UserMachine>
+    pub(crate) fn machine(&self, user: UserNo) -> Option<&UserMachine>
         ensures some { IsSome result ↔ (user < length self.now.machines) }
         ensures machine { IfSome result (λ machine. machine_at self.now user ≡ machine_of machine.now (machine_at self.now user).core.processor.bytes) }
     {

@@ -19,6 +19,7 @@ mod display_store;
 mod hands;
 mod line;
 mod machine;
+mod ready;
 mod run;
 mod serve;
 mod tick;

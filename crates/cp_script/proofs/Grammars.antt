@@ -12,7 +12,7 @@ use Rattle.cp_text.specs.Numbers.{decimal_of, hexadecimal_of}
 use Rattle.cp_users.specs.Users.{user_of}
 use Rattle.cp_text.proofs.Spellings.{chosen, parts, alone, word_whole, word_again, after_again, word_again_alone, after_again_alone}
 use Rattle.cp_script.specs.Users.{KnownUser, has_device, names_of}
-use Rattle.cp_script.specs.Script.{Said, Run, Line, Tick, Serve, counted, is_ignored, joined, line_step, operands_of, run_of, said_of, serve_of, served, text_of, tick_of, typed_of}
+use Rattle.cp_script.specs.Script.{Said, Run, Line, Tick, Serve, Auto, auto_of, counted, is_ignored, joined, line_step, operands_of, run_of, said_of, serve_of, served, text_of, tick_of, turned, typed_of}
 use Rattle.cp_script.specs.Grammar.{IsName, SaysLine, Says, IsScript, ReadsGrammar}
 
 is_word : (xs ys : List ℕ) → bytes_eq xs ys ≡ true → xs ≡ ys
@@ -90,6 +90,18 @@ serve_found users line operands e spelled h =
       had = k.1;
     }))))
 
+turns_are : (turns : ℕ) (e : Said) → turned turns ≡ Some e → (e ≡ Auto turns) × (1 ≤ turns) × (turns ≤ 100000)
+turns_are turns e h = elim (chosen (leb 1 turns && leb turns 100000) (Some (Auto turns)) None (Some e) h) [
+  | inl k ↦ let both = k.0 in (cc, grind (arith, nat_tests), grind (arith, nat_tests))
+  | inr k ↦ cc
+]
+
+auto_found : (users : List KnownUser) (line operands : List ℕ) (e : Said) → line ≡ codes "AUTO" ++ 32 ∷ operands → auto_of operands ≡ Some e → Says users line e
+auto_found users line operands e spelled h =
+    option_and_then_some turned (decimal_of 7 operands) e h (λ turns number h1.
+    let k = turns_are turns e h1 in
+    subst (Says users line) (sym k.0) (record { digits = operands; spelled = spelled; number = number; least = k.1; most = k.2 }))
+
 -- what one of the words names, where the line's first word is it
 picked : (users : List KnownUser) (line verb operands : List ℕ) (e : Said) (word : List ℕ) (own others : Option Said) → line ≡ verb ++ 32 ∷ operands
     → (line ≡ word ++ 32 ∷ operands → own ≡ Some e → Says users line e) → (others ≡ Some e → Says users line e)
@@ -101,13 +113,15 @@ picked users line verb operands e word own others spelled here there h = elim (c
 
 found_on : (users : List KnownUser) (line verb operands : List ℕ) (e : Said) → line ≡ verb ++ 32 ∷ operands → operands_of users verb operands ≡ Some e → Says users line e
 found_on users line verb operands e spelled h =
-    let serve = cond (bytes_eq verb (codes "SERVE")) (serve_of users operands) None in
+    let auto = cond (bytes_eq verb (codes "AUTO")) (auto_of operands) None in
+    let serve = cond (bytes_eq verb (codes "SERVE")) (serve_of users operands) auto in
     let tick = cond (bytes_eq verb (codes "TICK")) (tick_of (names_of users) operands) serve in
     let typed = cond (bytes_eq verb (codes "LINE")) (typed_of (names_of users) operands) tick in
     picked users line verb operands e (codes "RUN") (run_of (names_of users) operands) typed spelled (λ s k. run_found users line operands e s k)
     (picked users line verb operands e (codes "LINE") (typed_of (names_of users) operands) tick spelled (λ s k. typed_by users line operands e (user_of (names_of users) (word_of operands)) refl s k)
     (picked users line verb operands e (codes "TICK") (tick_of (names_of users) operands) serve spelled (λ s k. ticked_by users line operands e (after_word operands) (user_of (names_of users) (word_of operands)) refl refl s k)
-    (picked users line verb operands e (codes "SERVE") (serve_of users operands) None spelled (λ s k. serve_found users line operands e s k) (λ k. cc)))) h
+    (picked users line verb operands e (codes "SERVE") (serve_of users operands) auto spelled (λ s k. serve_found users line operands e s k)
+    (picked users line verb operands e (codes "AUTO") (auto_of operands) None spelled (λ s k. auto_found users line operands e s k) (λ k. cc))))) h
 
 found : (users : List KnownUser) (line : List ℕ) (e : Said) → said_of users line ≡ Some e → Says users line e
 found users line e h = option_and_then_some (operands_of users (word_of line)) (after_word line) e h (λ operands after h1.
@@ -127,6 +141,12 @@ serve_again : (users : List KnownUser) (user device : ℕ) (name digits : List �
 serve_again users user device name digits named number had =
     rw (word_again name digits named.whole, named.found, after_again name digits named.whole, number) (rw had refl)
 
+auto_again : (turns : ℕ) (digits : List ℕ) → decimal_of 7 digits ≡ Some turns → 1 ≤ turns → turns ≤ 100000 → auto_of digits ≡ Some (Auto turns)
+auto_again turns digits number least most =
+    let low : leb 1 turns ≡ true = grind (arith, nat_tests) in
+    let high : leb turns 100000 ≡ true = grind (arith, nat_tests) in
+    rw number (rw (low, high) refl)
+
 again : (users : List KnownUser) (line : List ℕ) (e : Said) → Says users line e → said_of users line ≡ Some e
 again users line (Run user units) h =
     rw h.spelled (run_again users user units h.name h.digits h.named h.number h.least h.most)
@@ -138,6 +158,8 @@ again users line (Tick user) h =
     rw h.spelled (rw (after_again_alone h.name h.named.whole, word_again_alone h.name h.named.whole, h.named.found) refl)
 again users line (Serve user device) h =
     rw h.spelled (serve_again users user device h.name h.digits h.named h.number h.had)
+again users line (Auto turns) h =
+    rw h.spelled (auto_again turns h.digits h.number h.least h.most)
 
 -- what is read of lines, after what was read before them
 record Read (users : List KnownUser) (lines : List (List ℕ)) (front events : List Said) : Type 0 where

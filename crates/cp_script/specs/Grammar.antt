@@ -5,7 +5,7 @@ use Rattle.cp_text.specs.Words.{NoBlank}
 use Rattle.cp_text.specs.Numbers.{decimal_of, hexadecimal_of}
 use Rattle.cp_users.specs.Users.{user_of}
 use Rattle.cp_script.specs.Users.{KnownUser, has_device, names_of}
-use Rattle.cp_script.specs.Script.{Said, Run, Line, Tick, Serve, is_ignored, script_of}
+use Rattle.cp_script.specs.Script.{Said, Run, Line, Tick, Serve, Auto, is_ignored, script_of}
 
 -- a word that is the name of this user
 pub record IsName (names : List (List ℕ)) (user : ℕ) (name : List ℕ) : Type 0 where
@@ -43,12 +43,21 @@ pub record SaysServe (users : List KnownUser) (line : List ℕ) (user device : �
   pub number : hexadecimal_of 3 3 digits ≡ Some device
   pub had : has_device users user device ≡ true
 
+-- `AUTO k`: one blank between the words, k of 1 to 7 decimal digits and 1 to 100,000
+pub record SaysAuto (line : List ℕ) (turns : ℕ) : Type 0 where
+  pub digits : List ℕ
+  pub spelled : line ≡ codes "AUTO" ++ 32 ∷ digits
+  pub number : decimal_of 7 digits ≡ Some turns
+  pub least : 1 ≤ turns
+  pub most : turns ≤ 100000
+
 -- a line says an event
 abbrev pub Says : List KnownUser → List ℕ → Said → Type 0
 Says users line (Run user units) = SaysRun (names_of users) line user units
 Says users line (Line user text) = SaysLine (names_of users) line user text
 Says users line (Tick user) = SaysTick (names_of users) line user
 Says users line (Serve user device) = SaysServe users line user device
+Says users line (Auto turns) = SaysAuto line turns
 
 -- the lines are a script of these events: each line is ignored, or says the next event
 abbrev pub IsScript : List KnownUser → List (List ℕ) → List Said → Type 0

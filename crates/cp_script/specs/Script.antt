@@ -1,5 +1,5 @@
 -- What a script says, line by line.
-use Rattle.std.specs.Prelude.{◌≡◌, ℕ, ◌<◌, ◌==◌, ◌&&◌, Bool, true, if◌then◌else◌, is_some, nat_le, List, [], ◌∷◌, ◌++◌, length, codes, Option, Some, None, Result, Ok, Err}
+use Rattle.std.specs.Prelude.{◌≡◌, ℕ, ◌<◌, ◌==◌, ◌&&◌, Bool, true, if◌then◌else◌, is_some, nat_le, List, [], ◌∷◌, ◌++◌, length, codes, Option, Some, None, IfSome, Result, Ok, Err}
 use Rattle.std.specs.Option.{option_map, option_and_then}
 use Rattle.std.specs.Str.{bytes_eq}
 use Rattle.cp_text.specs.Lines.{lines_of, read_lines}
@@ -22,6 +22,8 @@ pub data Said : Type 0 where
   Tick : ℕ → Said
   -- the user's device of this address is served
   Serve : ℕ → ℕ → Said
+  -- so many turns are dealt
+  Auto : ℕ → Said
 
 -- the event that a value is
 abbrev pub said : ScriptEvent → Said
@@ -29,23 +31,26 @@ said (events.Run user units) = Run user units
 said (events.Line user text) = Line user text.now
 said (events.Tick user) = Tick user
 said (events.Serve user device) = Serve user device
+said (events.Auto turns) = Auto turns
 
--- the user whom an event names
-abbrev pub user_of_event : ScriptEvent → ℕ
-user_of_event (events.Run user units) = user
-user_of_event (events.Line user text) = user
-user_of_event (events.Tick user) = user
-user_of_event (events.Serve user device) = user
+-- the user whom an event names; turns name nobody
+abbrev pub user_of_event : ScriptEvent → Option ℕ
+user_of_event (events.Run user units) = Some user
+user_of_event (events.Line user text) = Some user
+user_of_event (events.Tick user) = Some user
+user_of_event (events.Serve user device) = Some user
+user_of_event (events.Auto turns) = None
 
--- an event of one of these users
+-- a user whom an event names is one of these
 abbrev pub IsOfUser : List KnownUser → ScriptEvent → Type 0
-IsOfUser users event = user_of_event event < length users
+IsOfUser users event = IfSome (user_of_event event) (λ user. user < length users)
 
 -- a device that an event names is one which the user has
 abbrev pub IsOfDevice : List KnownUser → ScriptEvent → Type 0
 IsOfDevice users (events.Run user units) = Unit {0}
 IsOfDevice users (events.Line user text) = Unit {0}
 IsOfDevice users (events.Tick user) = Unit {0}
+IsOfDevice users (events.Auto turns) = Unit {0}
 IsOfDevice users (events.Serve user device) = has_device users user device ≡ true
 
 -- a number of units is 1 to 1,000,000
@@ -77,6 +82,14 @@ served users user device = if has_device users user device then Some (Serve user
 abbrev pub serve_of : List KnownUser → List ℕ → Option Said
 serve_of users operands = option_and_then (λ user. option_and_then (λ digits. option_and_then (served users user) (hexadecimal_of 3 3 digits)) (after_word operands)) (user_of (names_of users) (word_of operands))
 
+-- a number of turns is 1 to 100,000
+abbrev pub turned : ℕ → Option Said
+turned turns = if nat_le 1 turns && nat_le turns 100000 then Some (Auto turns) else None
+
+-- `AUTO k`, after its first word
+abbrev pub auto_of : List ℕ → Option Said
+auto_of operands = option_and_then turned (decimal_of 7 operands)
+
 -- by the first word
 abbrev pub operands_of : List KnownUser → List ℕ → List ℕ → Option Said
 operands_of users verb operands =
@@ -84,6 +97,7 @@ operands_of users verb operands =
     else if bytes_eq verb (codes "LINE") then typed_of (names_of users) operands
     else if bytes_eq verb (codes "TICK") then tick_of (names_of users) operands
     else if bytes_eq verb (codes "SERVE") then serve_of users operands
+    else if bytes_eq verb (codes "AUTO") then auto_of operands
     else None
 
 -- what a line names, none where it is refused

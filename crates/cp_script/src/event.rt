@@ -15,18 +15,21 @@ pub enum ScriptEvent<'a> {
     Tick(UserNo),
     /// The device of this address of a user's machine is served.
     Serve(UserNo, u16),
+    /// So many turns are dealt.
+    Auto(u32),
 }
 
 impl<'a> ScriptEvent<'a> {
-    /// The user whom the event names.
-    pub fn user(&self) -> UserNo
+    /// The user whom the event names; turns name nobody.
+    pub fn user(&self) -> Option<UserNo>
         ensures { result ≡ user_of_event self.now }
     {
         match self {
-            ScriptEvent::Run(user, _) => *user,
-            ScriptEvent::Line(user, _) => *user,
-            ScriptEvent::Tick(user) => *user,
-            ScriptEvent::Serve(user, _) => *user,
+            ScriptEvent::Run(user, _) => Some(*user),
+            ScriptEvent::Line(user, _) => Some(*user),
+            ScriptEvent::Tick(user) => Some(*user),
+            ScriptEvent::Serve(user, _) => Some(*user),
+            ScriptEvent::Auto(_) => None,
         }
     }
 }

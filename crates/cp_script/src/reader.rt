@@ -3,7 +3,7 @@ ghost use Rattle.std.specs.Prelude.{◌≡◌, ℕ, ◌<◌, ◌≤◌, ◌+◌,
 ghost use Rattle.std.specs.Option.{option_map};
 ghost use Rattle.cp_text.specs.Lines.{lines_of};
 ghost use Rattle.cp_script.specs.Grammar.{ReadsGrammar};
-ghost use Rattle.cp_script.specs.Script.{IsOfDevice, IsOfUser, IsRefusal, is_ignored, line_step, run_of, said, said_of, script_of, serve_of, tick_of, typed_of};
+ghost use Rattle.cp_script.specs.Script.{Auto, IsOfDevice, IsOfUser, IsRefusal, auto_of, is_ignored, line_step, run_of, said, said_of, script_of, serve_of, tick_of, typed_of};
 ghost use Rattle.cp_script.specs.Users.{names_of};
 
 use crate::event::ScriptEvent;
@@ -23,6 +23,9 @@ const DEVICE_DIGITS: usize = 3;
 
 /// The most units of one `RUN`.
 const MOST_UNITS: u32 = 1_000_000;
+
+/// The most turns of one `AUTO`.
+const MOST_TURNS: u32 = 100_000;
 
 /// Why a script is refused.
 #[derive(Clone, Copy, Debug, PartialEq, Eq, Drop, Error)]
@@ -113,6 +116,8 @@ fn read_event<'a>(users: &[ScriptUser<'_>], line: &'a [u8]) -> Option<ScriptEven
         read_tick(users, operands)
     } else if verb == b"SERVE".as_slice() {
         read_serve(users, operands)
+    } else if verb == b"AUTO".as_slice() {
+        Some(ScriptEvent::Auto(turns_of(operands)?))
     } else {
         None
     }
@@ -177,6 +182,18 @@ fn read_serve<'a>(users: &[ScriptUser<'_>], operands: &'a [u8]) -> Option<Script
     let address = hexadecimal_of(DEVICE_DIGITS, DEVICE_DIGITS, digits?)? as u16;
     if has_device(users, user, address) {
         Some(ScriptEvent::Serve(user, address))
+    } else {
+        None
+    }
+}
+
+/// How many turns `AUTO k` names, after its first word: nothing follows the number.
+fn turns_of(operands: &[u8]) -> Option<u32>
+    ensures { option_map Auto result ≡ auto_of operands.now }
+{
+    let turns = decimal_of(DIGITS, operands)?;
+    if 1 <= turns && turns <= MOST_TURNS {
+        Some(turns)
     } else {
         None
     }

@@ -21,6 +21,7 @@ no_device users (scripts.Run user units) h = tt
 no_device users (scripts.Line user text) h = tt
 no_device users (scripts.Tick user) h = tt
 no_device users (scripts.Serve user device) h = none_served users user device h
+no_device users (scripts.Auto turns) h = tt
 
 -- events of devices that their users have are of none
 pub no_devices : (users : List DirectoryUser) (events : List ScriptEvent) → All (IsOfDevice (known_users users)) events → All NamesNoDevice events

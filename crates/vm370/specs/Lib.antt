@@ -1,4 +1,5 @@
 pub mod Script
+pub mod Schedule
 pub mod Transcript
 pub mod Options
 pub mod Faults

@@ -4,11 +4,14 @@ use Rattle.std.specs.Io.KnownBytes.{Appends, Consumes, IsAtEnd}
 use Rattle.s370_num.specs.Host.{AppendsFront, IsCounted}
 use Rattle.s370_num.specs.declared.host.HostFault.{HostFault}
 use Rattle.s370_num.specs.declared.host.HostFault.TheVariants as faults
-use Rattle.cp_core.specs.System.{SystemView, Step, IsHistory, machine_at}
+use Rattle.cp_core.specs.System.{SystemView, IsHistory, IsStep, machine_at}
+use Rattle.cp_core.specs.declared.events.Event.{Event}
+use Rattle.cp_core.specs.declared.events.Reply.{Reply}
 use Rattle.cp_script.specs.Users.{KnownUser}
 use Rattle.cp_script.specs.Script.{Said, script_of}
 use Rattle.vm370.specs.Script.{as_said, known_users}
-use Rattle.vm370.specs.Transcript.{ended, event_lines}
+use Rattle.vm370.specs.Schedule.{Act, AreDone, Entry, Scene, acts, first_queue, scene, steps_of}
+use Rattle.vm370.specs.Transcript.{ended, entry_lines, event_lines}
 use Rattle.cp_script.specs.declared.reader.ScriptError.{ScriptError}
 use Rattle.cp_script.specs.declared.reader.ScriptError.TheVariants as refusals
 use Rattle.vm370.specs.declared.session.SessionError.{SessionError}
@@ -22,47 +25,60 @@ names_of s = map (λ user. user.name) s.users
 abbrev pub users_of : SystemView → List KnownUser
 users_of s = known_users s.users
 
--- the events of these steps, as a script names them
-abbrev pub events_of : List Step → List Said
-events_of steps = map (λ step. as_said step.event) steps
+-- a session begins with the users in the queue who are on
+abbrev pub at_first : SystemView → Scene
+at_first s = scene s (first_queue s (length s.users))
 
--- the transcript of events and their replies
-abbrev pub transcript : List (List ℕ) → List Step → List ℕ
+-- the transcript of what was done
+abbrev pub transcript : List (List ℕ) → List Entry → List ℕ
 transcript names [] = []
-transcript names (step ∷ steps) = ended (event_lines names step.event step.reply) ++ transcript names steps
+transcript names (entry ∷ entries) = ended (entry_lines names entry) ++ transcript names entries
 
 -- the reader was read to its end, and gave this text
 pub record IsRead (old new : Option (List ℕ)) (text : List ℕ) : Type 0 where
   pub given : Consumes old new text
   pub end : IsAtEnd new
 
--- the whole script was applied, and the whole transcript was written
+-- the whole script was done, by its events and by turns that were dealt, and the whole transcript was written; its steps are a
+-- history of the system
 pub record IsSession (old new : SystemView) (reader_old reader_new writer_old writer_new : Option (List ℕ)) : Type 0 where
   pub text : List ℕ
   pub read : IsRead reader_old reader_new text
-  pub steps : List Step
-  pub named : script_of (users_of old) text ≡ Ok (events_of steps)
-  pub history : IsHistory old steps new
-  pub written : Appends writer_old writer_new (transcript (names_of old) steps)
+  pub script : List Said
+  pub accepted : script_of (users_of old) text ≡ Ok script
+  pub entries : List Entry
+  pub last : Scene
+  pub done : AreDone (acts script) (at_first old) entries last
+  pub left : new ≡ last.system
+  pub history : IsHistory old (steps_of entries) new
+  pub written : Appends writer_old writer_new (transcript (names_of old) entries)
 
--- the event after those that were applied was refused memory: every machine is as it was, and the system is spent
-pub record IsSpentOn (last new : SystemView) (rest : List Said) : Type 0 where
+-- an event was refused memory: every machine is as it was, and the system is spent
+pub record IsSpent (last new : SystemView) : Type 0 where
   pub spent : new.is_spent ≡ true
-  pub refused : 0 < length rest
   pub users : new.users ≡ last.users
   pub machines : (user : ℕ) → machine_at new user ≡ machine_at last user
 
--- the script was accepted, a beginning of it was applied, and a beginning of that transcript was written
+-- of what was left to be done the first was refused memory
+pub record IsSpentOn (last new : SystemView) (rest : List Act) : Type 0 where
+  pub refused : 0 < length rest
+  pub spent : IsSpent last new
+
+-- the script was accepted, a beginning of it was done, and a beginning of that transcript was written
 pub record IsCut (old new : SystemView) (reader_old reader_new writer_old writer_new : Option (List ℕ)) : Type 0 where
   pub text : List ℕ
   pub read : IsRead reader_old reader_new text
-  pub steps : List Step
-  pub rest : List Said
-  pub named : script_of (users_of old) text ≡ Ok (events_of steps ++ rest)
-  pub last : SystemView
-  pub history : IsHistory old steps last
-  pub left : (new ≡ last) ⊎ IsSpentOn last new rest
-  pub written : AppendsFront writer_old writer_new (transcript (names_of old) steps)
+  pub script : List Said
+  pub accepted : script_of (users_of old) text ≡ Ok script
+  pub front : List Act
+  pub rest : List Act
+  pub split : acts script ≡ front ++ rest
+  pub entries : List Entry
+  pub last : Scene
+  pub done : AreDone front (at_first old) entries last
+  pub left : (new ≡ last.system) ⊎ IsSpentOn last.system new rest
+  pub history : IsHistory old (steps_of entries) last.system
+  pub written : AppendsFront writer_old writer_new (transcript (names_of old) entries)
 
 -- the script was refused, first at this line
 pub record IsRefused (users : List KnownUser) (reader_old reader_new : Option (List ℕ)) (line : ℕ) : Type 0 where
@@ -70,22 +86,43 @@ pub record IsRefused (users : List KnownUser) (reader_old reader_new : Option (L
   pub read : IsRead reader_old reader_new text
   pub refused : script_of users text ≡ Err line
 
--- these events were applied, and their transcript was written
-pub record IsPlayed (events : List Said) (old new : SystemView) (before after : Option (List ℕ)) : Type 0 where
-  pub steps : List Step
-  pub named : events ≡ events_of steps
-  pub history : IsHistory old steps new
-  pub written : Appends before after (transcript (names_of old) steps)
+-- these acts were done, and their transcript was written
+pub record IsPlayed (all : List Act) (old new : Scene) (before after : Option (List ℕ)) : Type 0 where
+  pub entries : List Entry
+  pub done : AreDone all old entries new
+  pub written : Appends before after (transcript (names_of old.system) entries)
 
--- a beginning of these events was applied, and a beginning of that transcript was written
-pub record IsPartly (events : List Said) (old new : SystemView) (before after : Option (List ℕ)) : Type 0 where
-  pub steps : List Step
-  pub rest : List Said
-  pub named : events ≡ events_of steps ++ rest
-  pub last : SystemView
-  pub history : IsHistory old steps last
-  pub left : (new ≡ last) ⊎ IsSpentOn last new rest
-  pub written : AppendsFront before after (transcript (names_of old) steps)
+-- a beginning of these acts was done, and a beginning of that transcript was written
+pub record IsPartly (all : List Act) (old : Scene) (new : SystemView) (before after : Option (List ℕ)) : Type 0 where
+  pub front : List Act
+  pub rest : List Act
+  pub split : all ≡ front ++ rest
+  pub entries : List Entry
+  pub last : Scene
+  pub done : AreDone front old entries last
+  pub left : (new ≡ last.system) ⊎ IsSpentOn last.system new rest
+  pub written : AppendsFront before after (transcript (names_of old.system) entries)
+
+-- the event that was said was applied, and its lines were written
+pub record IsAnswered (said : Said) (old new : SystemView) (before after : Option (List ℕ)) : Type 0 where
+  pub event : Event
+  pub named : as_said event ≡ said
+  pub reply : Reply
+  pub step : IsStep old (record { event = event; reply = reply; seen = new })
+  pub written : Appends before after (ended (event_lines (names_of old) event reply))
+
+-- the event that was said was applied, and a beginning of its lines was written
+pub record IsAnsweredPartly (said : Said) (old new : SystemView) (before after : Option (List ℕ)) : Type 0 where
+  pub event : Event
+  pub named : as_said event ≡ said
+  pub reply : Reply
+  pub step : IsStep old (record { event = event; reply = reply; seen = new })
+  pub written : AppendsFront before after (ended (event_lines (names_of old) event reply))
+
+-- no event was applied, and nothing was written
+pub record IsUnanswered (old new : SystemView) (before after : Option (List ℕ)) : Type 0 where
+  pub left : (new ≡ old) ⊎ IsSpent old new
+  pub same : after ≡ before
 
 -- how a failure of a host file is told
 abbrev pub fault_error : HostFault → SessionError

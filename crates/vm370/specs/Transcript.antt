@@ -13,6 +13,7 @@ use Rattle.cp_core.specs.declared.events.Ended.{Ended}
 use Rattle.cp_core.specs.declared.events.Ended.TheVariants.{Ran, Done, FramesOut}
 use Rattle.cp_core.specs.declared.events.Event.{Event}
 use Rattle.cp_core.specs.declared.events.Reply.{Reply}
+use Rattle.vm370.specs.Schedule.{Entry, Answered, Idle}
 
 -- `u: text`
 abbrev pub told_line : List ℕ → List ℕ → List ℕ
@@ -53,6 +54,15 @@ reply_lines name reply = said_lines name reply.said ++ ending_lines name reply.e
 -- the lines of an event that was answered so
 abbrev pub event_lines : List (List ℕ) → Event → Reply → List (List ℕ)
 event_lines names event reply = reply_lines (name_of names (user_of event)) reply
+
+-- `= IDLE`
+abbrev pub idle_line : List ℕ
+idle_line = codes "= IDLE"
+
+-- the lines of an event and its reply, or of a turn that nobody had
+abbrev pub entry_lines : List (List ℕ) → Entry → List (List ℕ)
+entry_lines names (Answered step) = event_lines names step.event step.reply
+entry_lines names Idle = idle_line ∷ []
 
 -- lines as bytes, each ended by LF
 abbrev pub ended : List (List ℕ) → List ℕ

@@ -1,18 +1,19 @@
 //! The outer layer of the programs: from a script's bytes to exactly its transcript's bytes.
 //!
-//! What a session writes is what the control program answered to the events that the script names,
-//! and each reply is what a bare machine tells ([`session::session`]). After any failure it is a
-//! beginning of that.
+//! What a session writes is what the control program answered to the events that the script names and to the
+//! slices that its turns deal, and each reply is what a bare machine tells ([`session::session`]). After any
+//! failure it is a beginning of that.
 //!
 //! A script's bytes name events exactly where they are a text of the grammar of docs/FORMATS.md, and
 //! any other text is refused at its first line that the grammar does not have
 //! ([`cp_script::reads_grammar`] carries that law, [`cp_script::read_script`] keeps it). The lines that the
 //! transcript has for an event are those of that document, in its order
-//! ([`transcript::print_event`]).
+//! ([`transcript::print_reply`]).
 #![tactic(auto)]
 
 pub mod arguments;
 pub mod faults;
 pub mod program;
+mod queue;
 pub mod session;
 pub mod transcript;

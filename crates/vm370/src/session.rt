@@ -1,14 +1,17 @@
 //! A session: from a script's bytes to a transcript's bytes.
-ghost use Rattle.std.specs.Prelude.{◌≡◌, ◌<◌, ◌≤◌, ◌⊎◌, ℕ, [], ◌∷◌, All, Err, IfErr, IfOk, Ok, OnErr, OnOk, ◌↔◌, false, length, map, true};
+ghost use Rattle.std.specs.Prelude.{◌≡◌, ◌<◌, ◌≤◌, ◌⊎◌, ℕ, [], ◌∷◌, All, Err, IfErr, IfOk, Ok, OnErr, OnOk, Some, ◌↔◌, false, length, map, replicate, true};
 ghost use Rattle.vm370.specs.declared.session.SessionError.TheVariants.{Memory};
 ghost use Rattle.cp_core.specs.Events.{user_of};
 ghost use Rattle.cp_script.specs.Script.{IsRefusal, said, script_of, user_of_event};
-ghost use Rattle.vm370.specs.Script.{IsOfUser, NamesNoDevice, as_said, known_users};
-ghost use Rattle.vm370.specs.Session.{CountsFiles, CountsWriter, IsCut, IsPartly, IsPlayed, IsRefused, IsSession, fault_error, refusal_error, users_of};
+ghost use Rattle.vm370.specs.Schedule.{Applies, Deals, acts, acts_of, scene};
+ghost use Rattle.vm370.specs.Script.{IsApplicable, IsOfUser, NamesNoDevice, as_said, known_users};
+ghost use Rattle.vm370.specs.Session.{CountsFiles, CountsWriter, IsAnswered, IsAnsweredPartly, IsCut, IsPartly, IsPlayed, IsRefused, IsSession, IsUnanswered, fault_error, refusal_error, users_of};
 
-use crate::transcript::print_event;
+use crate::queue::{SLICE_UNITS, first_policy, is_on, note, ready_users};
+use crate::transcript::{idle_line, print_reply};
 use cp_core::{CpError, Event, System};
 use cp_directory::User;
+use cp_dispatch::Policy;
 use cp_script::{ScriptError, ScriptEvent, ScriptUser, read_script};
 use cp_users::MOST_USERS;
 use s370_num::host::{HostFault, HostReader, HostWriter, read_all, write_all};
@@ -62,8 +65,11 @@ impl From<AllocError> for SessionError {
     }
 }
 
-/// Reads a whole script and judges it; then applies its events one after another, and writes each
-/// reply's lines as it comes. When it ends well, nothing that was written is held back.
+/// Reads a whole script and judges it; then applies its events and deals its turns one after another, and
+/// writes the lines of each as they come. When it ends well, nothing that was written is held back.
+///
+/// Turns are dealt among the users who are on: those who are on at first, by their numbers, and behind them who
+/// logs on later.
 pub fn session<R: HostReader, W: HostWriter>(
     alloc: Global,
     system: &mut System,
@@ -80,7 +86,8 @@ pub fn session<R: HostReader, W: HostWriter>(
 {
     let text = read_all(alloc, reader)?;
     let events = read_events(alloc, system.directory().users(), &text)?;
-    play(alloc, system, &events, writer)
+    let mut policy = first_policy(alloc, system)?;
+    play(alloc, system, &mut policy, &events, writer)
 }
 
 /// The events that a script names for the users of a directory, who have no devices.
@@ -114,69 +121,177 @@ fn script_users<'a>(alloc: Global, users: &'a [User]) -> Result<Vec<ScriptUser<'
         .collect(alloc)
 }
 
-/// Applies the events one after another, and writes each reply's lines as it comes.
+/// Applies the events and deals the turns one after another, and writes the lines of each as they come.
 fn play<W: HostWriter>(
     alloc: Global,
     system: &mut System,
+    policy: &mut Policy,
     events: &[ScriptEvent<'_>],
     writer: &mut W,
 ) -> Result<(), SessionError>
     requires users { All (IsOfUser (length system.old.users)) events.now }
     requires devices { All NamesNoDevice events.now }
-    ensures ok { OnOk result (IsPlayed (map said events.now) system.old system.new (W.contents writer.old) (W.contents writer.new)) }
-    ensures err { OnErr result (IsPartly (map said events.now) system.old system.new (W.contents writer.old) (W.contents writer.new)) }
+    requires seats { policy.old.most_users ≡ length system.old.users }
+    ensures ok { OnOk result (IsPlayed (acts (map said events.now)) (scene system.old policy.old.users) (scene system.new policy.new.users) (W.contents writer.old) (W.contents writer.new)) }
+    ensures err { OnErr result (IsPartly (acts (map said events.now)) (scene system.old policy.old.users) system.new (W.contents writer.old) (W.contents writer.new)) }
     ensures line { (n : ℕ) → result ≡ Err (SessionError.Line n) → ⊥ }
     ensures spent { result ≡ Err SessionError.Spent → system.old.is_spent ≡ true }
     ensures flushed { OnOk result (W.held writer.new ≡ []) }
     ensures counts { CountsWriter result (W.HostFile.failures writer.old) (W.HostFile.failures writer.new) }
 {
     for event in events {
-        act(alloc, system, event, writer)?;
+        act(alloc, system, policy, event, writer)?;
     }
     writer.flush()?;
     Ok(())
 }
 
-/// Applies one event, and writes its reply's lines.
+/// Does what a line of the script asks for, and writes the lines that come of it.
 fn act<W: HostWriter>(
+    alloc: Global,
+    system: &mut System,
+    policy: &mut Policy,
+    event: &ScriptEvent<'_>,
+    writer: &mut W,
+) -> Result<(), SessionError>
+    requires user { IsOfUser (length system.old.users) event.now }
+    requires device { NamesNoDevice event.now }
+    requires seats { policy.old.most_users ≡ length system.old.users }
+    ensures ok { OnOk result (IsPlayed (acts_of (said event.now)) (scene system.old policy.old.users) (scene system.new policy.new.users) (W.contents writer.old) (W.contents writer.new)) }
+    ensures err { OnErr result (IsPartly (acts_of (said event.now)) (scene system.old policy.old.users) system.new (W.contents writer.old) (W.contents writer.new)) }
+    ensures users { system.new.users ≡ system.old.users }
+    ensures seats { policy.new.most_users ≡ policy.old.most_users }
+    ensures line { (n : ℕ) → result ≡ Err (SessionError.Line n) → ⊥ }
+    ensures alive { OnOk result (system.new.is_spent ≡ true → system.old.is_spent ≡ true) }
+    ensures spent { result ≡ Err SessionError.Spent → system.old.is_spent ≡ true }
+    ensures counts { CountsWriter result (W.HostFile.failures writer.old) (W.HostFile.failures writer.new) }
+{
+    match event {
+        ScriptEvent::Auto(turns) => deal(alloc, system, policy, *turns, writer),
+        _ => apply(alloc, system, policy, event, writer),
+    }
+}
+
+/// Applies an event, and writes its lines. A user who logs on by it stands at the end of the queue, one who logs off stands
+/// in it no more.
+fn apply<W: HostWriter>(
+    alloc: Global,
+    system: &mut System,
+    policy: &mut Policy,
+    event: &ScriptEvent<'_>,
+    writer: &mut W,
+) -> Result<(), SessionError>
+    requires user { IsOfUser (length system.old.users) event.now }
+    requires event { IsApplicable event.now }
+    requires seats { policy.old.most_users ≡ length system.old.users }
+    ensures ok { OnOk result (IsPlayed (Applies (said event.now) ∷ []) (scene system.old policy.old.users) (scene system.new policy.new.users) (W.contents writer.old) (W.contents writer.new)) }
+    ensures err { OnErr result (IsPartly (Applies (said event.now) ∷ []) (scene system.old policy.old.users) system.new (W.contents writer.old) (W.contents writer.new)) }
+    ensures users { system.new.users ≡ system.old.users }
+    ensures seats { policy.new.most_users ≡ policy.old.most_users }
+    ensures line { (n : ℕ) → result ≡ Err (SessionError.Line n) → ⊥ }
+    ensures alive { OnOk result (system.new.is_spent ≡ true → system.old.is_spent ≡ true) }
+    ensures spent { result ≡ Err SessionError.Spent → system.old.is_spent ≡ true }
+    ensures counts { CountsWriter result (W.HostFile.failures writer.old) (W.HostFile.failures writer.new) }
+{
+    let user = event_of(event).user();
+    let was_on = is_on(system, user);
+    answer(alloc, system, event, writer)?;
+    let is_on = is_on(system, user);
+    note(policy, user, was_on, is_on);
+    Ok(())
+}
+
+/// Deals so many turns, one after another, and writes the lines of each.
+fn deal<W: HostWriter>(
+    alloc: Global,
+    system: &mut System,
+    policy: &mut Policy,
+    turns: u32,
+    writer: &mut W,
+) -> Result<(), SessionError>
+    requires seats { policy.old.most_users ≡ length system.old.users }
+    ensures ok { OnOk result (IsPlayed (replicate turns Deals) (scene system.old policy.old.users) (scene system.new policy.new.users) (W.contents writer.old) (W.contents writer.new)) }
+    ensures err { OnErr result (IsPartly (replicate turns Deals) (scene system.old policy.old.users) system.new (W.contents writer.old) (W.contents writer.new)) }
+    ensures users { system.new.users ≡ system.old.users }
+    ensures seats { policy.new.most_users ≡ policy.old.most_users }
+    ensures line { (n : ℕ) → result ≡ Err (SessionError.Line n) → ⊥ }
+    ensures alive { OnOk result (system.new.is_spent ≡ true → system.old.is_spent ≡ true) }
+    ensures spent { result ≡ Err SessionError.Spent → system.old.is_spent ≡ true }
+    ensures counts { CountsWriter result (W.HostFile.failures writer.old) (W.HostFile.failures writer.new) }
+{
+    for _turn in 0..turns {
+        turn(alloc, system, policy, writer)?;
+    }
+    Ok(())
+}
+
+/// Deals a turn: a slice to the first in the queue who is ready, if there is one. Its lines are those of the run, or that
+/// nobody had it. Users have no devices, so no program waits to be served.
+fn turn<W: HostWriter>(
+    alloc: Global,
+    system: &mut System,
+    policy: &mut Policy,
+    writer: &mut W,
+) -> Result<(), SessionError>
+    ensures ok { OnOk result (IsPlayed (Deals ∷ []) (scene system.old policy.old.users) (scene system.new policy.new.users) (W.contents writer.old) (W.contents writer.new)) }
+    ensures err { OnErr result (IsPartly (Deals ∷ []) (scene system.old policy.old.users) system.new (W.contents writer.old) (W.contents writer.new)) }
+    ensures users { system.new.users ≡ system.old.users }
+    ensures seats { policy.new.most_users ≡ policy.old.most_users }
+    ensures line { (n : ℕ) → result ≡ Err (SessionError.Line n) → ⊥ }
+    ensures alive { OnOk result (system.new.is_spent ≡ true → system.old.is_spent ≡ true) }
+    ensures spent { result ≡ Err SessionError.Spent → system.old.is_spent ≡ true }
+    ensures counts { CountsWriter result (W.HostFile.failures writer.old) (W.HostFile.failures writer.new) }
+{
+    let ready = ready_users(system);
+    match policy.slice(&ready) {
+        Some(user) => answer(alloc, system, &ScriptEvent::Run(user, SLICE_UNITS), writer),
+        None => {
+            write_all(writer, idle_line())?;
+            Ok(())
+        }
+    }
+}
+
+/// Applies an event, and writes its reply's lines.
+fn answer<W: HostWriter>(
     alloc: Global,
     system: &mut System,
     event: &ScriptEvent<'_>,
     writer: &mut W,
 ) -> Result<(), SessionError>
     requires user { IsOfUser (length system.old.users) event.now }
-    requires device { NamesNoDevice event.now }
-    ensures ok { OnOk result (IsPlayed (said event.now ∷ []) system.old system.new (W.contents writer.old) (W.contents writer.new)) }
-    ensures err { OnErr result (IsPartly (said event.now ∷ []) system.old system.new (W.contents writer.old) (W.contents writer.new)) }
+    requires event { IsApplicable event.now }
+    ensures ok { OnOk result (IsAnswered (said event.now) system.old system.new (W.contents writer.old) (W.contents writer.new)) }
+    ensures err { OnErr result (IsUnanswered system.old system.new (W.contents writer.old) (W.contents writer.new) ⊎ IsAnsweredPartly (said event.now) system.old system.new (W.contents writer.old) (W.contents writer.new)) }
     ensures users { system.new.users ≡ system.old.users }
     ensures line { (n : ℕ) → result ≡ Err (SessionError.Line n) → ⊥ }
     ensures alive { OnOk result (system.new.is_spent ≡ false) }
     ensures spent { (result ≡ Err SessionError.Spent) ↔ (system.old.is_spent ≡ true) }
     ensures counts { CountsWriter result (W.HostFile.failures writer.old) (W.HostFile.failures writer.new) }
 {
+    let user = event_of(event).user();
     let reply = match system.apply(event_of(event)) {
         Ok(reply) => reply,
         Err(CpError::Memory) => return Err(SessionError::Memory),
         Err(CpError::Spent) => return Err(SessionError::Spent),
         Err(CpError::NoSuchUser) => unreachable!(),
     };
-    let applied = event_of(event);
-    let lines = print_event(alloc, system.directory().users(), &applied, &reply)?;
+    let lines = print_reply(alloc, system.directory().users(), user, &reply)?;
     write_all(writer, &lines)?;
     Ok(())
 }
 
 /// The event that a line of a script says.
 fn event_of<'a>(event: &ScriptEvent<'a>) -> Event<'a>
-    requires { NamesNoDevice event.now }
+    requires { IsApplicable event.now }
     ensures said { as_said result ≡ said event.now }
-    ensures user { user_of result ≡ user_of_event event.now }
+    ensures user { Some (user_of result) ≡ user_of_event event.now }
 {
     match *event {
         ScriptEvent::Run(user, units) => Event::Run(user, units),
         ScriptEvent::Line(user, typed) => Event::Line(user, typed),
         ScriptEvent::Tick(user) => Event::Tick(user),
-        ScriptEvent::Serve(_, _) => unreachable!(),
+        ScriptEvent::Serve(_, _) | ScriptEvent::Auto(_) => unreachable!(),
     }
 }
 

@@ -1,26 +1,28 @@
 //! The transcript: the lines of an event and its reply.
 ghost use Rattle.std.specs.Prelude.{◌≡◌, ◌++◌, ◌∷◌, [], IfOk, OnOk, map};
-ghost use Rattle.vm370.specs.Transcript.{CutsBack, ended, ending_lines, event_lines, frames_line, ran_line, reason_word, said_lines, told_line};
+ghost use Rattle.cp_users.specs.Users.{name_of};
+ghost use Rattle.vm370.specs.Schedule.{Idle};
+ghost use Rattle.vm370.specs.Transcript.{CutsBack, ended, ending_lines, entry_lines, frames_line, ran_line, reason_word, reply_lines, said_lines, told_line};
 
 use cp_console::printing;
 use cp_console::responses::Response;
-use cp_core::{Ended, Event, Reply};
-use cp_users::{Named, name_of};
+use cp_core::{Ended, Reply};
+use cp_users::{Named, UserNo, name_of};
 use s370_intr::{Ran, Reason};
 use std::alloc::{AllocError, Global};
 
-/// The transcript's lines for an event and its reply, each ended by LF: what was said to the user,
+/// The transcript's lines for a reply to an event of this user, each ended by LF: what was said to the user,
 /// and then how the event ended.
 #[tactic(auto, using(crate::proofs::Endings::reply_ended))]
-pub fn print_event<N: Named>(
+pub fn print_reply<N: Named>(
     alloc: Global,
     users: &[N],
-    event: &Event<'_>,
+    user: UserNo,
     reply: &Reply,
 ) -> Result<Vec<u8>, AllocError>
-    ensures { IfOk result (λ text. text.items ≡ ended (event_lines (map N.name users.now) event.now reply.now)) }
+    ensures { IfOk result (λ text. text.items ≡ ended (reply_lines (name_of (map N.name users.now) user) reply.now)) }
 {
-    let name = name_of(users, event.user());
+    let name = name_of(users, user);
     let mut text = Vec::new(alloc);
     print_said(alloc, &mut text, name, reply.said)?;
     print_ending(alloc, &mut text, name, reply.ended)?;
@@ -85,6 +87,13 @@ pub fn print_ran(alloc: Global, out: &mut Vec<u8>, name: &[u8], ran: Ran) -> Res
     Ok(())
 }
 
+/// The line of a turn that nobody had, with its end.
+pub fn idle_line() -> &'static [u8]
+    ensures { result.now ≡ ended (entry_lines [] Idle) }
+{
+    b"= IDLE\n"
+}
+
 /// Adds `= u FRAMES` and its end.
 fn print_frames_out(out: &mut Vec<u8>, name: &[u8]) -> Result<(), AllocError>
     ensures { OnOk result (out.new.items ≡ out.old.items ++ ended (frames_line name.now ∷ [])) }
@@ -118,14 +127,12 @@ pub fn cuts_back()
 #[cfg(test)]
 mod tests {
     use super::*;
-    use cp_users::UserNo;
     use std::test::Fail;
 
     /// What is printed where a reply says this to B and tells this ending, and the users are A, B.
     fn printed(alloc: Global, said: Option<Response>, ended: Ended) -> Result<Vec<u8>, AllocError> {
-        let event = Event::Line(UserNo::new(1), b"");
         let users = [b"A".as_slice(), b"B".as_slice()];
-        print_event(alloc, &users, &event, &Reply { ended, said })
+        print_reply(alloc, &users, UserNo::new(1), &Reply { ended, said })
     }
 
     #[test]

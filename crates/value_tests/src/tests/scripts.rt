@@ -18,9 +18,9 @@ fn read<'a>(alloc: Global, text: &'a [u8]) -> Result<Vec<ScriptEvent<'a>>, Scrip
     read_script(alloc, &users, text)
 }
 
-/// What an event says: the number of its user; its kind; what is typed; and the units of a run or the device that
-/// is served.
-type Said<'a> = (u8, Kind, &'a [u8], u32);
+/// What an event says: the number of its user, if it names one; its kind; what is typed; and the units of a run, the
+/// device that is served or the turns that are dealt.
+type Said<'a> = (Option<u8>, Kind, &'a [u8], u32);
 
 /// Which kind of event it is.
 #[derive(Clone, Copy, Debug, PartialEq, Eq)]
@@ -29,13 +29,14 @@ enum Kind {
     Line,
     Tick,
     Serve,
+    Auto,
 }
 
 /// What the events of a text say.
 fn said<'a>(alloc: Global, text: &'a [u8]) -> Result<Vec<Said<'a>>, Fail> {
     let mut all = Vec::new(alloc);
     for event in read(alloc, text)? {
-        let user = event.user().number();
+        let user = event.user().map(|user| user.number());
         match event {
             ScriptEvent::Run(_, units) => all.push((user, Kind::Run, b"".as_slice(), units))?,
             ScriptEvent::Line(_, typed) => all.push((user, Kind::Line, typed, 0))?,
@@ -43,6 +44,7 @@ fn said<'a>(alloc: Global, text: &'a [u8]) -> Result<Vec<Said<'a>>, Fail> {
             ScriptEvent::Serve(_, device) => {
                 all.push((user, Kind::Serve, b"".as_slice(), u32::from(device)))?;
             }
+            ScriptEvent::Auto(turns) => all.push((user, Kind::Auto, b"".as_slice(), turns))?,
         }
     }
     Ok(all)
@@ -53,14 +55,24 @@ fn reads_a_whole_script(rt: HostRuntime) -> Result<(), Fail> {
     let text =
         b"LINE A LOGON\nLINE A STORE 1000 0A07\nLINE A STORE 60 0000000000000200\nLINE A STORE PSW 00000000 00001000\nLINE A BEGIN\nRUN A 1\nLINE A #CP DISPLAY 20\nLINE A #CP DISPLAY PSW\n";
     let wanted = [
-        (0, Kind::Line, b"LOGON".as_slice(), 0),
-        (0, Kind::Line, b"STORE 1000 0A07".as_slice(), 0),
-        (0, Kind::Line, b"STORE 60 0000000000000200".as_slice(), 0),
-        (0, Kind::Line, b"STORE PSW 00000000 00001000".as_slice(), 0),
-        (0, Kind::Line, b"BEGIN".as_slice(), 0),
-        (0, Kind::Run, b"".as_slice(), 1),
-        (0, Kind::Line, b"#CP DISPLAY 20".as_slice(), 0),
-        (0, Kind::Line, b"#CP DISPLAY PSW".as_slice(), 0),
+        (Some(0), Kind::Line, b"LOGON".as_slice(), 0),
+        (Some(0), Kind::Line, b"STORE 1000 0A07".as_slice(), 0),
+        (
+            Some(0),
+            Kind::Line,
+            b"STORE 60 0000000000000200".as_slice(),
+            0,
+        ),
+        (
+            Some(0),
+            Kind::Line,
+            b"STORE PSW 00000000 00001000".as_slice(),
+            0,
+        ),
+        (Some(0), Kind::Line, b"BEGIN".as_slice(), 0),
+        (Some(0), Kind::Run, b"".as_slice(), 1),
+        (Some(0), Kind::Line, b"#CP DISPLAY 20".as_slice(), 0),
+        (Some(0), Kind::Line, b"#CP DISPLAY PSW".as_slice(), 0),
     ];
     assert_eq!(rt; said(rt.alloc(), text)?.as_slice(), wanted.as_slice());
     Ok(())
@@ -71,9 +83,9 @@ fn reads_the_example_of_the_formats(rt: HostRuntime) -> Result<(), Fail> {
     let text =
         b"* A logs on and runs; B gets an empty line.\nLINE A LOGON\n\nRUN A 0000100\nLINE B\n";
     let wanted = [
-        (0, Kind::Line, b"LOGON".as_slice(), 0),
-        (0, Kind::Run, b"".as_slice(), 100),
-        (1, Kind::Line, b"".as_slice(), 0),
+        (Some(0), Kind::Line, b"LOGON".as_slice(), 0),
+        (Some(0), Kind::Run, b"".as_slice(), 100),
+        (Some(1), Kind::Line, b"".as_slice(), 0),
     ];
     assert_eq!(rt; said(rt.alloc(), text)?.as_slice(), wanted.as_slice());
     Ok(())
@@ -95,45 +107,62 @@ fn reads_texts_that_name_nothing(rt: HostRuntime) -> Result<(), Fail> {
 #[test]
 fn reads_one_event(rt: HostRuntime) -> Result<(), Fail> {
     for (text, wanted) in [
-        (b"RUN B 1".as_slice(), (1, Kind::Run, b"".as_slice(), 1)),
+        (
+            b"RUN B 1".as_slice(),
+            (Some(1), Kind::Run, b"".as_slice(), 1),
+        ),
         (
             b"RUN A 0000001\n".as_slice(),
-            (0, Kind::Run, b"".as_slice(), 1),
+            (Some(0), Kind::Run, b"".as_slice(), 1),
         ),
         (
             b"RUN A 1000000\n".as_slice(),
-            (0, Kind::Run, b"".as_slice(), 1_000_000),
+            (Some(0), Kind::Run, b"".as_slice(), 1_000_000),
         ),
-        (b"LINE B".as_slice(), (1, Kind::Line, b"".as_slice(), 0)),
-        (b"LINE B ".as_slice(), (1, Kind::Line, b"".as_slice(), 0)),
+        (
+            b"LINE B".as_slice(),
+            (Some(1), Kind::Line, b"".as_slice(), 0),
+        ),
+        (
+            b"LINE B ".as_slice(),
+            (Some(1), Kind::Line, b"".as_slice(), 0),
+        ),
         (
             b"LINE B x y ".as_slice(),
-            (1, Kind::Line, b"x y ".as_slice(), 0),
+            (Some(1), Kind::Line, b"x y ".as_slice(), 0),
         ),
         (
             b"LINE B  x".as_slice(),
-            (1, Kind::Line, b" x".as_slice(), 0),
+            (Some(1), Kind::Line, b" x".as_slice(), 0),
         ),
         (
             b"LINE B x\r\n".as_slice(),
-            (1, Kind::Line, b"x\r".as_slice(), 0),
+            (Some(1), Kind::Line, b"x\r".as_slice(), 0),
         ),
         (
             b"LINE A \t\xC1\xFF".as_slice(),
-            (0, Kind::Line, b"\t\xC1\xFF".as_slice(), 0),
+            (Some(0), Kind::Line, b"\t\xC1\xFF".as_slice(), 0),
         ),
         (
             b"SERVE A 009\n".as_slice(),
-            (0, Kind::Serve, b"".as_slice(), 0x009),
+            (Some(0), Kind::Serve, b"".as_slice(), 0x009),
         ),
         (
             b"SERVE A 1AF".as_slice(),
-            (0, Kind::Serve, b"".as_slice(), 0x1AF),
+            (Some(0), Kind::Serve, b"".as_slice(), 0x1AF),
         ),
-        (b"TICK A".as_slice(), (0, Kind::Tick, b"".as_slice(), 0)),
+        (
+            b"TICK A".as_slice(),
+            (Some(0), Kind::Tick, b"".as_slice(), 0),
+        ),
+        (b"AUTO 1".as_slice(), (None, Kind::Auto, b"".as_slice(), 1)),
+        (
+            b"AUTO 0100000\n".as_slice(),
+            (None, Kind::Auto, b"".as_slice(), 100_000),
+        ),
         (
             b"*\n\nTICK B\n".as_slice(),
-            (1, Kind::Tick, b"".as_slice(), 0),
+            (Some(1), Kind::Tick, b"".as_slice(), 0),
         ),
     ] {
         assert_eq!(rt;
@@ -189,6 +218,18 @@ fn tells_the_first_bad_line(rt: HostRuntime) {
         (b"SERVE  A 009".as_slice(), 1),
         (b"SERVE A".as_slice(), 1),
         (b"SERVE".as_slice(), 1),
+        // turns: no user, one number
+        (b"AUTO".as_slice(), 1),
+        (b"AUTO ".as_slice(), 1),
+        (b"AUTO A 3".as_slice(), 1),
+        (b"AUTO 3 3".as_slice(), 1),
+        (b"AUTO 3 ".as_slice(), 1),
+        (b"AUTO  3".as_slice(), 1),
+        (b"auto 3".as_slice(), 1),
+        (b"AUTO 1\nAUTO 0".as_slice(), 2),
+        (b"AUTO 100001".as_slice(), 1),
+        (b"AUTO 00000001".as_slice(), 1),
+        (b"AUTO 1x".as_slice(), 1),
         // numbers
         (b"RUN A 0".as_slice(), 1),
         (b"LINE A\nRUN A 0000000".as_slice(), 2),

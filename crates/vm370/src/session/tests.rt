@@ -55,6 +55,16 @@ fn writes_the_transcript(rt: HostRuntime) -> Result<(), Fail> {
             b"LINE A LOGON\nLINE B LOGON\nLINE A STORE 100 80000200\nLINE A STORE 200 01\nLINE A STORE 58 0000000000000300\nLINE A STORE PSW 00000000 00000100\nLINE A BEGIN\nTICK A\nTICK B\nRUN A 2\nLINE A #CP DISPLAY 50\nLINE A #CP DISPLAY 10\nLINE B DISPLAY 50\n",
             b"A: LOGON OK\nB: LOGON OK\nA: STORED\nA: STORED\nA: STORED\nA: STORED\n= A 2 COUNT\nA: 000050 FFFFFF00 00000000 00000000 00000300\nA: 000010 00000000 00000000 01000080 00000104\nB: 000050 00000000 00000000 00000000 00000000\n",
         ),
+        // a wait that nothing ends has one slice more, in which the machine stops; one that an interruption ends has none
+        (
+            b"LINE A LOGON\nLINE B LOGON\nLINE A STORE PSW 00020000 00000000\nLINE A BEGIN\nLINE B STORE PSW 01020000 00000000\nLINE B BEGIN\nAUTO 3\n",
+            b"A: LOGON OK\nB: LOGON OK\nA: STORED\nB: STORED\nA: STOPPED DISABLED WAIT\n= A 0 DISABLEDWAIT\n= IDLE\n= IDLE\n",
+        ),
+        // who logs on again stands behind the others; each has program interruptions without end
+        (
+            b"AUTO 1\nLINE A LOGON\nLINE B LOGON\nLINE A LOGOFF\nLINE A LOGON\nLINE A BEGIN\nLINE B BEGIN\nAUTO 3\nLINE B #CP LOGOFF\nAUTO 2\n",
+            b"= IDLE\nA: LOGON OK\nB: LOGON OK\nA: LOGOFF OK\nA: LOGON OK\n= B 100 COUNT\n= A 100 COUNT\n= B 100 COUNT\nB: LOGOFF OK\n= A 100 COUNT\n= A 100 COUNT\n",
+        ),
         // lines that are refused
         (
             b"LINE A LOGON\nLINE A FOO\nLINE A DISPLAY G16\nLINE A DISPLAY 2000\n",
@@ -77,6 +87,9 @@ fn judges_before_it_applies(rt: HostRuntime) -> Result<(), Fail> {
         (b"* A\n\nRUN A 0\nSTOP A\n".as_slice(), 3),
         (b"LINE".as_slice(), 1),
         (b"LINE A LOGON\nRUN A  1".as_slice(), 2),
+        (b"LINE A LOGON\nAUTO\n".as_slice(), 2),
+        (b"LINE A LOGON\nAUTO 1\nAUTO 0\n".as_slice(), 3),
+        (b"LINE A LOGON\nAUTO 100001\n".as_slice(), 2),
     ] {
         let mut system = booted(rt.alloc())?;
         let mut told = Vec::new(rt.alloc());
@@ -89,6 +102,11 @@ fn judges_before_it_applies(rt: HostRuntime) -> Result<(), Fail> {
         let logon = b"LINE A LOGON";
         session(rt.alloc(), &mut system, &mut Bytes::new(logon), &mut told)?;
         assert_eq!(rt; told.as_slice(), b"A: LOGON OK\n".as_slice());
+        // who is on at first is dealt slices
+        told.clear();
+        let turn = b"LINE A BEGIN\nAUTO 1";
+        session(rt.alloc(), &mut system, &mut Bytes::new(turn), &mut told)?;
+        assert_eq!(rt; told.as_slice(), b"= A 100 COUNT\n".as_slice());
     }
     Ok(())
 }

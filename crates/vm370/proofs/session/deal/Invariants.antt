@@ -1,0 +1,13 @@
+use Rattle.std.proofs.Common.{◌≡◌, true, replicate}
+use Rattle.vm370.specs.Schedule.{Deals, scene}
+use Rattle.vm370.specs.Session.{IsPlayed}
+use Rattle.vm370.proofs.session.deal.Given as goal
+
+abbrev pub invariant-loop-turn : goal.invariant-loop-turn
+invariant-loop-turn g l = record {
+  so_far : IsPlayed (replicate l._turn Deals) (scene l.fn.system l.fn.policy.users) (scene l.system l.policy.users) (g.W.HostWriter.contents l.fn.writer) (g.W.HostWriter.contents l.writer);
+  users : l.system.users ≡ l.fn.system.users;
+  seats : l.policy.most_users ≡ l.fn.policy.most_users;
+  spent : l.system.is_spent ≡ true → l.fn.system.is_spent ≡ true;
+  same : g.W.HostFile.failures l.writer ≡ g.W.HostFile.failures l.fn.writer;
+}
