@@ -299,8 +299,8 @@ fn add_quickly<S: Storage>(cpu: &mut Cpu, storage: &S, i: Instruction) -> Option
     done_of(word_row_at(Arithmetic::Add, cpu, storage, i, start))
 }
 
-/// D2 MVC, out of line.
-#[inline(never)]
+/// D2 MVC. The row is a call; one call more would copy the instruction, which the processor was just writing byte by byte.
+#[inline(always)]
 fn move_quickly<S: Storage>(cpu: &mut Cpu, storage: &mut S, i: Instruction) -> bool
     ensures done { let before = state_of cpu.old (S.bytes storage.old) (S.keys storage.old) in
         let after = state_of cpu.new (S.bytes storage.new) (S.keys storage.new) in
