@@ -26,6 +26,11 @@ abbrev pub part_of : Bool → Option Ending
 part_of true = Some Again
 part_of false = None
 
+-- a row that was done
+abbrev pub whole_of : Bool → Option Ending
+whole_of true = Some Done
+whole_of false = None
+
 -- the row, where the processor goes on after it and nobody's rights change; or nothing is changed
 abbrev pub MeetsQuick : Row → (ℕ → Bool) → State → Option Ending → State → Type 0
 MeetsQuick r present old None new = new ≡ old

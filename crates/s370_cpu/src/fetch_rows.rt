@@ -1,5 +1,6 @@
 //! The rows that fetch their operands, and change registers alone.
 ghost use Rattle.std.specs.Prelude.{◌≡◌, ℕ, slice_index};
+ghost use Rattle.s370_rows.specs.Formats.{indexed_address, r2_of};
 ghost use Rattle.s370_rows.specs.State.{state_of};
 ghost use Rattle.s370_rows.specs.Rows.{MeetsRow, fetch_test};
 ghost use Rattle.s370_cpu.specs.FetchRows.{MeetsOperand, byte_tested, character_inserted, fetch_row, half_of, halfword_multiplied, halfword_operation, operand_of, word_divided, word_multiplied, word_of, word_operation};
@@ -62,7 +63,26 @@ pub fn word_row<S: Storage>(
         let after = state_of cpu.new (S.bytes storage.now) (S.keys storage.now) in
         MeetsRow (word_operation operation before i) (S.present storage.now) before result after }
 {
-    let b = fetched_word(cpu, storage, i)?;
+    let start = cpu.indexed(i.r2(), i.second_half).get();
+    word_row_at(operation, cpu, storage, i, start)
+}
+
+/// As [`word_row`], whose word stands at this address.
+#[inline(always)]
+pub fn word_row_at<S: Storage>(
+    operation: Arithmetic,
+    cpu: &mut Cpu,
+    storage: &S,
+    i: Instruction,
+    start: u32,
+) -> Result<Ending, Refusal>
+    requires { start ≡ indexed_address cpu.old (r2_of i) i.second_half }
+    ensures { let before = state_of cpu.old (S.bytes storage.now) (S.keys storage.now) in
+        let after = state_of cpu.new (S.bytes storage.now) (S.keys storage.now) in
+        MeetsRow (word_operation operation before i) (S.present storage.now) before result after }
+{
+    grant(cpu, storage, Range { start, count: 4 }, Access::Fetch)?;
+    let b = load_word(storage, start);
     Ok(arithmetic_row(operation, cpu, i.r1(), b))
 }
 

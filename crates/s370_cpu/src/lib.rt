@@ -4,7 +4,8 @@
 //! stop, that the instruction table in `specs/` does (IBM System/370 Principles of Operation, GA22-7000); or it answers
 //! that a page is not present, which the instruction has to access, and has changed nothing. It is given the registers
 //! and a storage, and it takes no interruption: who calls it swaps the program status words, and goes on with an
-//! instruction for the supervisor state by [`supervise`], of which the same holds over the table of those.
+//! instruction for the supervisor state by [`supervise`], of which the same holds over the table of those. The most frequent
+//! instructions are done by [`step_quickly`], or nothing is changed.
 //!
 //! Of the table itself three laws hold, over all instructions: a byte that is changed was tested for storing
 //! ([`changed_bytes_were_tested`]), its block's key in storage matches the protection key ([`protection_holds`]), and

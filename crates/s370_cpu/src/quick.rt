@@ -5,18 +5,23 @@ ghost use Rattle.s370_rows.specs.State.{state_of};
 ghost use Rattle.s370_cpu.specs.declared.conclude.Stop.TheVariants as stops;
 ghost use Rattle.s370_cpu.specs.Fetch.{fetched, instruction_at};
 ghost use Rattle.s370_cpu.specs.FetchRows.{word_operation};
+ghost use Rattle.s370_cpu.specs.StoreRows.{word_stored};
+ghost use Rattle.s370_bytes.specs.Combine.{string_combined};
+ghost use Rattle.s370_bytes.specs.declared.combine.Combine.TheVariants as combines;
+ghost use Rattle.s370_rows.specs.Rows.{MeetsRow};
+ghost use Rattle.s370_rows.specs.declared.ending.Ending.TheVariants as endings;
 ghost use Rattle.s370_cpu.specs.Laws.{rights_of};
-ghost use Rattle.s370_cpu.specs.Quick.{GoesOn, MeetsQuick, done_of, part_of};
+ghost use Rattle.s370_cpu.specs.Quick.{GoesOn, MeetsQuick, done_of, part_of, whole_of};
 ghost use Rattle.s370_cpu.specs.Table.{row_of, unit};
 ghost use Rattle.s370_cpu.specs.Unit.{Carries, MeetsUnit, place_at, stopped};
 ghost use Rattle.s370_rows.specs.declared.arithmetic.Arithmetic.TheVariants as operations;
 
 use crate::execute::EXECUTE;
 use crate::fetch::{length_of, load_known, may_fetch_longest};
-use crate::fetch_rows::{test_byte_row, word_row};
+use crate::fetch_rows::{test_byte_row, word_row_at};
 use crate::opcodes::Branching;
 use crate::register_rows::{branch_to, load_address, register_operation};
-use crate::store_rows::store_word_row;
+use crate::store_rows::store_word_row_at;
 use s370_bytes::{move_long_quickly, move_row};
 use s370_num::{AccessKey, Addr24};
 use s370_rows::{Arithmetic, ByteTest, Cpu, Ending, Instruction, Place, Refusal};
@@ -42,9 +47,16 @@ pub fn step_quickly<S: Storage>(cpu: &mut Cpu, storage: &mut S) -> bool
     ensures present { S.present storage.new ≡ S.present storage.old }
     ensures rest { S.Keeps storage.old storage.new }
 {
-    // What is read once stays in a register, whatever the storage does to settle.
+    // What is read once stays in a register, whatever the storage does to settle. The tests of the address come first, so
+    // that what settling finds is looked at right after it.
     let start = cpu.psw.address().get();
     let key = cpu.psw.key();
+    if start % 2 != 0 {
+        return false;
+    }
+    if start % 2048 > 2042 {
+        return false;
+    }
     storage.settle(start, key);
     step_settled_quickly(cpu, storage, start, key)
 }
@@ -77,16 +89,16 @@ fn step_settled_quickly<S: Storage>(
     }
     // One jump, behind which all is compiled for the one operation code.
     match load_byte(storage, start) {
-        0x0E => carry_quickly(cpu, storage, start, 0x0E),
-        0x18 => carry_quickly(cpu, storage, start, 0x18),
-        0x41 => carry_quickly(cpu, storage, start, 0x41),
-        0x46 => carry_quickly(cpu, storage, start, 0x46),
-        0x47 => carry_quickly(cpu, storage, start, 0x47),
-        0x50 => carry_quickly(cpu, storage, start, 0x50),
-        0x58 => carry_quickly(cpu, storage, start, 0x58),
-        0x5A => carry_quickly(cpu, storage, start, 0x5A),
-        0x95 => carry_quickly(cpu, storage, start, 0x95),
-        0xD2 => carry_quickly(cpu, storage, start, 0xD2),
+        0x0E => carry_quickly::<S, 0x0E>(cpu, storage, start),
+        0x18 => carry_quickly::<S, 0x18>(cpu, storage, start),
+        0x41 => carry_quickly::<S, 0x41>(cpu, storage, start),
+        0x46 => carry_quickly::<S, 0x46>(cpu, storage, start),
+        0x47 => carry_quickly::<S, 0x47>(cpu, storage, start),
+        0x50 => carry_quickly::<S, 0x50>(cpu, storage, start),
+        0x58 => carry_quickly::<S, 0x58>(cpu, storage, start),
+        0x5A => carry_quickly::<S, 0x5A>(cpu, storage, start),
+        0x95 => carry_quickly::<S, 0x95>(cpu, storage, start),
+        0xD2 => carry_quickly::<S, 0xD2>(cpu, storage, start),
         _ => false,
     }
 }
@@ -94,12 +106,12 @@ fn step_settled_quickly<S: Storage>(
 /// Goes on with the instruction of this operation code, which stands at the instruction address, once one look was enough
 /// for its fetch.
 #[inline(always)]
-fn carry_quickly<S: Storage>(cpu: &mut Cpu, storage: &mut S, start: u32, opcode: u8) -> bool
+fn carry_quickly<S: Storage, const CODE: u8>(cpu: &mut Cpu, storage: &mut S, start: u32) -> bool
     requires here { start ≡ cpu.old.psw.address }
     requires found { let m = state_of cpu.old (S.bytes storage.old) (S.keys storage.old) in
         (fetched m start).result ≡ Ok (instruction_at (S.bytes storage.old) start) }
     requires granted { IsGranted (length (S.bytes storage.old)) (S.present storage.old) start 6 }
-    requires known { opcode ≡ slice_index (S.bytes storage.old) start }
+    requires known { CODE ≡ slice_index (S.bytes storage.old) start }
     ensures done { let before = state_of cpu.old (S.bytes storage.old) (S.keys storage.old) in
         let after = state_of cpu.new (S.bytes storage.new) (S.keys storage.new) in
         result ≡ true → MeetsUnit (unit before) (S.present storage.old) before stops.Done after }
@@ -113,25 +125,24 @@ fn carry_quickly<S: Storage>(cpu: &mut Cpu, storage: &mut S, start: u32, opcode:
     ensures present { S.present storage.new ≡ S.present storage.old }
     ensures rest { S.Keeps storage.old storage.new }
 {
-    if opcode == EXECUTE {
+    if CODE == EXECUTE {
         return false;
     }
-    let first = load_known(storage, start, opcode);
-    let ilc = length_of(opcode);
+    let first = load_known(storage, start, CODE);
+    let ilc = length_of(CODE);
     let next = cpu.psw.address().wrapping_add(2 * ilc.get() as u32);
-    finish_quickly(cpu, storage, Place { next, ilc }, opcode, first)
+    finish_quickly::<S, CODE>(cpu, storage, Place { next, ilc }, first)
 }
 
 /// Goes on with the instruction that is carried out, of this operation code.
 #[inline(always)]
-fn finish_quickly<S: Storage>(
+fn finish_quickly<S: Storage, const CODE: u8>(
     cpu: &mut Cpu,
     storage: &mut S,
     place: Place,
-    opcode: u8,
     i: Instruction,
 ) -> bool
-    requires same { i.opcode ≡ opcode }
+    requires same { i.opcode ≡ CODE }
     requires carried { Carries (state_of cpu.old (S.bytes storage.old) (S.keys storage.old)) place.ilc i }
     requires next { let m = state_of cpu.old (S.bytes storage.old) (S.keys storage.old) in
         place ≡ place_at m place.ilc }
@@ -149,7 +160,7 @@ fn finish_quickly<S: Storage>(
     ensures rest { S.Keeps storage.old storage.new }
 {
     let Place { next, ilc } = place;
-    match perform_quickly(cpu, storage, Place { next, ilc }, opcode, i) {
+    match perform_quickly::<S, CODE>(cpu, storage, Place { next, ilc }, i) {
         Some(ending) => {
             go_on(cpu, Place { next, ilc }, ending);
             true
@@ -175,15 +186,16 @@ fn go_on(cpu: &mut Cpu, place: Place, ending: Ending)
 }
 
 /// Carries out a frequent instruction, but for its address, if nothing keeps it from being done.
+///
+/// Its operation code is a constant of the function's own, so that each of them is compiled by itself.
 #[inline(always)]
-fn perform_quickly<S: Storage>(
+fn perform_quickly<S: Storage, const CODE: u8>(
     cpu: &mut Cpu,
     storage: &mut S,
     place: Place,
-    opcode: u8,
     i: Instruction,
 ) -> Option<Ending>
-    requires same { i.opcode ≡ opcode }
+    requires same { i.opcode ≡ CODE }
     ensures row { let before = state_of cpu.old (S.bytes storage.old) (S.keys storage.old) in
         let after = state_of cpu.new (S.bytes storage.new) (S.keys storage.new) in
         MeetsQuick (row_of before place i) (S.present storage.old) before result after }
@@ -191,17 +203,17 @@ fn perform_quickly<S: Storage>(
     ensures present { S.present storage.new ≡ S.present storage.old }
     ensures rest { S.Keeps storage.old storage.new }
 {
-    match opcode {
+    match CODE {
         0x0E => part_of(move_long_quickly(cpu, storage, i)),
         0x18 => Some(register_operation(Arithmetic::Load, cpu, i)),
         0x41 => Some(load_address(cpu, i)),
         0x46 => Some(branch_to(Branching::Count, cpu, place, i)),
         0x47 => Some(branch_to(Branching::Condition, cpu, place, i)),
-        0x50 => done_of(store_word_row(cpu, storage, i)),
-        0x58 => done_of(word_row(Arithmetic::Load, cpu, storage, i)),
+        0x50 => store_quickly(cpu, storage, i),
+        0x58 => load_quickly(cpu, storage, i),
         0x5A => add_quickly(cpu, storage, i),
         0x95 => done_of(test_byte_row(ByteTest::CompareLogical, cpu, storage, i)),
-        0xD2 => done_of(move_row(cpu, storage, i)),
+        0xD2 => whole_of(move_quickly(cpu, storage, i)),
         _ => None,
     }
 }
@@ -225,7 +237,52 @@ fn part_of(did: bool) -> Option<Ending>
     if did { Some(Ending::Again) } else { None }
 }
 
-/// 5A A, where no overflow interrupts.
+/// How a row ended that was done.
+#[inline(always)]
+fn whole_of(did: bool) -> Option<Ending>
+    ensures { result ≡ whole_of did }
+{
+    if did { Some(Ending::Done) } else { None }
+}
+
+/// Whether the word at an address lies in one block. Where it is asked first, what is done over two is left out of the code.
+#[inline(always)]
+fn lies_in_one_block(start: u32) -> bool {
+    start % 2048 <= 2044
+}
+
+/// 50 ST, where the word lies in one block.
+#[inline(always)]
+fn store_quickly<S: Storage>(cpu: &Cpu, storage: &mut S, i: Instruction) -> Option<Ending>
+    ensures row { let before = state_of cpu.now (S.bytes storage.old) (S.keys storage.old) in
+        let after = state_of cpu.now (S.bytes storage.new) (S.keys storage.new) in
+        MeetsQuick (word_stored before i) (S.present storage.old) before result after }
+    ensures size { length (S.bytes storage.new) ≡ length (S.bytes storage.old) }
+    ensures present { S.present storage.new ≡ S.present storage.old }
+    ensures rest { S.Keeps storage.old storage.new }
+{
+    let start = cpu.indexed(i.r2(), i.second_half).get();
+    if !lies_in_one_block(start) {
+        return None;
+    }
+    done_of(store_word_row_at(cpu, storage, i, start))
+}
+
+/// 58 L, where the word lies in one block.
+#[inline(always)]
+fn load_quickly<S: Storage>(cpu: &mut Cpu, storage: &S, i: Instruction) -> Option<Ending>
+    ensures { let before = state_of cpu.old (S.bytes storage.now) (S.keys storage.now) in
+        let after = state_of cpu.new (S.bytes storage.now) (S.keys storage.now) in
+        MeetsQuick (word_operation operations.Load before i) (S.present storage.now) before result after }
+{
+    let start = cpu.indexed(i.r2(), i.second_half).get();
+    if !lies_in_one_block(start) {
+        return None;
+    }
+    done_of(word_row_at(Arithmetic::Load, cpu, storage, i, start))
+}
+
+/// 5A A, where the word lies in one block, and no overflow interrupts.
 #[inline(always)]
 fn add_quickly<S: Storage>(cpu: &mut Cpu, storage: &S, i: Instruction) -> Option<Ending>
     ensures { let before = state_of cpu.old (S.bytes storage.now) (S.keys storage.now) in
@@ -235,5 +292,28 @@ fn add_quickly<S: Storage>(cpu: &mut Cpu, storage: &S, i: Instruction) -> Option
     if cpu.psw.program_mask() >= 8 {
         return None;
     }
-    done_of(word_row(Arithmetic::Add, cpu, storage, i))
+    let start = cpu.indexed(i.r2(), i.second_half).get();
+    if !lies_in_one_block(start) {
+        return None;
+    }
+    done_of(word_row_at(Arithmetic::Add, cpu, storage, i, start))
+}
+
+/// D2 MVC. The row is a call; one call more would copy the instruction, which the processor was just writing byte by byte.
+#[inline(always)]
+fn move_quickly<S: Storage>(cpu: &mut Cpu, storage: &mut S, i: Instruction) -> bool
+    ensures done { let before = state_of cpu.old (S.bytes storage.old) (S.keys storage.old) in
+        let after = state_of cpu.new (S.bytes storage.new) (S.keys storage.new) in
+        result ≡ true → MeetsRow (string_combined combines.Move before i) (S.present storage.old) before (Ok endings.Done) after }
+    ensures still { let before = state_of cpu.old (S.bytes storage.old) (S.keys storage.old) in
+        let after = state_of cpu.new (S.bytes storage.new) (S.keys storage.new) in
+        result ≡ false → after ≡ before }
+    ensures size { length (S.bytes storage.new) ≡ length (S.bytes storage.old) }
+    ensures present { S.present storage.new ≡ S.present storage.old }
+    ensures rest { S.Keeps storage.old storage.new }
+{
+    match move_row(cpu, storage, i) {
+        Ok(_) => true,
+        Err(_) => false,
+    }
 }

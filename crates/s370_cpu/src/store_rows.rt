@@ -1,5 +1,6 @@
 //! The rows that store an operand.
 ghost use Rattle.std.specs.Prelude.{◌≡◌, ℕ, length};
+ghost use Rattle.s370_rows.specs.Formats.{indexed_address, r2_of};
 ghost use Rattle.s370_rows.specs.State.{state_of};
 ghost use Rattle.s370_rows.specs.Rows.{MeetsRow};
 ghost use Rattle.s370_cpu.specs.StoreRows.{byte_changed, character_stored, doubleword_swapped, halfword_stored, store_row, word_stored, word_swapped};
@@ -34,6 +35,25 @@ pub fn store_word_row<S: Storage>(
     ensures rest { S.Keeps storage.old storage.new }
 {
     let start = cpu.indexed(i.r2(), i.second_half).get();
+    store_word_row_at(cpu, storage, i, start)
+}
+
+/// As [`store_word_row`], whose word stands at this address.
+#[inline(always)]
+pub fn store_word_row_at<S: Storage>(
+    cpu: &Cpu,
+    storage: &mut S,
+    i: Instruction,
+    start: u32,
+) -> Result<Ending, Refusal>
+    requires { start ≡ indexed_address cpu.now (r2_of i) i.second_half }
+    ensures row { let before = state_of cpu.now (S.bytes storage.old) (S.keys storage.old) in
+        let after = state_of cpu.now (S.bytes storage.new) (S.keys storage.new) in
+        MeetsRow (word_stored before i) (S.present storage.old) before result after }
+    ensures size { length (S.bytes storage.new) ≡ length (S.bytes storage.old) }
+    ensures present { S.present storage.new ≡ S.present storage.old }
+    ensures rest { S.Keeps storage.old storage.new }
+{
     grant(cpu, storage, Range { start, count: 4 }, Access::Store)?;
     store_word(storage, start, cpu.general[i.r1().index()]);
     Ok(Ending::Done)

@@ -11,13 +11,12 @@ ghost use Rattle.s370_cpu.specs.Unit.{Carries, place_at};
 use crate::conclude::{Stop, conclude};
 use crate::execute::{EXECUTE, execute};
 use crate::fetch::{fetch, length_of, load_known, may_fetch_longest};
-use crate::fetch_rows::{fetch_row, test_byte_row, word_row};
-use crate::opcodes::{Branching, Opcode, opcode_of};
-use crate::register_rows::{branch_to, load_address, register_operation, register_row};
-use crate::store_rows::{store_row, store_word_row};
-use s370_bytes::{move_long_row, move_row};
+use crate::fetch_rows::fetch_row;
+use crate::opcodes::{Opcode, opcode_of};
+use crate::register_rows::register_row;
+use crate::store_rows::store_row;
 use s370_psw::{Ilc, ProgramCode};
-use s370_rows::{Arithmetic, ByteTest, Cpu, Ending, Instruction, Place, Refusal};
+use s370_rows::{Cpu, Ending, Instruction, Place, Refusal};
 use s370_store::{Storage, load_byte};
 
 /// Carries out an instruction of any state that was fetched, but for its address. The operation code is passed beside the
@@ -39,20 +38,6 @@ fn perform<S: Storage>(
     ensures present { S.present storage.new ≡ S.present storage.old }
     ensures rest { S.Keeps storage.old storage.new }
 {
-    // The most frequent instructions need no look at the table.
-    match opcode {
-        0x0E => return move_long_row(cpu, storage, i),
-        0x18 => return Ok(register_operation(Arithmetic::Load, cpu, i)),
-        0x41 => return Ok(load_address(cpu, i)),
-        0x46 => return Ok(branch_to(Branching::Count, cpu, place, i)),
-        0x47 => return Ok(branch_to(Branching::Condition, cpu, place, i)),
-        0x50 => return store_word_row(cpu, storage, i),
-        0x58 => return word_row(Arithmetic::Load, cpu, storage, i),
-        0x5A => return word_row(Arithmetic::Add, cpu, storage, i),
-        0x95 => return test_byte_row(ByteTest::CompareLogical, cpu, storage, i),
-        0xD2 => return move_row(cpu, storage, i),
-        _ => {}
-    }
     match opcode_of(opcode) {
         Opcode::Invalid => Err(Refusal::Program(ProgramCode::Operation)),
         Opcode::Supervised(_) => unreachable!(),
@@ -96,20 +81,8 @@ fn step_settled<S: Storage>(cpu: &mut Cpu, storage: &mut S) -> Stop
     if !may_fetch_longest(cpu, storage, start, cpu.psw.key()) {
         return step_apart(cpu, storage);
     }
-    // The most frequent instructions have one jump of their own, behind which all is compiled for the one operation code.
-    match load_byte(storage, start) {
-        0x0E => carry_known(cpu, storage, start, 0x0E),
-        0x18 => carry_known(cpu, storage, start, 0x18),
-        0x41 => carry_known(cpu, storage, start, 0x41),
-        0x46 => carry_known(cpu, storage, start, 0x46),
-        0x47 => carry_known(cpu, storage, start, 0x47),
-        0x50 => carry_known(cpu, storage, start, 0x50),
-        0x58 => carry_known(cpu, storage, start, 0x58),
-        0x5A => carry_known(cpu, storage, start, 0x5A),
-        0x95 => carry_known(cpu, storage, start, 0x95),
-        0xD2 => carry_known(cpu, storage, start, 0xD2),
-        opcode => carry_known(cpu, storage, start, opcode),
-    }
+    let opcode = load_byte(storage, start);
+    carry_known(cpu, storage, start, opcode)
 }
 
 /// As [`step`], where one look is not enough for the fetch.

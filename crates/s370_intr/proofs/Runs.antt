@@ -64,6 +64,18 @@ does_more (suc k) c c' c'' e h u =
     let g : run (suc k + 1) c ≡ looked (look c) c (run (k + 1) (unit_at (look c) c)) = (let a : suc k + 1 ≡ suc (k + 1) = omega arith in rw a refl) in
     g ∙ goes_on (look c) c (run (k + 1) (unit_at (look c) c)) first.0 ∙ ap one_more more ∙ ap (λ (n : ℕ). all_done n c'') (omega arith)
 
+-- so many units more
+pub does_many : (k n : ℕ) (c c' c'' : Core) → run k c ≡ all_done k c' → run n c' ≡ all_done n c'' → run (k + n) c ≡ all_done (k + n) c''
+does_many zero n c c' c'' e h =
+    let same : c' ≡ c = sym (ap (λ (r : Run). r.core) e) in
+    let all : run n c ≡ all_done n c'' = subst (λ (x : Core). run n x ≡ all_done n c'') same h in
+    let a : zero + n ≡ n = omega arith in rw a all
+does_many (suc k) n c c' c'' e h =
+    let first = rest_done (look c) c c' k (run k (unit_at (look c) c)) e in
+    let more = does_many k n (unit_at (look c) c) c' c'' first.1 h in
+    let g : run (suc k + n) c ≡ looked (look c) c (run (k + n) (unit_at (look c) c)) = (let a : suc k + n ≡ suc (k + n) = omega arith in rw a refl) in
+    g ∙ goes_on (look c) c (run (k + n) (unit_at (look c) c)) first.0 ∙ ap one_more more ∙ ap (λ (x : ℕ). all_done x c'') (omega arith)
+
 stops_here : (l : Next) (c : Core) (rest : Run) (reason : Reason) → l ≡ Stops reason → looked l c rest ≡ record { core = c; units = 0; reason = reason }
 stops_here l c rest reason e = rw e refl
 

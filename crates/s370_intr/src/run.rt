@@ -1,12 +1,12 @@
 //! Units, one after another.
-ghost use Rattle.std.specs.Prelude.{◌≡◌, ℕ, ◌≤◌, List, length, Result, true, false};
+ghost use Rattle.std.specs.Prelude.{◌≡◌, ℕ, ◌≤◌, List, length, Result};
 ghost use Rattle.s370_rows.specs.State.{state_of};
-ghost use Rattle.s370_cpu.specs.Laws.{rights_of};
-ghost use Rattle.s370_cpu.specs.Table.{unit};
-ghost use Rattle.s370_cpu.specs.declared.conclude.Stop.TheVariants as stops;
-ghost use Rattle.s370_intr.specs.Units.{NeedsAt, core_of};
+ghost use Rattle.s370_intr.specs.Units.{NeedsAt, core_of, look};
 ghost use Rattle.s370_intr.specs.declared.next.Next.TheVariants as next;
-ghost use Rattle.s370_intr.specs.Run.{AllNeeded, RunNeeds, SuppliesUnit, TellsRun};
+ghost use Rattle.s370_intr.specs.Run.{AllNeeded, RunNeeds, SuppliesUnit, TellsRun, run};
+ghost use Rattle.s370_intr.specs.declared.next.Reason.TheVariants as reasons;
+ghost use Rattle.s370_subchannels.specs.declared.subchannel.Subchannel.{Subchannel};
+ghost use Rattle.s370_intr.specs.declared.pending.Pending.{Pending};
 
 use crate::next::{Next, Reason, look};
 use crate::pending::Pending;
@@ -133,25 +133,40 @@ fn supplied<P: Processor, S: Supply>(
     }
 }
 
-/// An instruction, where the look says so, and where it is one of those that are done in one go. Else nothing changes.
-#[inline(always)]
-fn instruct_quickly<S: Storage>(look: Next, cpu: &mut Cpu, storage: &mut S) -> bool
-    ensures instructs { result ≡ true → look ≡ next.Instructs }
-    ensures done { let before = state_of cpu.old (S.bytes storage.old) (S.keys storage.old) in
-        let after = state_of cpu.new (S.bytes storage.new) (S.keys storage.new) in
-        result ≡ true → (unit before).ran ≡ record { stop = stops.Done; state = after } }
-    ensures still { let before = state_of cpu.old (S.bytes storage.old) (S.keys storage.old) in
-        let after = state_of cpu.new (S.bytes storage.new) (S.keys storage.new) in
-        result ≡ false → after ≡ before }
-    ensures rights { let before = state_of cpu.old (S.bytes storage.old) (S.keys storage.old) in
-        let after = state_of cpu.new (S.bytes storage.new) (S.keys storage.new) in
-        rights_of after ≡ rights_of before }
+/// Instructions that are done in one go, one after another and at most so many: how many were done. After each of them a
+/// look would say what it said before. This has no other unit in it, so that registers are left for what it needs.
+#[inline(never)]
+fn instruct_quickly<S: Storage>(cpu: &mut Cpu, storage: &mut S, limit: u32) -> u32
+    ensures done { (pending : Pending) → (list : List Subchannel) →
+        let before = core_of (state_of cpu.old (S.bytes storage.old) (S.keys storage.old)) pending list in
+        let after = core_of (state_of cpu.new (S.bytes storage.new) (S.keys storage.new)) pending list in
+        look before ≡ next.Instructs → (run result before ≡ record { core = after; units = result; reason = reasons.Count }) × (look after ≡ next.Instructs) }
+    ensures within { result ≤ limit }
     ensures size { length (S.bytes storage.new) ≡ length (S.bytes storage.old) }
     ensures rest { S.Keeps storage.old storage.new }
 {
-    match look {
-        Next::Instructs => step_quickly(cpu, storage),
-        _ => false,
+    for units in 0..limit {
+        if !step_quickly(cpu, storage) {
+            return units;
+        }
+    }
+    limit
+}
+
+/// The same, where the look says that there is an instruction; else none.
+#[inline(always)]
+fn go_quickly<S: Storage>(said: Next, cpu: &mut Cpu, storage: &mut S, limit: u32) -> u32
+    ensures done { (pending : Pending) → (list : List Subchannel) →
+        let before = core_of (state_of cpu.old (S.bytes storage.old) (S.keys storage.old)) pending list in
+        let after = core_of (state_of cpu.new (S.bytes storage.new) (S.keys storage.new)) pending list in
+        look before ≡ said → (run result before ≡ record { core = after; units = result; reason = reasons.Count }) × (look after ≡ said) }
+    ensures within { result ≤ limit }
+    ensures size { length (S.bytes storage.new) ≡ length (S.bytes storage.old) }
+    ensures rest { S.Keeps storage.old storage.new }
+{
+    match said {
+        Next::Instructs => instruct_quickly(cpu, storage, limit),
+        _ => 0,
     }
 }
 
@@ -172,10 +187,11 @@ pub fn run_units<P: Processor, S: Supply>(
     ensures size { length (S.Storage.bytes storage.new) ≡ length (S.Storage.bytes storage.old) }
 {
     let mut spare = *cpu;
-    let mut next = look(cpu, *pending, subchannels);
-    for units in 0..count {
-        // After such an instruction a look would say what it said before.
-        if instruct_quickly(next, cpu, storage) {
+    let mut units = 0;
+    while units < count {
+        let next = look(cpu, *pending, subchannels);
+        units += go_quickly(next, cpu, storage, count - units);
+        if units == count {
             continue;
         }
         match next {
@@ -191,7 +207,7 @@ pub fn run_units<P: Processor, S: Supply>(
                 };
             }
         }
-        next = look(cpu, *pending, subchannels);
+        units += 1;
     }
     Ran {
         units: count,

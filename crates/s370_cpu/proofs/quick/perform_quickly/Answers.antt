@@ -5,7 +5,7 @@ use Rattle.s370_rows.specs.Rows.{judged, outcome_of}
 use Rattle.s370_cpu.specs.Opcodes.{opcode_at}
 use Rattle.s370_cpu.specs.Quick.{MeetsQuick}
 use Rattle.s370_cpu.specs.Table.{row_named, untested}
-use Rattle.s370_cpu.proofs.Frequent.{branches_go_on, long_quiet, quick_done, quick_if, quick_of}
+use Rattle.s370_cpu.proofs.Frequent.{branches_go_on, long_quiet, quick_done, quick_of, quick_part, quick_whole}
 use Rattle.s370_cpu.proofs.quick.perform_quickly.Goals as goal
 
 pub returns-in-14-clause-row : goal.returns-in-14-clause-row
@@ -15,7 +15,7 @@ returns-in-14-clause-row g c =
     let present = g.S.Storage.present c.args.storage.now in
     let after = state_of c.move_long_quickly.new.cpu (g.S.Storage.bytes c.move_long_quickly.new.storage) (g.S.Storage.keys c.move_long_quickly.new.storage) in
     subst (λ (code : ℕ). MeetsQuick (row_named (opcode_at code) m c.args.place c.args.i) present m c.part_of.result after) (sym (c.requires.same ∙ c.in-14.is))
-    (quick_if (row_named (opcode_at 14) m c.args.place c.args.i) present m c.move_long_quickly.result c.part_of.result after (long_quiet m c.args.i) c.move_long_quickly.ensures.done c.move_long_quickly.ensures.still c.part_of.ensures)
+    (quick_part (row_named (opcode_at 14) m c.args.place c.args.i) present m c.move_long_quickly.result c.part_of.result after (long_quiet m c.args.i) c.move_long_quickly.ensures.done c.move_long_quickly.ensures.still c.part_of.ensures)
 
 pub returns-in-24-clause-row : goal.returns-in-24-clause-row
 unfolding opcode_at
@@ -62,18 +62,16 @@ unfolding opcode_at
 returns-in-80-clause-row g c =
     let m = state_of c.args.cpu.now (g.S.Storage.bytes c.args.storage.now) (g.S.Storage.keys c.args.storage.now) in
     let present = g.S.Storage.present c.args.storage.now in
-    let after = state_of c.args.cpu.now (g.S.Storage.bytes c.store_word_row.new.storage) (g.S.Storage.keys c.store_word_row.new.storage) in
-    subst (λ (code : ℕ). MeetsQuick (row_named (opcode_at code) m c.args.place c.args.i) present m c.done_of.result after) (sym (c.requires.same ∙ c.in-80.is))
-    (quick_of (row_named (opcode_at 80) m c.args.place c.args.i) present m c.store_word_row.result c.done_of.result after (record { goes_on = tt; rights = refl }) c.store_word_row.ensures.row c.done_of.ensures)
+    let after = state_of c.args.cpu.now (g.S.Storage.bytes c.store_quickly.new.storage) (g.S.Storage.keys c.store_quickly.new.storage) in
+    subst (λ (code : ℕ). MeetsQuick (row_named (opcode_at code) m c.args.place c.args.i) present m c.store_quickly.result after) (sym (c.requires.same ∙ c.in-80.is)) c.store_quickly.ensures.row
 
 pub returns-in-88-clause-row : goal.returns-in-88-clause-row
 unfolding opcode_at
 returns-in-88-clause-row g c =
     let m = state_of c.args.cpu.now (g.S.Storage.bytes c.args.storage.now) (g.S.Storage.keys c.args.storage.now) in
     let present = g.S.Storage.present c.args.storage.now in
-    let after = state_of c.word_row.new.cpu (g.S.Storage.bytes c.args.storage.now) (g.S.Storage.keys c.args.storage.now) in
-    subst (λ (code : ℕ). MeetsQuick (row_named (opcode_at code) m c.args.place c.args.i) present m c.done_of-in-88.result after) (sym (c.requires.same ∙ c.in-88.is))
-    (quick_of (row_named (opcode_at 88) m c.args.place c.args.i) present m c.word_row.result c.done_of-in-88.result after (record { goes_on = tt; rights = refl }) c.word_row.ensures c.done_of-in-88.ensures)
+    let after = state_of c.load_quickly.new.cpu (g.S.Storage.bytes c.args.storage.now) (g.S.Storage.keys c.args.storage.now) in
+    subst (λ (code : ℕ). MeetsQuick (row_named (opcode_at code) m c.args.place c.args.i) present m c.load_quickly.result after) (sym (c.requires.same ∙ c.in-88.is)) c.load_quickly.ensures
 
 pub returns-in-90-clause-row : goal.returns-in-90-clause-row
 unfolding opcode_at
@@ -89,14 +87,14 @@ returns-in-149-clause-row g c =
     let m = state_of c.args.cpu.now (g.S.Storage.bytes c.args.storage.now) (g.S.Storage.keys c.args.storage.now) in
     let present = g.S.Storage.present c.args.storage.now in
     let after = state_of c.test_byte_row.new.cpu (g.S.Storage.bytes c.args.storage.now) (g.S.Storage.keys c.args.storage.now) in
-    subst (λ (code : ℕ). MeetsQuick (row_named (opcode_at code) m c.args.place c.args.i) present m c.done_of-in-149.result after) (sym (c.requires.same ∙ c.in-149.is))
-    (quick_of (row_named (opcode_at 149) m c.args.place c.args.i) present m c.test_byte_row.result c.done_of-in-149.result after (record { goes_on = tt; rights = refl }) c.test_byte_row.ensures c.done_of-in-149.ensures)
+    subst (λ (code : ℕ). MeetsQuick (row_named (opcode_at code) m c.args.place c.args.i) present m c.done_of.result after) (sym (c.requires.same ∙ c.in-149.is))
+    (quick_of (row_named (opcode_at 149) m c.args.place c.args.i) present m c.test_byte_row.result c.done_of.result after (record { goes_on = tt; rights = refl }) c.test_byte_row.ensures c.done_of.ensures)
 
 pub returns-in-210-clause-row : goal.returns-in-210-clause-row
 unfolding opcode_at
 returns-in-210-clause-row g c =
     let m = state_of c.args.cpu.now (g.S.Storage.bytes c.args.storage.now) (g.S.Storage.keys c.args.storage.now) in
     let present = g.S.Storage.present c.args.storage.now in
-    let after = state_of c.move_row.new.cpu (g.S.Storage.bytes c.move_row.new.storage) (g.S.Storage.keys c.move_row.new.storage) in
-    subst (λ (code : ℕ). MeetsQuick (row_named (opcode_at code) m c.args.place c.args.i) present m c.done_of-in-210.result after) (sym (c.requires.same ∙ c.in-210.is))
-    (quick_of (row_named (opcode_at 210) m c.args.place c.args.i) present m c.move_row.result c.done_of-in-210.result after (record { goes_on = tt; rights = refl }) c.move_row.ensures.row c.done_of-in-210.ensures)
+    let after = state_of c.move_quickly.new.cpu (g.S.Storage.bytes c.move_quickly.new.storage) (g.S.Storage.keys c.move_quickly.new.storage) in
+    subst (λ (code : ℕ). MeetsQuick (row_named (opcode_at code) m c.args.place c.args.i) present m c.whole_of.result after) (sym (c.requires.same ∙ c.in-210.is))
+    (quick_whole (row_named (opcode_at 210) m c.args.place c.args.i) present m c.move_quickly.result c.whole_of.result after (record { goes_on = tt; rights = refl }) c.move_quickly.ensures.done c.move_quickly.ensures.still c.whole_of.ensures)

@@ -1,6 +1,6 @@
-use Rattle.std.proofs.Common.{◌≡◌, ℕ, List, length}
+use Rattle.std.proofs.Common.{◌≡◌, ◌-◌, ◌≤◌, ℕ, List, length}
 use Rattle.s370_rows.specs.State.{state_of}
-use Rattle.s370_intr.specs.Units.{core_of, look}
+use Rattle.s370_intr.specs.Units.{core_of}
 use Rattle.s370_intr.specs.Run.{AllNeeded, RunNeeds, run}
 use Rattle.s370_intr.specs.declared.next.Reason.TheVariants.{Count}
 use Rattle.s370_intr.proofs.Runs.{all_done}
@@ -10,8 +10,11 @@ abbrev pub invariant-loop-units : goal.invariant-loop-units
 invariant-loop-units g l =
     let first = core_of (state_of l.fn.cpu (g.S.Storage.bytes l.fn.storage) (g.S.Storage.keys l.fn.storage)) l.fn.pending l.fn.subchannels in
     record {
-      next : look (core_of (state_of l.cpu (g.S.Storage.bytes l.storage) (g.S.Storage.keys l.storage)) l.pending l.subchannels) ≡ l.next;
+      within : l.units ≤ l.count;
       ran : run l.units first ≡ all_done l.units (core_of (state_of l.cpu (g.S.Storage.bytes l.storage) (g.S.Storage.keys l.storage)) l.pending l.subchannels);
       supply : (pages : List ℕ) × g.S.Supply.Brought l.fn.storage pages l.storage × AllNeeded (RunNeeds first l.units Count) pages;
       size : length (g.S.Storage.bytes l.storage) ≡ length (g.S.Storage.bytes l.fn.storage);
     }
+
+abbrev pub decreases-loop-units : goal.decreases-loop-units
+decreases-loop-units g l = l.count - l.units
