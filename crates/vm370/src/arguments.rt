@@ -228,13 +228,19 @@ mod tests {
 
     const NAME: &str = "vm370";
 
-    /// What the words name, or nothing for a wrong use; want of memory stands apart.
+    /// Whether so many frames and slots are named, and the paths; nothing for a wrong use. Want of memory stands apart.
     fn named<'a>(
         alloc: Global,
         words: &'a [&'a str],
-    ) -> Result<Option<(Option<Sizes>, &'a str, &'a str)>, AllocError> {
+        frames: u32,
+        slots: u32,
+    ) -> Result<Option<(bool, &'a str, &'a str)>, AllocError> {
         match arguments(alloc, NAME, words) {
-            Ok(options) => Ok(Some((Some(options.sizes), options.directory, options.script))),
+            Ok(options) => Ok(Some((
+                Sizes::new(frames, slots) == Some(options.sizes),
+                options.directory,
+                options.script,
+            ))),
             Err(UsageError::Usage(_)) => Ok(None),
             Err(UsageError::Memory) => Err(AllocError),
         }
@@ -272,8 +278,10 @@ mod tests {
                 "s",
             ),
         ] {
-            let (sizes, first, second) = named(rt.alloc(), words)?.ok_or("refused")?;
-            assert_eq!(rt; sizes, Sizes::new(frames, slots));
+            let (is_sized, first, second) = named(rt.alloc(), words, frames, slots)?.ok_or(
+                "refused",
+            )?;
+            assert!(rt; is_sized);
             assert_eq!(rt; first, directory);
             assert_eq!(rt; second, script);
         }
@@ -296,7 +304,7 @@ mod tests {
             ["vm370", "users", "script", "--slots"].as_slice(),
             ["vm370", "--help"].as_slice(),
         ] {
-            assert!(rt; named(rt.alloc(), words)?.is_none());
+            assert!(rt; named(rt.alloc(), words, 64, 256)?.is_none());
         }
         Ok(())
     }
