@@ -5,7 +5,7 @@ use Rattle.std.proofs.Math.ListN.{set, length-set}
 use Rattle.std.specs.Prelude.{All, IsSome, IfSome, IfNone}
 use Rattle.std.specs.List.{range_with_len, remove}
 use Rattle.std.specs.List.Sorted.{IsPermutation}
-use Rattle.std.proofs.lemmas.List.{get_or_past, get_or_default}
+use Rattle.std.proofs.lemmas.List.{get_or-drop, length-drop, get_or_past, get_or_default}
 use Rattle.std.proofs.lemmas.List.FromFn.{get_or-range_with_len, length-range_with_len}
 use Rattle.std.proofs.lemmas.List.Sorted.{All-permutation, IsPermutation-sym, IsPermutation-trans, IsPermutation-remove, IsPermutation-to_front}
 use Rattle.cp_frames.specs.declared.numbers.UserPage.{UserPage}
@@ -20,6 +20,15 @@ use Rattle.cp_frames.proofs.Inside.{IsKept, places_in, owners_in}
 pub range_push : (a n : ℕ) → range_with_len a (suc n) ≡ range_with_len a n ++ (a + n) ∷ []
 range_push a zero = ap (λ k. k ∷ []) (omega arith)
 range_push a (suc n) = ap (λ xs. a ∷ xs) (range_push (a + 1) n ∙ ap (λ k. range_with_len (a + 1) n ++ k ∷ []) (omega arith))
+
+-- what is so of an element and of all after it
+pub all_from : {X : Type 0} (P : X → Type 0) (xs : List X) (i : ℕ) (d : X) → i < length xs → P (get_or xs i d) → All P (drop (i + 1) xs) → All P (drop i xs)
+all_from P xs i d lt here after zero e less =
+    let first : get_or (drop i xs) 0 e ≡ get_or xs i d = get_or-drop i xs 0 e ∙ ap (λ k. get_or xs k e) (omega arith) ∙ get_or_default xs i e d lt in
+    rw first here
+all_from P xs i d lt here after (suc k) e less =
+    let same : get_or (drop (i + 1) xs) k e ≡ get_or (drop i xs) (suc k) e = get_or-drop (i + 1) xs k e ∙ ap (λ n. get_or xs n e) (omega arith) ∙ sym (get_or-drop i xs (suc k) e) in
+    rw same at (after k e (omega (arith, length-drop i xs, length-drop (i + 1) xs)))
 
 -- a frame in the order is a frame
 pub order_within : (owners : List (Option UserPage)) (pins : List Bool) (order : List ℕ) → IsOrdered owners pins order → All (λ frame. frame < length owners) order

@@ -1,10 +1,10 @@
 -- What is so where all pages of a user have left, and at first.
-use Rattle.std.proofs.Common.{◌≡◌, ℕ, zero, suc, ◌+◌, ◌*◌, ◌≤◌, List, ◌∷◌, ◌++◌, map, length, get_or, replicate, Bool, true, false, Option, None, refl, sym, ◌∙◌, ap, arith, subst, length-append}
+use Rattle.std.proofs.Common.{reverse, ◌≡◌, ℕ, zero, suc, ◌+◌, ◌*◌, ◌≤◌, List, ◌∷◌, ◌++◌, map, length, get_or, replicate, Bool, true, false, Option, None, refl, sym, ◌∙◌, ap, arith, subst, length-append}
 use Rattle.std.specs.Prelude.{All}
 use Rattle.std.specs.List.{range_with_len}
 use Rattle.std.proofs.Math.ListN.{length-map, length-replicate}
 use Rattle.std.proofs.lemmas.List.{map-append}
-use Rattle.std.proofs.lemmas.List.Sorted.{IsPermutation-refl}
+use Rattle.std.proofs.lemmas.List.Sorted.{IsPermutation-reverse}
 use Rattle.cp_frames.specs.declared.numbers.UserPage.{UserPage}
 use Rattle.cp_frames.specs.declared.pool.Frames.TheInside.{Inside}
 use Rattle.cp_frames.specs.Layout.{cleared_of, without, storages_of, ArePages, IsWhole, IsTabled, IsSound}
@@ -58,7 +58,7 @@ none_both (suc n) m = ap (λ (xs : List (Option UserPage)). None ∷ xs) (none_b
 
 pub sound-first : (frames slots : List (List ℕ)) (owners slot_owners : List (Option UserPage)) (sizes table slot_table : List ℕ) (pins : List Bool) (order : List ℕ) (n m : ℕ) →
     length frames ≡ n → length slots ≡ m → owners ≡ replicate n None → slot_owners ≡ replicate m None → table ≡ replicate (1024 * length sizes) 65535 → slot_table ≡ replicate (1024 * length sizes) 4294967295 →
-    pins ≡ replicate n false → order ≡ range_with_len 0 n → n ≤ 4096 → m ≤ 65536 → length sizes ≤ 64 → All (λ pages. pages ≤ 1024) sizes → IsSound frames slots owners slot_owners sizes table slot_table pins false order
+    pins ≡ replicate n false → order ≡ reverse (range_with_len 0 n) → n ≤ 4096 → m ≤ 65536 → length sizes ≤ 64 → All (λ pages. pages ≤ 1024) sizes → IsSound frames slots owners slot_owners sizes table slot_table pins false order
 sound-first frames slots owners slot_owners sizes table slot_table pins order n m room slot_room e f g g_2 h i few many users small =
     let both : length (frames ++ slots) ≡ n + m = omega (arith, length-append frames slots) in
     rw (e, f, g, g_2, h, i) (record {
@@ -71,7 +71,7 @@ sound-first frames slots owners slot_owners sizes table slot_table pins order n 
         frames = rw length-replicate few;
         marks = rw (length-replicate, length-replicate) refl;
         used = λ k e. absurd (never_pinned n k e);
-        each = rw length-replicate (IsPermutation-refl (range_with_len 0 n));
+        each = rw length-replicate (IsPermutation-reverse (range_with_len 0 n));
       };
       unmarked = λ _. ap (λ (k : ℕ). replicate k false) (sym (length-replicate n false));
     })

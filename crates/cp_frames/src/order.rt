@@ -1,31 +1,33 @@
 //! The frames in the order in which their pages came.
-ghost use Rattle.std.specs.Prelude.{◌≡◌, ◌<◌, ◌≤◌, ◌+◌, ◌++◌, ◌∷◌, [], length, slice_index, slice_index_or, take, None, true, false, IsSome, IfOk, IfSome, IfNone, All};
+ghost use Rattle.std.specs.Prelude.{reverse, ◌≡◌, ◌<◌, ◌≤◌, ◌+◌, ◌++◌, ◌∷◌, [], length, slice_index, slice_index_or, take, None, true, false, IsSome, IfOk, IfSome, IfNone, All};
 ghost use Rattle.std.specs.List.{range_with_len, remove};
 ghost use Rattle.cp_frames.specs.Paging.{counted, IsLongest, IsPinned};
 
 use crate::UserPage;
 use std::alloc::{AllocError, Global};
 
-/// The frames by their numbers.
+/// The frames by their numbers, the greatest first: then frame 0 is the first that is given a page.
 pub fn all_frames(alloc: Global, frames: u16) -> Result<Vec<u16>, AllocError>
-    ensures { IfOk result (λ order. order.items ≡ range_with_len 0 frames) }
+    ensures { IfOk result (λ order. order.items ≡ reverse (range_with_len 0 frames)) }
 {
     let mut order = Vec::new(alloc);
     for frame in 0..frames {
         order.push(frame)?;
     }
+    order.reverse();
     Ok(order)
 }
 
-/// The first turn whose frame is free.
+/// The last turn whose frame is free: the one that has the fewest frames after it, which move up when it is put last.
 pub fn free_turn(order: &[u16], owners: &[Option<UserPage>]) -> Option<usize>
     requires { All (λ frame. frame < length owners.now) order.now }
     ensures within { IfSome result (λ turn. turn < length order.now) }
     ensures free { IfSome result (λ turn. slice_index_or owners.now (slice_index order.now turn) None ≡ None) }
     ensures none { IfNone result (All (λ frame. IsSome (slice_index_or owners.now frame None)) order.now) }
 {
-    for (turn, frame) in order.iter().enumerate() {
-        if owners[*frame as usize].is_none() {
+    for after in 0..order.len() {
+        let turn = order.len() - 1 - after;
+        if owners[order[turn] as usize].is_none() {
             return Some(turn);
         }
     }

@@ -628,7 +628,7 @@ mod tests {
         } = &all;
         assert_eq!(rt; (frames.len(), owners.len(), pins.len()), (4, 4, 4));
         assert_eq!(rt; (slots.len(), slot_owners.len()), (6, 6));
-        assert_eq!(rt; order.as_slice(), [0u16, 1, 2, 3].as_slice());
+        assert_eq!(rt; order.as_slice(), [3u16, 2, 1, 0].as_slice());
         assert_eq!(rt; sizes.as_slice(), [2u32, 3].as_slice());
         assert_eq!(rt; (table.len(), slot_table.len()), (2048, 2048));
         assert_eq!(rt; (*is_marked, *page_ins), (false, 0));
