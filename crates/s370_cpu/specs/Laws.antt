@@ -1,5 +1,5 @@
 -- Laws of the whole table, over all states, instructions and outcomes: GA22-7000, "Protection" and "Problem State".
-use Rattle.std.specs.Prelude.{◌≡◌, ◌≢◌, ℕ, ◌+◌, ◌/◌, ◌<◌, ◌≤◌, ◌⊎◌, Bool, true, List, [], ◌∷◌, length, slice_index, Ok}
+use Rattle.std.specs.Prelude.{◌≡◌, ◌≢◌, ℕ, ◌+◌, ◌/◌, ◌^◌, ◌<◌, ◌≤◌, ◌⊎◌, Bool, true, List, [], ◌∷◌, length, slice_index, All, Ok}
 use Rattle.s370_store.specs.Access.{Test}
 use Rattle.s370_store.specs.declared.Access.TheVariants.{Store}
 use Rattle.s370_rows.specs.declared.instruction.Instruction.{Instruction}
@@ -78,3 +78,11 @@ ProblemStateHolds = (m : State) (place : Place) (i : Instruction) (o : Outcome) 
 -- the same over a unit
 abbrev pub UnitsStayInTheirRights : Type 0
 UnitsStayInTheirRights = (m : State) → StaysInItsRights m (unit m).ran.state
+
+-- at most two ranges, each of at most 256 bytes
+abbrev pub AreFew : List Test → Type 0
+AreFew ts = (length ts ≤ 2) × All (λ t. t.count ≤ 256) ts
+
+-- each row tests no more
+abbrev pub FewTests : Type 0
+FewTests = (m : State) (place : Place) (i : Instruction) → i.second_byte < 2 ^ 8 → AreFew (row_of m place i).tests

@@ -25,6 +25,8 @@ mod unit;
 
 pub use conclude::Stop;
 pub use control::supervise;
-pub use laws::{changed_bytes_were_tested, problem_state_holds, protection_holds};
+pub use laws::{
+    changed_bytes_were_tested, few_ranges_are_tested, problem_state_holds, protection_holds,
+};
 pub use quick::step_quickly;
 pub use unit::step;
