@@ -70,7 +70,7 @@ one_touched t few = record {
   all = λ page h. in_ends t.start h.0 256 (t.start + 255) page (omega arith) (omega arith) (omega (arith, h.1)) h.2;
 }
 
-touched : (ts : List Test) → All (λ t. t.count ≤ 256) ts → AreAtMost (2 * length ts) (Touches ts)
+pub touched : (ts : List Test) → All (λ t. t.count ≤ 256) ts → AreAtMost (2 * length ts) (Touches ts)
 touched [] few = none_at_all (Touches []) (λ page h. h)
 touched (t ∷ ts) few =
     let P : Test → Type 0 = λ t. t.count ≤ 256 in
