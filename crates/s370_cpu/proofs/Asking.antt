@@ -112,7 +112,7 @@ fetch_none CompareStrings m i = tt
 fetch_none ScanString m i = tt
 fetch_none CompareLong m i = search (row_either, ended_either)
 
-pub store_none : (row : StoreRow) (m : State) (i : Instruction) → LeavesNone (store_row row m i).leaves
+store_none : (row : StoreRow) (m : State) (i : Instruction) → LeavesNone (store_row row m i).leaves
 store_none StoreWord m i = tt
 store_none StoreHalfword m i = tt
 store_none StoreCharacter m i = tt

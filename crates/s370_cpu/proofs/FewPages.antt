@@ -1,5 +1,5 @@
 -- The pages that a unit asks for are in one list of at most eight, and of at most six where it is interrupted.
-use Rattle.std.proofs.Common.{◌≡◌, ℕ, zero, suc, ◌+◌, ◌-◌, ◌*◌, ◌/◌, ◌%◌, ◌^◌, ◌<◌, ◌≤◌, ◌⊎◌, Bool, true, false, List, [], ◌∷◌, ◌++◌, length, length-append, Option, Some, None, Result, Ok, Err, refl, sym, ◌∙◌, ap, arith, inl, inr}
+use Rattle.std.proofs.Common.{◌≡◌, ℕ, ◌+◌, ◌-◌, ◌*◌, ◌/◌, ◌%◌, ◌^◌, ◌<◌, ◌≤◌, ◌⊎◌, Bool, true, false, List, [], ◌∷◌, ◌++◌, length, length-append, Option, Some, None, Result, Ok, Err, refl, sym, ◌∙◌, ap, arith, inl, inr}
 use Rattle.std.specs.Prelude.{◌==◌, if◌then◌else◌, nat_lt, bit_or, slice_index, All, Contains}
 use Rattle.std.proofs.lemmas.List.Elements.{All-head, All-tail, Contains-append_left, Contains-append_right}
 use Rattle.std.proofs.lemmas.Nat.{or_lt}
@@ -7,20 +7,19 @@ use Rattle.s370_psw.specs.declared.ProgramCode.{ProgramCode}
 use Rattle.s370_psw.specs.declared.ProgramCode.TheVariants.{Specification}
 use Rattle.s370_store.specs.Access.{Test, Touches}
 use Rattle.s370_store.proofs.Verdicts.{either_page}
-use Rattle.s370_rows.specs.declared.cpu.Cpu.{Cpu}
 use Rattle.s370_rows.specs.declared.ending.Ending.{Ending}
 use Rattle.s370_rows.specs.declared.ending.Ending.TheVariants.{Done, Branch, Again, Interrupted, SupervisorCall as Called, InputOutput as Asked}
 use Rattle.s370_rows.specs.declared.instruction.Instruction.{Instruction}
 use Rattle.s370_rows.specs.declared.place.Place.{Place}
 use Rattle.s370_rows.specs.State.{State}
 use Rattle.s370_rows.specs.Formats.{r1_of, r2_of, indexed_address}
-use Rattle.s370_rows.specs.Rows.{Left, IsAsked, judged, unless, outcome_of, fault_of, fetch_test, half_at}
+use Rattle.s370_rows.specs.Rows.{Left, unless, outcome_of, fault_of, fetch_test, half_at}
 use Rattle.s370_cpu.specs.declared.conclude.Stop.{Stop}
 use Rattle.s370_cpu.specs.declared.conclude.Stop.TheVariants.{Done as DoneStop, Program, Svc, InputOutput, Privileged, Absent}
-use Rattle.s370_cpu.specs.Fetch.{Asks, Fetched, fetched, fetched_after, rest_fetched, rest_tests, halfwords_of, instruction_at}
-use Rattle.s370_cpu.specs.Execute.{executed, joined, target_of}
+use Rattle.s370_cpu.specs.Fetch.{Asks, Fetched, fetched, fetched_after, rest_fetched, rest_tests, halfwords_of}
+use Rattle.s370_cpu.specs.Execute.{executed, target_of}
 use Rattle.s370_cpu.specs.Table.{row_of, unit}
-use Rattle.s370_cpu.specs.Unit.{Ran, Unit as WholeUnit, concluded, carried, place_at, unit_executed, unit_fetched}
+use Rattle.s370_cpu.specs.Unit.{concluded, carried, place_at, unit_executed, unit_fetched}
 use Rattle.s370_cpu.specs.Laws.{AreAtMost, UnitsAskForFewPages}
 use Rattle.s370_cpu.proofs.Fetched.{short}
 use Rattle.s370_cpu.proofs.FewTests.{most_ranges, row_fits}

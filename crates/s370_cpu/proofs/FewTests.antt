@@ -1,6 +1,6 @@
 -- Each row of the table tests at most two ranges, each of at most 256 bytes; and one range at most where it may interrupt.
-use Rattle.std.proofs.Common.{◌≡◌, ℕ, zero, suc, ◌+◌, ◌-◌, ◌*◌, ◌/◌, ◌%◌, ◌^◌, ◌<◌, ◌≤◌, Bool, true, false, List, [], ◌∷◌, length, Option, Some, None, Result, Ok, Err, refl, arith}
-use Rattle.std.specs.Prelude.{◌==◌, ◌&&◌, if◌then◌else◌, All, min, max}
+use Rattle.std.proofs.Common.{◌≡◌, ℕ, zero, suc, ◌+◌, ◌*◌, ◌/◌, ◌%◌, ◌^◌, ◌<◌, ◌≤◌, Bool, true, false, [], ◌∷◌, length, Option, Some, None, Result, Ok, Err, refl, arith}
+use Rattle.std.specs.Prelude.{◌==◌, ◌&&◌, if◌then◌else◌, All, min}
 use Rattle.std.proofs.lemmas.List.Elements.{All-nil, All-cons}
 use Rattle.s370_psw.specs.declared.ProgramCode.{ProgramCode}
 use Rattle.s370_psw.specs.declared.ProgramCode.TheVariants.{PrivilegedOperation, Specification}
@@ -30,8 +30,8 @@ use Rattle.s370_cpu.specs.Control.{control_named, named_block, storage_key_set, 
 use Rattle.s370_cpu.specs.FetchRows.{only_where, fetch_row}
 use Rattle.s370_cpu.specs.StoreRows.{store_row}
 use Rattle.s370_cpu.specs.Table.{row_of, row_named}
-use Rattle.s370_cpu.specs.Laws.{AreFew, FewTests}
-use Rattle.s370_cpu.proofs.Asking.{AsksNone, LeavesNone, over_none, division_none, fetch_none, store_none}
+use Rattle.s370_cpu.specs.Laws.{FewTests}
+use Rattle.s370_cpu.proofs.Asking.{AsksNone, LeavesNone, over_none, division_none, fetch_none}
 
 -- ---- rows
 

@@ -84,7 +84,7 @@ UnitsStayInTheirRights = (m : State) → StaysInItsRights m (unit m).ran.state
 abbrev pub AreFew : List Test → Type 0
 AreFew ts = (length ts ≤ 2) × All (λ t. t.count ≤ 256) ts
 
--- each row tests no more
+-- the row of an instruction, whose second byte is a byte, tests no more
 abbrev pub FewTests : Type 0
 FewTests = (m : State) (place : Place) (i : Instruction) → i.second_byte < 2 ^ 8 → AreFew (row_of m place i).tests
 
