@@ -30,7 +30,7 @@ use Rattle.s370_cpu.specs.FetchRows.{fetch_row}
 use Rattle.s370_cpu.specs.StoreRows.{store_row}
 use Rattle.s370_cpu.specs.Table.{is_supervised, row_named, row_of}
 
-abbrev AsksNone : Ending → Type 0
+abbrev pub AsksNone : Ending → Type 0
 AsksNone Done = Unit {0}
 AsksNone (Branch a) = Unit {0}
 AsksNone Again = Unit {0}
@@ -38,11 +38,11 @@ AsksNone (Interrupted code) = Unit {0}
 AsksNone (Called n) = Unit {0}
 AsksNone (Asked operation device) = ⊥
 
-abbrev LeavesNone : Result Left ProgramCode → Type 0
+abbrev pub LeavesNone : Result Left ProgramCode → Type 0
 LeavesNone (Err code) = Unit {0}
 LeavesNone (Ok l) = AsksNone l.ending
 
-abbrev EndsNone : Result Ended ProgramCode → Type 0
+abbrev pub EndsNone : Result Ended ProgramCode → Type 0
 EndsNone (Err code) = Unit {0}
 EndsNone (Ok e) = AsksNone e.ending
 
@@ -62,7 +62,7 @@ row_either : (b : Bool) (x y : Row) → LeavesNone x.leaves → LeavesNone y.lea
 row_either true x y h k = h
 row_either false x y h k = k
 
-over_none : (r : Result Ended ProgramCode) → EndsNone r → LeavesNone (over_result r)
+pub over_none : (r : Result Ended ProgramCode) → EndsNone r → LeavesNone (over_result r)
 over_none (Ok e) h = h
 over_none (Err code) h = tt
 
@@ -70,7 +70,7 @@ number_none : (r : Result Ended ProgramCode) → EndsNone r → LeavesNone (over
 number_none (Ok e) h = h
 number_none (Err code) h = tt
 
-division_none : (cpu : Cpu) (r : ℕ) (d : Option Division) → EndsNone (division_left cpu r d)
+pub division_none : (cpu : Cpu) (r : ℕ) (d : Option Division) → EndsNone (division_left cpu r d)
 division_none cpu r None = tt
 division_none cpu r (Some d) = tt
 
@@ -96,7 +96,7 @@ register_none (BranchRegister b) cpu place i = search (branch_none)
 register_none (BranchTo b) cpu place i = search (branch_none)
 register_none (BranchOnIndex b) cpu place i = search (either_asks)
 
-fetch_none : (row : FetchRow) (m : State) (i : Instruction) → LeavesNone (fetch_row row m i).leaves
+pub fetch_none : (row : FetchRow) (m : State) (i : Instruction) → LeavesNone (fetch_row row m i).leaves
 fetch_none (Word op) m i = search (either_asks)
 fetch_none (Halfword op) m i = search (either_asks)
 fetch_none MultiplyWord m i = search (row_either)

@@ -25,7 +25,7 @@ rest_fine m a n small e = elim (cases_lt 1 n) [
       ap (λ b. fault_of m (if b then fetch_test (a + 2) (2 * (n - 1)) ∷ [] else [])) more)
 ]
 
-short : (opcode : ℕ) → halfwords_of opcode ≤ 3
+pub short : (opcode : ℕ) → halfwords_of opcode ≤ 3
 short opcode = grind (arith, nat_tests, common_steps)
 
 pub fetch_finds : (m : State) (a : ℕ) → a % 2 ≡ 0 → first_fault (length m.bytes) m.keys m.cpu.psw.key (fetch_test a 6 ∷ []) ≡ None → (fetched m a).result ≡ Ok (instruction_at m.bytes a)

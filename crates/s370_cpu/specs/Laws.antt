@@ -1,11 +1,12 @@
 -- Laws of the whole table, over all states, instructions and outcomes: GA22-7000, "Protection" and "Problem State".
-use Rattle.std.specs.Prelude.{◌≡◌, ◌≢◌, ℕ, ◌+◌, ◌/◌, ◌<◌, ◌≤◌, ◌⊎◌, Bool, true, List, [], ◌∷◌, length, slice_index, Ok}
+use Rattle.std.specs.Prelude.{◌≡◌, ◌≢◌, ℕ, ◌+◌, ◌/◌, ◌^◌, ◌<◌, ◌≤◌, ◌⊎◌, Bool, true, List, [], ◌∷◌, length, slice_index, All, Contains, Ok}
 use Rattle.s370_store.specs.Access.{Test}
 use Rattle.s370_store.specs.declared.Access.TheVariants.{Store}
 use Rattle.s370_rows.specs.declared.instruction.Instruction.{Instruction}
 use Rattle.s370_rows.specs.declared.place.Place.{Place}
 use Rattle.s370_rows.specs.State.{State}
 use Rattle.s370_rows.specs.Rows.{Outcome, judged, outcome_of}
+use Rattle.s370_cpu.specs.Fetch.{Asks}
 use Rattle.s370_cpu.specs.Table.{row_of, unit}
 
 -- the instruction at its place is carried out, with this outcome
@@ -78,3 +79,21 @@ ProblemStateHolds = (m : State) (place : Place) (i : Instruction) (o : Outcome) 
 -- the same over a unit
 abbrev pub UnitsStayInTheirRights : Type 0
 UnitsStayInTheirRights = (m : State) → StaysInItsRights m (unit m).ran.state
+
+-- at most two ranges, each of at most 256 bytes
+abbrev pub AreFew : List Test → Type 0
+AreFew ts = (length ts ≤ 2) × All (λ t. t.count ≤ 256) ts
+
+-- the row of an instruction, whose second byte is a byte, tests no more
+abbrev pub FewTests : Type 0
+FewTests = (m : State) (place : Place) (i : Instruction) → i.second_byte < 2 ^ 8 → AreFew (row_of m place i).tests
+
+-- the pages of which this holds are all in one list of at most n
+pub record AreAtMost (n : ℕ) (holds : ℕ → Type 0) : Type 0 where
+  pub pages : List ℕ
+  pub few : length pages ≤ n
+  pub all : (page : ℕ) → holds page → Contains pages page
+
+-- the stages of a unit ask for at most eight pages: two for the instruction, two for the target of EX and four for the operands
+abbrev pub UnitsAskForFewPages : Type 0
+UnitsAskForFewPages = (m : State) → AreAtMost 8 (Asks m (unit m).stages)

@@ -1,5 +1,5 @@
 //! What no instruction does, whatever it is.
-ghost use Rattle.s370_cpu.specs.Laws.{ChangedBytesWereTested, ProblemStateHolds, ProtectionHolds, StorageKeepsItsSize, UnitsAreProtected, UnitsStayInTheirRights};
+ghost use Rattle.s370_cpu.specs.Laws.{ChangedBytesWereTested, FewTests, ProblemStateHolds, ProtectionHolds, StorageKeepsItsSize, UnitsAreProtected, UnitsAskForFewPages, UnitsStayInTheirRights};
 
 /// Each byte that an instruction changes, it was tested for storing; and storage has as many bytes after it as before.
 pub fn changed_bytes_were_tested()
@@ -19,4 +19,16 @@ pub fn protection_holds()
 pub fn problem_state_holds()
     ensures instruction { ProblemStateHolds }
     ensures unit { UnitsStayInTheirRights }
+{}
+
+/// Each row of the table tests at most two ranges of storage, of at most 256 bytes each: a long move and a long compare
+/// go by parts.
+pub fn few_ranges_are_tested()
+    ensures { FewTests }
+{}
+
+/// The pages that an instruction asks for are all in one list of at most eight: it lies in two, as does the target of EX, and
+/// so does each range of its operands.
+pub fn few_pages_are_asked_for()
+    ensures { UnitsAskForFewPages }
 {}

@@ -7,9 +7,10 @@
 //! instruction for the supervisor state by [`supervise`], of which the same holds over the table of those. The most frequent
 //! instructions are done by [`step_quickly`], or nothing is changed.
 //!
-//! Of the table itself three laws hold, over all instructions: a byte that is changed was tested for storing
-//! ([`changed_bytes_were_tested`]), its block's key in storage matches the protection key ([`protection_holds`]), and
-//! the problem state gives itself no rights ([`problem_state_holds`]).
+//! Of the table itself five laws hold, over all instructions: a byte that is changed was tested for storing
+//! ([`changed_bytes_were_tested`]), its block's key in storage matches the protection key ([`protection_holds`]), the
+//! problem state gives itself no rights ([`problem_state_holds`]), an instruction tests at most two ranges of at most
+//! 256 bytes ([`few_ranges_are_tested`]), and so it asks for at most eight pages ([`few_pages_are_asked_for`]).
 #![tactic(auto)]
 
 mod conclude;
@@ -26,6 +27,9 @@ mod unit;
 
 pub use conclude::Stop;
 pub use control::supervise;
-pub use laws::{changed_bytes_were_tested, problem_state_holds, protection_holds};
+pub use laws::{
+    changed_bytes_were_tested, few_pages_are_asked_for, few_ranges_are_tested, problem_state_holds,
+    protection_holds,
+};
 pub use quick::step_quickly;
 pub use unit::step;

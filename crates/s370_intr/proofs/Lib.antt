@@ -1,3 +1,4 @@
 pub mod Assigned
 pub mod Instructed
 pub mod Runs
+pub mod NinePages

@@ -3,3 +3,4 @@ pub mod InputOutput
 pub mod Units
 pub mod Timer
 pub mod Run
+pub mod Laws
