@@ -34,7 +34,7 @@ passing {X} p d k (o ∷ owners) found =
     ] in
     at (p o) refl found
 
-counted_on : (first second n : ℕ) → counted_by (first + second) n ≡ counted_by second (counted_by first n)
+pub counted_on : (first second n : ℕ) → counted_by (first + second) n ≡ counted_by second (counted_by first n)
 counted_on zero second n = let e : zero + second ≡ second = omega arith in ap (λ k. counted_by k n) e
 counted_on (suc first) second n = ap (λ k. counted_by k n) (let e : suc first + second ≡ suc (first + second) = omega arith in e) ∙ counted_on first second (counted n)
 
