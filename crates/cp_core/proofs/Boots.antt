@@ -1,13 +1,16 @@
 -- The parts of a system at boot.
-use Rattle.std.proofs.Common.{◌≡◌, ℕ, ◌+◌, ◌*◌, ◌<◌, ◌≤◌, List, [], ◌∷◌, ◌++◌, length, map, get_or, zero, suc, refl, sym, ◌∙◌, ap, arith, replicate, Bool, false, None}
+use Rattle.std.proofs.Common.{◌≡◌, ℕ, ◌+◌, ◌*◌, ◌<◌, ◌≤◌, List, [], ◌∷◌, ◌++◌, length, map, get_or, zero, suc, refl, sym, ◌∙◌, ap, arith, replicate, subst, Bool, false, Option, None}
+use Rattle.std.specs.List.{range_with_len}
 use Rattle.std.proofs.lemmas.List.{length-replicate}
 use Rattle.cp_directory.specs.Users.{DirectoryUser}
+use Rattle.cp_frames.specs.declared.numbers.UserPage.{UserPage}
 use Rattle.cp_frames.specs.Layout.{FrameSupply}
 use Rattle.cp_panel.specs.Machine.{Machine, unused}
 use Rattle.cp_panel.specs.Machine.{machine_of as parts_with}
 use Rattle.cp_core.specs.UserMachines.{UserParts, machine_of, Fits}
-use Rattle.cp_core.specs.System.{machines_of, new_machine}
-use Rattle.cp_core.specs.Whole.{AreNew, IsIdle, IsNew, IsWhole, no_machine}
+use Rattle.cp_core.specs.System.{free_supply, machines_of, new_machine}
+use Rattle.cp_core.specs.Supply.{IsIdle}
+use Rattle.cp_core.specs.Whole.{AreNew, IsNew, IsWhole, no_machine}
 
 -- one seat more
 pub new_more : (seats : List UserParts) (users : List DirectoryUser) (seat : UserParts) (user : DirectoryUser) → AreNew seats users → IsNew seat user → AreNew (seats ++ seat ∷ []) (users ++ user ∷ [])
@@ -52,12 +55,17 @@ all_fit (s ∷ ss) (u ∷ us) h (suc k) l = all_fit ss us h.1 k (omega arith)
 pub whole_new : (seats : List UserParts) (users : List DirectoryUser) → AreNew seats users → length users ≤ 64 → IsWhole seats (blank users) users
 whole_new seats users h few = record { seated = length_new seats users h; stored = length_blank users; few = few; fits = all_fit seats users h }
 
--- no frame is pinned at boot, and there are no slots
-pub idle_new : (supply : FrameSupply) (n : ℕ) → supply.pins ≡ replicate n false → supply.slots ≡ replicate 0 None → IsIdle supply
-idle_new supply n pins slots = record {
-  pins = pins ∙ ap (λ (k : ℕ). replicate k false) (sym (ap (λ (ps : List Bool). length ps) pins ∙ length-replicate n false));
-  slots = slots;
-}
+made : (a a' b b' : List (Option UserPage)) (c c' : List Bool) (d d' : List ℕ) (e e' : ℕ) → a ≡ a' → b ≡ b' → c ≡ c' → d ≡ d' → e ≡ e' → (let s : FrameSupply = record { owners = a; slots = b; pins = c; order = d; page_ins = e } in s ≡ record { owners = a'; slots = b'; pins = c'; order = d'; page_ins = e' })
+made a a' b b' c c' d d' e e' p q r t u = rw (p, q, r, t, u) refl
+
+-- frames and slots at boot, of which none is pinned
+pub new_supply : (supply : FrameSupply) (frames slots : ℕ) → supply.owners ≡ replicate frames None → supply.slots ≡ replicate slots None → supply.pins ≡ replicate frames false → supply.order ≡ range_with_len 0 frames → supply.page_ins ≡ 0 → supply ≡ free_supply frames slots
+new_supply supply frames slots owners taken pins order count = made supply.owners _ supply.slots _ supply.pins _ supply.order _ supply.page_ins _ owners taken pins order count
+
+pub idle_new : (supply : FrameSupply) (frames slots : ℕ) → supply ≡ free_supply frames slots → IsIdle supply
+idle_new supply frames slots is =
+    let none : IsIdle (free_supply frames slots) = ap (λ (n : ℕ). replicate n false) (sym (length-replicate {A = Option UserPage} frames None)) in
+    subst (λ (s : FrameSupply). IsIdle s) (sym is) none
 
 -- a user's machine at boot, by what it is with any storage of zeros
 pub off_new : (u : UserParts) (user : DirectoryUser) → u.keys ≡ replicate (user.pages * 2) 0 → ((bytes keys : List ℕ) → parts_with u.parts (replicate (length bytes) 0) (replicate (length keys) 0) ≡ unused bytes keys []) → machine_of u (replicate (user.pages * 4096) 0) ≡ new_machine user

@@ -1,5 +1,7 @@
 pub mod Systems
 pub mod Histories
 pub mod Boots
+pub mod Switches
 pub mod Kept
+pub mod Pieces
 pub mod Loans

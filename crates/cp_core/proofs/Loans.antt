@@ -12,7 +12,8 @@ use Rattle.cp_panel.specs.Machine.{Machine}
 use Rattle.cp_core.specs.UserMachines.{UserParts, machine_of, Fits}
 use Rattle.cp_core.specs.System.{SystemView, machines_of, nobody}
 use Rattle.cp_core.specs.Loan.{with_page, written_page, written_frame}
-use Rattle.cp_core.specs.Whole.{IsIdle, IsSystem, IsWhole, no_machine}
+use Rattle.cp_core.specs.Supply.{IsIdle}
+use Rattle.cp_core.specs.Whole.{IsSystem, IsWhole, no_machine}
 
 -- a page that is written leaves the size of its storage
 same_size : (bytes : List ℕ) (page : ℕ) (written : List ℕ) → length (put_page bytes page written) ≡ length bytes
@@ -67,7 +68,7 @@ set_written (seat ∷ seats) (bytes ∷ storages) (suc user) page written = ap (
 
 -- a system as it is seen, by its frames
 abbrev pub seen : List UserParts → List DirectoryUser → Bool → Pool → SystemView
-seen seats users is_spent pool = record { machines = machines_of seats pool.storages; users = users; owners = pool.supply.owners; pins = pool.supply.pins; is_spent = is_spent }
+seen seats users is_spent pool = record { machines = machines_of seats pool.storages; users = users; supply = pool.supply; is_spent = is_spent }
 
 seen_page : (seats : List UserParts) (users : List DirectoryUser) (is_spent : Bool) (pool : Pool) (o : Option UserPage) (written : List ℕ)
     → seen seats users is_spent (pool_page pool o written) ≡ written_page (seen seats users is_spent pool) o written

@@ -9,7 +9,7 @@ use Rattle.cp_core.specs.contracts.system.System.{the_row}
 
 -- the frame in which a page of a user's storage stands; a page past storage stands in none
 abbrev pub frame_at : SystemView → ℕ → ℕ → Option ℕ
-frame_at s user page = if nat_lt (page * 4096) (length (machine_at s user).core.processor.bytes) then frame_of s.owners user page else None
+frame_at s user page = if nat_lt (page * 4096) (length (machine_at s user).core.processor.bytes) then frame_of s.supply.owners user page else None
 
 -- a machine of which a page of storage has this content
 abbrev pub with_page : Machine → ℕ → List ℕ → Machine
@@ -24,7 +24,7 @@ written_page s (Some there) written =
 
 -- what is written to a frame is the content of the page that stands in it
 abbrev pub written_frame : SystemView → ℕ → List ℕ → SystemView
-written_frame s frame written = written_page s (slice_index_or s.owners frame None) written
+written_frame s frame written = written_page s (slice_index_or s.supply.owners frame None) written
 
 -- what is left in the frame is the content of the page that stands in it, and all else stays
 abbrev pub LendsFrame : MutBor SystemView → ℕ → Option (MutBor (List ℕ)) → Fml

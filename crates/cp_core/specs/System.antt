@@ -1,20 +1,21 @@
 -- The whole system as it is seen, and what its events do: to each user what a bare machine does.
-use Rattle.std.specs.Prelude.{◌≡◌, ℕ, ◌==◌, ◌*◌, ◌<◌, ◌≤◌, if◌then◌else◌, Bool, true, false, List, [], ◌∷◌, ◌++◌, length, map, replicate, slice_index_or, Option, None}
+use Rattle.std.specs.Prelude.{◌≡◌, ℕ, ◌==◌, ◌*◌, ◌<◌, ◌≤◌, if◌then◌else◌, Bool, true, false, List, [], ◌∷◌, ◌++◌, length, map, replicate, slice_index_or, None}
+use Rattle.std.specs.List.{range_with_len}
 use Rattle.s370_store.specs.Access.{Touches}
 use Rattle.s370_intr.specs.declared.next.Reason.{Reason}
 use Rattle.s370_intr.specs.declared.next.Reason.TheVariants.{FramesOut as RunFramesOut}
 use Rattle.s370_intr.specs.declared.run.Ran.{Ran as RanUnits}
+use Rattle.s370_intr.specs.Units.{Needs}
 use Rattle.s370_intr.specs.Run.{AllNeeded, IsLacking, RunNeeds}
 use Rattle.cp_directory.specs.Users.{DirectoryUser}
-use Rattle.cp_frames.specs.declared.numbers.UserPage.{UserPage}
-use Rattle.cp_frames.specs.Layout.{cleared_of, is_there}
-use Rattle.cp_frames.specs.Supplied.{IsFilled}
+use Rattle.cp_frames.specs.Layout.{FrameSupply}
 use Rattle.cp_panel.specs.Machine.{Machine, unused}
 use Rattle.cp_panel.specs.Run.{MachineRun, TellsRun}
 use Rattle.cp_panel.specs.Panel.{Answer, line, line_needs, switches}
 use Rattle.cp_panel.specs.Tick.{TickNeeds, ticked}
 use Rattle.cp_panel.specs.Life.{Event as Local, Units, Line as Typed, Tick as Ticked, life}
-use Rattle.cp_core.specs.UserMachines.{UserParts, machine_of, IsShort}
+use Rattle.cp_core.specs.UserMachines.{UserParts, machine_of}
+use Rattle.cp_core.specs.Supply.{IsBroughtFor, IsGivenBack, IsIdle, IsShort}
 use Rattle.cp_core.specs.Events.{user_of}
 use Rattle.cp_core.specs.declared.events.Ended.{Ended}
 use Rattle.cp_core.specs.declared.events.Ended.TheVariants.{Ran, Done, FramesOut}
@@ -22,13 +23,12 @@ use Rattle.cp_core.specs.declared.events.Event.{Event}
 use Rattle.cp_core.specs.declared.events.Event.TheVariants.{Run, Line, Tick}
 use Rattle.cp_core.specs.declared.events.Reply.{Reply}
 
--- each user's machine, the users of the directory, the page in each frame, which frames are pinned, and whether want of
--- memory has ended the system
+-- each user's machine, the users of the directory, where pages stand and how many have come, and whether want of memory has
+-- ended the system
 pub record SystemView : Type 0 where
   pub machines : List Machine
   pub users : List DirectoryUser
-  pub owners : List (Option UserPage)
-  pub pins : List Bool
+  pub supply : FrameSupply
   pub is_spent : Bool
 
 -- the machines that these are with these storages
@@ -51,15 +51,19 @@ machine_at s user = slice_index_or s.machines user nobody
 abbrev pub new_machine : DirectoryUser → Machine
 new_machine user = unused (replicate (user.pages * 4096) 0) (replicate (user.pages * 2) 0) []
 
--- the system at boot: no page stands in a frame, and no frame is pinned
-abbrev pub booted : List DirectoryUser → ℕ → SystemView
-booted users frames = record {
-  machines = map new_machine users;
-  users = users;
+-- so many frames and slots in which no page stands, and none is pinned
+abbrev pub free_supply : ℕ → ℕ → FrameSupply
+free_supply frames slots = record {
   owners = replicate frames None;
+  slots = replicate slots None;
   pins = replicate frames false;
-  is_spent = false;
+  order = range_with_len 0 frames;
+  page_ins = 0;
 }
+
+-- the system at boot
+abbrev pub booted : List DirectoryUser → ℕ → ℕ → SystemView
+booted users frames slots = record { machines = map new_machine users; users = users; supply = free_supply frames slots; is_spent = false }
 
 -- ---- what an event is to a machine
 
@@ -121,11 +125,11 @@ TellsOfTick old reply (Ran ran) new is_short = ⊥
 -- the reply tells what a bare machine tells, or that frames are lacking
 abbrev pub IsTold : SystemView → Event → Reply → SystemView → Type 0
 IsTold old (Run user asked) reply new =
-    TellsOfRun asked (machine_at old user) reply reply.ended (machine_at new user) (IsShort new.owners user)
+    TellsOfRun asked (machine_at old user) reply reply.ended (machine_at new user) (IsShort new.supply user (Needs (machine_at new user).core))
 IsTold old (Line user typed) reply new =
-    TellsOfLine typed.now (machine_at old user) reply reply.ended (machine_at new user) (IsShort new.owners user)
+    TellsOfLine typed.now (machine_at old user) reply reply.ended (machine_at new user) (IsShort new.supply user (Touches (line_needs typed.now (machine_at old user))))
 IsTold old (Tick user) reply new =
-    TellsOfTick (machine_at old user) reply reply.ended (machine_at new user) (IsShort new.owners user)
+    TellsOfTick (machine_at old user) reply reply.ended (machine_at new user) (IsShort new.supply user (TickNeeds (machine_at old user)))
 
 -- ---- the supply of frames
 
@@ -147,22 +151,18 @@ gives_back old (Run user asked) = false
 gives_back old (Line user typed) = switches typed.now (machine_at old user)
 gives_back old (Tick user) = false
 
--- pages that an event needs were put into frames that were free, and no page has left its frame
-abbrev pub IsFilledFor : SystemView → Event → Reply → SystemView → Type 0
-IsFilledFor old event reply new =
-    (pages : List ℕ) × IsFilled (user_of event) old.owners pages new.owners × AllNeeded (EventNeeds old event reply) pages
+-- only pages that an event needs came
+abbrev pub IsBroughtBy : SystemView → Event → Reply → SystemView → Type 0
+IsBroughtBy old event reply new =
+    (pages : List ℕ) × IsBroughtFor (user_of event) pages old.supply new.supply × AllNeeded (EventNeeds old event reply) pages
 
--- the user's pages have left their frames, and no other page has
-pub record IsGivenBack (old : SystemView) (user : ℕ) (new : SystemView) : Type 0 where
-  pub owners : new.owners ≡ cleared_of user old.owners
-  pub gone : (page : ℕ) → is_there new.owners user page ≡ false
-
--- what an event does to the frames: none is pinned or let go; where the user's machine is switched on or off, all his pages are
--- given back, and else only pages that the event needs are brought
+-- what an event does to frames and slots: no frame is pinned before or after it; where the user's machine is switched on or
+-- off, all his pages are given back, and else only pages that the event needs are brought
 pub record IsSupplied (old : SystemView) (event : Event) (reply : Reply) (new : SystemView) : Type 0 where
-  pub pins : new.pins ≡ old.pins
-  pub given_back : gives_back old event ≡ true → IsGivenBack old (user_of event) new
-  pub filled : gives_back old event ≡ false → IsFilledFor old event reply new
+  pub idle_before : IsIdle old.supply
+  pub idle : IsIdle new.supply
+  pub given_back : gives_back old event ≡ true → IsGivenBack (user_of event) old.supply new.supply
+  pub brought : gives_back old event ≡ false → IsBroughtBy old event reply new
 
 -- ---- whole histories
 

@@ -1,7 +1,5 @@
 -- A user's machine, of which the storage stands in frames.
-use Rattle.std.specs.Prelude.{◌≡◌, ℕ, ◌*◌, ◌≤◌, List, length, Option, All, IsSome, false}
-use Rattle.cp_frames.specs.declared.numbers.UserPage.{UserPage}
-use Rattle.cp_frames.specs.Layout.{is_there}
+use Rattle.std.specs.Prelude.{ℕ, ◌*◌, ◌≤◌, List, length}
 use Rattle.cp_panel.specs.Machine.{Machine, Parts}
 use Rattle.cp_panel.specs.Machine as panel
 
@@ -18,7 +16,3 @@ machine_of u bytes = panel.machine_of u.parts bytes u.keys
 pub record Fits (u : UserParts) (bytes : List ℕ) : Type 0 where
   pub large : 8192 ≤ length bytes
   pub keyed : length bytes ≤ 2048 * length u.keys
-
--- there is no room for a page of a user: it stands in no frame, and every frame is taken
-abbrev pub IsShort : List (Option UserPage) → ℕ → ℕ → Type 0
-IsShort owners user page = All IsSome owners × (is_there owners user page ≡ false)

@@ -1,10 +1,11 @@
 -- What is always so of the system's parts.
-use Rattle.std.specs.Prelude.{◌≡◌, ℕ, ◌*◌, ◌<◌, ◌≤◌, List, [], ◌∷◌, length, replicate, slice_index_or, false}
+use Rattle.std.specs.Prelude.{◌≡◌, ℕ, ◌*◌, ◌<◌, ◌≤◌, List, [], ◌∷◌, length, replicate, slice_index_or}
 use Rattle.cp_directory.specs.Users.{DirectoryUser}
-use Rattle.cp_frames.specs.Layout.{Pool, FrameSupply}
+use Rattle.cp_frames.specs.Layout.{Pool}
 use Rattle.cp_panel.specs.Machine.{nothing_pending, reset_cpu}
 use Rattle.cp_panel.specs.declared.machine.Mode.TheVariants.{Off}
 use Rattle.cp_core.specs.UserMachines.{UserParts, Fits, machine_of}
+use Rattle.cp_core.specs.Supply.{IsIdle}
 use Rattle.cp_core.specs.System.{new_machine}
 
 -- the machine of nobody, but for its storage
@@ -20,11 +21,6 @@ pub record IsWhole (machines : List UserParts) (storages : List (List ℕ)) (use
   pub stored : length storages ≡ length users
   pub few : length users ≤ 64
   pub fits : (k : ℕ) → k < length users → Fits (slice_index_or machines k no_machine) (slice_index_or storages k [])
-
--- between events no frame is pinned, and there are no slots
-pub record IsIdle (supply : FrameSupply) : Type 0 where
-  pub pins : supply.pins ≡ replicate (length supply.pins) false
-  pub slots : supply.slots ≡ []
 
 -- what is so of a system between events
 pub record IsSystem (machines : List UserParts) (pool : Pool) (users : List DirectoryUser) : Type 0 where

@@ -56,15 +56,21 @@ impl Sizes {
     {
         self.frames
     }
+
+    /// How many slots.
+    pub fn slots(self) -> u32
+        ensures value { result ≡ self.slots }
+        ensures most { result ≤ 65536 }
+    {
+        self.slots
+    }
 }
 
 impl System {
-    /// The system that a directory states, on so many frames: every user is off, and storage is zero.
-    ///
-    /// No slots are used yet.
+    /// The system that a directory states, on so many frames and slots: every user is off, and storage is zero.
     pub fn boot(alloc: Global, directory: Directory, sizes: Sizes) -> Result<System, BootError>
         requires { length directory ≤ 64 }
-        ensures ok { IfOk result (λ system. system ≡ booted directory sizes.frames) }
+        ensures ok { IfOk result (λ system. system ≡ booted directory sizes.frames sizes.slots) }
         ensures too_few { (result ≡ Err BootError.TooFewFrames) ↔ (sizes.frames < 16) }
     {
         if sizes.frames() < 16 {
@@ -78,7 +84,7 @@ impl System {
             Ok(pages) => pages,
             Err(_) => return Err(BootError::Memory),
         };
-        match Frames::new(alloc, sizes.frames(), 0, pages) {
+        match Frames::new(alloc, sizes.frames(), sizes.slots(), pages) {
             Ok(frames) => Ok(System {
                 directory,
                 machines,

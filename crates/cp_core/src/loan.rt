@@ -29,7 +29,7 @@ impl System {
     /// the frame. This takes no memory.
     pub fn frame_mut(&mut self, frame: FrameNo) -> Option<&mut [u8; FRAME_SIZE]>
         ensures* writes_back { sem 𝓛 (LendsFrame self.entry frame.0 result) }
-        ensures some { IsSome result ↔ (frame.0 < length self.old.owners) }
+        ensures some { IsSome result ↔ (frame.0 < length self.old.supply.owners) }
     {
         self.frames.frame_mut(frame)
     }

@@ -1,15 +1,15 @@
 //! The system: its users, their machines and the frames that they share.
 ghost use Rattle.std.specs.Prelude.{◌≡◌, ◌<◌, ◌≤◌, ◌↔◌, ℕ, List, Err, true, false, IsOk, IfOk, OnErr, OnOk, length, slice_set};
 ghost use Rattle.s370_store.specs.Access.{Touches};
+ghost use Rattle.s370_intr.specs.Units.{Needs};
 ghost use Rattle.s370_intr.specs.Run.{AllNeeded, IsLacking, RunNeeds};
-ghost use Rattle.cp_frames.specs.Supplied.{IsFilled};
 ghost use Rattle.cp_panel.specs.declared.line.LineError.TheVariants as errors;
 ghost use Rattle.cp_panel.specs.Run.{TellsRun};
 ghost use Rattle.cp_panel.specs.Panel.{line, line_needs, line_room, switches};
 ghost use Rattle.cp_panel.specs.Tick.{TickNeeds, ticked};
 ghost use Rattle.cp_core.specs.Events.{MayTakeMemory, user_of};
-ghost use Rattle.cp_core.specs.UserMachines.{IsShort};
-ghost use Rattle.cp_core.specs.System.{EachIsBare, IsApplied, IsGivenBack, IsSupplied, IsTold, SystemView, machine_at};
+ghost use Rattle.cp_core.specs.Supply.{IsBroughtFor, IsGivenBack, IsIdle, IsShort};
+ghost use Rattle.cp_core.specs.System.{EachIsBare, IsApplied, IsSupplied, IsTold, SystemView, machine_at};
 
 use crate::events::{CpError, Ended, Event, Reply};
 use crate::user_machine::UserMachine;
@@ -36,7 +36,7 @@ impl Model for System {
 
     ghost Value = { SystemView };
 
-    ghost view = { λ s. record { machines = machines_of s.machines.items s.frames.storages; users = s.directory; owners = s.frames.supply.owners; pins = s.frames.supply.pins; is_spent = s.is_spent } };
+    ghost view = { λ s. record { machines = machines_of s.machines.items s.frames.storages; users = s.directory; supply = s.frames.supply; is_spent = s.is_spent } };
 
     ghost invariant = { λ s. IsSystem s.machines.items s.frames s.directory };
 }
@@ -72,6 +72,13 @@ impl System {
         *is_spent
     }
 
+    /// How many pages have come into a frame since boot.
+    pub fn page_ins(&self) -> u64
+        ensures { result ≡ self.now.supply.page_ins }
+    {
+        self.frames.page_ins()
+    }
+
     /// Ends the system for want of memory.
     fn spend(&mut self)
         ensures { self.new ≡ record self.old { is_spent = true } }
@@ -102,10 +109,11 @@ impl System {
     /// Lets a user's machine run. This takes no memory.
     fn run(&mut self, user: usize, units: u32) -> MachineRan
         requires { user < length self.old.machines }
-        ensures told { TellsRun units (machine_at self.old user) (record { machine = machine_at self.new user; units = result.ran.units; reason = result.ran.reason; notice = result.notice }) (IsShort self.new.owners user) }
-        ensures supply { (pages : List ℕ) × IsFilled user self.old.owners pages self.new.owners × AllNeeded (RunNeeds (machine_at self.old user).core result.ran.units result.ran.reason) pages }
+        ensures told { TellsRun units (machine_at self.old user) (record { machine = machine_at self.new user; units = result.ran.units; reason = result.ran.reason; notice = result.notice }) (IsShort self.new.supply user (Needs (machine_at self.new user).core)) }
+        ensures supply { (pages : List ℕ) × IsBroughtFor user pages self.old.supply self.new.supply × AllNeeded (RunNeeds (machine_at self.old user).core result.ran.units result.ran.reason) pages }
         ensures machines { self.new.machines ≡ slice_set self.old.machines user (machine_at self.new user) }
-        ensures pins { self.new.pins ≡ self.old.pins }
+        ensures idle_before { IsIdle self.old.supply }
+        ensures idle { IsIdle self.new.supply }
         ensures users { self.new.users ≡ self.old.users }
         ensures spent { self.new.is_spent ≡ self.old.is_spent }
     {
@@ -118,10 +126,11 @@ impl System {
         requires { user < length self.old.machines }
         ensures ok { OnOk result (machine_at self.new user ≡ ticked (machine_at self.old user)) }
         ensures err { OnErr result (machine_at self.new user ≡ machine_at self.old user) }
-        ensures frames { OnErr result (IsLacking (TickNeeds (machine_at self.old user)) (length (machine_at self.old user).core.processor.bytes) (IsShort self.new.owners user)) }
-        ensures supply { (pages : List ℕ) × IsFilled user self.old.owners pages self.new.owners × AllNeeded (TickNeeds (machine_at self.old user)) pages }
+        ensures frames { OnErr result (IsLacking (TickNeeds (machine_at self.old user)) (length (machine_at self.old user).core.processor.bytes) (IsShort self.new.supply user (TickNeeds (machine_at self.old user)))) }
+        ensures supply { (pages : List ℕ) × IsBroughtFor user pages self.old.supply self.new.supply × AllNeeded (TickNeeds (machine_at self.old user)) pages }
         ensures machines { self.new.machines ≡ slice_set self.old.machines user (machine_at self.new user) }
-        ensures pins { self.new.pins ≡ self.old.pins }
+        ensures idle_before { IsIdle self.old.supply }
+        ensures idle { IsIdle self.new.supply }
         ensures users { self.new.users ≡ self.old.users }
         ensures spent { self.new.is_spent ≡ self.old.is_spent }
     {
@@ -134,11 +143,12 @@ impl System {
         requires { user < length self.old.machines }
         ensures ok { IfOk result (λ reply. line typed.now (machine_at self.old user) ≡ record { machine = machine_at self.new user; reply = reply }) }
         ensures err { OnErr result (machine_at self.new user ≡ machine_at self.old user) }
-        ensures frames { result ≡ Err errors.FramesOut → IsLacking (Touches (line_needs typed.now (machine_at self.old user))) (length (machine_at self.old user).core.processor.bytes) (IsShort self.new.owners user) }
-        ensures cleared { switches typed.now (machine_at self.old user) ≡ true → IsGivenBack self.old user self.new }
-        ensures supply { switches typed.now (machine_at self.old user) ≡ false → ((pages : List ℕ) × IsFilled user self.old.owners pages self.new.owners × AllNeeded (Touches (line_needs typed.now (machine_at self.old user))) pages) }
+        ensures frames { result ≡ Err errors.FramesOut → IsLacking (Touches (line_needs typed.now (machine_at self.old user))) (length (machine_at self.old user).core.processor.bytes) (IsShort self.new.supply user (Touches (line_needs typed.now (machine_at self.old user)))) }
+        ensures cleared { switches typed.now (machine_at self.old user) ≡ true → IsGivenBack user self.old.supply self.new.supply }
+        ensures supply { switches typed.now (machine_at self.old user) ≡ false → ((pages : List ℕ) × IsBroughtFor user pages self.old.supply self.new.supply × AllNeeded (Touches (line_needs typed.now (machine_at self.old user))) pages) }
         ensures machines { self.new.machines ≡ slice_set self.old.machines user (machine_at self.new user) }
-        ensures pins { self.new.pins ≡ self.old.pins }
+        ensures idle_before { IsIdle self.old.supply }
+        ensures idle { IsIdle self.new.supply }
         ensures users { self.new.users ≡ self.old.users }
         ensures spent { self.new.is_spent ≡ self.old.is_spent }
     {

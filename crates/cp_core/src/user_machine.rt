@@ -1,22 +1,26 @@
 //! A user's machine, of which the storage stands in frames.
-ghost use Rattle.std.specs.Prelude.{◌≡◌, ◌<◌, ◌≤◌, ◌*◌, ℕ, List, [], Err, IfOk, OnErr, OnOk, length, replicate, slice_set, true, false};
+ghost use Rattle.std.specs.Prelude.{◌≡◌, ◌<◌, ◌≤◌, ◌*◌, ◌+◌, ℕ, List, [], Err, IfOk, OnErr, OnOk, length, replicate, slice_set, true, false};
 ghost use Rattle.s370_store.specs.Access.{Touches};
+ghost use Rattle.s370_intr.specs.Units.{Needs};
 ghost use Rattle.s370_intr.specs.Run.{AllNeeded, IsLacking, RunNeeds};
-ghost use Rattle.cp_frames.specs.Layout.{bytes_of, cleared_of, is_there};
-ghost use Rattle.cp_frames.specs.Supplied.{IsFilled};
+ghost use Rattle.s370_intr.specs.declared.next.Reason.TheVariants as reasons;
+ghost use Rattle.cp_frames.specs.Layout.{bytes_of};
+ghost use Rattle.cp_frames.specs.Paging.{IsRefused};
+ghost use Rattle.cp_frames.specs.Supplied.{IsPagedFor};
 ghost use Rattle.cp_panel.specs.declared.line.LineError.TheVariants as errors;
 ghost use Rattle.cp_panel.specs.Machine.{machine_of as parts_with, unused};
 ghost use Rattle.cp_panel.specs.Run.{TellsRun};
 ghost use Rattle.cp_panel.specs.Panel.{line, line_needs, line_room, switches};
 ghost use Rattle.cp_panel.specs.Tick.{TickNeeds, ticked};
-ghost use Rattle.cp_core.specs.UserMachines.{Fits, IsShort, machine_of};
-ghost use Rattle.cp_core.specs.Whole.{IsIdle};
+ghost use Rattle.cp_core.specs.UserMachines.{Fits, machine_of};
+ghost use Rattle.cp_core.specs.Supply.{IsBroughtFor, IsGivenBack, IsIdle, IsShort};
 
 use cp_console::responses::Response;
 use cp_frames::{Dat, Frames};
 use cp_panel::{LineError, Machine, MachineRan};
 use cp_trap::VirtualCpu;
 use cp_users::UserNo;
+use s370_intr::{Ran, Reason};
 use s370_num::StorageKey;
 use s370_store::FramesOut;
 use s370_subchannels::Subchannels;
@@ -53,15 +57,48 @@ impl UserMachine {
     }
 
     /// Lets the machine run for at most so many units. This takes no memory.
+    ///
+    /// The pages that units bring are pinned, so that the next units find them. Where all frames are pinned and no more can be
+    /// brought, the pins are taken away and the run goes on: it ends for want of a frame only at a unit that finds none when
+    /// it starts with no pin.
     pub fn run(&mut self, frames: &mut Frames, user: UserNo, count: u32) -> MachineRan
         requires fits { Fits self.old (bytes_of frames.old user) }
         requires idle { IsIdle frames.old.supply }
         ensures told { let before = machine_of self.old (bytes_of frames.old user) in
             let after = machine_of self.new (bytes_of frames.new user) in
-            TellsRun count before (record { machine = after; units = result.ran.units; reason = result.ran.reason; notice = result.notice }) (IsShort frames.new.supply.owners user) }
+            TellsRun count before (record { machine = after; units = result.ran.units; reason = result.ran.reason; notice = result.notice }) (IsShort frames.new.supply user (Needs after.core)) }
         ensures supply { let before = machine_of self.old (bytes_of frames.old user) in
-            (pages : List ℕ) × IsFilled user frames.old.supply.owners pages frames.new.supply.owners × AllNeeded (RunNeeds before.core result.ran.units result.ran.reason) pages }
-        ensures pins { frames.new.supply.pins ≡ frames.old.supply.pins }
+            (pages : List ℕ) × IsBroughtFor user pages frames.old.supply frames.new.supply × AllNeeded (RunNeeds before.core result.ran.units result.ran.reason) pages }
+        ensures others { frames.new.storages ≡ slice_set frames.old.storages user (bytes_of frames.new user) }
+        ensures fits { Fits self.new (bytes_of frames.new user) }
+        ensures idle { IsIdle frames.new.supply }
+    {
+        let mut done = 0;
+        loop {
+            let piece = self.run_pinned(frames, user, count - done);
+            let Ran { units, reason } = piece.ran;
+            if !goes_on(piece.ran) {
+                return MachineRan {
+                    ran: Ran {
+                        units: done + units,
+                        reason,
+                    },
+                    notice: piece.notice,
+                };
+            }
+            done += units;
+        }
+    }
+
+    /// Lets the machine run until all frames are pinned, if not to its end.
+    fn run_pinned(&mut self, frames: &mut Frames, user: UserNo, count: u32) -> MachineRan
+        requires fits { Fits self.old (bytes_of frames.old user) }
+        requires idle { IsIdle frames.old.supply }
+        ensures told { let before = machine_of self.old (bytes_of frames.old user) in
+            let after = machine_of self.new (bytes_of frames.new user) in
+            TellsRun count before (record { machine = after; units = result.ran.units; reason = result.ran.reason; notice = result.notice }) (IsShort frames.new.supply user (RunNeeds before.core result.ran.units result.ran.reason)) }
+        ensures supply { let before = machine_of self.old (bytes_of frames.old user) in
+            (pages : List ℕ) × IsBroughtFor user pages frames.old.supply frames.new.supply × AllNeeded (RunNeeds before.core result.ran.units result.ran.reason) pages }
         ensures others { frames.new.storages ≡ slice_set frames.old.storages user (bytes_of frames.new user) }
         ensures fits { Fits self.new (bytes_of frames.new user) }
         ensures idle { IsIdle frames.new.supply }
@@ -79,10 +116,9 @@ impl UserMachine {
         ensures ok { OnOk result (machine_of self.new (bytes_of frames.new user) ≡ ticked (machine_of self.old (bytes_of frames.old user))) }
         ensures err { OnErr result (machine_of self.new (bytes_of frames.new user) ≡ machine_of self.old (bytes_of frames.old user)) }
         ensures frames { let before = machine_of self.old (bytes_of frames.old user) in
-            OnErr result (IsLacking (TickNeeds before) (length before.core.processor.bytes) (IsShort frames.new.supply.owners user)) }
+            OnErr result (IsLacking (TickNeeds before) (length before.core.processor.bytes) (IsShort frames.new.supply user (TickNeeds before))) }
         ensures supply { let before = machine_of self.old (bytes_of frames.old user) in
-            (pages : List ℕ) × IsFilled user frames.old.supply.owners pages frames.new.supply.owners × AllNeeded (TickNeeds before) pages }
-        ensures pins { frames.new.supply.pins ≡ frames.old.supply.pins }
+            (pages : List ℕ) × IsBroughtFor user pages frames.old.supply frames.new.supply × AllNeeded (TickNeeds before) pages }
         ensures others { frames.new.storages ≡ slice_set frames.old.storages user (bytes_of frames.new user) }
         ensures fits { Fits self.new (bytes_of frames.new user) }
         ensures idle { IsIdle frames.new.supply }
@@ -108,12 +144,11 @@ impl UserMachine {
         ensures memory { let before = machine_of self.old (bytes_of frames.old user) in
             result ≡ Err errors.Memory → self.old.parts.room < line_room typed.now before }
         ensures frames { let before = machine_of self.old (bytes_of frames.old user) in
-            result ≡ Err errors.FramesOut → IsLacking (Touches (line_needs typed.now before)) (length before.core.processor.bytes) (IsShort frames.new.supply.owners user) }
+            result ≡ Err errors.FramesOut → IsLacking (Touches (line_needs typed.now before)) (length before.core.processor.bytes) (IsShort frames.new.supply user (Touches (line_needs typed.now before))) }
         ensures cleared { let before = machine_of self.old (bytes_of frames.old user) in
-            switches typed.now before ≡ true → ((frames.new.supply.owners ≡ cleared_of user frames.old.supply.owners) × ((page : ℕ) → is_there frames.new.supply.owners user page ≡ false)) }
+            switches typed.now before ≡ true → IsGivenBack user frames.old.supply frames.new.supply }
         ensures supply { let before = machine_of self.old (bytes_of frames.old user) in
-            switches typed.now before ≡ false → ((pages : List ℕ) × IsFilled user frames.old.supply.owners pages frames.new.supply.owners × AllNeeded (Touches (line_needs typed.now before)) pages) }
-        ensures pins { frames.new.supply.pins ≡ frames.old.supply.pins }
+            switches typed.now before ≡ false → ((pages : List ℕ) × IsBroughtFor user pages frames.old.supply frames.new.supply × AllNeeded (Touches (line_needs typed.now before)) pages) }
         ensures others { frames.new.storages ≡ slice_set frames.old.storages user (bytes_of frames.new user) }
         ensures fits { Fits self.new (bytes_of frames.new user) }
         ensures idle { IsIdle frames.new.supply }
@@ -121,6 +156,17 @@ impl UserMachine {
         let reply = line_over(&mut self.machine, frames, &mut self.keys, user, typed);
         frames.unpin_all();
         reply
+    }
+}
+
+/// Whether a run that ended for want of a frame did some units, and so may do more when no frame is pinned.
+fn goes_on(ran: Ran) -> bool
+    ensures yes { result ≡ true → (ran.reason ≡ reasons.FramesOut) × (0 < ran.units) }
+    ensures no { result ≡ false → ran.reason ≡ reasons.FramesOut → ran.units ≡ 0 }
+{
+    match ran.reason {
+        Reason::FramesOut => ran.units > 0,
+        _ => false,
     }
 }
 
@@ -134,14 +180,11 @@ fn run_over(
 ) -> MachineRan
     requires large { 8192 ≤ length (bytes_of frames.old user) }
     requires keyed { length (bytes_of frames.old user) ≤ 2048 * length keys.old }
-    requires slots { frames.old.supply.slots ≡ [] }
     ensures told { let before = parts_with machine.old (bytes_of frames.old user) keys.old in
         let after = parts_with machine.new (bytes_of frames.new user) keys.new in
-        TellsRun count before (record { machine = after; units = result.ran.units; reason = result.ran.reason; notice = result.notice }) (IsShort frames.new.supply.owners user) }
+        TellsRun count before (record { machine = after; units = result.ran.units; reason = result.ran.reason; notice = result.notice }) (IsRefused frames.new.supply user) }
     ensures supply { let before = parts_with machine.old (bytes_of frames.old user) keys.old in
-        (pages : List ℕ) × IsFilled user frames.old.supply.owners pages frames.new.supply.owners × AllNeeded (RunNeeds before.core result.ran.units result.ran.reason) pages }
-    ensures marks { length frames.new.supply.pins ≡ length frames.old.supply.pins }
-    ensures slots { frames.new.supply.slots ≡ [] }
+        (pages : List ℕ) × IsPagedFor user pages frames.old.supply frames.new.supply × AllNeeded (RunNeeds before.core result.ran.units result.ran.reason) pages }
     ensures others { frames.new.storages ≡ slice_set frames.old.storages user (bytes_of frames.new user) }
     ensures size { length (bytes_of frames.new user) ≡ length (bytes_of frames.old user) }
 {
@@ -158,7 +201,6 @@ fn tick_over(
 ) -> Result<(), FramesOut>
     requires large { 8192 ≤ length (bytes_of frames.old user) }
     requires keyed { length (bytes_of frames.old user) ≤ 2048 * length keys.old }
-    requires slots { frames.old.supply.slots ≡ [] }
     ensures ok { let before = parts_with machine.old (bytes_of frames.old user) keys.old in
         let after = parts_with machine.new (bytes_of frames.new user) keys.new in
         OnOk result (after ≡ ticked before) }
@@ -166,11 +208,9 @@ fn tick_over(
         let after = parts_with machine.new (bytes_of frames.new user) keys.new in
         OnErr result (after ≡ before) }
     ensures frames { let before = parts_with machine.old (bytes_of frames.old user) keys.old in
-        OnErr result (IsLacking (TickNeeds before) (length (bytes_of frames.old user)) (IsShort frames.new.supply.owners user)) }
+        OnErr result (IsLacking (TickNeeds before) (length (bytes_of frames.old user)) (IsRefused frames.new.supply user)) }
     ensures supply { let before = parts_with machine.old (bytes_of frames.old user) keys.old in
-        (pages : List ℕ) × IsFilled user frames.old.supply.owners pages frames.new.supply.owners × AllNeeded (TickNeeds before) pages }
-    ensures marks { length frames.new.supply.pins ≡ length frames.old.supply.pins }
-    ensures slots { frames.new.supply.slots ≡ [] }
+        (pages : List ℕ) × IsPagedFor user pages frames.old.supply frames.new.supply × AllNeeded (TickNeeds before) pages }
     ensures others { frames.new.storages ≡ slice_set frames.old.storages user (bytes_of frames.new user) }
     ensures size { length (bytes_of frames.new user) ≡ length (bytes_of frames.old user) }
 {
@@ -187,7 +227,6 @@ fn line_over(
     typed: &[u8],
 ) -> Result<Option<Response>, LineError>
     requires keyed { length (bytes_of frames.old user) ≤ 2048 * length keys.old }
-    requires slots { frames.old.supply.slots ≡ [] }
     ensures ok { let before = parts_with machine.old (bytes_of frames.old user) keys.old in
         let after = parts_with machine.new (bytes_of frames.new user) keys.new in
         IfOk result (λ reply. line typed.now before ≡ record { machine = after; reply = reply }) }
@@ -197,13 +236,13 @@ fn line_over(
     ensures memory { let before = parts_with machine.old (bytes_of frames.old user) keys.old in
         result ≡ Err errors.Memory → machine.old.room < line_room typed.now before }
     ensures frames { let before = parts_with machine.old (bytes_of frames.old user) keys.old in
-        result ≡ Err errors.FramesOut → IsLacking (Touches (line_needs typed.now before)) (length (bytes_of frames.old user)) (IsShort frames.new.supply.owners user) }
+        result ≡ Err errors.FramesOut → IsLacking (Touches (line_needs typed.now before)) (length (bytes_of frames.old user)) (IsRefused frames.new.supply user) }
     ensures cleared { let before = parts_with machine.old (bytes_of frames.old user) keys.old in
-        switches typed.now before ≡ true → ((frames.new.supply.owners ≡ cleared_of user frames.old.supply.owners) × ((page : ℕ) → is_there frames.new.supply.owners user page ≡ false)) }
-    ensures supply { let before = parts_with machine.old (bytes_of frames.old user) keys.old in
-        switches typed.now before ≡ false → ((pages : List ℕ) × IsFilled user frames.old.supply.owners pages frames.new.supply.owners × AllNeeded (Touches (line_needs typed.now before)) pages) }
+        switches typed.now before ≡ true → IsGivenBack user frames.old.supply frames.new.supply }
+    ensures frames_kept { length frames.new.supply.owners ≡ length frames.old.supply.owners }
     ensures marks { length frames.new.supply.pins ≡ length frames.old.supply.pins }
-    ensures slots { frames.new.supply.slots ≡ [] }
+    ensures supply { let before = parts_with machine.old (bytes_of frames.old user) keys.old in
+        switches typed.now before ≡ false → ((pages : List ℕ) × IsPagedFor user pages frames.old.supply frames.new.supply × AllNeeded (Touches (line_needs typed.now before)) pages) }
     ensures others { frames.new.storages ≡ slice_set frames.old.storages user (bytes_of frames.new user) }
     ensures size { length (bytes_of frames.new user) ≡ length (bytes_of frames.old user) }
 {

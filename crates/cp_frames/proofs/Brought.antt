@@ -5,41 +5,13 @@ use Rattle.std.proofs.Math.ListN.{set, length-set}
 use Rattle.cp_frames.specs.declared.numbers.UserPage.{UserPage}
 use Rattle.cp_frames.specs.Layout.{FrameSupply, owned, is_page, is_there, frame_of, Holds}
 use Rattle.cp_frames.specs.Paging.{IsBrought, IsGivenUp, IsPagedIn, IsOpen, IsPinned, counted, unpinned_count}
-use Rattle.cp_frames.specs.Supplied.{IsFilled, IsPagedFor, StaysPinned, Stands}
+use Rattle.cp_frames.specs.Supplied.{HasSuch, IsHeld, IsPagedFor, StaysPinned, Stands}
 use Rattle.cp_frames.specs.Bringing.{differ, found_from, passing}
 use Rattle.cp_frames.proofs.Layouts.{dec_eq, is_this_page, frame_of-brought, frame_of_other-brought, frame_found}
 use Rattle.cp_frames.proofs.Tables.{page_is, page_is_at}
 
 only : (page other : ℕ) → Contains (page ∷ []) other → page ≡ other
 only page other (k, lt, e) = let first : k ≡ 0 = omega (arith, lt) in rw first at e
-
-some_frame : {o : Option ℕ} {frame : ℕ} → o ≡ Some frame → is_some o ≡ true
-some_frame e = ap is_some e
-
-no_frame : {o : Option ℕ} → o ≡ None → is_some o ≡ false
-no_frame e = ap is_some e
-
-filled_one : (user page frame : ℕ) (before after : List (Option UserPage)) → frame_of before user page ≡ None →
-    frame < length before → get_or before frame None ≡ None →
-    after ≡ set before frame (Some (owned user page)) → IsFilled user before (page ∷ []) after
-filled_one user page frame before after nowhere within free is =
-    let given : Option UserPage = Some (owned user page) in
-    let here : get_or (set before frame given) frame None ≡ given = rw get_or-set_same refl in
-    let one : Contains (page ∷ []) page = (0, omega arith, refl) in
-    rw is (record {
-      same_count = rw length-set refl;
-      frames = λ f. elim (dec_eq f frame) [
-        | yes e ↦ inr (record { page = page; listed = one; free = rw e free; given = rw e here })
-        | no ne ↦ inl (rw get_or-set_other refl)
-      ];
-      brought = λ p. elim (dec_eq page p) [
-        | yes e ↦ rw (← e) (λ _. (no_frame nowhere, some_frame (frame_of-brought before user page frame nowhere within)), λ _. one)
-        | no ne ↦ (
-          λ listed. absurd (ne (only page p listed)),
-          λ stands. absurd (differ stands.0 (ap is_some (sym (frame_of_other-brought before user page frame user p free (λ _ e. ne e))) ∙ stands.1)),
-        )
-      ];
-    })
 
 stands_nowhere : (o : Option ℕ) → is_some o ≡ false → o ≡ None
 stands_nowhere None away = refl
@@ -150,6 +122,13 @@ one_same user page frame old new one = elim one.slots [
   | inr (slot, given) ↦ ap length given.set ∙ length-set old.slots slot (get_or old.owners frame None)
 ]
 
+one_marked : (user page frame : ℕ) (old new : FrameSupply) → IsOne user page frame old new → (k : ℕ) → IsPinned new.pins k → IsPinned old.pins k ⊎ HasSuch user (Contains (page ∷ [])) new.owners k
+one_marked user page frame old new one k pinned = elim (dec_eq k frame) [
+  | yes e ↦ inr (record { page = page; such = (0, omega arith, refl); here = ap (λ j. get_or new.owners j None) e ∙ one_here user page frame old new one })
+  | no n ↦ (let before : get_or (set old.pins frame true) k false ≡ true = ap (λ ps. get_or ps k false) (sym one.pins) ∙ pinned in
+      inl (rw get_or-set_other at before))
+]
+
 paged_one : (user page frame : ℕ) (old new : FrameSupply) → IsOne user page frame old new → IsPagedFor user (page ∷ []) old new
 paged_one user page frame old new one = record {
   same_frames = ap length one.owners ∙ length-set old.owners frame (Some (owned user page));
@@ -161,19 +140,11 @@ paged_one user page frame old new one = record {
     here = one_here user page frame old new one ∙ ap (λ (n : ℕ). Some (owned user n)) is;
     pinned = ap (λ ps. get_or ps frame false) one.pins ∙ get_or-set_same old.pins frame true false one.marked;
   });
+  marked = one_marked user page frame old new one;
   kept = one_kept user page frame old new one;
   came = one_came user page frame old new one;
   page_ins = one.page_ins;
 }
-
--- without slots only a free frame is given a page
-one_filled : (user page frame : ℕ) (old new : FrameSupply) → IsOne user page frame old new → old.slots ≡ [] → IsFilled user old.owners (page ∷ []) new.owners
-one_filled user page frame old new one empty =
-    let free : get_or old.owners frame None ≡ None = elim one.slots [
-      | inl none ↦ none.0
-      | inr (slot, given) ↦ absurd (omega (arith, given.within, ap length empty))
-    ] in
-    filled_one user page frame old.owners new.owners one.nowhere one.within free one.owners
 
 is_one : (user page frame : ℕ) (old middle new : FrameSupply) → frame_of old.owners user page ≡ None → IsPagedIn old middle user page frame → IsOpen old.pins frame → frame_of middle.owners user page ≡ Some frame →
     new ≡ record middle { pins = set middle.pins frame (is_some (get_or middle.owners frame None)) } → IsOne user page frame old new
@@ -192,17 +163,12 @@ is_one user page frame old middle new nowhere paged spare there is =
     }
 
 -- a page that stood in no frame was brought and pinned
-pub record WasBrought (user page : ℕ) (old new : FrameSupply) : Type 0 where
-  pub paged : IsPagedFor user (page ∷ []) old new
-  pub filled : old.slots ≡ [] → IsFilled user old.owners (page ∷ []) new.owners
-
 pub brought_one : (user page frame : ℕ) (old middle new : FrameSupply) → is_there old.owners user page ≡ false → IsBrought old middle user page frame → IsOpen old.pins frame → frame_of middle.owners user page ≡ Some frame →
-    new ≡ record middle { pins = set middle.pins frame (is_some (get_or middle.owners frame None)) } → WasBrought user page old new
+    new ≡ record middle { pins = set middle.pins frame (is_some (get_or middle.owners frame None)) } → IsPagedFor user (page ∷ []) old new
 brought_one user page frame old middle new away brought spare there is =
     let nowhere : frame_of old.owners user page ≡ None = stands_nowhere (frame_of old.owners user page) away in
     let paged : IsPagedIn old middle user page frame = rw nowhere at brought in
-    let one = is_one user page frame old middle new nowhere paged spare there is in
-    record { paged = paged_one user page frame old new one; filled = one_filled user page frame old new one }
+    paged_one user page frame old new (is_one user page frame old middle new nowhere paged spare there is)
 
 -- one more frame is pinned
 fewer_open : (pins : List Bool) (frame : ℕ) → frame < length pins → get_or pins frame false ≡ false → unpinned_count (set pins frame true) < unpinned_count pins

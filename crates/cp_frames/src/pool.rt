@@ -73,6 +73,7 @@ impl Frames {
         ensures owners { IfOk result (λ made. made.supply.owners ≡ replicate frames None) }
         ensures slots { IfOk result (λ made. made.supply.slots ≡ replicate slots None) }
         ensures pins { IfOk result (λ made. made.supply.pins ≡ replicate frames false) }
+        ensures order { IfOk result (λ made. made.supply.order ≡ range_with_len 0 frames) }
         ensures page_ins { IfOk result (λ made. made.supply.page_ins ≡ 0) }
         ensures storages { IfOk result (λ made. made.storages ≡ map (λ pages. replicate (pages * 4096) 0) sizes.items) }
     {

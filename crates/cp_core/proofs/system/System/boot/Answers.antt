@@ -1,11 +1,11 @@
 use Rattle.std.proofs.Common.{◌≡◌, ◌∙◌, ◌*◌, ℕ, List, Option, None, ap, map, replicate, subst, Bool, false, length, refl}
 use Rattle.cp_directory.specs.Users.{DirectoryUser}
 use Rattle.cp_panel.specs.Machine.{Machine}
-use Rattle.cp_frames.specs.declared.numbers.UserPage.{UserPage}
-use Rattle.cp_core.specs.System.{SystemView, machines_of, booted}
+use Rattle.cp_frames.specs.Layout.{FrameSupply}
+use Rattle.cp_core.specs.System.{SystemView, free_supply, machines_of}
 use Rattle.cp_core.specs.Whole.{AreNew, IsWhole}
 use Rattle.cp_core.specs.UserMachines.{UserParts}
-use Rattle.cp_core.proofs.Boots.{blank, idle_new, new_machines, whole_new}
+use Rattle.cp_core.proofs.Boots.{blank, idle_new, new_supply, new_machines, whole_new}
 use Rattle.cp_core.proofs.system.System.boot.Goals as goal
 
 pub invariant_of-result : goal.invariant_of-result
@@ -16,11 +16,11 @@ invariant_of-result c =
     let stored : c.in-Ok-new.frames.storages ≡ blank users = c.in-Ok-new.ensures.storages ∙ ap (λ (ps : List ℕ). map (λ pages. replicate (pages * 4096) 0) ps) pages in
     record {
       whole = rw stored (whole_new c.in-Ok.machines.items users seated c.requires);
-      idle = idle_new c.in-Ok-new.frames.supply c.frames-2.result c.in-Ok-new.ensures.pins c.in-Ok-new.ensures.slots;
+      idle = idle_new c.in-Ok-new.frames.supply c.frames-2.result c.slots.result (new_supply c.in-Ok-new.frames.supply c.frames-2.result c.slots.result c.in-Ok-new.ensures.owners c.in-Ok-new.ensures.slots c.in-Ok-new.ensures.pins c.in-Ok-new.ensures.order c.in-Ok-new.ensures.page_ins);
     }
 
-view_is : (machines machines' : List Machine) (users : List DirectoryUser) (owners owners' : List (Option UserPage)) (pins pins' : List Bool) → machines ≡ machines' → owners ≡ owners' → pins ≡ pins' → (let s : SystemView = record { machines = machines; users = users; owners = owners; pins = pins; is_spent = false } in s ≡ record { machines = machines'; users = users; owners = owners'; pins = pins'; is_spent = false })
-view_is machines machines' users owners owners' pins pins' a b p = rw (a, b, p) refl
+view_is : (machines machines' : List Machine) (users : List DirectoryUser) (supply supply' : FrameSupply) → machines ≡ machines' → supply ≡ supply' → (let s : SystemView = record { machines = machines; users = users; supply = supply; is_spent = false } in s ≡ record { machines = machines'; users = users; supply = supply'; is_spent = false })
+view_is machines machines' users supply supply' a b = rw (a, b) refl
 
 pub returns-in-Ok-new-clause-ok : goal.returns-in-Ok-new-clause-ok
 returns-in-Ok-new-clause-ok c =
@@ -28,5 +28,6 @@ returns-in-Ok-new-clause-ok c =
     let seated : AreNew c.in-Ok.machines.items users = subst (AreNew c.in-Ok.machines.items) c.users.ensures.users c.in-Ok.ensures in
     let pages = c.in-Ok-pages_of.ensures.pages ∙ ap (λ (us : List DirectoryUser). map (λ (user : DirectoryUser). user.pages) us) c.users-2.ensures.users in
     let stored : c.in-Ok-new.frames.storages ≡ blank users = c.in-Ok-new.ensures.storages ∙ ap (λ (ps : List ℕ). map (λ pages. replicate (pages * 4096) 0) ps) pages in
-    view_is _ _ users _ _ _ _ (ap (machines_of c.in-Ok.machines.items) stored ∙ new_machines c.in-Ok.machines.items users seated) (c.in-Ok-new.ensures.owners ∙ ap (λ (n : ℕ). replicate n None) c.frames-2.ensures.value)
-    (c.in-Ok-new.ensures.pins ∙ ap (λ (n : ℕ). replicate n false) c.frames-2.ensures.value)
+    let supply = new_supply c.in-Ok-new.frames.supply c.frames-2.result c.slots.result c.in-Ok-new.ensures.owners c.in-Ok-new.ensures.slots c.in-Ok-new.ensures.pins c.in-Ok-new.ensures.order c.in-Ok-new.ensures.page_ins in
+    view_is _ _ users _ _ (ap (machines_of c.in-Ok.machines.items) stored ∙ new_machines c.in-Ok.machines.items users seated)
+    (supply ∙ (ap (λ (n : ℕ). free_supply n c.slots.result) c.frames-2.ensures.value ∙ ap (λ (n : ℕ). free_supply c.args.sizes.frames n) c.slots.ensures.value))

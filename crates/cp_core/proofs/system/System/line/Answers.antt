@@ -2,12 +2,10 @@ use Rattle.std.proofs.Common.{◌≡◌, ◌<◌, ◌∙◌, ap, arith, length, 
 use Rattle.std.specs.Prelude.{IfOk, OnErr}
 use Rattle.s370_store.specs.Access.{Touches}
 use Rattle.s370_intr.specs.Run.{AllNeeded, IsLacking}
-use Rattle.cp_frames.specs.Layout.{cleared_of, is_there}
-use Rattle.cp_frames.specs.Supplied.{IsFilled}
 use Rattle.cp_panel.specs.Machine.{Machine}
 use Rattle.cp_panel.specs.Panel.{line, line_needs, switches}
 use Rattle.cp_panel.specs.declared.line.LineError.TheVariants as errors
-use Rattle.cp_core.specs.UserMachines.{IsShort}
+use Rattle.cp_core.specs.Supply.{IsBroughtFor, IsGivenBack, IsShort}
 use Rattle.cp_core.specs.System.{SystemView}
 use Rattle.cp_core.proofs.Systems.{change, is_user, seat_fits, transported, same_if_refused}
 use Rattle.cp_core.proofs.system.System.line.Goals as goal
@@ -45,21 +43,19 @@ returns-clause-err c =
 pub returns-clause-frames : goal.returns-clause-frames
 returns-clause-frames c =
     let changed = change c.self.inside.machines.items c.self.inside.frames.storages c.line.new.frames.storages c.self.inside.directory c.args.self.now.machines c.args.user c.index_mut-machine.result.now c.line.new.self c.self.invariant.whole (ap (λ (s : SystemView). s.machines) c.self.view_is) c.requires (c.index_mut-machine.ensures.value) (rw c.new.ensures at c.line.ensures.others) in
-    transported (λ old new. c.line.result ≡ Err errors.FramesOut → IsLacking (Touches (line_needs c.args.typed.now old)) (length old.core.processor.bytes) (IsShort c.line.new.frames.supply.owners c.args.user)) _ _ _ _ changed.old changed.new (rw c.new.ensures at c.line.ensures.frames)
+    transported (λ old new. c.line.result ≡ Err errors.FramesOut → IsLacking (Touches (line_needs c.args.typed.now old)) (length old.core.processor.bytes) (IsShort c.line.new.frames.supply c.args.user (Touches (line_needs c.args.typed.now old)))) _ _ _ _ changed.old changed.new (rw c.new.ensures at c.line.ensures.frames)
 
 pub returns-clause-cleared : goal.returns-clause-cleared
 returns-clause-cleared c =
     let changed = change c.self.inside.machines.items c.self.inside.frames.storages c.line.new.frames.storages c.self.inside.directory c.args.self.now.machines c.args.user c.index_mut-machine.result.now c.line.new.self c.self.invariant.whole (ap (λ (s : SystemView). s.machines) c.self.view_is) c.requires (c.index_mut-machine.ensures.value) (rw c.new.ensures at c.line.ensures.others) in
-    let o : c.self.inside.frames.supply.owners ≡ c.args.self.now.owners = ap (λ (s : SystemView). s.owners) c.self.view_is in
-    λ on. (
-    let given : (c.line.new.frames.supply.owners ≡ cleared_of c.args.user c.self.inside.frames.supply.owners) × ((page : ℕ) → is_there c.line.new.frames.supply.owners c.args.user page ≡ false) = transported (λ old new. switches c.args.typed.now old ≡ true → ((c.line.new.frames.supply.owners ≡ cleared_of c.args.user c.self.inside.frames.supply.owners) × ((page : ℕ) → is_there c.line.new.frames.supply.owners c.args.user page ≡ false))) _ _ _ _ changed.old changed.new (rw c.new.ensures at c.line.ensures.cleared) on in
-    record { owners = rw (← o) given.0; gone = given.1 })
+    let o : c.self.inside.frames.supply ≡ c.args.self.now.supply = ap (λ (s : SystemView). s.supply) c.self.view_is in
+    rw (← o) (transported (λ old new. switches c.args.typed.now old ≡ true → IsGivenBack c.args.user c.self.inside.frames.supply c.line.new.frames.supply) _ _ _ _ changed.old changed.new (rw c.new.ensures at c.line.ensures.cleared))
 
 pub returns-clause-supply : goal.returns-clause-supply
 returns-clause-supply c =
     let changed = change c.self.inside.machines.items c.self.inside.frames.storages c.line.new.frames.storages c.self.inside.directory c.args.self.now.machines c.args.user c.index_mut-machine.result.now c.line.new.self c.self.invariant.whole (ap (λ (s : SystemView). s.machines) c.self.view_is) c.requires (c.index_mut-machine.ensures.value) (rw c.new.ensures at c.line.ensures.others) in
-    let o : c.self.inside.frames.supply.owners ≡ c.args.self.now.owners = ap (λ (s : SystemView). s.owners) c.self.view_is in
-    rw (← o) (transported (λ old new. switches c.args.typed.now old ≡ false → ((pages : List ℕ) × IsFilled c.args.user c.self.inside.frames.supply.owners pages c.line.new.frames.supply.owners × AllNeeded (Touches (line_needs c.args.typed.now old)) pages)) _ _ _ _ changed.old changed.new (rw c.new.ensures at c.line.ensures.supply))
+    let o : c.self.inside.frames.supply ≡ c.args.self.now.supply = ap (λ (s : SystemView). s.supply) c.self.view_is in
+    rw (← o) (transported (λ old new. switches c.args.typed.now old ≡ false → ((pages : List ℕ) × IsBroughtFor c.args.user pages c.self.inside.frames.supply c.line.new.frames.supply × AllNeeded (Touches (line_needs c.args.typed.now old)) pages)) _ _ _ _ changed.old changed.new (rw c.new.ensures at c.line.ensures.supply))
 
 pub returns-clause-machines : goal.returns-clause-machines
 returns-clause-machines c =

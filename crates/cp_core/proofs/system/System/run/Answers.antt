@@ -1,9 +1,9 @@
 use Rattle.std.proofs.Common.{◌≡◌, ◌<◌, ◌∙◌, ap, arith, length, List, ℕ, set}
+use Rattle.s370_intr.specs.Units.{Needs}
 use Rattle.s370_intr.specs.Run.{AllNeeded, RunNeeds}
-use Rattle.cp_frames.specs.Supplied.{IsFilled}
 use Rattle.cp_panel.specs.Machine.{Machine}
 use Rattle.cp_panel.specs.Run.{TellsRun}
-use Rattle.cp_core.specs.UserMachines.{IsShort}
+use Rattle.cp_core.specs.Supply.{IsBroughtFor, IsShort}
 use Rattle.cp_core.specs.System.{SystemView}
 use Rattle.cp_core.proofs.Systems.{change, is_user, seat_fits, transported}
 use Rattle.cp_core.proofs.system.System.run.Goals as goal
@@ -31,13 +31,13 @@ run-requires c =
 pub returns-clause-told : goal.returns-clause-told
 returns-clause-told c =
     let changed = change c.self.inside.machines.items c.self.inside.frames.storages c.run.new.frames.storages c.self.inside.directory c.args.self.now.machines c.args.user c.index_mut-machine.result.now c.run.new.self c.self.invariant.whole (ap (λ (s : SystemView). s.machines) c.self.view_is) c.requires (c.index_mut-machine.ensures.value) (rw c.new.ensures at c.run.ensures.others) in
-    transported (λ old new. TellsRun c.args.units old (record { machine = new; units = c.run.result.ran.units; reason = c.run.result.ran.reason; notice = c.run.result.notice }) (IsShort c.run.new.frames.supply.owners c.args.user)) _ _ _ _ changed.old changed.new (rw c.new.ensures at c.run.ensures.told)
+    transported (λ old new. TellsRun c.args.units old (record { machine = new; units = c.run.result.ran.units; reason = c.run.result.ran.reason; notice = c.run.result.notice }) (IsShort c.run.new.frames.supply c.args.user (Needs new.core))) _ _ _ _ changed.old changed.new (rw c.new.ensures at c.run.ensures.told)
 
 pub returns-clause-supply : goal.returns-clause-supply
 returns-clause-supply c =
     let changed = change c.self.inside.machines.items c.self.inside.frames.storages c.run.new.frames.storages c.self.inside.directory c.args.self.now.machines c.args.user c.index_mut-machine.result.now c.run.new.self c.self.invariant.whole (ap (λ (s : SystemView). s.machines) c.self.view_is) c.requires (c.index_mut-machine.ensures.value) (rw c.new.ensures at c.run.ensures.others) in
-    let o : c.self.inside.frames.supply.owners ≡ c.args.self.now.owners = ap (λ (s : SystemView). s.owners) c.self.view_is in
-    rw (← o) (transported (λ old new. (pages : List ℕ) × IsFilled c.args.user c.self.inside.frames.supply.owners pages c.run.new.frames.supply.owners × AllNeeded (RunNeeds old.core c.run.result.ran.units c.run.result.ran.reason) pages) _ _ _ _ changed.old changed.new (rw c.new.ensures at c.run.ensures.supply))
+    let o : c.self.inside.frames.supply ≡ c.args.self.now.supply = ap (λ (s : SystemView). s.supply) c.self.view_is in
+    rw (← o) (transported (λ old new. (pages : List ℕ) × IsBroughtFor c.args.user pages c.self.inside.frames.supply c.run.new.frames.supply × AllNeeded (RunNeeds old.core c.run.result.ran.units c.run.result.ran.reason) pages) _ _ _ _ changed.old changed.new (rw c.new.ensures at c.run.ensures.supply))
 
 pub returns-clause-machines : goal.returns-clause-machines
 returns-clause-machines c =

@@ -1,10 +1,9 @@
 use Rattle.std.proofs.Common.{◌≡◌, ◌<◌, ◌∙◌, ap, arith, length, List, ℕ}
 use Rattle.std.specs.Prelude.{OnErr, OnOk}
 use Rattle.s370_intr.specs.Run.{AllNeeded, IsLacking}
-use Rattle.cp_frames.specs.Supplied.{IsFilled}
 use Rattle.cp_panel.specs.Machine.{Machine}
 use Rattle.cp_panel.specs.Tick.{TickNeeds, ticked}
-use Rattle.cp_core.specs.UserMachines.{IsShort}
+use Rattle.cp_core.specs.Supply.{IsBroughtFor, IsShort}
 use Rattle.cp_core.specs.System.{SystemView}
 use Rattle.cp_core.proofs.Systems.{change, is_user, seat_fits, transported, same_if_refused}
 use Rattle.cp_core.proofs.system.System.tick.Goals as goal
@@ -42,13 +41,13 @@ returns-clause-err c =
 pub returns-clause-frames : goal.returns-clause-frames
 returns-clause-frames c =
     let changed = change c.self.inside.machines.items c.self.inside.frames.storages c.tick.new.frames.storages c.self.inside.directory c.args.self.now.machines c.args.user c.index_mut-machine.result.now c.tick.new.self c.self.invariant.whole (ap (λ (s : SystemView). s.machines) c.self.view_is) c.requires (c.index_mut-machine.ensures.value) (rw c.new.ensures at c.tick.ensures.others) in
-    transported (λ old new. OnErr c.tick.result (IsLacking (TickNeeds old) (length old.core.processor.bytes) (IsShort c.tick.new.frames.supply.owners c.args.user))) _ _ _ _ changed.old changed.new (rw c.new.ensures at c.tick.ensures.frames)
+    transported (λ old new. OnErr c.tick.result (IsLacking (TickNeeds old) (length old.core.processor.bytes) (IsShort c.tick.new.frames.supply c.args.user (TickNeeds old)))) _ _ _ _ changed.old changed.new (rw c.new.ensures at c.tick.ensures.frames)
 
 pub returns-clause-supply : goal.returns-clause-supply
 returns-clause-supply c =
     let changed = change c.self.inside.machines.items c.self.inside.frames.storages c.tick.new.frames.storages c.self.inside.directory c.args.self.now.machines c.args.user c.index_mut-machine.result.now c.tick.new.self c.self.invariant.whole (ap (λ (s : SystemView). s.machines) c.self.view_is) c.requires (c.index_mut-machine.ensures.value) (rw c.new.ensures at c.tick.ensures.others) in
-    let o : c.self.inside.frames.supply.owners ≡ c.args.self.now.owners = ap (λ (s : SystemView). s.owners) c.self.view_is in
-    rw (← o) (transported (λ old new. (pages : List ℕ) × IsFilled c.args.user c.self.inside.frames.supply.owners pages c.tick.new.frames.supply.owners × AllNeeded (TickNeeds old) pages) _ _ _ _ changed.old changed.new (rw c.new.ensures at c.tick.ensures.supply))
+    let o : c.self.inside.frames.supply ≡ c.args.self.now.supply = ap (λ (s : SystemView). s.supply) c.self.view_is in
+    rw (← o) (transported (λ old new. (pages : List ℕ) × IsBroughtFor c.args.user pages c.self.inside.frames.supply c.tick.new.frames.supply × AllNeeded (TickNeeds old) pages) _ _ _ _ changed.old changed.new (rw c.new.ensures at c.tick.ensures.supply))
 
 pub returns-clause-machines : goal.returns-clause-machines
 returns-clause-machines c =
