@@ -1,5 +1,6 @@
 -- The parts of a system at boot.
 use Rattle.std.proofs.Common.{◌≡◌, ℕ, ◌+◌, ◌*◌, ◌<◌, ◌≤◌, List, [], ◌∷◌, ◌++◌, length, map, get_or, zero, suc, refl, sym, ◌∙◌, ap, arith, replicate, subst, Bool, false, Option, None}
+use Rattle.std.specs.Prelude.{reverse}
 use Rattle.std.specs.List.{range_with_len}
 use Rattle.std.proofs.lemmas.List.{length-replicate}
 use Rattle.cp_directory.specs.Users.{DirectoryUser}
@@ -59,7 +60,7 @@ made : (a a' b b' : List (Option UserPage)) (c c' : List Bool) (d d' : List ℕ)
 made a a' b b' c c' d d' e e' p q r t u = rw (p, q, r, t, u) refl
 
 -- frames and slots at boot, of which none is pinned
-pub new_supply : (supply : FrameSupply) (frames slots : ℕ) → supply.owners ≡ replicate frames None → supply.slots ≡ replicate slots None → supply.pins ≡ replicate frames false → supply.order ≡ range_with_len 0 frames → supply.page_ins ≡ 0 → supply ≡ free_supply frames slots
+pub new_supply : (supply : FrameSupply) (frames slots : ℕ) → supply.owners ≡ replicate frames None → supply.slots ≡ replicate slots None → supply.pins ≡ replicate frames false → supply.order ≡ reverse (range_with_len 0 frames) → supply.page_ins ≡ 0 → supply ≡ free_supply frames slots
 new_supply supply frames slots owners taken pins order count = made supply.owners _ supply.slots _ supply.pins _ supply.order _ supply.page_ins _ owners taken pins order count
 
 pub idle_new : (supply : FrameSupply) (frames slots : ℕ) → supply ≡ free_supply frames slots → IsIdle supply

@@ -1,5 +1,5 @@
 -- The whole system as it is seen, and what its events do: to each user what a bare machine does.
-use Rattle.std.specs.Prelude.{◌≡◌, ℕ, ◌==◌, ◌*◌, ◌<◌, ◌≤◌, if◌then◌else◌, Bool, true, false, List, [], ◌∷◌, ◌++◌, length, map, replicate, slice_index_or, None}
+use Rattle.std.specs.Prelude.{◌≡◌, ℕ, ◌==◌, ◌*◌, ◌<◌, ◌≤◌, if◌then◌else◌, Bool, true, false, List, [], ◌∷◌, ◌++◌, length, map, replicate, reverse, slice_index_or, None}
 use Rattle.std.specs.List.{range_with_len}
 use Rattle.s370_store.specs.Access.{Touches}
 use Rattle.s370_intr.specs.declared.next.Reason.{Reason}
@@ -57,7 +57,7 @@ free_supply frames slots = record {
   owners = replicate frames None;
   slots = replicate slots None;
   pins = replicate frames false;
-  order = range_with_len 0 frames;
+  order = reverse (range_with_len 0 frames);
   page_ins = 0;
 }
 

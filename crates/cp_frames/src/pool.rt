@@ -1,5 +1,5 @@
 //! The frames and slots with what stands in them.
-ghost use Rattle.std.specs.Prelude.{◌≡◌, ℕ, ◌+◌, ◌-◌, ◌*◌, ◌/◌, ◌%◌, ◌<◌, ◌≤◌, ◌↔◌, ◌++◌, ◌∷◌, [], Option, Some, None, true, false, map, length, slice_index, slice_index_or, slice_set, slice_get, slice_range, IsSome, is_some, IfOk, OnOk, OnErr, IfSome, IfNone, All, replicate};
+ghost use Rattle.std.specs.Prelude.{reverse, ◌≡◌, ℕ, ◌+◌, ◌-◌, ◌*◌, ◌/◌, ◌%◌, ◌<◌, ◌≤◌, ◌↔◌, ◌++◌, ◌∷◌, [], Option, Some, None, true, false, map, length, slice_index, slice_index_or, slice_set, slice_get, slice_range, IsSome, is_some, IfOk, OnOk, OnErr, IfSome, IfNone, All, replicate};
 ghost use Rattle.std.specs.List.{range_with_len};
 ghost use Rattle.s370_store.specs.Access.{put, IsGranted};
 ghost use Rattle.cp_frames.specs.Layout.{frame_of, number_of, is_there, IsZeroPage, cleared_of};
@@ -73,7 +73,7 @@ impl Frames {
         ensures owners { IfOk result (λ made. made.supply.owners ≡ replicate frames None) }
         ensures slots { IfOk result (λ made. made.supply.slots ≡ replicate slots None) }
         ensures pins { IfOk result (λ made. made.supply.pins ≡ replicate frames false) }
-        ensures order { IfOk result (λ made. made.supply.order ≡ range_with_len 0 frames) }
+        ensures order { IfOk result (λ made. made.supply.order ≡ reverse (range_with_len 0 frames)) }
         ensures page_ins { IfOk result (λ made. made.supply.page_ins ≡ 0) }
         ensures storages { IfOk result (λ made. made.storages ≡ map (λ pages. replicate (pages * 4096) 0) sizes.items) }
     {
