@@ -23,8 +23,8 @@ const LONGEST: usize = 256;
 
 /// All frames of real storage, all slots for pages that are given up, and which page of which user stands in each.
 ///
-/// A page that stands in neither is all zero. A pin is a mark on a frame that only [`Frames::pin`], [`Frames::unpin_all`]
-/// and [`Frames::release`] change: the page in a pinned frame is not given up for another.
+/// A page that stands in neither is all zero. A pin is a mark on a frame that only [`Frames::pin`], [`Frames::unpin`],
+/// [`Frames::unpin_all`] and [`Frames::release`] change: the page in a pinned frame is not given up for another.
 #[derive(Drop)]
 pub struct Frames {
     frames: Vec<[u8; FRAME_SIZE]>,
@@ -332,6 +332,18 @@ impl Frames {
         let frame = frame.0 as usize;
         if frame < self.pins.len() {
             self.pins[frame] = self.owners[frame].is_some();
+            self.is_marked = true;
+        }
+    }
+
+    /// Takes the mark from a frame. Nothing is done past the frames.
+    pub fn unpin(&mut self, frame: FrameNo)
+        ensures supply { self.new.supply ≡ record self.old.supply { pins = slice_set self.old.supply.pins frame.0 false } }
+        ensures storages { self.new.storages ≡ self.old.storages }
+    {
+        let frame = frame.0 as usize;
+        if frame < self.pins.len() {
+            self.pins[frame] = false;
             self.is_marked = true;
         }
     }

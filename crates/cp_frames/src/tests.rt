@@ -159,6 +159,9 @@ fn a_full_pool_and_a_user_who_leaves(rt: HostRuntime) -> Result<(), Fail> {
     }
     frames.pin(second);
     assert_eq!(rt; frames.is_pinned(second), true);
+    frames.unpin(second);
+    assert_eq!(rt; frames.is_pinned(second), false);
+    frames.pin(second);
     frames.release(a());
     assert_eq!(rt; frames.page_in(first), None);
     assert_eq!(rt; frames.byte(a(), 4096), Some(0));
