@@ -1,5 +1,5 @@
 -- The parts of a system at boot.
-use Rattle.std.proofs.Common.{◌≡◌, ℕ, ◌+◌, ◌*◌, ◌<◌, ◌≤◌, List, [], ◌∷◌, ◌++◌, length, map, get_or, zero, suc, refl, sym, ◌∙◌, ap, arith, replicate, subst, Bool, false, Option, None}
+use Rattle.std.proofs.Common.{◌≡◌, ℕ, ◌*◌, ◌<◌, ◌≤◌, List, [], ◌∷◌, ◌++◌, length, map, get_or, zero, suc, refl, sym, ◌∙◌, ap, arith, replicate, subst, Bool, false, Option, None}
 use Rattle.std.specs.List.{range_with_len}
 use Rattle.std.proofs.lemmas.List.{length-replicate}
 use Rattle.cp_directory.specs.Users.{DirectoryUser}

@@ -1,6 +1,6 @@
 -- What an event keeps of frames and slots.
-use Rattle.std.proofs.Common.{◌≡◌, ◌∙◌, ap, sym, subst, ℕ, zero, suc, ◌<◌, Bool, true, false, List, [], ◌∷◌, ◌++◌, get_or, length, replicate, refl, Option, Result, Ok, Err, arith, inl, inr, length-append}
-use Rattle.std.specs.Prelude.{Contains, OnErr, is_some, ◌⊎◌}
+use Rattle.std.proofs.Common.{◌≡◌, ◌∙◌, ap, sym, subst, ℕ, zero, suc, Bool, true, false, List, [], ◌∷◌, ◌++◌, get_or, length, replicate, refl, Option, Result, Ok, Err, arith, inl, inr, length-append}
+use Rattle.std.specs.Prelude.{Contains, OnErr, is_some}
 use Rattle.s370_store.specs.Access.{Touches}
 use Rattle.std.proofs.lemmas.List.{length-map, length-replicate}
 use Rattle.std.proofs.lemmas.List.Elements.{All-get_or, Contains-append_left, Contains-append_right}
@@ -14,7 +14,7 @@ use Rattle.cp_frames.specs.declared.dat.Dat.{Dat}
 use Rattle.cp_panel.specs.Machine.{Machine}
 use Rattle.cp_panel.specs.Panel.{line_needs, switches}
 use Rattle.cp_core.proofs.Switches.{switch_needs_none}
-use Rattle.cp_core.specs.Supply.{IsBroughtFor, IsGivenBack, IsIdle, IsShort, NeedsAll}
+use Rattle.cp_core.specs.Supply.{IsBroughtFor, IsGivenBack, IsIdle, IsShort}
 
 -- what a line keeps, whether it switches the machine or not
 pub either : (b : Bool) (X : Type 0) → (b ≡ true → X) → (b ≡ false → X) → X

@@ -1,15 +1,14 @@
 -- One page that came into a frame.
-use Rattle.std.proofs.Common.{◌≡◌, ◌≢◌, ℕ, zero, suc, ◌+◌, ◌<◌, List, [], ◌∷◌, length, get_or, Bool, false, true, inl, inr, Option, Some, None, refl, sym, ◌∙◌, ap, arith, get_or-set_same, get_or-set_other}
+use Rattle.std.proofs.Common.{◌≡◌, ◌≢◌, ℕ, zero, suc, ◌<◌, List, [], ◌∷◌, length, get_or, Bool, false, true, inl, inr, Option, Some, None, refl, sym, ◌∙◌, ap, arith, get_or-set_same, get_or-set_other}
 use Rattle.std.specs.Prelude.{◌⊎◌, is_some, Contains}
 use Rattle.std.proofs.Math.ListN.{set, length-set}
 use Rattle.cp_frames.specs.declared.numbers.UserPage.{UserPage}
 use Rattle.cp_frames.specs.Layout.{FrameSupply, owned, is_page, is_there, frame_of, Holds}
 use Rattle.cp_frames.specs.Paging.{IsBrought, IsGivenUp, IsPagedIn, IsOpen, IsPinned, counted, unpinned_count}
-use Rattle.cp_frames.specs.Supplied.{HasSuch, IsHeld, IsPagedFor, StaysPinned, Stands}
-use Rattle.cp_frames.specs.Bringing.{differ, found_from, passing}
-use Rattle.cp_frames.proofs.Layouts.{dec_eq, is_this_page, frame_of-brought, frame_of_other-brought, frame_found}
+use Rattle.cp_frames.specs.Supplied.{HasSuch, IsPagedFor, StaysPinned, Stands}
+use Rattle.cp_frames.specs.Bringing.{found_from, passing}
+use Rattle.cp_frames.proofs.Layouts.{dec_eq, is_this_page, frame_found}
 use Rattle.cp_frames.proofs.Tables.{page_is, page_is_at}
-use Rattle.cp_frames.proofs.Moves.{held_place}
 
 only : (page other : ℕ) → Contains (page ∷ []) other → page ≡ other
 only page other (k, lt, e) = let first : k ≡ 0 = omega (arith, lt) in rw first at e

@@ -1,14 +1,14 @@
 -- What stands in a frame and what stands in a slot change places.
-use Rattle.std.proofs.Common.{◌≡◌, ◌≢◌, ℕ, ◌+◌, ◌*◌, ◌<◌, ◌≤◌, List, [], ◌++◌, length, get_or, Bool, true, false, Option, Some, None, refl, sym, ◌∙◌, ap, arith, length-append, set-set, subst}
+use Rattle.std.proofs.Common.{◌≡◌, ℕ, ◌+◌, ◌*◌, ◌<◌, List, [], ◌++◌, length, get_or, false, Option, Some, None, refl, sym, ◌∙◌, ap, arith, set-set}
 use Rattle.std.proofs.Math.ListN.{set, length-set}
-use Rattle.std.proofs.lemmas.List.{get_or_append_left, set-get_or}
+use Rattle.std.proofs.lemmas.List.{set-get_or}
 use Rattle.cp_frames.specs.declared.numbers.UserPage.{UserPage}
 use Rattle.cp_frames.specs.declared.pool.Frames.TheInside.{Inside}
 use Rattle.cp_frames.specs.Layout.{FrameSupply, owned, frame_of, storages_of, told, IsTabled, IsSound}
 use Rattle.cp_frames.specs.Paging.{IsGivenUp, IsPut, exchanged, filled}
 use Rattle.cp_frames.proofs.Tables.{IsPlace, page_is}
 use Rattle.cp_frames.proofs.Moves.{IsMoved, whole-moved, storages-moved, crossed}
-use Rattle.cp_frames.proofs.Halves.{at_right, crossed-moved, hold_left, hold_right, once_left, once_right, no_frame_of_slot, no_slot_of_frame}
+use Rattle.cp_frames.proofs.Halves.{crossed-moved, hold_left, hold_right, once_left, once_right, no_frame_of_slot, no_slot_of_frame}
 use Rattle.cp_frames.proofs.Told.{AreSmall, IsNew, tabled-set}
 use Rattle.cp_frames.proofs.Orders.{ordered-set, small_page}
 use Rattle.cp_frames.proofs.Inside.{IsKept, places_in, owners_in}

@@ -1,14 +1,13 @@
 -- Frames and slots as one list of places.
-use Rattle.std.proofs.Common.{◌≡◌, ◌≢◌, ℕ, ◌+◌, ◌-◌, ◌*◌, ◌/◌, ◌<◌, ◌≤◌, List, [], ◌++◌, length, get_or, Bool, true, false, cond, Option, Some, None, refl, get_or-set_other, get_or-set_same, sym, ◌∙◌, ap, arith, length-append}
+use Rattle.std.proofs.Common.{◌≡◌, ◌≢◌, ℕ, ◌+◌, ◌-◌, ◌<◌, ◌≤◌, List, [], ◌++◌, length, get_or, true, false, Option, Some, None, refl, get_or-set_other, get_or-set_same, sym, ◌∙◌, ap, arith, length-append}
 use Rattle.std.proofs.Math.Decide.{dec_lt}
 use Rattle.std.specs.Prelude.{◌==◌}
 use Rattle.std.proofs.Math.ListN.{set, length-set}
 use Rattle.std.proofs.lemmas.List.{get_or_append_left, get_or-append_right, set-append_left, set-append_right}
 use Rattle.std.proofs.lemmas.Bool.Decides.{nat_tests}
-use Rattle.std.proofs.lemmas.Grind.{common_steps}
 use Rattle.cp_frames.specs.declared.numbers.UserPage.{UserPage}
 use Rattle.cp_frames.specs.Layout.{owned, frame_of, Holds}
-use Rattle.cp_frames.proofs.Layouts.{dec_eq, frame_found}
+use Rattle.cp_frames.proofs.Layouts.{dec_eq}
 use Rattle.cp_frames.proofs.Tables.{page_is}
 use Rattle.cp_frames.proofs.Moves.{IsMoved, stands_alone, stands_nowhere, held_place, crossed}
 

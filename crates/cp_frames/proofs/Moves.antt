@@ -1,13 +1,10 @@
 -- What it does to each user's storage that the pages of two places change places.
-use Rattle.std.proofs.Common.{◌≡◌, ◌≢◌, ℕ, zero, suc, ◌+◌, ◌-◌, ◌*◌, ◌/◌, ◌%◌, ◌<◌, ◌≤◌, List, [], ◌∷◌, length, get_or, Bool, true, false, cond, map, Option, Some, None, refl, zero-add, get_or-set_other, get_or-set_same, sym, ◌∙◌, ap, arith}
+use Rattle.std.proofs.Common.{◌≡◌, ℕ, zero, suc, ◌+◌, ◌*◌, ◌/◌, ◌%◌, ◌<◌, List, [], ◌∷◌, length, get_or, Bool, true, false, cond, Option, Some, None, refl, sym, ◌∙◌, ap, arith}
 use Rattle.std.specs.Prelude.{◌==◌}
-use Rattle.std.proofs.Math.ListN.{set, length-set}
-use Rattle.std.specs.List.{position_from, range_with_len}
-use Rattle.std.proofs.lemmas.Bool.Decides.{nat_tests}
-use Rattle.std.proofs.lemmas.Grind.{common_steps}
+use Rattle.std.specs.List.{position_from}
 use Rattle.cp_frames.specs.declared.numbers.UserPage.{UserPage}
 use Rattle.cp_frames.specs.Layout.{owned, is_page, frame_of, byte_in, byte_at, storage_of, storages_of, Holds, IsWhole}
-use Rattle.cp_frames.proofs.Layouts.{dec_eq, map_range_same, frame_found, is_this_page}
+use Rattle.cp_frames.proofs.Layouts.{map_range_same, is_this_page}
 use Rattle.cp_frames.proofs.Tables.{page_is}
 
 -- new has in each place what old has in the place that goes there, and a place goes there and back

@@ -1,20 +1,20 @@
 -- The frames in the order in which their pages came, and what is so of the parts of Frames.
-use Rattle.std.proofs.Common.{◌≡◌, ◌≢◌, ℕ, zero, suc, ◌+◌, ◌-◌, ◌*◌, ◌/◌, ◌<◌, ◌≤◌, List, [], ◌∷◌, ◌++◌, length, get_or, take, drop, Bool, true, false, Option, Some, None, refl, get_or-set_other, get_or-set_same, sym, ◌∙◌, ap, arith, zero-add}
+use Rattle.std.proofs.Common.{◌≡◌, ◌≢◌, ℕ, zero, suc, ◌+◌, ◌*◌, ◌<◌, List, [], ◌∷◌, ◌++◌, length, get_or, take, drop, Bool, true, false, Option, Some, None, refl, get_or-set_other, get_or-set_same, sym, ◌∙◌, ap, arith, zero-add}
 use Rattle.std.proofs.Math.Decide.{dec_lt}
 use Rattle.std.proofs.Math.ListN.{set, length-set}
 use Rattle.std.specs.Prelude.{All, IsSome, IfSome, IfNone}
 use Rattle.std.specs.List.{range_with_len, remove}
 use Rattle.std.specs.List.Sorted.{IsPermutation}
-use Rattle.std.proofs.lemmas.List.{get_or_append_left, get_or_past, take_all, get_or_default}
+use Rattle.std.proofs.lemmas.List.{get_or_past, get_or_default}
 use Rattle.std.proofs.lemmas.List.FromFn.{get_or-range_with_len, length-range_with_len}
-use Rattle.std.proofs.lemmas.List.Sorted.{All-permutation, IsPermutation-sym, IsPermutation-trans, IsPermutation-remove, IsPermutation-to_front, length_permutation}
+use Rattle.std.proofs.lemmas.List.Sorted.{All-permutation, IsPermutation-sym, IsPermutation-trans, IsPermutation-remove, IsPermutation-to_front}
 use Rattle.cp_frames.specs.declared.numbers.UserPage.{UserPage}
 use Rattle.cp_frames.specs.declared.pool.Frames.TheInside.{Inside}
 use Rattle.cp_frames.specs.Layout.{owned, is_page, frame_of, storages_of, Holds, IsWhole, IsTabled, IsOrdered}
 use Rattle.cp_frames.proofs.Layouts.{dec_eq, length-bytes_of, is_this_page}
 use Rattle.cp_frames.proofs.Tables.{page_is}
 use Rattle.cp_frames.proofs.Moves.{held_place, stands_nowhere, none_found}
-use Rattle.cp_frames.proofs.Halves.{in_frame, from_frame, hold_left}
+use Rattle.cp_frames.proofs.Halves.{in_frame, hold_left}
 use Rattle.cp_frames.proofs.Inside.{IsKept, places_in, owners_in}
 
 pub range_push : (a n : ℕ) → range_with_len a (suc n) ≡ range_with_len a n ++ (a + n) ∷ []

@@ -1,14 +1,14 @@
 -- What a table of places tells.
-use Rattle.std.proofs.Common.{replicate, ◌≡◌, ◌≢◌, ℕ, zero, suc, ◌+◌, ◌*◌, ◌/◌, ◌<◌, ◌≤◌, List, [], length, get_or, Bool, true, false, cond, Option, Some, None, refl, get_or-set_other, get_or-set_same, sym, ◌∙◌, ap, arith}
+use Rattle.std.proofs.Common.{replicate, ◌≡◌, ◌≢◌, ℕ, zero, suc, ◌+◌, ◌*◌, ◌/◌, ◌<◌, ◌≤◌, List, [], length, get_or, Bool, true, false, cond, Option, Some, None, refl, sym, ◌∙◌, ap, arith}
 use Rattle.std.proofs.Math.Decide.{dec_lt}
-use Rattle.std.specs.Prelude.{IfSome, IsSome, All, ◌==◌}
-use Rattle.std.proofs.Math.ListN.{set, length-map, length-set, length-replicate}
+use Rattle.std.specs.Prelude.{IsSome, All, ◌==◌}
+use Rattle.std.proofs.Math.ListN.{length-map, length-replicate}
 use Rattle.std.proofs.lemmas.List.{get_or-replicate, get_or_past}
 use Rattle.std.proofs.lemmas.Bool.Decides.{nat_tests}
 use Rattle.std.proofs.lemmas.Grind.{common_steps}
 use Rattle.cp_frames.specs.declared.numbers.UserPage.{UserPage}
-use Rattle.cp_frames.specs.Layout.{owned, cleared_of, frame_of, is_page, storages_of, held, told, Holds, IsWhole, IsTabled}
-use Rattle.cp_frames.proofs.Layouts.{length-bytes_of, frame_of-cleared, frame_of_other-cleared, dec_eq, user_with, frame_of-brought, frame_of_other-brought, frame_of-none, frame_found}
+use Rattle.cp_frames.specs.Layout.{owned, cleared_of, frame_of, is_page, storages_of, held, IsWhole, IsTabled}
+use Rattle.cp_frames.proofs.Layouts.{frame_of-cleared, frame_of_other-cleared, dec_eq, user_with, frame_of-none, frame_found}
 
 -- the number of a page's entry
 pub record IsPlace (sizes table : List ℕ) (user page : ℕ) : Type 0 where

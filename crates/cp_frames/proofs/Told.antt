@@ -1,14 +1,11 @@
 -- The table where another page stands in a place, or none does.
-use Rattle.std.proofs.Common.{◌≡◌, ◌≢◌, ℕ, ◌+◌, ◌*◌, ◌<◌, ◌≤◌, List, length, get_or, Bool, true, false, Option, Some, None, refl, get_or-set_other, get_or-set_same, sym, ◌∙◌, ap, arith}
-use Rattle.std.specs.Prelude.{IfSome}
-use Rattle.std.proofs.Math.Decide.{dec_lt}
+use Rattle.std.proofs.Common.{◌≡◌, ◌≢◌, ℕ, ◌+◌, ◌*◌, ◌<◌, List, length, get_or, Bool, true, false, Option, Some, None, refl, get_or-set_other, get_or-set_same, sym, ◌∙◌, ap, arith}
 use Rattle.std.proofs.Math.ListN.{set, length-set}
-use Rattle.std.proofs.lemmas.List.{get_or_past}
 use Rattle.cp_frames.specs.declared.numbers.UserPage.{UserPage}
-use Rattle.cp_frames.specs.Layout.{owned, is_page, frame_of, Holds, IsWhole, IsTabled, held, told}
-use Rattle.cp_frames.proofs.Layouts.{dec_eq, is_this_page, frame_of-brought, position-set_first, position-set_same}
+use Rattle.cp_frames.specs.Layout.{owned, is_page, frame_of, Holds, IsTabled, held, told}
+use Rattle.cp_frames.proofs.Layouts.{dec_eq, is_this_page, frame_of-brought, position-set_same}
 use Rattle.cp_frames.proofs.Tables.{page_is_at, held_nowhere, held_small}
-use Rattle.cp_frames.proofs.Moves.{held_place, stands_nowhere}
+use Rattle.cp_frames.proofs.Moves.{stands_nowhere}
 use Rattle.cp_frames.proofs.Halves.{IsOnce}
 
 -- the entry of the page that was told, and each other

@@ -1,4 +1,4 @@
-use Rattle.std.proofs.Common.{arith, length, ◌≤◌, ◌≡◌, true, None, Some, get_or, ap, sym, ◌∙◌, Option, List}
+use Rattle.std.proofs.Common.{arith, length, ◌≤◌, ◌≡◌, None, get_or, ap, sym, ◌∙◌, Option, List}
 use Rattle.std.specs.Prelude.{IsSome, is_some}
 use Rattle.std.proofs.lemmas.List.Elements.{All-more}
 use Rattle.std.proofs.lemmas.List.{take_all, get_or_default}

@@ -1,4 +1,4 @@
-use Rattle.std.proofs.Common.{◌≡◌, ◌/◌, ◌%◌, ◌<◌, ◌+◌, Some, None, sym, ◌∙◌, ap, refl, arith, length, get_or, []}
+use Rattle.std.proofs.Common.{◌≡◌, ◌/◌, ◌%◌, ◌<◌, ◌+◌, Some, sym, ◌∙◌, ap, refl, arith, length, get_or, []}
 use Rattle.std.proofs.lemmas.List.{get_or_read, get_or_append_left}
 use Rattle.std.proofs.lemmas.Option.{slice_get-get_or}
 use Rattle.cp_frames.specs.Layout.{frame_of, owned, bytes_of}

@@ -1,6 +1,6 @@
-use Rattle.std.proofs.Common.{arith, ◌≡◌, ◌∙◌, sym, ap, ◌++◌, ◌∷◌, [], ◌+◌, length, get_or, take, drop}
+use Rattle.std.proofs.Common.{arith, ◌≡◌, ◌∙◌, sym, ap, ◌++◌, ◌∷◌, [], length, get_or}
 use Rattle.std.specs.List.{remove}
-use Rattle.std.proofs.lemmas.List.Sorted.{length_permutation, IsPermutation-sym}
+use Rattle.std.proofs.lemmas.List.Sorted.{length_permutation}
 use Rattle.cp_frames.proofs.Orders.{ordered-last, written_back}
 use Rattle.cp_frames.proofs.pool.Frames.come.Goals as goal
 

@@ -1,8 +1,7 @@
-use Rattle.std.proofs.Common.{◌≡◌, None, Some, sym, arith, length-append, length, get_or, ◌<◌, ◌*◌, ◌++◌, ◌∙◌, ap, ◌+◌, List, Option, ℕ}
+use Rattle.std.proofs.Common.{◌≡◌, None, Some, arith, length-append, length, get_or, ◌<◌, ◌*◌, ◌∙◌}
 use Rattle.std.proofs.Math.ListN.{set, length-set}
 use Rattle.std.proofs.lemmas.List.{set-append_left, get_or_append_left}
-use Rattle.cp_frames.specs.declared.numbers.UserPage.{UserPage}
-use Rattle.cp_frames.specs.Layout.{frame_of, owned, storages_of}
+use Rattle.cp_frames.specs.Layout.{frame_of, owned}
 use Rattle.cp_frames.proofs.Layouts.{whole-brought, storages-brought, length-bytes_of, cleared_by}
 use Rattle.cp_frames.proofs.Exchanges.{table_filled}
 use Rattle.cp_frames.proofs.Halves.{from_none}

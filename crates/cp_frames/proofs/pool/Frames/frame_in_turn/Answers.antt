@@ -1,4 +1,4 @@
-use Rattle.std.proofs.Common.{◌≡◌, ◌<◌, arith, length, get_or, ap}
+use Rattle.std.proofs.Common.{◌<◌, arith, length, get_or}
 use Rattle.std.proofs.lemmas.List.{get_or_read}
 use Rattle.cp_frames.proofs.Orders.{order_within}
 use Rattle.cp_frames.proofs.pool.Frames.frame_in_turn.Goals as goal

@@ -1,4 +1,4 @@
-use Rattle.std.proofs.Common.{arith, ◌∙◌, ap, replicate, None, false, ◌*◌, ◌+◌, ◌++◌, ℕ, length, ◌≡◌, length-append}
+use Rattle.std.proofs.Common.{arith, ◌∙◌, ap, replicate, None, false, ◌*◌, ◌++◌, ℕ, length, ◌≡◌}
 use Rattle.cp_frames.proofs.Releases.{sound-first, storages-first}
 use Rattle.cp_frames.proofs.pool.Frames.new.Goals as goal
 

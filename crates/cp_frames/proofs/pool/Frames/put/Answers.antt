@@ -1,5 +1,5 @@
-use Rattle.std.proofs.Common.{◌≡◌, None, Some, sym, length, get_or, ◌<◌, ap}
-use Rattle.cp_frames.specs.Layout.{frame_of, owned}
+use Rattle.std.proofs.Common.{◌≡◌, None, sym, length, get_or, ◌<◌}
+use Rattle.cp_frames.specs.Layout.{frame_of}
 use Rattle.cp_frames.proofs.Orders.{absent_set, not_held}
 use Rattle.cp_frames.proofs.Exchanges.{put_exchanged, put_filled}
 use Rattle.cp_frames.proofs.pool.Frames.put.Goals as goal
