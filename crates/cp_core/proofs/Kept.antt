@@ -58,15 +58,6 @@ brought_for user pages old between new paged is = subst (λ (s : FrameSupply). I
   page_ins = paged.page_ins;
 })
 
-pub brought_none : (user : ℕ) (supply : FrameSupply) → IsBroughtFor user [] supply supply
-brought_none user supply = record {
-  same_frames = refl;
-  same_slots = refl;
-  kept = λ u page stands. stands;
-  came = λ u page stands. inl stands;
-  page_ins = refl;
-}
-
 pub brought_on : (user : ℕ) (first second : List ℕ) (old middle new : FrameSupply) → IsBroughtFor user first old middle → IsBroughtFor user second middle new → IsBroughtFor user (first ++ second) old new
 brought_on user first second old middle new a b = record {
   same_frames = b.same_frames ∙ a.same_frames;
