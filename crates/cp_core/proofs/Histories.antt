@@ -1,21 +1,18 @@
 -- What an event is to each user, and what a whole history is.
-use Rattle.std.proofs.Common.{◌≡◌, ◌≢◌, ℕ, Bool, true, false, List, [], ◌∷◌, ◌++◌, get_or, set, length, Option, refl, sym, ◌∙◌, ap, subst, inl, inr, get_or-set_other, ◌==◌}
+use Rattle.std.proofs.Common.{◌≡◌, ◌≢◌, ℕ, Bool, true, false, List, [], ◌∷◌, ◌++◌, get_or, set, Option, refl, sym, ◌∙◌, ap, subst, get_or-set_other, ◌==◌}
 use Rattle.std.specs.Prelude.{if◌then◌else◌}
-use Rattle.std.proofs.lemmas.Bool.{cases_eq}
 use Rattle.std.proofs.lemmas.Grind.{common_steps}
 use Rattle.std.proofs.Common.{arith}
 use Rattle.cp_panel.specs.Machine.{Machine}
 use Rattle.s370_intr.specs.declared.next.Reason.{Reason}
 use Rattle.s370_intr.specs.declared.next.Reason.TheVariants.{Stopped, Count, EcMode, Wait, DisabledWait, FramesOut as RunFramesOut}
-use Rattle.s370_intr.specs.declared.run.Ran.{Ran as RanUnits}
 use Rattle.cp_console.specs.declared.responses.Response.{Response}
 use Rattle.cp_panel.specs.Run.{MachineRun, TellsRun}
 use Rattle.cp_panel.specs.Panel.{Answer, line}
 use Rattle.cp_panel.specs.Tick.{ticked}
-use Rattle.cp_panel.specs.Life.{Event as Local, Units, Line as Typed, life, after}
-use Rattle.cp_core.specs.declared.events.Ended.{Ended}
+use Rattle.cp_panel.specs.Life.{Event as Local, life, after}
 use Rattle.cp_core.specs.declared.events.Ended.TheVariants.{Ran, Done, FramesOut}
-use Rattle.cp_core.specs.System.{SystemView, nobody, machine_at, units_of, run_of, line_of, tick_of, local, own, Step, IsHistory, EachIsBare, IsApplied}
+use Rattle.cp_core.specs.System.{SystemView, nobody, machine_at, run_of, line_of, tick_of, local, own, EachIsBare}
 
 -- where one user's machine changes, and to that user the events do this, to every user his own events do what they do
 named_alone : (old new : SystemView) (user : ℕ) (events : List Local) → new.machines ≡ set old.machines user (machine_at new user) → machine_at new user ≡ life events (machine_at old user) → (u : ℕ) (b : Bool) → (user == u) ≡ b → machine_at new u ≡ life (if b then events else []) (machine_at old u)

@@ -1,6 +1,6 @@
 -- What an event keeps of frames and slots.
-use Rattle.std.proofs.Common.{◌≡◌, ◌∙◌, ap, sym, subst, ℕ, zero, suc, ◌<◌, Bool, true, false, List, [], ◌∷◌, ◌++◌, get_or, length, replicate, refl, Option, Result, Ok, Err, arith, inl, inr, length-append}
-use Rattle.std.specs.Prelude.{Contains, OnErr, is_some, ◌⊎◌}
+use Rattle.std.proofs.Common.{◌≡◌, ◌∙◌, ap, sym, subst, ℕ, zero, suc, Bool, true, false, List, [], ◌∷◌, ◌++◌, get_or, length, replicate, refl, Option, Result, Ok, Err, arith, inl, inr, length-append}
+use Rattle.std.specs.Prelude.{Contains, OnErr, is_some}
 use Rattle.s370_store.specs.Access.{Touches}
 use Rattle.std.proofs.lemmas.List.{length-map, length-replicate}
 use Rattle.std.proofs.lemmas.List.Elements.{All-get_or, Contains-append_left, Contains-append_right}
@@ -14,7 +14,7 @@ use Rattle.cp_frames.specs.declared.dat.Dat.{Dat}
 use Rattle.cp_panel.specs.Machine.{Machine}
 use Rattle.cp_panel.specs.Panel.{line_needs, switches}
 use Rattle.cp_core.proofs.Switches.{switch_needs_none}
-use Rattle.cp_core.specs.Supply.{IsBroughtFor, IsGivenBack, IsIdle, IsShort, NeedsAll}
+use Rattle.cp_core.specs.Supply.{IsBroughtFor, IsGivenBack, IsIdle, IsShort}
 
 -- what a line keeps, whether it switches the machine or not
 pub either : (b : Bool) (X : Type 0) → (b ≡ true → X) → (b ≡ false → X) → X
@@ -57,15 +57,6 @@ brought_for user pages old between new paged is = subst (λ (s : FrameSupply). I
   came = paged.came;
   page_ins = paged.page_ins;
 })
-
-pub brought_none : (user : ℕ) (supply : FrameSupply) → IsBroughtFor user [] supply supply
-brought_none user supply = record {
-  same_frames = refl;
-  same_slots = refl;
-  kept = λ u page stands. stands;
-  came = λ u page stands. inl stands;
-  page_ins = refl;
-}
 
 pub brought_on : (user : ℕ) (first second : List ℕ) (old middle new : FrameSupply) → IsBroughtFor user first old middle → IsBroughtFor user second middle new → IsBroughtFor user (first ++ second) old new
 brought_on user first second old middle new a b = record {

@@ -1,5 +1,5 @@
 -- A run that is done in pieces: some units, and then more.
-use Rattle.std.proofs.Common.{◌≡◌, ℕ, zero, suc, ◌+◌, ◌<◌, ◌≤◌, List, [], ◌∷◌, Option, None, Some, length, refl, sym, ◌∙◌, ap, subst, arith, inl, inr}
+use Rattle.std.proofs.Common.{◌≡◌, ℕ, zero, suc, ◌+◌, ◌<◌, ◌≤◌, List, Option, None, refl, sym, ◌∙◌, ap, subst, arith, inl, inr}
 use Rattle.std.specs.Prelude.{◌⊎◌}
 use Rattle.s370_intr.specs.declared.next.Next.{Next}
 use Rattle.s370_intr.specs.declared.next.Next.TheVariants.{Stops, Accepts, AcceptsStatus, Instructs}
@@ -89,9 +89,6 @@ told_of m r = record { machine = halted (notice_of r.reason) (record m { core = 
 same_ran : (m m' : Machine) (units units' : ℕ) (reason : Reason) (notice : Option Response) → m ≡ m' → units ≡ units' → (let r : MachineRun = record { machine = m; units = units; reason = reason; notice = notice } in r ≡ record { machine = m'; units = units'; reason = reason; notice = notice })
 same_ran m m' units units' reason notice a b = rw (a, b) refl
 
-none_more : (r : MachineRun) → r ≡ more 0 r
-none_more r = same_ran r.machine r.machine r.units (0 + r.units) r.reason r.notice refl (omega arith)
-
 twice_more : (k i : ℕ) (r : MachineRun) → more k (more i r) ≡ more (k + i) r
 twice_more k i r = same_ran r.machine r.machine (k + (i + r.units)) (k + i + r.units) r.reason r.notice refl (omega arith)
 
@@ -148,12 +145,6 @@ machine_on j m told w =
 pub record Follows (k : ℕ) (before now : Machine) : Type 0 where
   pub machine : (j : ℕ) → run (k + j) before ≡ more k (run j now)
   pub core : (j : ℕ) → core.run (k + j) before.core ≡ added k (core.run j now.core)
-
-pub follows_none : (m : Machine) → Follows 0 m m
-follows_none m = record {
-  machine = λ j. (let a : 0 + j ≡ j = omega arith in ap (λ (n : ℕ). run n m) a ∙ none_more (run j m));
-  core = λ j. (let a : 0 + j ≡ j = omega arith in ap (λ (n : ℕ). core.run n m.core) a ∙ none_added (core.run j m.core));
-}
 
 pub follows_on : (k : ℕ) (before now : Machine) (told : MachineRun) → Follows k before now → IsDone now told → Follows (k + told.units) before told.machine
 follows_on k before now told f e =

@@ -1,5 +1,5 @@
 -- A line that switches the machine on or off needs no page.
-use Rattle.std.proofs.Common.{◌≡◌, ℕ, List, Bool, true, false, Option, Some, None, Result, Ok, Err}
+use Rattle.std.proofs.Common.{◌≡◌, ℕ, List, true, Result, Ok, Err}
 use Rattle.s370_store.specs.Access.{Touches}
 use Rattle.cp_console.specs.Asked.{Asked, Stop, Command as ToControlProgram, Plain, asked_of}
 use Rattle.cp_console.specs.Commands.{command_of}

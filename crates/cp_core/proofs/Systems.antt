@@ -1,6 +1,5 @@
 -- The machines of a system, of which one seat and its storage change.
-use Rattle.std.proofs.Common.{◌≡◌, ◌≢◌, Option, Result, Ok, Err, ℕ, ◌+◌, ◌<◌, List, [], ◌∷◌, length, get_or, set, zero, suc, refl, sym, subst, ◌∙◌, ap, arith, inl, inr, get_or-set_other, get_or-set_same, length-set}
-use Rattle.std.proofs.lemmas.Bool.{cases_eq}
+use Rattle.std.proofs.Common.{◌≡◌, Result, Ok, Err, ℕ, ◌<◌, List, [], ◌∷◌, length, get_or, set, zero, suc, refl, sym, subst, ◌∙◌, ap, arith, get_or-set_same}
 use Rattle.std.proofs.lemmas.List.{get_or_default}
 use Rattle.std.specs.Prelude.{OnErr}
 use Rattle.cp_directory.specs.Users.{DirectoryUser}

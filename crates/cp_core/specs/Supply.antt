@@ -1,5 +1,5 @@
 -- What an event does to the frames and slots in which users' pages stand.
-use Rattle.std.specs.Prelude.{◌≡◌, ℕ, ◌*◌, ◌<◌, ◌⊎◌, All, Bool, List, length, replicate, IsSome, Contains, Option, None, true, false}
+use Rattle.std.specs.Prelude.{◌≡◌, ℕ, ◌<◌, ◌⊎◌, All, List, length, replicate, IsSome, Contains, false}
 use Rattle.cp_frames.specs.Layout.{FrameSupply, cleared_of, is_there}
 use Rattle.cp_frames.specs.Paging.{counted_by}
 use Rattle.cp_frames.specs.Supplied.{HasSuch, Stands}

@@ -2,7 +2,6 @@
 use Rattle.std.specs.Prelude.{◌≡◌, ℕ, ◌==◌, ◌*◌, ◌<◌, ◌≤◌, if◌then◌else◌, Bool, true, false, List, [], ◌∷◌, ◌++◌, length, map, replicate, reverse, slice_index_or, None}
 use Rattle.std.specs.List.{range_with_len}
 use Rattle.s370_store.specs.Access.{Touches}
-use Rattle.s370_intr.specs.declared.next.Reason.{Reason}
 use Rattle.s370_intr.specs.declared.next.Reason.TheVariants.{FramesOut as RunFramesOut}
 use Rattle.s370_intr.specs.declared.run.Ran.{Ran as RanUnits}
 use Rattle.s370_intr.specs.Units.{Needs}
@@ -10,8 +9,8 @@ use Rattle.s370_intr.specs.Run.{AllNeeded, IsLacking, RunNeeds}
 use Rattle.cp_directory.specs.Users.{DirectoryUser}
 use Rattle.cp_frames.specs.Layout.{FrameSupply}
 use Rattle.cp_panel.specs.Machine.{Machine, unused}
-use Rattle.cp_panel.specs.Run.{MachineRun, TellsRun}
-use Rattle.cp_panel.specs.Panel.{Answer, line, line_needs, switches}
+use Rattle.cp_panel.specs.Run.{TellsRun}
+use Rattle.cp_panel.specs.Panel.{line, line_needs, switches}
 use Rattle.cp_panel.specs.Tick.{TickNeeds, ticked}
 use Rattle.cp_panel.specs.Life.{Event as Local, Units, Line as Typed, Tick as Ticked, life}
 use Rattle.cp_core.specs.UserMachines.{UserParts, machine_of}

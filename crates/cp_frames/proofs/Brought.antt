@@ -5,9 +5,9 @@ use Rattle.std.proofs.Math.ListN.{set, length-set}
 use Rattle.cp_frames.specs.declared.numbers.UserPage.{UserPage}
 use Rattle.cp_frames.specs.Layout.{FrameSupply, owned, is_page, is_there, frame_of, Holds}
 use Rattle.cp_frames.specs.Paging.{IsBrought, IsGivenUp, IsPagedIn, IsOpen, IsPinned, counted, unpinned_count}
-use Rattle.cp_frames.specs.Supplied.{HasSuch, IsHeld, IsPagedFor, StaysPinned, Stands}
-use Rattle.cp_frames.specs.Bringing.{differ, found_from, passing}
-use Rattle.cp_frames.proofs.Layouts.{dec_eq, is_this_page, frame_of-brought, frame_of_other-brought, frame_found}
+use Rattle.cp_frames.specs.Supplied.{HasSuch, IsPagedFor, StaysPinned, Stands}
+use Rattle.cp_frames.specs.Bringing.{found_from, passing}
+use Rattle.cp_frames.proofs.Layouts.{dec_eq, is_this_page, frame_found}
 use Rattle.cp_frames.proofs.Tables.{page_is, page_is_at}
 
 only : (page other : ℕ) → Contains (page ∷ []) other → page ≡ other

@@ -3,12 +3,11 @@ use Rattle.std.specs.Prelude.{◌≡◌, ℕ, zero, suc, ◌+◌, List, [], ◌�
 use Rattle.std.proofs.Common.{◌∙◌, sym, ap, subst, inl, inr, arith, length-append}
 use Rattle.std.specs.List.{position_from}
 use Rattle.std.proofs.lemmas.List.Elements.{Contains-append_left, Contains-append_right, Contains-append_cases}
-use Rattle.cp_frames.specs.declared.numbers.UserPage.{UserPage}
 use Rattle.cp_frames.specs.declared.dat.Dat.{Dat}
-use Rattle.cp_frames.specs.Layout.{FrameSupply, is_page, is_there}
+use Rattle.cp_frames.specs.Layout.{FrameSupply}
 use Rattle.cp_frames.specs.Paging.{counted, counted_by}
 use Rattle.cp_frames.specs.Lent.{KeepsRest, keeps_frames, keeps_frames_on, user_of, lent_pool}
-use Rattle.cp_frames.specs.Supplied.{IsHeld, IsPagedFor, StaysPinned, Stands, Supplied}
+use Rattle.cp_frames.specs.Supplied.{IsPagedFor, Supplied}
 
 pub differ : {b : Bool} → b ≡ false → b ≡ true → ⊥
 differ away there = cc

@@ -1,5 +1,5 @@
 //! What no script shows of a system, beside the transcripts of `vm370_examples`: too few frames, the machine of nobody, what a
-//! console keeps, and a frame that is lent.
+//! console keeps, a frame that is lent, and how many pages have come.
 //!
 //! It fails at the first thing that is otherwise, and tells it.
 #![tactic(auto)]
@@ -181,12 +181,31 @@ fn write_to_first_page(system: &mut System, user: UserNo) -> Result<()> {
     see(past.is_none(), "no frame lies past the last")
 }
 
+/// Each page that comes into a frame is counted: once, unless it has left since.
+fn pages_that_came(system: &mut System) -> Result<()> {
+    for (line, pages) in [
+        ("LOGON", 0),
+        ("STORE 0 01", 1),
+        ("DISPLAY 0", 1),
+        ("STORE FFE 01020304", 2),
+        ("DISPLAY PSW", 2),
+        ("LOGOFF", 2),
+        ("LOGON", 2),
+        ("DISPLAY 0", 3),
+    ] {
+        type_lines(system, a(), &[line])?;
+        see(system.page_ins() == pages, "so many pages have come")?;
+    }
+    Ok(())
+}
+
 fn main(rt: HostRuntime) -> Result<()> {
     let alloc = rt.alloc();
     too_few_frames(alloc)?;
     machine_of_nobody(&mut booted(alloc, FEWEST_FRAMES)??)?;
     kept_lines(&mut booted(alloc, FEWEST_FRAMES)??)?;
     a_lent_frame(&mut booted(alloc, FEWEST_FRAMES)??)?;
-    println!(rt; "frames, nobody, lines and a lent frame are as they have to be")?;
+    pages_that_came(&mut booted(alloc, FEWEST_FRAMES)??)?;
+    println!(rt; "frames, nobody, lines, a lent frame and pages are as they have to be")?;
     Ok(())
 }

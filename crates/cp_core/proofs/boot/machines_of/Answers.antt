@@ -1,4 +1,4 @@
-use Rattle.std.proofs.Common.{◌≡◌, ◌∙◌, ◌≤◌, ◌*◌, ◌+◌, ◌++◌, [], ◌∷◌, ℕ, List, ap, sym, arith, take, replicate}
+use Rattle.std.proofs.Common.{◌≡◌, ◌∙◌, ◌*◌, ◌+◌, ◌++◌, [], ◌∷◌, ℕ, ap, sym, arith, take, replicate}
 use Rattle.std.proofs.lemmas.List.{take_more}
 use Rattle.cp_directory.specs.Users.{DirectoryUser}
 use Rattle.cp_core.specs.Whole.{IsNew}

@@ -1,10 +1,9 @@
-use Rattle.std.proofs.Common.{◌≡◌, ◌∙◌, ◌*◌, ℕ, List, Option, None, ap, map, replicate, subst, Bool, false, length, refl}
+use Rattle.std.proofs.Common.{◌≡◌, ◌∙◌, ◌*◌, ℕ, List, ap, map, replicate, subst, false, refl}
 use Rattle.cp_directory.specs.Users.{DirectoryUser}
 use Rattle.cp_panel.specs.Machine.{Machine}
 use Rattle.cp_frames.specs.Layout.{FrameSupply}
 use Rattle.cp_core.specs.System.{SystemView, free_supply, machines_of}
-use Rattle.cp_core.specs.Whole.{AreNew, IsWhole}
-use Rattle.cp_core.specs.UserMachines.{UserParts}
+use Rattle.cp_core.specs.Whole.{AreNew}
 use Rattle.cp_core.proofs.Boots.{blank, idle_new, new_supply, new_machines, whole_new}
 use Rattle.cp_core.proofs.system.System.boot.Goals as goal
 

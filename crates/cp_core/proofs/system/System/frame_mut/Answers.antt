@@ -1,4 +1,4 @@
-use Rattle.std.proofs.Common.{◌≡◌, List, ℕ, ◌∙◌, ap, refl, subst, sym}
+use Rattle.std.proofs.Common.{◌≡◌, ◌∙◌, ap, refl, subst, sym}
 use Rattle.cp_frames.specs.Layout.{Pool}
 use Rattle.cp_core.specs.System.{SystemView}
 use Rattle.cp_core.specs.Whole.{IsSystem}

@@ -1,4 +1,4 @@
-use Rattle.std.proofs.Common.{◌≡◌, ◌<◌, ◌≤◌, ◌*◌, ◌∙◌, ap, sym, arith, length, List, ℕ, None}
+use Rattle.std.proofs.Common.{◌≡◌, ◌*◌, ◌∙◌, ap, sym, arith, length, List, ℕ, None}
 use Rattle.cp_frames.specs.Layout.{frame_of}
 use Rattle.cp_core.specs.System.{SystemView, machine_at}
 use Rattle.cp_core.proofs.Loans.{before, past}

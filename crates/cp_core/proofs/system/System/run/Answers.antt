@@ -1,7 +1,6 @@
-use Rattle.std.proofs.Common.{◌≡◌, ◌<◌, ◌∙◌, ap, arith, length, List, ℕ, set}
+use Rattle.std.proofs.Common.{◌≡◌, ap, arith, List, ℕ}
 use Rattle.s370_intr.specs.Units.{Needs}
 use Rattle.s370_intr.specs.Run.{AllNeeded, RunNeeds}
-use Rattle.cp_panel.specs.Machine.{Machine}
 use Rattle.cp_panel.specs.Run.{TellsRun}
 use Rattle.cp_core.specs.Supply.{IsBroughtFor, IsShort}
 use Rattle.cp_core.specs.System.{SystemView}

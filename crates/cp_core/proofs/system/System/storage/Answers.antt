@@ -1,4 +1,4 @@
-use Rattle.std.proofs.Common.{◌≡◌, ◌<◌, ◌∙◌, ap, arith, length, List, ℕ}
+use Rattle.std.proofs.Common.{◌∙◌, ap, arith, List, ℕ}
 use Rattle.std.specs.Prelude.{slice_get}
 use Rattle.cp_core.specs.System.{SystemView}
 use Rattle.cp_core.proofs.Systems.{bytes_are}

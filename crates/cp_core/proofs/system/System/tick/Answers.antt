@@ -1,7 +1,6 @@
-use Rattle.std.proofs.Common.{◌≡◌, ◌<◌, ◌∙◌, ap, arith, length, List, ℕ}
+use Rattle.std.proofs.Common.{◌≡◌, ap, arith, length, List, ℕ}
 use Rattle.std.specs.Prelude.{OnErr, OnOk}
 use Rattle.s370_intr.specs.Run.{AllNeeded, IsLacking}
-use Rattle.cp_panel.specs.Machine.{Machine}
 use Rattle.cp_panel.specs.Tick.{TickNeeds, ticked}
 use Rattle.cp_core.specs.Supply.{IsBroughtFor, IsShort}
 use Rattle.cp_core.specs.System.{SystemView}

@@ -1,9 +1,7 @@
-use Rattle.std.proofs.Common.{◌≡◌, ℕ, List, Err, false, length, rules}
+use Rattle.std.proofs.Common.{◌≡◌, ℕ, List, false, length, rules}
 use Rattle.s370_store.specs.Access.{Touches}
 use Rattle.s370_intr.specs.Run.{AllNeeded, IsLacking}
 use Rattle.cp_frames.specs.Layout.{bytes_of}
-use Rattle.cp_frames.specs.Paging.{IsRefused}
-use Rattle.cp_panel.specs.declared.line.LineError.TheVariants as errors
 use Rattle.cp_panel.specs.Machine.{machine_of as parts_with}
 use Rattle.cp_panel.specs.Panel.{line_needs, switches}
 use Rattle.cp_core.specs.Supply.{IsBroughtFor, IsGivenBack, IsShort}

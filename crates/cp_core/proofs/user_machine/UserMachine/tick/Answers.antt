@@ -1,4 +1,4 @@
-use Rattle.std.proofs.Common.{◌≡◌, ℕ, List, length, rules}
+use Rattle.std.proofs.Common.{ℕ, List, length, rules}
 use Rattle.std.specs.Prelude.{OnErr}
 use Rattle.s370_intr.specs.Run.{AllNeeded, IsLacking}
 use Rattle.cp_frames.specs.Layout.{bytes_of}
