@@ -39,7 +39,7 @@ pub enum Ended {
     Ran(Ran),
     /// Any other event is done.
     Done,
-    /// Any other event needs a page that is not present, and no frame is free. Nothing has happened.
+    /// Any other event needs a page for which there is no room. Nothing has happened.
     FramesOut,
 }
 
@@ -60,7 +60,7 @@ impl Reply {
         said: None,
     };
 
-    /// No frame is free, and nothing is said.
+    /// There is no room for a page, and nothing is said.
     pub(crate) const OUT_OF_FRAMES: Reply = Reply {
         ended: Ended::FramesOut,
         said: None,

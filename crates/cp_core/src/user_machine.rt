@@ -58,9 +58,8 @@ impl UserMachine {
 
     /// Lets the machine run for at most so many units. This takes no memory.
     ///
-    /// The pages that units bring are pinned, so that the next units find them. Where all frames are pinned and no more can be
-    /// brought, the pins are taken away and the run goes on: it ends for want of a frame only at a unit that finds none when
-    /// it starts with no pin.
+    /// Each page that a unit brings is pinned, so that bringing pages comes to an end. Where all frames are pinned the pins are
+    /// taken away, and the run goes on: it ends for want of a frame only at a unit that finds none when it starts with no pin.
     pub fn run(&mut self, frames: &mut Frames, user: UserNo, count: u32) -> MachineRan
         requires fits { Fits self.old (bytes_of frames.old user) }
         requires idle { IsIdle frames.old.supply }
@@ -90,7 +89,7 @@ impl UserMachine {
         }
     }
 
-    /// Lets the machine run until all frames are pinned, if not to its end.
+    /// As `run`, but ends where all frames are pinned, also after some units.
     fn run_pinned(&mut self, frames: &mut Frames, user: UserNo, count: u32) -> MachineRan
         requires fits { Fits self.old (bytes_of frames.old user) }
         requires idle { IsIdle frames.old.supply }
