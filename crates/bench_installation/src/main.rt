@@ -1,7 +1,7 @@
 //! Measures what an installation costs, and claims nothing: its boot, a LOGON, a page that comes into a frame, and turns.
 //!
-//! `bench_installation` boots four users of 4 MiB each on 64 frames, and `bench_installation 64 4096` boots 64 of them on 4096
-//! frames. What was done goes to standard output, and what each part took, by processor time, to standard error.
+//! `bench_installation` boots four users of 4 MiB each on 64 frames, and `bench_installation 64 4096 1024` boots 64 of them on
+//! 4096 frames and 1024 slots. What was done goes to standard output, and what each part took, by processor time, to standard error.
 #![tactic(auto)]
 
 mod users;
@@ -30,28 +30,34 @@ struct Asked {
     users: u8,
     /// How many frames they share.
     frames: u32,
+    /// How many slots they share.
+    slots: u32,
 }
 
 impl Asked {
-    /// How many pages each user touches beside its first: as many as have frames, and no more than it has.
+    /// How many pages each user touches beside its first: as many as there is room for, and no more than it has.
     fn pages(self) -> u32 {
-        let share = self.frames / u32::from(self.users.max(1));
+        let share = self.frames.saturating_add(self.slots) / u32::from(self.users.max(1));
         share.saturating_sub(1).min(1000)
     }
 }
 
-/// The words of the command line: how many users and frames, each of which may be missing.
+/// The words of the command line: how many users, frames and slots, each of which may be missing.
 fn words_of(rt: &(impl Env + AllocGlobal)) -> Result<Asked> {
-    let mut numbers = [4, 64];
+    let mut numbers = [4, 64, 0];
     for (number, word) in numbers.iter_mut().zip(env::args(rt)?.skip(1)) {
-        match decimal_of(4, word.as_bytes()) {
+        match decimal_of(5, word.as_bytes()) {
             Some(given) => *number = given,
-            None => bail!("usage: bench_installation [USERS [FRAMES]]"),
+            None => bail!("usage: bench_installation [USERS [FRAMES [SLOTS]]]"),
         }
     }
-    let [users, frames] = numbers;
+    let [users, frames, slots] = numbers;
     match u8::try_from(users) {
-        Ok(users) if 1 <= users && users <= 64 => Ok(Asked { users, frames }),
+        Ok(users) if 1 <= users && users <= 64 => Ok(Asked {
+            users,
+            frames,
+            slots,
+        }),
         _ => bail!("there are 1 to 64 users"),
     }
 }
@@ -94,8 +100,8 @@ fn main(rt: HostRuntime) -> Result<ExitCode> {
     let asked = words_of(&rt)?;
     let text = directory_of(rt.alloc(), asked.users)?;
     let directory = read_directory(rt.alloc(), text.as_bytes())?;
-    let Some(sizes) = Sizes::new(asked.frames, 0) else {
-        bail!("there are 16 to 4096 frames");
+    let Some(sizes) = Sizes::new(asked.frames, asked.slots) else {
+        bail!("there are 16 to 4096 frames, and at most 65536 slots");
     };
     let start = rt.process_cpu_time()?;
     let mut system = System::boot(rt.alloc(), directory, sizes)?;
@@ -107,13 +113,13 @@ fn main(rt: HostRuntime) -> Result<ExitCode> {
         &rt,
         &mut system,
         asked,
-        "page that comes into a frame, with three units",
+        "page touched for the first time, with three units",
     )?;
     let again = time_pages(
         &rt,
         &mut system,
         asked,
-        "page that is there, with three units",
+        "page touched once more, with three units",
     )?;
     let turns = time_turns(&rt, &mut system, asked.users)?;
     let start = rt.process_cpu_time()?;
@@ -122,7 +128,10 @@ fn main(rt: HostRuntime) -> Result<ExitCode> {
     let start = rt.process_cpu_time()?;
     each_types(&mut system, asked.users, b"LOGON")?;
     tell(&rt, start, "LOGON once more", u32::from(asked.users))?;
-    let (users, frames) = (asked.users, asked.frames);
-    println!(&rt; "{users} users on {frames} frames: {first}, {again} and {turns} units")?;
+    let came = system.page_ins();
+    let (users, frames, slots) = (asked.users, asked.frames, asked.slots);
+    println!(&rt;
+        "{users} users on {frames} frames and {slots} slots: {first}, {again} and {turns} units, {came} pages came"
+    )?;
     Ok(ExitCode::SUCCESS)
 }
