@@ -2,7 +2,8 @@
 //!
 //! The programs are made of pieces of code, and the events come in the order of a fixed sequence of numbers: mostly a run
 //! of some user, and now and then a tick of its timer or a line that its operator types. After each event every view of every user has to be that
-//! of the bare machine that was given that user's own events. It prints how many events there were, or the first after
+//! of the bare machine that was given that user's own events. All users share 16 frames, so that pages are given up and come back
+//! all the time. It prints how many events there were, or the first after
 //! which a view differs.
 #![tactic(auto)]
 
@@ -20,8 +21,11 @@ use std::alloc::{AllocError, Global};
 /// How many users there are.
 const USERS: u8 = 64;
 
-/// How many frames: one for each page that a user has.
-const FRAMES: u32 = 128;
+/// How many frames all users share: the fewest that a system has.
+const FRAMES: u32 = 16;
+
+/// How many slots for the other pages.
+const SLOTS: u32 = 1024;
 
 /// How many events come after the programs were typed.
 const EVENTS: u32 = 20_000;
@@ -106,8 +110,8 @@ fn begin(
 
 /// All users, running.
 fn all_users(alloc: Global, sequence: &mut Sequence) -> Result<SideBySide> {
-    let Some(sizes) = Sizes::new(FRAMES, 0) else {
-        bail!("{FRAMES} frames are too many");
+    let Some(sizes) = Sizes::new(FRAMES, SLOTS) else {
+        bail!("{FRAMES} frames or {SLOTS} slots are too many");
     };
     let mut machines = SideBySide::boot(alloc, directory(alloc)?.as_bytes(), sizes)?;
     for number in 0..64u8 {
