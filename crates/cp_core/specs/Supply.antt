@@ -23,7 +23,7 @@ pub record IsShort (supply : FrameSupply) (user : ℕ) (needs : ℕ → Type 0) 
   pub full : All IsSome supply.owners
   pub stuck : HasNoSlot supply user page ⊎ NeedsAll supply user needs
 
--- just these pages of this user came, each into a frame, and each was counted: no page that stood in a frame or a slot stands
+-- just these pages of this user came, and each was counted: no page that stood in a frame or a slot stands
 -- nowhere, and none but these came from nowhere
 pub record IsBroughtFor (user : ℕ) (pages : List ℕ) (old new : FrameSupply) : Type 0 where
   pub same_frames : length new.owners ≡ length old.owners
