@@ -2,14 +2,17 @@
 use Rattle.std.proofs.Common.{◌≡◌, ℕ, ◌+◌, ◌*◌, ◌<◌, List, [], ◌++◌, length, get_or, false, Option, Some, None, refl, sym, ◌∙◌, ap, arith, set-set}
 use Rattle.std.proofs.Math.ListN.{set, length-set}
 use Rattle.std.proofs.lemmas.List.{set-get_or}
+use Rattle.std.specs.Prelude.{IfSome}
 use Rattle.cp_frames.specs.declared.numbers.UserPage.{UserPage}
 use Rattle.cp_frames.specs.declared.pool.Frames.TheInside.{Inside}
-use Rattle.cp_frames.specs.Layout.{FrameSupply, owned, frame_of, storages_of, told, IsTabled, IsSound}
+use Rattle.cp_frames.specs.Layout.{FrameSupply, owned, frame_of, storages_of, told, IsWhole, IsMapped, IsSound}
+use Rattle.cp_frames.specs.Tables.{page_place, put_half, noted}
 use Rattle.cp_frames.specs.Paging.{IsGivenUp, IsPut, exchanged, filled}
-use Rattle.cp_frames.proofs.Tables.{IsPlace, page_is}
+use Rattle.cp_frames.proofs.Tables.{page_is}
 use Rattle.cp_frames.proofs.Moves.{IsMoved, whole-moved, storages-moved, crossed}
 use Rattle.cp_frames.proofs.Halves.{crossed-moved, hold_left, hold_right, once_left, once_right, no_frame_of_slot, no_slot_of_frame}
 use Rattle.cp_frames.proofs.Told.{AreSmall, IsNew, tabled-set}
+use Rattle.cp_frames.proofs.Mapped.{mapped-set}
 use Rattle.cp_frames.proofs.Orders.{ordered-set, small_page}
 use Rattle.cp_frames.proofs.Inside.{IsKept, places_in, owners_in}
 
@@ -38,13 +41,13 @@ new_slot f frame kept lt q h =
 pub exchange-kept : (f : Inside) (frame slot : ℕ) → IsKept f → frame < length f.owners.items → slot < length f.slot_owners.items → get_or f.pins.items frame false ≡ false →
     IsSound (set f.frames.items frame (get_or f.slots.items slot [])) (set f.slots.items slot (get_or f.frames.items frame []))
     (set f.owners.items frame (get_or f.slot_owners.items slot None)) (set f.slot_owners.items slot (get_or f.owners.items frame None)) f.sizes.items
-    (told (get_or f.slot_owners.items slot None) frame (told (get_or f.owners.items frame None) 65535 f.table.items))
+    (noted (get_or f.slot_owners.items slot None) (frame * 16) (noted (get_or f.owners.items frame None) 8 f.tables.items))
     (told (get_or f.owners.items frame None) slot (told (get_or f.slot_owners.items slot None) 4294967295 f.slot_table.items)) f.pins.items f.is_marked f.order.items
 exchange-kept f frame slot kept lt less unpinned = record {
   frame_room = rw (length-set, length-set) kept.frame_room;
   slot_room = rw (length-set, length-set) kept.slot_room;
   whole = whole-moved (crossed frame (length f.owners.items + slot)) (places_in f) _ (owners_in f) _ f.sizes.items kept.whole (moved_in f frame slot kept lt less);
-  tabled = tabled-set 65535 f.owners.items f.sizes.items f.table.items frame (get_or f.slot_owners.items slot None) (once_left f.owners.items f.slot_owners.items kept.whole.once) (small_left f kept) kept.tabled lt (new_frame f slot kept);
+  mapped = mapped-set f.owners.items f.sizes.items f.tables.items frame (get_or f.slot_owners.items slot None) (once_left f.owners.items f.slot_owners.items kept.whole.once) (small_left f kept) kept.mapped lt (new_frame f slot kept);
   slots_tabled = tabled-set 4294967295 f.slot_owners.items f.sizes.items f.slot_table.items slot (get_or f.owners.items frame None) (once_right f.owners.items f.slot_owners.items kept.whole.once) (small_right f kept) kept.slots_tabled less (new_slot f frame kept lt);
   ordered = ordered-set f.owners.items f.pins.items f.order.items frame (get_or f.slot_owners.items slot None) kept.ordered unpinned;
   unmarked = kept.unmarked;
@@ -57,13 +60,13 @@ pub exchange-storages : (f : Inside) (frame slot : ℕ) → IsKept f → frame <
 exchange-storages f frame slot kept lt less =
     storages-moved (crossed frame (length f.owners.items + slot)) (places_in f) _ (owners_in f) _ f.sizes.items kept.whole (moved_in f frame slot kept lt less)
 
--- the table where a page that stood nowhere comes into a free frame
-pub table_filled : (f : Inside) (user page frame : ℕ) → IsKept f → IsPlace f.sizes.items f.table.items user page → frame_of f.owners.items user page ≡ None → frame < length f.owners.items → get_or f.owners.items frame None ≡ None →
-    IsTabled 65535 (set f.owners.items frame (Some (owned user page))) f.sizes.items (set f.table.items (user * 1024 + page) frame)
-table_filled f user page frame kept at absent within free =
+-- the tables where a page that stood nowhere comes into a free frame
+pub tables_filled : (f : Inside) (user page frame : ℕ) → IsKept f → page < 1024 → frame_of f.owners.items user page ≡ None → frame < length f.owners.items → get_or f.owners.items frame None ≡ None →
+    IsMapped (set f.owners.items frame (Some (owned user page))) f.sizes.items (put_half f.tables.items (page_place user page) (frame * 16))
+tables_filled f user page frame kept small absent within free =
     let wanted : UserPage = owned user page in
-    let new : IsNew f.owners.items (Some wanted) = λ q h. (let is : wanted ≡ q = cc in rw (← is) (at.of_page, absent)) in
-    rw free at (tabled-set 65535 f.owners.items f.sizes.items f.table.items frame (Some wanted) (once_left f.owners.items f.slot_owners.items kept.whole.once) (small_left f kept) kept.tabled within new)
+    let new : IsNew f.owners.items (Some wanted) = λ q h. (let is : wanted ≡ q = cc in rw (← is) (small, absent)) in
+    rw free at (mapped-set f.owners.items f.sizes.items f.tables.items frame (Some wanted) (once_left f.owners.items f.slot_owners.items kept.whole.once) (small_left f kept) kept.mapped within new)
 
 -- what a page leaves and what is given up
 pub put_exchanged : (s : FrameSupply) (user page frame slot : ℕ) → frame_of s.slots user page ≡ Some slot → IsPut s (exchanged s frame slot) user page frame
@@ -88,3 +91,11 @@ put_filled s user page frame slot nowhere lt free = record {
   order = refl;
   page_ins = refl;
 }
+
+-- the entry of a page that stands somewhere is in the tables
+pub note_room : (bytes : List (List ℕ)) (all owners : List (Option UserPage)) (sizes tables : List ℕ) (k : ℕ) (o : Option UserPage) → IsWhole bytes all sizes → IsMapped owners sizes tables → get_or all k None ≡ o →
+    IfSome o (λ p. page_place p.user p.page.0 + 1 < length tables)
+note_room bytes all owners sizes tables k None whole mapped e = tt
+note_room bytes all owners sizes tables k (Some p) whole mapped e =
+    let small = small_page bytes all sizes k p whole e in
+    omega (arith, mapped.room, small.0, small.1)

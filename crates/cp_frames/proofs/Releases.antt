@@ -1,5 +1,5 @@
 -- What is so where all pages of a user have left, and at first.
-use Rattle.std.proofs.Common.{reverse, ◌≡◌, ℕ, zero, suc, ◌+◌, ◌*◌, ◌≤◌, List, ◌∷◌, ◌++◌, map, length, get_or, replicate, Bool, true, false, Option, None, refl, sym, ◌∙◌, ap, arith, subst, length-append}
+use Rattle.std.proofs.Common.{reverse, ◌≡◌, ℕ, zero, suc, ◌+◌, ◌*◌, ◌/◌, ◌%◌, ◌<◌, ◌≤◌, List, ◌∷◌, ◌++◌, map, length, get_or, replicate, Bool, true, false, Option, None, refl, sym, ◌∙◌, ap, arith, subst, length-append}
 use Rattle.std.specs.Prelude.{All}
 use Rattle.std.specs.List.{range_with_len}
 use Rattle.std.proofs.Math.ListN.{length-map, length-replicate}
@@ -7,9 +7,11 @@ use Rattle.std.proofs.lemmas.List.{map-append}
 use Rattle.std.proofs.lemmas.List.Sorted.{IsPermutation-reverse}
 use Rattle.cp_frames.specs.declared.numbers.UserPage.{UserPage}
 use Rattle.cp_frames.specs.declared.pool.Frames.TheInside.{Inside}
-use Rattle.cp_frames.specs.Layout.{cleared_of, without, storages_of, ArePages, IsWhole, IsTabled, IsSound}
+use Rattle.cp_frames.specs.Layout.{cleared_of, without, storages_of, ArePages, IsWhole, IsMapped, IsTabled, IsSound}
+use Rattle.cp_frames.specs.Tables.{half_at, first_half}
 use Rattle.cp_frames.proofs.Layouts.{whole-cleared, storages-none}
 use Rattle.cp_frames.proofs.Tables.{tabled-none, whole-none}
+use Rattle.cp_frames.proofs.Mapped.{mapped-first}
 use Rattle.cp_frames.proofs.Halves.{hold_left, once_left}
 use Rattle.cp_frames.proofs.Inside.{IsKept, places_in, owners_in}
 
@@ -21,14 +23,14 @@ never_pinned (suc n) (suc k) e = never_pinned n k e
 pub both_cleared : (user : ℕ) (owners slots : List (Option UserPage)) → cleared_of user (owners ++ slots) ≡ cleared_of user owners ++ cleared_of user slots
 both_cleared user owners slots = map-append (without user) owners slots
 
-pub released-kept : (f : Inside) (user : ℕ) (table slot_table : List ℕ) → IsKept f → f.pins.items ≡ replicate (length f.pins.items) false →
-    IsTabled 65535 (cleared_of user f.owners.items) f.sizes.items table → IsTabled 4294967295 (cleared_of user f.slot_owners.items) f.sizes.items slot_table →
-    IsSound f.frames.items f.slots.items (cleared_of user f.owners.items) (cleared_of user f.slot_owners.items) f.sizes.items table slot_table f.pins.items f.is_marked f.order.items
-released-kept f user table slot_table kept blank tabled slots_tabled = record {
+pub released-kept : (f : Inside) (user : ℕ) (tables slot_table : List ℕ) → IsKept f → f.pins.items ≡ replicate (length f.pins.items) false →
+    IsMapped (cleared_of user f.owners.items) f.sizes.items tables → IsTabled 4294967295 (cleared_of user f.slot_owners.items) f.sizes.items slot_table →
+    IsSound f.frames.items f.slots.items (cleared_of user f.owners.items) (cleared_of user f.slot_owners.items) f.sizes.items tables slot_table f.pins.items f.is_marked f.order.items
+released-kept f user tables slot_table kept blank mapped slots_tabled = record {
   frame_room = rw length-map kept.frame_room;
   slot_room = rw length-map kept.slot_room;
   whole = subst (λ (os : List (Option UserPage)). IsWhole (places_in f) os f.sizes.items) (both_cleared user f.owners.items f.slot_owners.items) (whole-cleared (places_in f) (owners_in f) f.sizes.items user kept.whole);
-  tabled = tabled;
+  mapped = mapped;
   slots_tabled = slots_tabled;
   ordered = record {
     frames = rw length-map kept.ordered.frames;
@@ -56,16 +58,17 @@ pub none_both : (n m : ℕ) → let none : ℕ → List (Option UserPage) = λ k
 none_both zero m = ap (λ (k : ℕ). let none : List (Option UserPage) = replicate k None in none) (omega arith)
 none_both (suc n) m = ap (λ (xs : List (Option UserPage)). None ∷ xs) (none_both n m) ∙ ap (λ (k : ℕ). let none : List (Option UserPage) = replicate k None in none) (let e : suc (n + m) ≡ suc n + m = omega arith in e)
 
-pub sound-first : (frames slots : List (List ℕ)) (owners slot_owners : List (Option UserPage)) (sizes table slot_table : List ℕ) (pins : List Bool) (order : List ℕ) (n m : ℕ) →
-    length frames ≡ n → length slots ≡ m → owners ≡ replicate n None → slot_owners ≡ replicate m None → table ≡ replicate (1024 * length sizes) 65535 → slot_table ≡ replicate (1024 * length sizes) 4294967295 →
-    pins ≡ replicate n false → order ≡ reverse (range_with_len 0 n) → n ≤ 4096 → m ≤ 65536 → length sizes ≤ 64 → All (λ pages. pages ≤ 1024) sizes → IsSound frames slots owners slot_owners sizes table slot_table pins false order
-sound-first frames slots owners slot_owners sizes table slot_table pins order n m room slot_room e f g g_2 h i few many users small =
+pub sound-first : (frames slots : List (List ℕ)) (owners slot_owners : List (Option UserPage)) (sizes tables slot_table : List ℕ) (pins : List Bool) (order : List ℕ) (n m : ℕ) →
+    length frames ≡ n → length slots ≡ m → owners ≡ replicate n None → slot_owners ≡ replicate m None → length tables ≡ 2304 * length sizes →
+    ((half : ℕ) → half < 1152 * length sizes → half_at tables (half * 2) ≡ first_half (half / 1152) (get_or sizes (half / 1152) 0) (half % 1152)) → slot_table ≡ replicate (1024 * length sizes) 4294967295 →
+    pins ≡ replicate n false → order ≡ reverse (range_with_len 0 n) → n ≤ 4096 → m ≤ 65536 → length sizes ≤ 64 → All (λ pages. pages ≤ 1024) sizes → IsSound frames slots owners slot_owners sizes tables slot_table pins false order
+sound-first frames slots owners slot_owners sizes tables slot_table pins order n m room slot_room e f long halves g h i few many users small =
     let both : length (frames ++ slots) ≡ n + m = omega (arith, length-append frames slots) in
-    rw (e, f, g, g_2, h, i) (record {
+    rw (e, f, g, h, i) (record {
       frame_room = rw length-replicate room;
       slot_room = rw length-replicate slot_room;
       whole = subst (λ (os : List (Option UserPage)). IsWhole (frames ++ slots) os sizes) (sym (none_both n m)) (whole-none (frames ++ slots) sizes (n + m) both small);
-      tabled = tabled-none 65535 n sizes (omega arith) users;
+      mapped = mapped-first sizes tables n few users long halves;
       slots_tabled = tabled-none 4294967295 m sizes (omega arith) users;
       ordered = record {
         frames = rw length-replicate few;

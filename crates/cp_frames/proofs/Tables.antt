@@ -1,7 +1,7 @@
 -- What a table of places tells.
 use Rattle.std.proofs.Common.{replicate, ◌≡◌, ◌≢◌, ℕ, zero, suc, ◌+◌, ◌*◌, ◌/◌, ◌<◌, ◌≤◌, List, [], length, get_or, Bool, true, false, cond, Option, Some, None, refl, sym, ◌∙◌, ap, arith}
 use Rattle.std.proofs.Math.Decide.{dec_lt}
-use Rattle.std.specs.Prelude.{IsSome, All, ◌==◌}
+use Rattle.std.specs.Prelude.{All, ◌==◌}
 use Rattle.std.proofs.Math.ListN.{length-map, length-replicate}
 use Rattle.std.proofs.lemmas.List.{get_or-replicate, get_or_past}
 use Rattle.std.proofs.lemmas.Bool.Decides.{nat_tests}
@@ -24,22 +24,11 @@ place nowhere bytes all owners sizes table user page address whole tabled lt e =
     let small = whole.small user in
     record { of_user = in_user.0; of_page = omega (arith, in_user.1, small); low = omega (arith, in_user.0, tabled.users); room = omega (arith, in_user.0, in_user.1, small, tabled.entries) }
 
-held_some : (nowhere slot : ℕ) (o : Option ℕ) → held nowhere slot ≡ o → IsSome o → o ≡ Some slot
-held_some nowhere slot None e some = cc
-held_some nowhere slot (Some frame) e some =
-    let at : (b : Bool) → cond b None (Some slot) ≡ Some frame → Some frame ≡ Some slot = elim [ true ↦ λ h. cc | false ↦ λ h. sym h ] in
-    at (slot == nowhere) e
-
 pub held_nowhere : (nowhere : ℕ) → held nowhere nowhere ≡ None
 held_nowhere nowhere = let t : (nowhere == nowhere) ≡ true = grind (arith, nat_tests) in rw t refl
 
 pub held_small : (nowhere slot : ℕ) → slot < nowhere → held nowhere slot ≡ Some slot
 held_small nowhere slot lt = grind (arith, nat_tests, common_steps)
-
--- the place of a page that stands in one
-pub slot_is : (nowhere : ℕ) (owners : List (Option UserPage)) (sizes table : List ℕ) (user page : ℕ) → IsTabled nowhere owners sizes table → IsPlace sizes table user page → IsSome (frame_of owners user page) →
-    frame_of owners user page ≡ Some (get_or table (user * 1024 + page) 0)
-slot_is nowhere owners sizes table user page tabled at some = held_some nowhere (get_or table (user * 1024 + page) 0) (frame_of owners user page) (tabled.agrees user page at.of_user at.of_page) some
 
 -- the table where a user's pages have left
 pub tabled-cleared : (nowhere : ℕ) (owners : List (Option UserPage)) (sizes table after : List ℕ) (user : ℕ) → IsTabled nowhere owners sizes table → length after ≡ length table →

@@ -39,7 +39,7 @@ abbrev pub IsNew : List (Option UserPage) → Option UserPage → Type 0
 IsNew owners o = (q : UserPage) → o ≡ Some q → (q.page.0 < 1024) × (frame_of owners q.user q.page.0 ≡ None)
 
 -- a page that left its place stands nowhere
-left_place : (owners : List (Option UserPage)) (place : ℕ) (o : Option UserPage) (user page : ℕ) → IsOnce owners → place < length owners → is_page user page o ≡ false → Holds owners place (owned user page) →
+pub left_place : (owners : List (Option UserPage)) (place : ℕ) (o : Option UserPage) (user page : ℕ) → IsOnce owners → place < length owners → is_page user page o ≡ false → Holds owners place (owned user page) →
     frame_of (set owners place o) user page ≡ None
 left_place owners place o user page once lt new was = stands_nowhere (set owners place o) user page (λ i h. elim (dec_eq i place) [
   | yes e ↦ (let here : o ≡ Some (owned user page) = sym (get_or-set_same owners place o None lt) ∙ ap (λ j. get_or (set owners place o) j None) (sym e) ∙ h in

@@ -4,6 +4,7 @@ use Rattle.std.specs.List.{position_from, range_with_len}
 use Rattle.std.specs.List.Sorted.{IsPermutation}
 use Rattle.cp_frames.specs.declared.numbers.UserPage.{UserPage}
 use Rattle.cp_frames.specs.declared.numbers.FrameNo.{FrameNo}
+use Rattle.cp_frames.specs.Tables.{half_at, word_at, segment_place, page_place, segment_entry, page_entry}
 
 -- the page that stands in each frame and in each slot, which frames are pinned, the frames in the order in which their
 -- pages came, and how many pages have come
@@ -93,6 +94,14 @@ pub record IsTabled (nowhere : ℕ) (owners : List (Option UserPage)) (sizes tab
   pub entries : length table ≡ 1024 * length sizes
   pub agrees : (user page : ℕ) → user < length sizes → page < 1024 → held nowhere (slice_index table (user * 1024 + page)) ≡ frame_of owners user page
 
+-- the tables are segment and page tables: of users with so many pages each, where an entry tells the frame of each page
+pub record IsMapped (owners : List (Option UserPage)) (sizes tables : List ℕ) : Type 0 where
+  pub few : length owners ≤ 4096
+  pub users : length sizes ≤ 64
+  pub room : length tables ≡ 2304 * length sizes
+  pub segments : (user segment : ℕ) → user < length sizes → segment < 64 → word_at tables (segment_place user segment) ≡ segment_entry user (slice_index sizes user) segment
+  pub pages : (user page : ℕ) → user < length sizes → page < 1024 → half_at tables (page_place user page) ≡ page_entry (frame_of owners user page)
+
 -- a pinned frame has a page, and the order has each frame once
 pub record IsOrdered (owners : List (Option UserPage)) (pins : List Bool) (order : List ℕ) : Type 0 where
   pub frames : length owners ≤ 4096
@@ -108,11 +117,11 @@ pub record ArePages (owners : List (Option UserPage)) (sizes : List ℕ) : Type 
 
 -- what is always so of frames with their pages, slots with theirs, the users' sizes, the tables of frames and of slots,
 -- the pins, whether any may be set, and the order: frames and slots together are places, and each page stands in one place at most
-pub record IsSound (frames slots : List (List ℕ)) (owners slot_owners : List (Option UserPage)) (sizes table slot_table : List ℕ) (pins : List Bool) (marked : Bool) (order : List ℕ) : Type 0 where
+pub record IsSound (frames slots : List (List ℕ)) (owners slot_owners : List (Option UserPage)) (sizes tables slot_table : List ℕ) (pins : List Bool) (marked : Bool) (order : List ℕ) : Type 0 where
   pub frame_room : length frames ≡ length owners
   pub slot_room : length slots ≡ length slot_owners
   pub whole : IsWhole (frames ++ slots) (owners ++ slot_owners) sizes
-  pub tabled : IsTabled 65535 owners sizes table
+  pub mapped : IsMapped owners sizes tables
   pub slots_tabled : IsTabled 4294967295 slot_owners sizes slot_table
   pub ordered : IsOrdered owners pins order
   pub unmarked : marked ≡ false → pins ≡ replicate (length pins) false

@@ -4,6 +4,7 @@ ghost use Rattle.s370_store.specs.Access.{IsVerdict, tested};
 ghost use Rattle.cp_frames.specs.Layout.{bytes_of, frame_of, number_of, IsZeroPage};
 ghost use Rattle.cp_frames.specs.Paging.{IsBrought, IsOpen, IsRefused};
 ghost use Rattle.cp_frames.specs.Settled.{IsSettled};
+ghost use Rattle.cp_frames.specs.Tables.{segment_entry, page_entry};
 
 use crate::{FrameNo, Frames};
 use cp_users::UserNo;
@@ -82,6 +83,22 @@ impl<'a> Dat<'a> {
         ensures zero { IfNone result (frame_of (lent_pool self.now).supply.slots (user_of self.now) page.0 ≡ None → IsZeroPage (lent_bytes self.now) page.0) }
     {
         self.frames.frame_of(self.user, page)
+    }
+
+    /// The entry of a segment of 64K in the user's segment table.
+    pub fn segment_entry(&self, segment: u32) -> u32
+        requires { segment < 64 }
+        ensures { result ≡ segment_entry (user_of self.now) (length (lent_bytes self.now) / 4096) segment }
+    {
+        self.frames.segment_entry(self.user, segment)
+    }
+
+    /// The entry of a page in the user's page tables.
+    pub fn page_entry(&self, page: Page) -> u16
+        requires { page.0 < 1024 }
+        ensures { result ≡ page_entry (lent_frame self.now page.0) }
+    {
+        self.frames.page_entry(self.user, page)
     }
 
     /// The user's page that stands in a frame; None where no page does, or another user's.

@@ -1,9 +1,9 @@
 //! Which page stands in each frame, or in each slot.
 ghost use Rattle.std.specs.Prelude.{◌≡◌, ◌<◌, ℕ, List, Some, None, false, length, slice_index, slice_index_or, IsSome, IfOk, IfSome, IfNone, All, replicate};
-ghost use Rattle.cp_frames.specs.Layout.{without, cleared_of, ArePages, IsTabled};
+ghost use Rattle.cp_frames.specs.Layout.{without, cleared_of, ArePages, IsMapped, IsTabled};
 
 use crate::UserPage;
-use crate::table::{NOWHERE, entry_of, forget_slots};
+use crate::table::{INVALID, forget_slots, half_at, page_place, put_half};
 use cp_users::UserNo;
 use std::alloc::{AllocError, Global};
 
@@ -42,18 +42,19 @@ pub fn first_free(owners: &[Option<UserPage>]) -> Option<usize>
     None
 }
 
-/// Takes each page of a user out of its frame, by the table of the frames of his pages.
-pub fn leave(owners: &mut Vec<Option<UserPage>>, table: &mut Vec<u16>, sizes: &[u32], user: UserNo)
+/// Takes each page of a user out of its frame, by the tables of the frames of his pages.
+pub fn leave(owners: &mut Vec<Option<UserPage>>, tables: &mut Vec<u8>, sizes: &[u32], user: UserNo)
     requires pages { ArePages owners.old.items sizes.now }
-    requires tabled { IsTabled 65535 owners.old.items sizes.now table.old.items }
+    requires mapped { IsMapped owners.old.items sizes.now tables.old.items }
     ensures owners { owners.new.items ≡ cleared_of user owners.old.items }
-    ensures tabled { IsTabled 65535 owners.new.items sizes.now table.new.items }
+    ensures mapped { IsMapped owners.new.items sizes.now tables.new.items }
 {
     for page in 0..pages_of(sizes, user) {
-        let frame = table[entry_of(user, page)];
-        if frame != NOWHERE {
-            owners[frame as usize] = None;
-            table[entry_of(user, page)] = NOWHERE;
+        let place = page_place(user.index(), page);
+        let entry = half_at(tables, place);
+        if entry != INVALID {
+            owners[usize::from(entry / 16)] = None;
+            put_half(tables, place, INVALID);
         }
     }
 }

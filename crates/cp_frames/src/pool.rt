@@ -3,13 +3,15 @@ ghost use Rattle.std.specs.Prelude.{reverse, ◌≡◌, ℕ, ◌+◌, ◌-◌, �
 ghost use Rattle.std.specs.List.{range_with_len};
 ghost use Rattle.s370_store.specs.Access.{put, IsGranted};
 ghost use Rattle.cp_frames.specs.Layout.{frame_of, number_of, is_there, IsZeroPage, cleared_of};
+ghost use Rattle.cp_frames.specs.Tables.{segment_entry, page_entry, walk};
 ghost use Rattle.cp_frames.specs.Paging.{IsChosen, IsBrought, IsOpen, IsRefused, IsPut, counted, exchanged, filled, came};
 
 use crate::frame::{blank_frames, clear, copy_in, copy_out, copy_over};
 use crate::order::{all_frames, count, free_turn, last, open_turn};
 use crate::owners::{clear_pins, first_free, free_frames, leave, leave_slots, no_pins};
 use crate::table::{
-    NO_SLOT, NOWHERE, PAGES, empty_slot_table, empty_table, entry_of, tell, tell_slot,
+    INVALID, NO_SEGMENT, NO_SLOT, PAGES, empty_slot_table, entry_of, entry_with, frame_in, half_at,
+    new_tables, note, page_place, put_half, segment_place, tell_slot, word_at,
 };
 use crate::{FRAME_SIZE, FrameNo, UserPage};
 use cp_users::UserNo;
@@ -36,7 +38,7 @@ pub struct Frames {
     order: Vec<u16>,
     page_ins: u64,
     sizes: Vec<u32>,
-    table: Vec<u16>,
+    tables: Vec<u8>,
     slot_table: Vec<u32>,
 }
 
@@ -51,7 +53,7 @@ impl Model for Frames {
       supply = record { owners = f.owners.items; slots = f.slot_owners.items; pins = f.pins.items; order = f.order.items; page_ins = f.page_ins };
     } };
 
-    ghost invariant = { λ f. IsSound f.frames.items f.slots.items f.owners.items f.slot_owners.items f.sizes.items f.table.items f.slot_table.items f.pins.items f.is_marked f.order.items };
+    ghost invariant = { λ f. IsSound f.frames.items f.slots.items f.owners.items f.slot_owners.items f.sizes.items f.tables.items f.slot_table.items f.pins.items f.is_marked f.order.items };
 }
 
 impl Frames {
@@ -79,15 +81,14 @@ impl Frames {
     {
         let frame_count = usize::from(frames);
         let slot_count = slots as usize;
-        let entries = PAGES * sizes.len();
         let owners = free_frames(alloc, frame_count)?;
         let slot_owners = free_frames(alloc, slot_count)?;
         let pins = no_pins(alloc, frame_count)?;
         let order = all_frames(alloc, frames)?;
         let frames = blank_frames(alloc, frame_count)?;
         let slots = blank_frames(alloc, slot_count)?;
-        let table = empty_table(alloc, entries)?;
-        let slot_table = empty_slot_table(alloc, entries)?;
+        let tables = new_tables(alloc, &sizes)?;
+        let slot_table = empty_slot_table(alloc, PAGES * sizes.len())?;
         Ok(Frames {
             frames,
             slots,
@@ -98,7 +99,7 @@ impl Frames {
             order,
             page_ins: 0,
             sizes,
-            table,
+            tables,
             slot_table,
         })
     }
@@ -131,12 +132,26 @@ impl Frames {
         ensures apart { IsSome result → frame_of self.now.supply.slots user page.0 ≡ None }
         ensures zero { IfNone result (frame_of self.now.supply.slots user page.0 ≡ None → IsZeroPage (bytes_of self.now user) page.0) }
     {
-        let entry = self.table[entry_of(user, page.0)];
-        if entry == NOWHERE {
-            None
-        } else {
-            Some(FrameNo(entry))
-        }
+        frame_in(half_at(&self.tables, page_place(user.index(), page.0)))
+    }
+
+    /// The entry of a user's page, by the bytes of the tables.
+    #[inline(always)]
+    fn entry(&self, user: UserNo, page: u32) -> u16
+        requires { page * 4096 < length (bytes_of self.now user) }
+        ensures { result ≡ page_entry (frame_of self.now.supply.owners user page) }
+    {
+        half_at(&self.tables, page_place(user.index(), page))
+    }
+
+    /// The frame in which a page stands that stands in one.
+    #[inline(always)]
+    fn frame_with(&self, user: UserNo, page: u32) -> usize
+        requires inside { page * 4096 < length (bytes_of self.now user) }
+        requires present { IsSome (frame_of self.now.supply.owners user page) }
+        ensures { frame_of self.now.supply.owners user page ≡ Some result }
+    {
+        usize::from(self.entry(user, page) / 16)
     }
 
     /// The slot in which a page of a user stands. A page that stands in none, and in no frame, is all zero.
@@ -161,12 +176,7 @@ impl Frames {
         requires { start < length (bytes_of self.now user) }
         ensures { number_of result ≡ frame_of self.now.supply.owners user (start / 4096) }
     {
-        let entry = self.table[entry_of(user, start / PAGE_SIZE)];
-        if entry == NOWHERE {
-            None
-        } else {
-            Some(FrameNo(entry))
-        }
+        frame_in(self.entry(user, start / PAGE_SIZE))
     }
 
     /// As `frame_at`, out of line.
@@ -176,6 +186,38 @@ impl Frames {
         ensures { number_of result ≡ frame_of self.now.supply.owners user (start / 4096) }
     {
         self.frame_at(user, start)
+    }
+
+    /// The bytes of the segment and page tables of all users, one after another: 2304 for each.
+    pub fn tables(&self) -> &[u8]
+        ensures size { length result.now ≡ 2304 * length self.now.storages }
+        ensures map { (user page : ℕ) → user < length self.now.storages → page < 1024 → walk result.now user page ≡ frame_of self.now.supply.owners user page }
+    {
+        &self.tables
+    }
+
+    /// The entry of a user's segment of 64K, by the bytes of the tables. A user who is not there has none.
+    pub fn segment_entry(&self, user: UserNo, segment: u32) -> u32
+        requires { segment < 64 }
+        ensures { result ≡ segment_entry user (length (bytes_of self.now user) / 4096) segment }
+    {
+        if user.index() < self.sizes.len() {
+            word_at(&self.tables, segment_place(user.index(), segment))
+        } else {
+            NO_SEGMENT
+        }
+    }
+
+    /// The entry of a user's page, by the bytes of the tables. A user who is not there has no page.
+    pub fn page_entry(&self, user: UserNo, page: Page) -> u16
+        requires { page.0 < 1024 }
+        ensures { result ≡ page_entry (frame_of self.now.supply.owners user page.0) }
+    {
+        if user.index() < self.sizes.len() {
+            half_at(&self.tables, page_place(user.index(), page.0))
+        } else {
+            INVALID
+        }
     }
 
     /// The page that stands in a frame.
@@ -291,8 +333,8 @@ impl Frames {
         ensures storages { self.new.storages ≡ self.old.storages }
         ensures supply { self.new.supply ≡ exchanged self.old.supply frame slot }
     {
-        tell(&mut self.table, self.owners[frame], NOWHERE);
-        tell(&mut self.table, self.slot_owners[slot], frame as u16);
+        note(&mut self.tables, self.owners[frame], INVALID);
+        note(&mut self.tables, self.slot_owners[slot], entry_with(frame));
         tell_slot(&mut self.slot_table, self.slot_owners[slot], NO_SLOT);
         tell_slot(&mut self.slot_table, self.owners[frame], slot as u32);
         swap(&mut self.owners[frame], &mut self.slot_owners[slot]);
@@ -311,7 +353,11 @@ impl Frames {
     {
         clear(&mut self.frames[frame]);
         self.owners[frame] = Some(UserPage { user, page });
-        self.table[entry_of(user, page.0)] = frame as u16;
+        put_half(
+            &mut self.tables,
+            page_place(user.index(), page.0),
+            entry_with(frame),
+        );
     }
 
     /// Notes that a page has come into the frame that has this turn.
@@ -379,7 +425,7 @@ impl Frames {
         ensures gone_slots { (page : ℕ) → frame_of self.new.supply.slots user page ≡ None }
     {
         self.unpin_all();
-        leave(&mut self.owners, &mut self.table, &self.sizes, user);
+        leave(&mut self.owners, &mut self.tables, &self.sizes, user);
         leave_slots(&mut self.slot_owners, &mut self.slot_table, user);
     }
 
@@ -442,7 +488,7 @@ impl Frames {
         ensures read { into.new ≡ slice_range (bytes_of self.now user) start (start + length into.old) }
         ensures fits { length (bytes_of self.now user) ≤ 4194304 }
     {
-        let frame = self.table[entry_of(user, start / PAGE_SIZE)] as usize;
+        let frame = self.frame_with(user, start / PAGE_SIZE);
         copy_out(&self.frames[frame], (start % PAGE_SIZE) as usize, into);
     }
 
@@ -510,7 +556,7 @@ impl Frames {
         ensures supply { self.new.supply ≡ self.old.supply }
         ensures fits { length (bytes_of self.old user) ≤ 4194304 }
     {
-        let frame = self.table[entry_of(user, start / PAGE_SIZE)] as usize;
+        let frame = self.frame_with(user, start / PAGE_SIZE);
         copy_in(&mut self.frames[frame], (start % PAGE_SIZE) as usize, from);
     }
 
@@ -530,8 +576,8 @@ impl Frames {
         ensures others { self.new.storages ≡ slice_set self.old.storages user (bytes_of self.new user) }
         ensures supply { self.new.supply ≡ self.old.supply }
     {
-        let source = self.table[entry_of(user, from / PAGE_SIZE)] as usize;
-        let target = self.table[entry_of(user, to / PAGE_SIZE)] as usize;
+        let source = self.frame_with(user, from / PAGE_SIZE);
+        let target = self.frame_with(user, to / PAGE_SIZE);
         copy_over(
             &mut self.frames,
             source,
@@ -636,14 +682,14 @@ mod tests {
             order,
             page_ins,
             sizes,
-            table,
+            tables,
             slot_table,
         } = &all;
         assert_eq!(rt; (frames.len(), owners.len(), pins.len()), (4, 4, 4));
         assert_eq!(rt; (slots.len(), slot_owners.len()), (6, 6));
         assert_eq!(rt; order.as_slice(), [3u16, 2, 1, 0].as_slice());
         assert_eq!(rt; sizes.as_slice(), [2u32, 3].as_slice());
-        assert_eq!(rt; (table.len(), slot_table.len()), (2048, 2048));
+        assert_eq!(rt; (tables.len(), slot_table.len()), (4608, 2048));
         assert_eq!(rt; (*is_marked, *page_ins), (false, 0));
         Ok(())
     }

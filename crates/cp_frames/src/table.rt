@@ -1,33 +1,144 @@
-//! The tables of the frame and of the slot of each page: 1024 entries for each user.
-ghost use Rattle.std.specs.Prelude.{◌≡◌, ◌≢◌, ℕ, ◌+◌, ◌*◌, ◌/◌, ◌<◌, ◌≤◌, length, slice_index, IfOk, IfSome, replicate};
-ghost use Rattle.cp_frames.specs.Layout.{told};
+//! The tables of the frame and of the slot of each page.
+//!
+//! That of the frames is bytes: 2304 for each user, the segment table and 64 page tables of the architecture, with segments of
+//! 64K and pages of 4K (GA22-7000, "Dynamic Address Translation"). That of the slots is a list, 1024 entries for each user.
+ghost use Rattle.std.specs.Prelude.{◌≡◌, ◌≢◌, ℕ, ◌+◌, ◌*◌, ◌/◌, ◌%◌, ◌<◌, ◌≤◌, length, slice_index, IfOk, IfSome, replicate, All};
+ghost use Rattle.cp_frames.specs.Layout.{number_of, told};
+ghost use Rattle.cp_frames.specs.Tables.{half_at, word_at, page_place, segment_entry, segment_place, first_half, frame_in, put_half, noted};
 
-use crate::UserPage;
+use crate::{FrameNo, UserPage};
 use cp_users::UserNo;
 use std::alloc::{AllocError, Global};
 
-/// Entries of a user: the pages of the largest storage.
+/// Entries of a user in a table of slots: the pages of the largest storage.
 pub const PAGES: usize = 1024;
 
-/// The entry of a page that stands in no frame.
-pub const NOWHERE: u16 = 65535;
+/// Bytes of a user in the table of frames: 64 segment entries of 4 bytes, and 64 page tables of 16 entries of 2 bytes.
+pub const TABLES: usize = 2304;
+
+/// Halfwords of a user in the table of frames.
+const HALVES: usize = 1152;
+
+/// The entry of a page that stands in no frame: bit 12 is one.
+pub const INVALID: u16 = 8;
+
+/// The entry of a segment past the storage: bit 31 is one.
+pub const NO_SEGMENT: u32 = 1;
 
 /// The entry of a page that stands in no slot.
 pub const NO_SLOT: u32 = 4294967295;
 
-/// The number of the entry of a user's page.
-#[inline(always)]
-pub fn entry_of(user: UserNo, page: u32) -> usize
-    ensures { result ≡ user * 1024 + page }
+/// The place of the entry of a user's segment.
+#[inline]
+pub fn segment_place(user: usize, segment: u32) -> usize
+    requires { user < 256 }
+    ensures { result ≡ segment_place user segment }
 {
-    user.index() * PAGES + page as usize
+    user * TABLES + segment as usize * 4
 }
 
-/// A table in which no page stands in a frame.
-pub fn empty_table(alloc: Global, count: usize) -> Result<Vec<u16>, AllocError>
-    ensures { IfOk result (λ table. table.items ≡ replicate count 65535) }
+/// The place of the entry of a user's page.
+#[inline(always)]
+pub fn page_place(user: usize, page: u32) -> usize
+    requires { user < 256 }
+    ensures { result ≡ page_place user page }
 {
-    Ok(vec![in alloc; NOWHERE; count]?)
+    user * TABLES + 256 + page as usize * 2
+}
+
+/// The halfword at a place of the tables.
+#[inline(always)]
+pub fn half_at(tables: &[u8], place: usize) -> u16
+    requires { place + 1 < length tables.now }
+    ensures { result ≡ half_at tables.now place }
+{
+    u16::from_be_bytes([tables[place], tables[place + 1]])
+}
+
+/// The word at a place of the tables.
+pub fn word_at(tables: &[u8], place: usize) -> u32
+    requires { place + 3 < length tables.now }
+    ensures { result ≡ word_at tables.now place }
+{
+    u32::from(half_at(tables, place)) * 65536 + u32::from(half_at(tables, place + 2))
+}
+
+/// Writes a halfword at a place of the tables.
+pub fn put_half(tables: &mut Vec<u8>, place: usize, half: u16)
+    requires { place + 1 < length tables.old.items }
+    ensures { tables.new.items ≡ put_half tables.old.items place half }
+{
+    tables[place] = (half / 256) as u8;
+    tables[place + 1] = (half % 256) as u8;
+}
+
+/// The frame that a page entry tells; None where the page stands in none.
+#[inline(always)]
+pub fn frame_in(entry: u16) -> Option<FrameNo>
+    ensures { number_of result ≡ frame_in entry }
+{
+    if entry / 8 % 2 == 1 {
+        None
+    } else {
+        Some(FrameNo(entry / 16))
+    }
+}
+
+/// The entry of a page that stands in this frame.
+pub fn entry_with(frame: usize) -> u16
+    requires { frame < 4096 }
+    ensures { result ≡ frame * 16 }
+{
+    frame as u16 * 16
+}
+
+/// The entry of a segment of a user who has so many pages.
+fn segment_entry(user: usize, pages: u32, segment: usize) -> u32
+    requires user { user < 64 }
+    requires segment { segment < 64 }
+    ensures { result ≡ segment_entry user pages segment }
+{
+    let first = segment as u32 * 16;
+    let left = pages.saturating_sub(first);
+    let own = if 15 < left { 16 } else { left };
+    if own == 0 {
+        return NO_SEGMENT;
+    }
+    (own - 1) * 0x1000_0000 + page_place(user, first) as u32
+}
+
+/// The halfword of this number of the tables of a user who has so many pages, of which none stands in a frame.
+fn first_half(user: usize, pages: u32, half: usize) -> u16
+    requires { user < 64 }
+    ensures { result ≡ first_half user pages half }
+{
+    if 128 <= half {
+        return INVALID;
+    }
+    let entry = segment_entry(user, pages, half / 2);
+    if half % 2 == 0 {
+        (entry / 65536) as u16
+    } else {
+        (entry % 65536) as u16
+    }
+}
+
+/// The tables of users who have so many pages each, of which none stands in a frame.
+pub fn new_tables(alloc: Global, sizes: &[u32]) -> Result<Vec<u8>, AllocError>
+    requires { length sizes.now ≤ 64 }
+    ensures size { IfOk result (λ tables. length tables.items ≡ 2304 * length sizes.now) }
+    ensures halves { IfOk result (λ tables. (half : ℕ) → half < 1152 * length sizes.now → half_at tables.items (half * 2) ≡ first_half (half / 1152) (slice_index sizes.now (half / 1152)) (half % 1152)) }
+{
+    let mut tables = vec![in alloc; 0; TABLES * sizes.len()]?;
+    for half in 0..HALVES * sizes.len() {
+        let user = half / HALVES;
+        put_half(
+            &mut tables,
+            half * 2,
+            first_half(user, sizes[user], half % HALVES),
+        );
+    }
+    Ok(tables)
 }
 
 /// A table in which no page stands in a slot.
@@ -37,13 +148,21 @@ pub fn empty_slot_table(alloc: Global, count: usize) -> Result<Vec<u32>, AllocEr
     Ok(vec![in alloc; NO_SLOT; count]?)
 }
 
-/// Makes the entry of a page tell this frame.
-pub fn tell(table: &mut Vec<u16>, owner: Option<UserPage>, frame: u16)
-    requires { IfSome owner (λ p. p.user * 1024 + p.page.0 < length table.old.items) }
-    ensures { table.new.items ≡ told owner frame table.old.items }
+/// The number of the entry of a user's page in a table of slots.
+#[inline(always)]
+pub fn entry_of(user: UserNo, page: u32) -> usize
+    ensures { result ≡ user * 1024 + page }
+{
+    user.index() * PAGES + page as usize
+}
+
+/// Makes the entry of a page this.
+pub fn note(tables: &mut Vec<u8>, owner: Option<UserPage>, entry: u16)
+    requires { IfSome owner (λ p. page_place p.user p.page.0 + 1 < length tables.old.items) }
+    ensures { tables.new.items ≡ noted owner entry tables.old.items }
 {
     if let Some(there) = owner {
-        table[entry_of(there.user, there.page.0)] = frame;
+        put_half(tables, page_place(there.user.index(), there.page.0), entry);
     }
 }
 

@@ -115,6 +115,42 @@ fn pages_of_two_users_in_turn(rt: HostRuntime) -> Result<(), Fail> {
 }
 
 #[test]
+fn segment_and_page_tables(rt: HostRuntime) -> Result<(), Fail> {
+    let mut frames = Frames::new(rt.alloc(), 8, 0, vec![in rt.alloc(); 2u32, 25]?)?;
+    let segments = [
+        // (user, segment, entry): user A has 8K, user B 100K, and there is no third
+        (0u8, 0u32, 0x1000_0100),
+        (0, 1, 0x0000_0001),
+        (1, 0, 0xF000_0A00),
+        (1, 1, 0x8000_0A20),
+        (1, 2, 0x0000_0001),
+        (1, 63, 0x0000_0001),
+        (2, 0, 0x0000_0001),
+    ];
+    for (user, segment, want) in segments {
+        assert!(rt; user < 64 && segment < 64);
+        let entry = frames.segment_entry(UserNo::new(user), segment);
+        assert_eq!(rt; entry, want, "segment {segment} of user {user}");
+    }
+    assert_eq!(rt; frames.page_entry(a(), Page(0)), 0x0008);
+    for page in 0..5u32 {
+        assert_eq!(rt;
+            bring(&rt, &mut frames, b(), page),
+            Ok(FrameNo(page as u16))
+        );
+    }
+    assert_eq!(rt; bring(&rt, &mut frames, a(), 1), Ok(FrameNo(5)));
+    assert_eq!(rt; frames.page_entry(a(), Page(0)), 0x0008);
+    assert_eq!(rt; frames.page_entry(a(), Page(1)), 0x0050);
+    assert_eq!(rt; frames.page_entry(UserNo::new(2), Page(1)), 0x0008);
+    assert_eq!(rt;
+        frames.tables().get(256..260),
+        Some([0, 8, 0, 0x50].as_slice())
+    );
+    Ok(())
+}
+
+#[test]
 fn a_range_over_two_frames(rt: HostRuntime) -> Result<(), Fail> {
     let mut frames = two_users(rt.alloc(), 4)?;
     for (user, page) in [(b(), 1), (a(), 0), (b(), 0)] {

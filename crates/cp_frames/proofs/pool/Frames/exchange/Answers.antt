@@ -1,15 +1,17 @@
-use Rattle.std.proofs.Common.{◌≡◌, None, sym, arith, length, get_or, ◌<◌, ◌+◌, ◌∙◌, ap, [], false}
+use Rattle.std.proofs.Common.{◌≡◌, None, sym, arith, length, get_or, ◌<◌, ◌+◌, ◌*◌, ◌∙◌, ap, [], false}
 use Rattle.std.proofs.lemmas.List.{get_or_read, get_or_append_left}
 use Rattle.cp_frames.specs.Layout.{told}
+use Rattle.cp_frames.specs.Tables.{noted}
 use Rattle.cp_frames.proofs.Halves.{at_right}
 use Rattle.cp_frames.proofs.Told.{length-told}
+use Rattle.cp_frames.proofs.Mapped.{length-noted}
 use Rattle.cp_frames.proofs.Orders.{entry_room}
-use Rattle.cp_frames.proofs.Exchanges.{exchange-kept, exchange-storages}
+use Rattle.cp_frames.proofs.Exchanges.{exchange-kept, exchange-storages, note_room}
 use Rattle.cp_frames.proofs.Inside.{places_in, owners_in}
 use Rattle.cp_frames.proofs.pool.Frames.exchange.Goals as goal
 
-pub tell-requires : goal.tell-requires
-tell-requires c =
+pub note-requires : goal.note-requires
+note-requires c =
     let f = c.self.inside in
     let frame = c.args.frame in
     let slot = c.args.slot in
@@ -17,10 +19,10 @@ tell-requires c =
     let within : frame < length f.owners.items = rw (← c.self.view_is) at c.requires.frame in
     let slot_in : slot < length f.slot_owners.items = rw (← c.self.view_is) at c.requires.slot in
     let given = get_or_read f.owners.items _ _ within c.index.ensures None in
-    entry_room 65535 (places_in f) (owners_in f) f.owners.items f.sizes.items f.table.items frame c.index.result.now kept.whole kept.tabled (get_or_append_left f.owners.items f.slot_owners.items None frame within ∙ sym given)
+    note_room (places_in f) (owners_in f) f.owners.items f.sizes.items f.tables.items frame c.index.result.now kept.whole kept.mapped (get_or_append_left f.owners.items f.slot_owners.items None frame within ∙ sym given)
 
-pub tell-requires-2 : goal.tell-requires-2
-tell-requires-2 c =
+pub note-requires-2 : goal.note-requires-2
+note-requires-2 c =
     let f = c.self.inside in
     let frame = c.args.frame in
     let slot = c.args.slot in
@@ -28,8 +30,8 @@ tell-requires-2 c =
     let within : frame < length f.owners.items = rw (← c.self.view_is) at c.requires.frame in
     let slot_in : slot < length f.slot_owners.items = rw (← c.self.view_is) at c.requires.slot in
     let wanted = get_or_read f.slot_owners.items _ _ slot_in c.index-2.ensures None in
-    let room = entry_room 65535 (places_in f) (owners_in f) f.owners.items f.sizes.items f.table.items (length f.owners.items + slot) c.index-2.result.now kept.whole kept.tabled (at_right f.owners.items f.slot_owners.items slot None ∙ sym wanted) in
-    rw (c.tell.ensures, length-told) room
+    let room = note_room (places_in f) (owners_in f) f.owners.items f.sizes.items f.tables.items (length f.owners.items + slot) c.index-2.result.now kept.whole kept.mapped (at_right f.owners.items f.slot_owners.items slot None ∙ sym wanted) in
+    rw (c.note.ensures, length-noted) room
 
 pub tell_slot-requires : goal.tell_slot-requires
 tell_slot-requires c =
@@ -73,13 +75,14 @@ invariant_of-self c =
     let x = c.swap-2.ensures.x_after ∙ get_or_read f.slots.items _ _ bytes_in c.index_mut-4.ensures.value [] in
     let y = c.swap-2.ensures.y_after ∙ get_or_read f.frames.items _ _ frame_in c.index_mut-3.ensures.value [] in
     let unpinned : get_or f.pins.items frame false ≡ false = rw (← c.self.view_is) at c.requires.unpinned in
-    let table : c.tell-2.new.table.items ≡ told (get_or f.slot_owners.items slot None) frame (told (get_or f.owners.items frame None) 65535 f.table.items) =
-    c.tell-2.ensures ∙ ap (told c.index-2.result.now frame) (c.tell.ensures ∙ ap (λ o. told o 65535 f.table.items) given)
-    ∙ ap (λ o. told o frame (told (get_or f.owners.items frame None) 65535 f.table.items)) wanted in
+    let tables : c.note-2.new.tables.items ≡ noted (get_or f.slot_owners.items slot None) (frame * 16) (noted (get_or f.owners.items frame None) 8 f.tables.items) =
+    c.note-2.ensures ∙ ap (noted c.index-2.result.now c.entry_with.result) (c.note.ensures ∙ ap (λ o. noted o 8 f.tables.items) given)
+    ∙ ap (λ o. noted o c.entry_with.result (noted (get_or f.owners.items frame None) 8 f.tables.items)) wanted
+    ∙ ap (λ n. noted (get_or f.slot_owners.items slot None) n (noted (get_or f.owners.items frame None) 8 f.tables.items)) c.entry_with.ensures in
     let slot_table : c.tell_slot-2.new.table.items ≡ told (get_or f.owners.items frame None) slot (told (get_or f.slot_owners.items slot None) 4294967295 f.slot_table.items) =
     c.tell_slot-2.ensures ∙ ap (told c.index-4.result.now slot) (c.tell_slot.ensures ∙ ap (λ o. told o 4294967295 f.slot_table.items) wanted_2)
     ∙ ap (λ o. told o slot (told (get_or f.slot_owners.items slot None) 4294967295 f.slot_table.items)) given_2 in
-    rw (o, p, x, y, table, slot_table) (exchange-kept f frame slot kept within slot_in unpinned)
+    rw (o, p, x, y, tables, slot_table) (exchange-kept f frame slot kept within slot_in unpinned)
 
 pub returns-clause-storages : goal.returns-clause-storages
 returns-clause-storages c =

@@ -1,25 +1,18 @@
-use Rattle.std.proofs.Common.{◌/◌, ◌%◌, ◌≤◌, ◌+◌, arith, length, [], sym, ◌∙◌}
+use Rattle.std.proofs.Common.{◌≡◌, Some, ◌/◌, ◌%◌, ◌≤◌, ◌+◌, arith, length, [], sym, ◌∙◌}
 use Rattle.std.proofs.lemmas.List.{get_or_read, get_or_append_left, set-append_left}
 use Rattle.s370_store.specs.Access.{put}
+use Rattle.cp_frames.specs.Layout.{frame_of}
 use Rattle.cp_frames.proofs.Layouts.{length-bytes_of}
-use Rattle.cp_frames.proofs.Inside.{bytes_in, place_in, slot_in, places_in, owners_in}
+use Rattle.cp_frames.proofs.Inside.{bytes_in, of_user, slot_in, places_in, owners_in}
 use Rattle.cp_frames.proofs.PageParts.{part_stored}
 use Rattle.cp_frames.proofs.pool.Frames.store_part.Goals as goal
-
-pub index-requires : goal.index-requires
-index-requires c =
-    let f = c.self.inside in
-    let long : c.args.start + length c.args.from.now ≤ length (bytes_in f c.args.user) = rw (← c.self.view_is) at c.requires.within in
-    let at = place_in f c.args.user c.args.start c.self.invariant (omega (arith, long, c.requires.some)) in
-    omega (arith, at.room, f.table.ok.0, c.entry_of.ensures)
 
 pub index_mut-requires : goal.index_mut-requires
 index_mut-requires c =
     let f = c.self.inside in
     let long : c.args.start + length c.args.from.now ≤ length (bytes_in f c.args.user) = rw (← c.self.view_is) at c.requires.within in
-    let at = place_in f c.args.user c.args.start c.self.invariant (omega (arith, long, c.requires.some)) in
-    let read = get_or_read f.table.items _ _ at.room (rw c.entry_of.ensures at c.index.ensures) 0 in
-    let slot = slot_in f c.args.user (c.args.start / 4096) c.index.result.now c.self.invariant at (rw (← c.self.view_is) at c.requires.present) read in
+    let there : frame_of f.owners.items c.args.user (c.args.start / 4096) ≡ Some c.frame_with-frame.result = rw (← c.self.view_is) at c.frame_with-frame.ensures in
+    let slot = slot_in f c.args.user (c.args.start / 4096) c.frame_with-frame.result c.self.invariant there in
     omega (arith, slot.room, f.frames.ok.0)
 
 pub returns-clause-fits : goal.returns-clause-fits
@@ -34,28 +27,25 @@ pub returns-clause-bytes : goal.returns-clause-bytes
 returns-clause-bytes c =
     let f = c.self.inside in
     let long : c.args.start + length c.args.from.now ≤ length (bytes_in f c.args.user) = rw (← c.self.view_is) at c.requires.within in
-    let at = place_in f c.args.user c.args.start c.self.invariant (omega (arith, long, c.requires.some)) in
-    let read = get_or_read f.table.items _ _ at.room (rw c.entry_of.ensures at c.index.ensures) 0 in
-    let slot = slot_in f c.args.user (c.args.start / 4096) c.index.result.now c.self.invariant at (rw (← c.self.view_is) at c.requires.present) read in
-    let page = get_or_read f.frames.items _ _ slot.room c.index_mut.ensures.value [] ∙ sym (get_or_append_left f.frames.items f.slots.items [] c.index.result.now slot.room) in
-    rw (← c.self.view_is, c.copy_in.ensures.part, ← set-append_left f.frames.items f.slots.items c.index.result.now (put c.index_mut.result.now (c.args.start % 4096) c.args.from.now) slot.room) (part_stored (places_in f) (owners_in f) f.sizes.items c.args.user c.args.start c.index.result.now c.args.from.now c.index_mut.result.now c.self.invariant.whole slot.there page c.copy_in.ensures.full c.requires.one_page long at.of_user).bytes
+    let there : frame_of f.owners.items c.args.user (c.args.start / 4096) ≡ Some c.frame_with-frame.result = rw (← c.self.view_is) at c.frame_with-frame.ensures in
+    let slot = slot_in f c.args.user (c.args.start / 4096) c.frame_with-frame.result c.self.invariant there in
+    let page = get_or_read f.frames.items _ _ slot.room c.index_mut.ensures.value [] ∙ sym (get_or_append_left f.frames.items f.slots.items [] c.frame_with-frame.result slot.room) in
+    rw (← c.self.view_is, c.copy_in.ensures.part, ← set-append_left f.frames.items f.slots.items c.frame_with-frame.result (put c.index_mut.result.now (c.args.start % 4096) c.args.from.now) slot.room) (part_stored (places_in f) (owners_in f) f.sizes.items c.args.user c.args.start c.frame_with-frame.result c.args.from.now c.index_mut.result.now c.self.invariant.whole slot.there page c.copy_in.ensures.full c.requires.one_page long (of_user f c.args.user c.args.start long c.requires.some)).bytes
 
 pub returns-clause-size : goal.returns-clause-size
 returns-clause-size c =
     let f = c.self.inside in
     let long : c.args.start + length c.args.from.now ≤ length (bytes_in f c.args.user) = rw (← c.self.view_is) at c.requires.within in
-    let at = place_in f c.args.user c.args.start c.self.invariant (omega (arith, long, c.requires.some)) in
-    let read = get_or_read f.table.items _ _ at.room (rw c.entry_of.ensures at c.index.ensures) 0 in
-    let slot = slot_in f c.args.user (c.args.start / 4096) c.index.result.now c.self.invariant at (rw (← c.self.view_is) at c.requires.present) read in
-    let page = get_or_read f.frames.items _ _ slot.room c.index_mut.ensures.value [] ∙ sym (get_or_append_left f.frames.items f.slots.items [] c.index.result.now slot.room) in
-    rw (← c.self.view_is, c.copy_in.ensures.part, ← set-append_left f.frames.items f.slots.items c.index.result.now (put c.index_mut.result.now (c.args.start % 4096) c.args.from.now) slot.room) (part_stored (places_in f) (owners_in f) f.sizes.items c.args.user c.args.start c.index.result.now c.args.from.now c.index_mut.result.now c.self.invariant.whole slot.there page c.copy_in.ensures.full c.requires.one_page long at.of_user).size
+    let there : frame_of f.owners.items c.args.user (c.args.start / 4096) ≡ Some c.frame_with-frame.result = rw (← c.self.view_is) at c.frame_with-frame.ensures in
+    let slot = slot_in f c.args.user (c.args.start / 4096) c.frame_with-frame.result c.self.invariant there in
+    let page = get_or_read f.frames.items _ _ slot.room c.index_mut.ensures.value [] ∙ sym (get_or_append_left f.frames.items f.slots.items [] c.frame_with-frame.result slot.room) in
+    rw (← c.self.view_is, c.copy_in.ensures.part, ← set-append_left f.frames.items f.slots.items c.frame_with-frame.result (put c.index_mut.result.now (c.args.start % 4096) c.args.from.now) slot.room) (part_stored (places_in f) (owners_in f) f.sizes.items c.args.user c.args.start c.frame_with-frame.result c.args.from.now c.index_mut.result.now c.self.invariant.whole slot.there page c.copy_in.ensures.full c.requires.one_page long (of_user f c.args.user c.args.start long c.requires.some)).size
 
 pub returns-clause-others : goal.returns-clause-others
 returns-clause-others c =
     let f = c.self.inside in
     let long : c.args.start + length c.args.from.now ≤ length (bytes_in f c.args.user) = rw (← c.self.view_is) at c.requires.within in
-    let at = place_in f c.args.user c.args.start c.self.invariant (omega (arith, long, c.requires.some)) in
-    let read = get_or_read f.table.items _ _ at.room (rw c.entry_of.ensures at c.index.ensures) 0 in
-    let slot = slot_in f c.args.user (c.args.start / 4096) c.index.result.now c.self.invariant at (rw (← c.self.view_is) at c.requires.present) read in
-    let page = get_or_read f.frames.items _ _ slot.room c.index_mut.ensures.value [] ∙ sym (get_or_append_left f.frames.items f.slots.items [] c.index.result.now slot.room) in
-    rw (← c.self.view_is, c.copy_in.ensures.part, ← set-append_left f.frames.items f.slots.items c.index.result.now (put c.index_mut.result.now (c.args.start % 4096) c.args.from.now) slot.room) (part_stored (places_in f) (owners_in f) f.sizes.items c.args.user c.args.start c.index.result.now c.args.from.now c.index_mut.result.now c.self.invariant.whole slot.there page c.copy_in.ensures.full c.requires.one_page long at.of_user).others
+    let there : frame_of f.owners.items c.args.user (c.args.start / 4096) ≡ Some c.frame_with-frame.result = rw (← c.self.view_is) at c.frame_with-frame.ensures in
+    let slot = slot_in f c.args.user (c.args.start / 4096) c.frame_with-frame.result c.self.invariant there in
+    let page = get_or_read f.frames.items _ _ slot.room c.index_mut.ensures.value [] ∙ sym (get_or_append_left f.frames.items f.slots.items [] c.frame_with-frame.result slot.room) in
+    rw (← c.self.view_is, c.copy_in.ensures.part, ← set-append_left f.frames.items f.slots.items c.frame_with-frame.result (put c.index_mut.result.now (c.args.start % 4096) c.args.from.now) slot.room) (part_stored (places_in f) (owners_in f) f.sizes.items c.args.user c.args.start c.frame_with-frame.result c.args.from.now c.index_mut.result.now c.self.invariant.whole slot.there page c.copy_in.ensures.full c.requires.one_page long (of_user f c.args.user c.args.start long c.requires.some)).others
