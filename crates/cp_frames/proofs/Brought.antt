@@ -1,5 +1,5 @@
 -- One page that came into a frame.
-use Rattle.std.proofs.Common.{◌≡◌, ◌≢◌, ℕ, zero, suc, ◌<◌, List, [], ◌∷◌, length, get_or, Bool, false, true, inl, inr, Option, Some, None, refl, sym, ◌∙◌, ap, arith, get_or-set_same, get_or-set_other}
+use Rattle.std.proofs.Common.{◌≡◌, ◌≢◌, ℕ, zero, suc, ◌+◌, ◌<◌, List, [], ◌∷◌, length, get_or, Bool, false, true, inl, inr, Option, Some, None, refl, sym, ◌∙◌, ap, arith, get_or-set_same, get_or-set_other}
 use Rattle.std.specs.Prelude.{◌⊎◌, is_some, Contains}
 use Rattle.std.proofs.Math.ListN.{set, length-set}
 use Rattle.cp_frames.specs.declared.numbers.UserPage.{UserPage}
@@ -95,16 +95,19 @@ one_kept user page frame old new one u p (inr there) =
       ]
     ]
 
-one_came : (user page frame : ℕ) (old new : FrameSupply) → IsOne user page frame old new → (u p : ℕ) → Stands new u p → Stands old u p ⊎ ((u ≡ user) × Contains (page ∷ []) p)
-one_came user page frame old new one u p (inl there) =
+one_framed : (user page frame : ℕ) (old new : FrameSupply) → IsOne user page frame old new → (u p : ℕ) → is_there new.owners u p ≡ true → (is_there old.owners u p ≡ true) ⊎ ((u ≡ user) × Contains (page ∷ []) p)
+one_framed user page frame old new one u p there =
     let at = there_at new.owners u p there in
     let moved : get_or (set old.owners frame (Some (owned user page))) at.0 None ≡ Some (owned u p) = ap (λ (os : List (Option UserPage)). get_or os at.0 None) (sym one.owners) ∙ at.1 in
     elim (dec_eq at.0 frame) [
       | yes e ↦ (let here : Some (owned user page) ≡ Some (owned u p) = sym (get_or-set_same old.owners frame (Some (owned user page)) None one.within) ∙ ap (λ j. get_or (set old.owners frame (Some (owned user page))) j None) (sym e) ∙ moved in
           let is : owned u p ≡ owned user page = cc in
           inr (ap (λ (x : UserPage). x.user) is, (0, omega arith, ap (λ (x : UserPage). x.page.0) (sym is))))
-      | no n ↦ inl (inl (at_there old.owners u p at.0 (rw get_or-set_other at moved)))
+      | no n ↦ inl (at_there old.owners u p at.0 (rw get_or-set_other at moved))
     ]
+
+one_came : (user page frame : ℕ) (old new : FrameSupply) → IsOne user page frame old new → (u p : ℕ) → Stands new u p → Stands old u p ⊎ ((u ≡ user) × Contains (page ∷ []) p)
+one_came user page frame old new one u p (inl there) = elim (one_framed user page frame old new one u p there) [ inl was ↦ inl (inl was) | inr now ↦ inr now ]
 one_came user page frame old new one u p (inr there) =
     let at = there_at new.slots u p there in
     elim one.slots [
@@ -129,6 +132,17 @@ one_marked user page frame old new one k pinned = elim (dec_eq k frame) [
       inl (rw get_or-set_other at before))
 ]
 
+-- one more frame is pinned
+fewer_open : (pins : List Bool) (frame : ℕ) → frame < length pins → get_or pins frame false ≡ false → unpinned_count pins ≡ unpinned_count (set pins frame true) + 1
+fewer_open [] frame lt e = absurd (omega (arith, lt))
+fewer_open (true ∷ pins) zero lt e = cc
+fewer_open (false ∷ pins) zero lt e = omega arith
+fewer_open (true ∷ pins) (suc frame) lt e = fewer_open pins frame (omega arith) e
+fewer_open (false ∷ pins) (suc frame) lt e = let rest = fewer_open pins frame (omega arith) e in omega arith
+
+one_fewer : (user page frame : ℕ) (old new : FrameSupply) → IsOne user page frame old new → unpinned_count old.pins ≡ unpinned_count new.pins + 1
+one_fewer user page frame old new one = rw one.pins (fewer_open old.pins frame one.marked one.unpinned)
+
 paged_one : (user page frame : ℕ) (old new : FrameSupply) → IsOne user page frame old new → IsPagedFor user (page ∷ []) old new
 paged_one user page frame old new one = record {
   same_frames = ap length one.owners ∙ length-set old.owners frame (Some (owned user page));
@@ -141,7 +155,9 @@ paged_one user page frame old new one = record {
     pinned = ap (λ ps. get_or ps frame false) one.pins ∙ get_or-set_same old.pins frame true false one.marked;
   });
   marked = one_marked user page frame old new one;
+  fewer = one_fewer user page frame old new one;
   kept = one_kept user page frame old new one;
+  framed = one_framed user page frame old new one;
   came = one_came user page frame old new one;
   page_ins = one.page_ins;
 }
@@ -170,18 +186,9 @@ brought_one user page frame old middle new away brought spare there is =
     let paged : IsPagedIn old middle user page frame = rw nowhere at brought in
     paged_one user page frame old new (is_one user page frame old middle new nowhere paged spare there is)
 
--- one more frame is pinned
-fewer_open : (pins : List Bool) (frame : ℕ) → frame < length pins → get_or pins frame false ≡ false → unpinned_count (set pins frame true) < unpinned_count pins
-fewer_open [] frame lt e = absurd (omega (arith, lt))
-fewer_open (true ∷ pins) zero lt e = cc
-fewer_open (false ∷ pins) zero lt e = omega arith
-fewer_open (true ∷ pins) (suc frame) lt e = fewer_open pins frame (omega arith) e
-fewer_open (false ∷ pins) (suc frame) lt e = let rest = fewer_open pins frame (omega arith) e in omega arith
-
 pub fewer_left : (user page frame : ℕ) (old middle new : FrameSupply) → is_there old.owners user page ≡ false → IsBrought old middle user page frame → IsOpen old.pins frame → frame_of middle.owners user page ≡ Some frame →
     new ≡ record middle { pins = set middle.pins frame (is_some (get_or middle.owners frame None)) } → unpinned_count new.pins < unpinned_count old.pins
 fewer_left user page frame old middle new away brought spare there is =
     let nowhere : frame_of old.owners user page ≡ None = stands_nowhere (frame_of old.owners user page) away in
     let paged : IsPagedIn old middle user page frame = rw nowhere at brought in
-    let one = is_one user page frame old middle new nowhere paged spare there is in
-    rw one.pins (fewer_open old.pins frame spare.0 spare.1)
+    omega (arith, one_fewer user page frame old new (is_one user page frame old middle new nowhere paged spare there is))

@@ -1,5 +1,5 @@
 -- The laws of what is brought: nothing, and some pages after others.
-use Rattle.std.specs.Prelude.{◌≡◌, ℕ, zero, suc, ◌+◌, List, [], ◌∷◌, ◌++◌, Bool, true, false, cond, length, slice_index_or, is_some, Contains, Option, Some, None, refl}
+use Rattle.std.specs.Prelude.{◌≡◌, ℕ, zero, suc, ◌+◌, List, [], ◌∷◌, ◌++◌, Bool, true, false, cond, length, slice_index_or, is_some, Some, refl}
 use Rattle.std.proofs.Common.{◌∙◌, sym, ap, subst, inl, inr, arith, length-append}
 use Rattle.std.specs.List.{position_from}
 use Rattle.std.proofs.lemmas.List.Elements.{Contains-append_left, Contains-append_right, Contains-append_cases}
@@ -46,7 +46,9 @@ paged_none user old new same = subst (λ (s : FrameSupply). IsPagedFor user [] o
   stays = λ frame pinned. record { pinned = pinned; kept = refl };
   held = λ page listed. absurd (omega (arith, listed.1));
   marked = λ frame pinned. inl pinned;
+  fewer = omega arith;
   kept = λ u page stands. stands;
+  framed = λ u page there. inl there;
   came = λ u page stands. inl stands;
   page_ins = refl;
 })
@@ -68,7 +70,15 @@ paged_on user first second old middle new a b = record {
     ]
     | inr one ↦ inr (record { page = one.page; such = Contains-append_right first second one.page one.such; here = one.here })
   ];
+  fewer = omega (arith, a.fewer, b.fewer, length-append first second);
   kept = λ u page stands. b.kept u page (a.kept u page stands);
+  framed = λ u page there. elim (b.framed u page there) [
+    | inl earlier ↦ elim (a.framed u page earlier) [
+      | inl before ↦ inl before
+      | inr now ↦ inr (now.0, Contains-append_left first second page now.1)
+    ]
+    | inr now ↦ inr (now.0, Contains-append_right first second page now.1)
+  ];
   came = λ u page stands. elim (b.came u page stands) [
     | inl earlier ↦ elim (a.came u page earlier) [
       | inl there ↦ inl there

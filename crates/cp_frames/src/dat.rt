@@ -13,6 +13,7 @@ use s370_store::{
     Access, BLOCK_SIZE, Fault, FramesOut, Keyed, Listed, PAGE_SIZE, Page, Range, Storage, Supply,
     test_range,
 };
+use s370_supply::UnitSupply;
 
 /// The block from which instructions were fetched last, as long as they may still be fetched from it with the protection
 /// key that is remembered beside it, and its page stands in a frame.
@@ -39,9 +40,9 @@ fn tag_of(start: u32, key: AccessKey) -> u32
 
 /// One user's pages, of which those that stand in frames are present, and his storage keys.
 ///
-/// As a `Supply` it brings a page that is absent and pins it, so that it is not given up again before whoever lent the
-/// frames takes the pins away. Where each frame is taken, the page longest in its frame among those not pinned is given up;
-/// where there is none, or no slot for it, it answers `FramesOut`.
+/// As a `Supply` it brings a page that is absent and pins it, so that it is not given up again before the pins are taken
+/// away, as `UnitSupply::let_go` does at the end of a unit. Where each frame is taken, the page longest in its frame among
+/// those not pinned is given up; where there is none, or no slot for it, it answers `FramesOut`.
 #[derive(Drop)]
 pub struct Dat<'a> {
     frames: &'a mut Frames,
@@ -345,4 +346,38 @@ impl<'a> Supply for Dat<'a> {
     ghost brought_on = { supplied_on };
 
     ghost spare_kept = { λ s t k. ap (λ (supply : FrameSupply). unpinned_count supply.pins) k.same_supply };
+}
+
+/// What is brought for a unit is held by pins. With 16 frames, and none of them pinned before it, a unit of nine pages finds
+/// one to give up as long as there is a slot for it.
+impl<'a> UnitSupply for Dat<'a> {
+    ghost use Rattle.cp_frames.specs.Lent.{lent_pool, user_of};
+    ghost use Rattle.cp_frames.specs.Supplied.{HasNoRoom, IsBetweenUnits, SuppliedUnits, TakesPins};
+    ghost use Rattle.cp_frames.specs.Letting as laws;
+
+    ghost IsBetween = { λ d. IsBetweenUnits (lent_pool d).supply };
+
+    ghost IsOut = { λ d page. HasNoRoom (lent_pool d).supply (user_of d) page };
+
+    ghost Came = { SuppliedUnits };
+
+    ghost LetsGo = { TakesPins };
+
+    fn let_go(&mut self) {
+        self.unpin_all();
+    }
+
+    ghost held = { laws.held };
+
+    ghost let_go_between = { laws.let_go_between };
+
+    ghost let_go_came = { laws.let_go_came };
+
+    ghost let_go_out = { laws.let_go_out };
+
+    ghost between_kept = { laws.between_kept };
+
+    ghost came_none = { laws.came_none };
+
+    ghost came_on = { laws.came_on };
 }

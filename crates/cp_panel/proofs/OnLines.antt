@@ -1,12 +1,11 @@
 -- A line to a machine that is on.
 use Rattle.std.proofs.Common.{◌≡◌, ℕ, List, refl}
-use Rattle.s370_store.specs.Access.{Test}
 use Rattle.cp_console.specs.Lines.{cleaned}
 use Rattle.cp_console.specs.Asked.{asked_of}
 use Rattle.cp_panel.specs.declared.machine.Mode.{Mode}
 use Rattle.cp_panel.specs.declared.machine.Mode.TheVariants.{Off, Stopped, Running}
 use Rattle.cp_panel.specs.Machine.{Machine}
-use Rattle.cp_panel.specs.Panel.{Answer, line, line_in, line_needs, line_room, needs_in, room_in, on_line, asked_needs, asked_room, asked_switches, switches}
+use Rattle.cp_panel.specs.Panel.{line, line_needs, line_room, on_line, asked_needs, asked_room, asked_switches, switches}
 
 -- what a line is to a machine in this mode
 pub record IsOn (typed text : List ℕ) (m : Machine) (mode : Mode) : Type 0 where

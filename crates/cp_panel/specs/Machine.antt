@@ -1,5 +1,5 @@
 -- A System/370 with its operator's panel (GA22-7000, "Program States", "Resets"; docs/MACHINE.md).
-use Rattle.std.specs.Prelude.{ℕ, Bool, true, false, List, [], ◌∷◌, ◌++◌, length, replicate}
+use Rattle.std.specs.Prelude.{ℕ, false, List, [], ◌∷◌, ◌++◌, length, replicate}
 use Rattle.s370_psw.specs.Fields.{Fields, fields_of}
 use Rattle.s370_rows.specs.declared.cpu.Cpu.{Cpu}
 use Rattle.s370_rows.specs.State.{State, state_of}

@@ -1,5 +1,5 @@
 -- What a line of the operator does to a machine, and what is replied (docs/COMMANDS.md).
-use Rattle.std.specs.Prelude.{ℕ, ◌≡◌, if◌then◌else◌, Bool, true, false, List, [], Option, Some, None, Result, Ok, Err}
+use Rattle.std.specs.Prelude.{ℕ, if◌then◌else◌, Bool, true, false, List, [], Option, Some, None, Result, Ok, Err}
 use Rattle.cp_console.specs.Lines.{cleaned}
 use Rattle.cp_console.specs.Asked.{Asked, Stop, Command as ToControlProgram, Plain, asked_of}
 use Rattle.cp_console.specs.Commands.{command_of}

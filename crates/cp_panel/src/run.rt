@@ -1,5 +1,6 @@
 //! Units of a machine.
-ghost use Rattle.std.specs.Prelude.{◌≡◌, ℕ, ◌+◌, ◌≤◌, List, Option, length};
+ghost use Rattle.std.specs.Prelude.{◌≡◌, ℕ, ◌+◌, ◌*◌, ◌≤◌, List, Option, length};
+ghost use Rattle.s370_intr.specs.Laws.{begun};
 ghost use Rattle.s370_intr.specs.Run.{AllNeeded, RunNeeds};
 ghost use Rattle.cp_panel.specs.Machine.{machine_of};
 ghost use Rattle.cp_panel.specs.Run.{TellsRun, halted, notice_of};
@@ -7,7 +8,7 @@ ghost use Rattle.cp_panel.specs.Run.{TellsRun, halted, notice_of};
 use crate::machine::{Machine, Mode};
 use cp_console::responses::Response;
 use s370_intr::{Processor, Ran, Reason, run_units};
-use s370_store::Supply;
+use s370_supply::UnitSupply;
 
 /// What a run of a machine tells: how many units it did, why it did no more, and the notice that it printed, if it
 /// stopped.
@@ -40,13 +41,15 @@ fn told(units: u32, reason: Reason, notice: Option<Response>) -> MachineRan
 
 impl Machine {
     /// Lets the machine run for at most so many units. This takes no memory.
-    pub fn run<P: Processor, S: Supply>(&mut self, storage: &mut S, count: u32) -> MachineRan
-        requires { 8192 ≤ length (S.Storage.bytes storage.old) }
+    pub fn run<P: Processor, S: UnitSupply>(&mut self, storage: &mut S, count: u32) -> MachineRan
+        requires large { 8192 ≤ length (S.Storage.bytes storage.old) }
+        requires between { S.IsBetween storage.old }
         ensures told { let before = machine_of self.old (S.Storage.bytes storage.old) (S.Storage.keys storage.old) in
             let after = machine_of self.new (S.Storage.bytes storage.new) (S.Storage.keys storage.new) in
-            TellsRun count before (record { machine = after; units = result.ran.units; reason = result.ran.reason; notice = result.notice }) (S.IsShort storage.new) }
+            TellsRun count before (record { machine = after; units = result.ran.units; reason = result.ran.reason; notice = result.notice }) (S.IsOut storage.new) }
         ensures supply { let before = machine_of self.old (S.Storage.bytes storage.old) (S.Storage.keys storage.old) in
-            (pages : List ℕ) × S.Brought storage.old pages storage.new × AllNeeded (RunNeeds before.core result.ran.units result.ran.reason) pages }
+            (pages : List ℕ) × S.Came storage.old pages storage.new × AllNeeded (RunNeeds before.core result.ran.units result.ran.reason) pages × (length pages ≤ 9 * begun result.ran.units result.ran.reason) }
+        ensures between { S.IsBetween storage.new }
         ensures size { length (S.Storage.bytes storage.new) ≡ length (S.Storage.bytes storage.old) }
         ensures room { length self.new.output + self.new.room ≡ length self.old.output + self.old.room }
     {

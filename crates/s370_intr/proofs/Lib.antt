@@ -2,3 +2,4 @@ pub mod Assigned
 pub mod Instructed
 pub mod Runs
 pub mod NinePages
+pub mod Brings

@@ -32,7 +32,7 @@ use Rattle.s370_intr.specs.Laws.{NinePages, NinePagesEach}
 no_page : AreAtMost 0 (λ page. ⊥)
 no_page = none_at_all (λ page. ⊥) (λ page h. h)
 
-page_0 : AreAtMost 1 (λ page. page ≡ 0)
+pub page_0 : AreAtMost 1 (λ page. page ≡ 0)
 page_0 = record { pages = 0 ∷ []; few = omega arith; all = λ page e. (0, omega arith, sym e) }
 
 names_first : (caw : _) → AreAtMost 2 (NamesFirst caw)

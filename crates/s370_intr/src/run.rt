@@ -1,7 +1,8 @@
 //! Units, one after another.
-ghost use Rattle.std.specs.Prelude.{◌≡◌, ℕ, ◌≤◌, List, length, Result};
+ghost use Rattle.std.specs.Prelude.{◌≡◌, ℕ, ◌*◌, ◌≤◌, List, length, Result};
 ghost use Rattle.s370_rows.specs.State.{state_of};
-ghost use Rattle.s370_intr.specs.Units.{NeedsAt, core_of, look};
+ghost use Rattle.s370_intr.specs.Laws.{begun};
+ghost use Rattle.s370_intr.specs.Units.{MeetsUnitAt, NeedsAt, core_of, look};
 ghost use Rattle.s370_intr.specs.declared.next.Next.TheVariants as next;
 ghost use Rattle.s370_intr.specs.Run.{AllNeeded, RunNeeds, SuppliesUnit, TellsRun, run};
 ghost use Rattle.s370_intr.specs.declared.next.Reason.TheVariants as reasons;
@@ -13,8 +14,9 @@ use crate::pending::Pending;
 use crate::unit::{Processor, accept, accept_status, instruct_saving};
 use s370_cpu::step_quickly;
 use s370_rows::Cpu;
-use s370_store::{FramesOut, Storage, Supply};
-use s370_subchannels::{Status, Subchannels};
+use s370_store::{FramesOut, Keyed, Page, Storage};
+use s370_subchannels::Subchannels;
+use s370_supply::UnitSupply;
 
 /// How many units a run did, and why it did no more.
 #[derive(Clone, Copy, Debug, PartialEq, Eq)]
@@ -23,92 +25,36 @@ pub struct Ran {
     pub reason: Reason,
 }
 
-/// An instruction, after each page was brought that it needs. Where there is no room for one of them, nothing has changed;
-/// the pages that were brought for it stay.
+/// The unit that a look says, tried once; none where it stops.
 #[inline(always)]
-fn instruct_supplied<P: Processor, S: Supply>(
+fn try_unit<P: Processor, S: Keyed>(
+    said: Next,
     cpu: &mut Cpu,
     spare: &mut Cpu,
-    pending: Pending,
-    subchannels: &mut Subchannels,
-    storage: &mut S,
-) -> Result<(), FramesOut>
-    requires { 8192 ≤ length (S.Storage.bytes storage.old) }
-    ensures unit { let before = core_of (state_of cpu.old (S.Storage.bytes storage.old) (S.Storage.keys storage.old)) pending subchannels.old in
-        let after = core_of (state_of cpu.new (S.Storage.bytes storage.new) (S.Storage.keys storage.new)) pending subchannels.new in
-        SuppliesUnit next.Instructs before result after (S.IsShort storage.new) }
-    ensures supply { let before = core_of (state_of cpu.old (S.Storage.bytes storage.old) (S.Storage.keys storage.old)) pending subchannels.old in
-        (pages : List ℕ) × S.Brought storage.old pages storage.new × AllNeeded (NeedsAt next.Instructs before) pages }
-    ensures size { length (S.Storage.bytes storage.new) ≡ length (S.Storage.bytes storage.old) }
-{
-    loop {
-        match instruct_saving::<P, S>(cpu, spare, subchannels, storage) {
-            Ok(()) => return Ok(()),
-            Err(page) => {
-                storage.bring(page)?;
-            }
-        }
-    }
-}
-
-/// The acceptance of external conditions, likewise.
-#[inline(never)]
-fn accept_supplied<P: Processor, S: Supply>(
-    taken: Pending,
-    cpu: &mut Cpu,
     pending: &mut Pending,
-    subchannels: &Subchannels,
-    storage: &mut S,
-) -> Result<(), FramesOut>
-    requires { 8192 ≤ length (S.Storage.bytes storage.old) }
-    ensures unit { let before = core_of (state_of cpu.old (S.Storage.bytes storage.old) (S.Storage.keys storage.old)) pending.old subchannels.now in
-        let after = core_of (state_of cpu.new (S.Storage.bytes storage.new) (S.Storage.keys storage.new)) pending.new subchannels.now in
-        SuppliesUnit (next.Accepts taken) before result after (S.IsShort storage.new) }
-    ensures supply { let before = core_of (state_of cpu.old (S.Storage.bytes storage.old) (S.Storage.keys storage.old)) pending.old subchannels.now in
-        (pages : List ℕ) × S.Brought storage.old pages storage.new × AllNeeded (NeedsAt (next.Accepts taken) before) pages }
-    ensures size { length (S.Storage.bytes storage.new) ≡ length (S.Storage.bytes storage.old) }
-{
-    loop {
-        match accept::<P, S>(taken, cpu, pending, subchannels, storage) {
-            Ok(()) => return Ok(()),
-            Err(page) => {
-                storage.bring(page)?;
-            }
-        }
-    }
-}
-
-/// The acceptance of a status of a device, likewise.
-#[inline(never)]
-fn accept_status_supplied<P: Processor, S: Supply>(
-    status: Status,
-    cpu: &mut Cpu,
-    pending: Pending,
     subchannels: &mut Subchannels,
     storage: &mut S,
-) -> Result<(), FramesOut>
+) -> Result<(), Page>
     requires { 8192 ≤ length (S.Storage.bytes storage.old) }
-    ensures unit { let before = core_of (state_of cpu.old (S.Storage.bytes storage.old) (S.Storage.keys storage.old)) pending subchannels.old in
-        let after = core_of (state_of cpu.new (S.Storage.bytes storage.new) (S.Storage.keys storage.new)) pending subchannels.new in
-        SuppliesUnit (next.AcceptsStatus status) before result after (S.IsShort storage.new) }
-    ensures supply { let before = core_of (state_of cpu.old (S.Storage.bytes storage.old) (S.Storage.keys storage.old)) pending subchannels.old in
-        (pages : List ℕ) × S.Brought storage.old pages storage.new × AllNeeded (NeedsAt (next.AcceptsStatus status) before) pages }
+    ensures unit { let before = core_of (state_of cpu.old (S.Storage.bytes storage.old) (S.Storage.keys storage.old)) pending.old subchannels.old in
+        let after = core_of (state_of cpu.new (S.Storage.bytes storage.new) (S.Storage.keys storage.new)) pending.new subchannels.new in
+        MeetsUnitAt said (S.Storage.present storage.old) before result after }
     ensures size { length (S.Storage.bytes storage.new) ≡ length (S.Storage.bytes storage.old) }
+    ensures present { S.Storage.present storage.new ≡ S.Storage.present storage.old }
+    ensures rest { S.Storage.Keeps storage.old storage.new }
 {
-    loop {
-        match accept_status::<P, S>(status, cpu, subchannels, storage) {
-            Ok(()) => return Ok(()),
-            Err(page) => {
-                storage.bring(page)?;
-            }
-        }
+    match said {
+        Next::Stops(_) => Ok(()),
+        Next::Accepts(taken) => accept::<P, S>(taken, cpu, pending, subchannels, storage),
+        Next::AcceptsStatus(status) => accept_status::<P, S>(status, cpu, subchannels, storage),
+        Next::Instructs => instruct_saving::<P, S>(cpu, spare, subchannels, storage),
     }
 }
 
-/// The unit that a look says, likewise; none where it stops.
-#[inline(always)]
-fn supplied<P: Processor, S: Supply>(
-    look: Next,
+/// The unit that a look says, after each page was brought that it needs, each of them once. Where there is no room for one
+/// of them, nothing has changed.
+fn bring_pages<P: Processor, S: UnitSupply>(
+    said: Next,
     cpu: &mut Cpu,
     spare: &mut Cpu,
     pending: &mut Pending,
@@ -118,18 +64,71 @@ fn supplied<P: Processor, S: Supply>(
     requires { 8192 ≤ length (S.Storage.bytes storage.old) }
     ensures unit { let before = core_of (state_of cpu.old (S.Storage.bytes storage.old) (S.Storage.keys storage.old)) pending.old subchannels.old in
         let after = core_of (state_of cpu.new (S.Storage.bytes storage.new) (S.Storage.keys storage.new)) pending.new subchannels.new in
-        SuppliesUnit look before result after (S.IsShort storage.new) }
+        SuppliesUnit said before result after (S.Supply.IsShort storage.new) }
     ensures supply { let before = core_of (state_of cpu.old (S.Storage.bytes storage.old) (S.Storage.keys storage.old)) pending.old subchannels.old in
-        (pages : List ℕ) × S.Brought storage.old pages storage.new × AllNeeded (NeedsAt look before) pages }
+        (pages : List ℕ) × S.Supply.Brought storage.old pages storage.new × AllNeeded (NeedsAt said before) pages × (length pages ≤ 9) }
     ensures size { length (S.Storage.bytes storage.new) ≡ length (S.Storage.bytes storage.old) }
 {
-    match look {
-        Next::Stops(_) => Ok(()),
-        Next::Accepts(taken) => accept_supplied::<P, S>(taken, cpu, pending, subchannels, storage),
-        Next::AcceptsStatus(status) => {
-            accept_status_supplied::<P, S>(status, cpu, *pending, subchannels, storage)
+    loop {
+        match try_unit::<P, S>(said, cpu, spare, pending, subchannels, storage) {
+            Ok(()) => return Ok(()),
+            Err(page) => {
+                storage.bring(page)?;
+            }
         }
-        Next::Instructs => instruct_supplied::<P, S>(cpu, spare, *pending, subchannels, storage),
+    }
+}
+
+/// The unit that a look says, for which pages have to be brought: they are held until it ends, and no longer. It is out of
+/// line, so that a unit that brings nothing pays nothing for it.
+#[inline(never)]
+fn bring_for_unit<P: Processor, S: UnitSupply>(
+    said: Next,
+    cpu: &mut Cpu,
+    spare: &mut Cpu,
+    pending: &mut Pending,
+    subchannels: &mut Subchannels,
+    storage: &mut S,
+) -> Result<(), FramesOut>
+    requires large { 8192 ≤ length (S.Storage.bytes storage.old) }
+    requires between { S.IsBetween storage.old }
+    ensures unit { let before = core_of (state_of cpu.old (S.Storage.bytes storage.old) (S.Storage.keys storage.old)) pending.old subchannels.old in
+        let after = core_of (state_of cpu.new (S.Storage.bytes storage.new) (S.Storage.keys storage.new)) pending.new subchannels.new in
+        SuppliesUnit said before result after (S.IsOut storage.new) }
+    ensures supply { let before = core_of (state_of cpu.old (S.Storage.bytes storage.old) (S.Storage.keys storage.old)) pending.old subchannels.old in
+        (pages : List ℕ) × S.Came storage.old pages storage.new × AllNeeded (NeedsAt said before) pages × (length pages ≤ 9) }
+    ensures between { S.IsBetween storage.new }
+    ensures size { length (S.Storage.bytes storage.new) ≡ length (S.Storage.bytes storage.old) }
+{
+    let done = bring_pages::<P, S>(said, cpu, spare, pending, subchannels, storage);
+    storage.let_go();
+    done
+}
+
+/// The unit that a look says, with the pages that it needs; none where it stops. Where there is no room for one of them,
+/// nothing has changed; the pages that were brought for it stay.
+#[inline(always)]
+fn supplied<P: Processor, S: UnitSupply>(
+    said: Next,
+    cpu: &mut Cpu,
+    spare: &mut Cpu,
+    pending: &mut Pending,
+    subchannels: &mut Subchannels,
+    storage: &mut S,
+) -> Result<(), FramesOut>
+    requires large { 8192 ≤ length (S.Storage.bytes storage.old) }
+    requires between { S.IsBetween storage.old }
+    ensures unit { let before = core_of (state_of cpu.old (S.Storage.bytes storage.old) (S.Storage.keys storage.old)) pending.old subchannels.old in
+        let after = core_of (state_of cpu.new (S.Storage.bytes storage.new) (S.Storage.keys storage.new)) pending.new subchannels.new in
+        SuppliesUnit said before result after (S.IsOut storage.new) }
+    ensures supply { let before = core_of (state_of cpu.old (S.Storage.bytes storage.old) (S.Storage.keys storage.old)) pending.old subchannels.old in
+        (pages : List ℕ) × S.Came storage.old pages storage.new × AllNeeded (NeedsAt said before) pages × (length pages ≤ 9) }
+    ensures between { S.IsBetween storage.new }
+    ensures size { length (S.Storage.bytes storage.new) ≡ length (S.Storage.bytes storage.old) }
+{
+    match try_unit::<P, S>(said, cpu, spare, pending, subchannels, storage) {
+        Ok(()) => Ok(()),
+        Err(_) => bring_for_unit::<P, S>(said, cpu, spare, pending, subchannels, storage),
     }
 }
 
@@ -170,20 +169,23 @@ fn go_quickly<S: Storage>(said: Next, cpu: &mut Cpu, storage: &mut S, limit: u32
     }
 }
 
-/// At most so many units of a running processor. This takes no memory.
-pub fn run_units<P: Processor, S: Supply>(
+/// At most so many units of a running processor. Each brings the pages that it needs, nine at most, and what is brought for
+/// one stays until it ends. This takes no memory.
+pub fn run_units<P: Processor, S: UnitSupply>(
     cpu: &mut Cpu,
     pending: &mut Pending,
     subchannels: &mut Subchannels,
     storage: &mut S,
     count: u32,
 ) -> Ran
-    requires { 8192 ≤ length (S.Storage.bytes storage.old) }
+    requires large { 8192 ≤ length (S.Storage.bytes storage.old) }
+    requires between { S.IsBetween storage.old }
     ensures told { let before = core_of (state_of cpu.old (S.Storage.bytes storage.old) (S.Storage.keys storage.old)) pending.old subchannels.old in
         let after = core_of (state_of cpu.new (S.Storage.bytes storage.new) (S.Storage.keys storage.new)) pending.new subchannels.new in
-        TellsRun count before (record { core = after; units = result.units; reason = result.reason }) (S.IsShort storage.new) }
+        TellsRun count before (record { core = after; units = result.units; reason = result.reason }) (S.IsOut storage.new) }
     ensures supply { let before = core_of (state_of cpu.old (S.Storage.bytes storage.old) (S.Storage.keys storage.old)) pending.old subchannels.old in
-        (pages : List ℕ) × S.Brought storage.old pages storage.new × AllNeeded (RunNeeds before result.units result.reason) pages }
+        (pages : List ℕ) × S.Came storage.old pages storage.new × AllNeeded (RunNeeds before result.units result.reason) pages × (length pages ≤ 9 * begun result.units result.reason) }
+    ensures between { S.IsBetween storage.new }
     ensures size { length (S.Storage.bytes storage.new) ≡ length (S.Storage.bytes storage.old) }
 {
     let mut spare = *cpu;

@@ -207,7 +207,7 @@ fn follow<P: Processor, S: Keyed>(
 
 /// Accepts external conditions together. Where page 0 is not present, that is the error, and all is as it was.
 /// No device takes part.
-#[inline]
+#[inline(never)]
 pub fn accept<P: Processor, S: Keyed>(
     taken: Pending,
     cpu: &mut Cpu,
@@ -230,7 +230,7 @@ pub fn accept<P: Processor, S: Keyed>(
 
 /// Accepts the status of a device: stores its channel status word and interrupts the processor; the device is idle. Where
 /// page 0 is not present, that is the error, and all is as it was.
-#[inline]
+#[inline(never)]
 pub fn accept_status<P: Processor, S: Keyed>(
     status: Status,
     cpu: &mut Cpu,

@@ -1,4 +1,4 @@
-use Rattle.std.proofs.Common.{◌≡◌, ℕ, List, [], ◌∷◌, ◌++◌, ◌∙◌}
+use Rattle.std.proofs.Common.{[], ◌∷◌, ◌++◌, ◌∙◌}
 use Rattle.s370_store.specs.Access.{Touches}
 use Rattle.s370_intr.proofs.Runs.{all_needed}
 use Rattle.cp_panel.specs.DisplayStore.{touched}

@@ -1,30 +1,20 @@
-use Rattle.std.proofs.Common.{◌≡◌, ℕ, List, [], ◌∷◌, ◌++◌, ◌∙◌}
-use Rattle.s370_intr.proofs.Runs.{all_needed}
+use Rattle.std.proofs.Common.{◌≡◌, arith}
+use Rattle.s370_intr.proofs.Brings.{lacking_on_error}
 use Rattle.cp_panel.proofs.tick.tick_supplied.Goals as goal
 
-pub returns-in-Ok-clause-supply : goal.returns-in-Ok-clause-supply
-returns-in-Ok-clause-supply g c =
-    let s = c.loop-page.invariant.supply in
-    (s.0 ++ [], g.met.S.Supply.brought_on _ _ _ s.0 [] s.1 (g.met.S.Supply.brought_none _ _ c.tick.ensures.rest), all_needed _ s.0 [] s.2 tt)
+pub returns-clause-frames : goal.returns-clause-frames
+returns-clause-frames g c =
+    let s = c.bring_and_tick-ticked.ensures.supply in
+    lacking_on_error c.bring_and_tick-ticked.result (λ page. page ≡ 0) _ (g.S.Supply.IsShort c.bring_and_tick-ticked.new.storage) (g.S.UnitSupply.IsOut c.let_go.new.self)
+    (λ page short. g.met.S.UnitSupply.let_go_out _ _ _ s.0 page c.requires.between s.1 (omega (arith, s.3)) short c.let_go.ensures.let_go)
+    c.bring_and_tick-ticked.ensures.frames
 
-pub loop-page-preserved : goal.loop-page-preserved
-loop-page-preserved g c =
-    let s = c.loop-page.invariant.supply in
-    let page = c.in-Err.page.0 in
-    record {
-      same = rw c.bring.ensures.bytes (c.in-Err.ensures.tick.0 ∙ c.loop-page.invariant.same);
-      keys = c.bring.ensures.keys ∙ (c.tick.ensures.keys ∙ c.loop-page.invariant.keys);
-      supply = (
-        (s.0 ++ []) ++ (page ∷ []),
-        g.met.S.Supply.brought_on _ _ _ (s.0 ++ []) (page ∷ []) (g.met.S.Supply.brought_on _ _ _ s.0 [] s.1 (g.met.S.Supply.brought_none _ _ c.tick.ensures.rest)) c.in_ok-bring-in-Err.ensures.brought,
-        all_needed _ (s.0 ++ []) (page ∷ []) (all_needed _ s.0 [] s.2 tt) (c.in-Err.ensures.tick.1, tt),
-      );
-    }
+pub returns-clause-supply : goal.returns-clause-supply
+returns-clause-supply g c =
+    let s = c.bring_and_tick-ticked.ensures.supply in
+    (s.0, g.met.S.UnitSupply.let_go_came _ _ _ s.0 s.1 c.let_go.ensures.let_go, s.2, s.3)
 
-pub returns-in_err-bring-in-Err-clause-supply : goal.returns-in_err-bring-in-Err-clause-supply
-returns-in_err-bring-in-Err-clause-supply g c =
-    let s = c.loop-page.invariant.supply in (
-      (s.0 ++ []) ++ [],
-      g.met.S.Supply.brought_on _ _ _ (s.0 ++ []) [] (g.met.S.Supply.brought_on _ _ _ s.0 [] s.1 (g.met.S.Supply.brought_none _ _ c.tick.ensures.rest)) c.in_err-bring-in-Err.ensures.refused,
-      all_needed _ (s.0 ++ []) [] (all_needed _ s.0 [] s.2 tt) tt,
-    )
+pub returns-clause-between : goal.returns-clause-between
+returns-clause-between g c =
+    let s = c.bring_and_tick-ticked.ensures.supply in
+    g.met.S.UnitSupply.let_go_between _ _ _ s.0 c.requires.between s.1 c.let_go.ensures.let_go

@@ -1,10 +1,11 @@
-use Rattle.std.proofs.Common.{◌≡◌, [], ◌++◌, ◌∙◌, ◌+◌, ◌-◌, ◌<◌, ◌≤◌, subst, sym, arith, refl, inl, inr}
+use Rattle.std.proofs.Common.{◌≡◌, [], ◌++◌, ◌∙◌, ◌+◌, ◌-◌, ◌<◌, ◌≤◌, length-append, subst, sym, arith, refl, inl, inr}
 use Rattle.s370_rows.specs.State.{state_of}
 use Rattle.s370_intr.specs.declared.next.Next.{Next}
 use Rattle.s370_intr.specs.declared.next.Reason.TheVariants.{Count, FramesOut}
 use Rattle.s370_intr.specs.Units.{NeedsAt, core_of, look, unit_at}
 use Rattle.s370_intr.specs.Run.{AllNeeded, run}
 use Rattle.s370_intr.proofs.Runs.{all_done, all_needed, does_many, does_more, later_needs, next_needs, not_stopped, tells_cut, tells_stop, Goes}
+use Rattle.s370_intr.proofs.Brings.{begun_all}
 use Rattle.s370_intr.proofs.run.run_units.Goals as goal
 
 pub loop-units-preserved-then-units-count : goal.loop-units-preserved-then-units-count
@@ -21,11 +22,12 @@ loop-units-preserved-then-units-count g c =
     let within : n ≤ c.args.count - k0 = c.go_quickly-units.ensures.within in
     let start : k0 ≤ c.args.count = c.loop-units.invariant.within in
     let s = c.loop-units.invariant.supply in
-    let brought = g.met.S.Supply.brought_on _ _ _ s.0 [] s.1 (g.met.S.Supply.brought_none _ _ c.go_quickly-units.ensures.rest) in
+    let brought = g.met.S.UnitSupply.came_on _ _ _ s.0 [] s.1 (g.met.S.UnitSupply.came_none _ _ c.go_quickly-units.ensures.rest) in
     record {
       within = omega (arith, within, start);
       ran = ran;
-      supply = (s.0 ++ [], brought, all_needed _ s.0 [] (later_needs first k0 k Count s.0 (omega arith) s.2) tt);
+      supply = (s.0 ++ [], brought, all_needed _ s.0 [] (later_needs first k0 k Count s.0 (omega arith) s.2) tt, omega (arith, s.3, length-append s.0 []));
+      between = g.met.S.UnitSupply.between_kept _ _ c.go_quickly-units.ensures.rest c.loop-units.invariant.between;
       size = c.go_quickly-units.ensures.size ∙ c.loop-units.invariant.size;
     }
 
@@ -51,8 +53,17 @@ returns-in-Stops-clause-supply g c =
     let k0 = c.loop-units.units in
     let k = k0 + c.go_quickly-units.result in
     let s = c.loop-units.invariant.supply in
-    let brought = g.met.S.Supply.brought_on _ _ _ s.0 [] s.1 (g.met.S.Supply.brought_none _ _ c.go_quickly-units.ensures.rest) in
-    (s.0 ++ [], brought, all_needed _ s.0 [] (later_needs _ k0 k c.in-Stops.reason s.0 (omega arith) s.2) tt)
+    let brought = g.met.S.UnitSupply.came_on _ _ _ s.0 [] s.1 (g.met.S.UnitSupply.came_none _ _ c.go_quickly-units.ensures.rest) in
+    (s.0 ++ [], brought, all_needed _ s.0 [] (later_needs _ k0 k c.in-Stops.reason s.0 (omega arith) s.2) tt, omega (arith, s.3, length-append s.0 [], begun_all k c.in-Stops.reason))
+
+pub returns-in-Stops-clause-between : goal.returns-in-Stops-clause-between
+returns-in-Stops-clause-between g c = g.met.S.UnitSupply.between_kept _ _ c.go_quickly-units.ensures.rest c.loop-units.invariant.between
+
+pub supplied-requires : goal.supplied-requires
+supplied-requires g c = record {
+  large = rw (c.go_quickly-units.ensures.size, c.loop-units.invariant.size) c.requires.large;
+  between = g.met.S.UnitSupply.between_kept _ _ c.go_quickly-units.ensures.rest c.loop-units.invariant.between;
+}
 
 pub returns-in-Err : goal.returns-in-Err
 returns-in-Err g c =
@@ -70,16 +81,18 @@ returns-in-Err g c =
     let less : k < c.args.count = omega (arith, within, start, c.if-units-count.false) in
     let e : c.look-next.result ≡ look now = sym quick.1 in
     let s = c.loop-units.invariant.supply in
-    let brought = g.met.S.Supply.brought_on _ _ _ s.0 [] s.1 (g.met.S.Supply.brought_none _ _ c.go_quickly-units.ensures.rest) in
+    let brought = g.met.S.UnitSupply.came_on _ _ _ s.0 [] s.1 (g.met.S.UnitSupply.came_none _ _ c.go_quickly-units.ensures.rest) in
     let t = c.in-Err.ensures.supply in
     let needed : AllNeeded (NeedsAt (look now) now) t.0 = subst (λ (l : Next). AllNeeded (NeedsAt l now) t.0) e t.2 in
     record {
       told = tells_cut k c.args.count first now _ c.look-next.result _ ran less e c.in-Err.ensures.unit.0 c.in-Err.ensures.unit.1;
       supply = (
         (s.0 ++ []) ++ t.0,
-        g.met.S.Supply.brought_on _ _ _ (s.0 ++ []) t.0 brought t.1,
+        g.met.S.UnitSupply.came_on _ _ _ (s.0 ++ []) t.0 brought t.1,
         all_needed _ (s.0 ++ []) t.0 (all_needed _ s.0 [] (later_needs first k0 k FramesOut s.0 (omega arith) s.2) tt) (next_needs first now k k FramesOut t.0 ran (inr (refl, refl)) needed),
+        omega (arith, s.3, t.3, length-append (s.0 ++ []) t.0, length-append s.0 []),
       );
+      between = c.in-Err.ensures.between;
       size = c.in-Err.ensures.size ∙ c.go_quickly-units.ensures.size ∙ c.loop-units.invariant.size;
     }
 
@@ -99,7 +112,7 @@ loop-units-preserved g c =
     let less : k < c.args.count = omega (arith, within, start, c.if-units-count.false) in
     let e : c.look-next.result ≡ look now = sym quick.1 in
     let s = c.loop-units.invariant.supply in
-    let brought = g.met.S.Supply.brought_on _ _ _ s.0 [] s.1 (g.met.S.Supply.brought_none _ _ c.go_quickly-units.ensures.rest) in
+    let brought = g.met.S.UnitSupply.came_on _ _ _ s.0 [] s.1 (g.met.S.UnitSupply.came_none _ _ c.go_quickly-units.ensures.rest) in
     let t = c.in-Ok.ensures.supply in
     let new = core_of (state_of c.supplied.new.cpu (g.S.Storage.bytes c.supplied.new.storage) (g.S.Storage.keys c.supplied.new.storage)) c.supplied.new.pending c.supplied.new.subchannels in
     let goes : Goes (look now) = subst Goes e (not_stopped c.look-next.result c.in_default.not-Stops) in
@@ -110,8 +123,10 @@ loop-units-preserved g c =
       ran = does_more k first now new ran goes step;
       supply = (
         (s.0 ++ []) ++ t.0,
-        g.met.S.Supply.brought_on _ _ _ (s.0 ++ []) t.0 brought t.1,
+        g.met.S.UnitSupply.came_on _ _ _ (s.0 ++ []) t.0 brought t.1,
         all_needed _ (s.0 ++ []) t.0 (all_needed _ s.0 [] (later_needs first k0 (k + 1) Count s.0 (omega arith) s.2) tt) (next_needs first now k (k + 1) Count t.0 ran (inl (omega arith)) needed),
+        omega (arith, s.3, t.3, length-append (s.0 ++ []) t.0, length-append s.0 []),
       );
+      between = c.in-Ok.ensures.between;
       size = c.in-Ok.ensures.size ∙ c.go_quickly-units.ensures.size ∙ c.loop-units.invariant.size;
     }

@@ -1,4 +1,4 @@
-use Rattle.std.proofs.Common.{◌≡◌, ◌-◌, ◌≤◌, ℕ, List, length}
+use Rattle.std.proofs.Common.{◌≡◌, ◌-◌, ◌*◌, ◌≤◌, ℕ, List, length}
 use Rattle.s370_rows.specs.State.{state_of}
 use Rattle.s370_intr.specs.Units.{core_of}
 use Rattle.s370_intr.specs.Run.{AllNeeded, RunNeeds, run}
@@ -12,7 +12,8 @@ invariant-loop-units g l =
     record {
       within : l.units ≤ l.count;
       ran : run l.units first ≡ all_done l.units (core_of (state_of l.cpu (g.S.Storage.bytes l.storage) (g.S.Storage.keys l.storage)) l.pending l.subchannels);
-      supply : (pages : List ℕ) × g.S.Supply.Brought l.fn.storage pages l.storage × AllNeeded (RunNeeds first l.units Count) pages;
+      supply : (pages : List ℕ) × g.S.UnitSupply.Came l.fn.storage pages l.storage × AllNeeded (RunNeeds first l.units Count) pages × (length pages ≤ 9 * l.units);
+      between : g.S.UnitSupply.IsBetween l.storage;
       size : length (g.S.Storage.bytes l.storage) ≡ length (g.S.Storage.bytes l.fn.storage);
     }
 

@@ -1,12 +1,11 @@
-use Rattle.std.proofs.Common.{◌≡◌, ◌<◌, ℕ, List, length, Err, Option, subst, sym, ◌∙◌, true, false, refl}
+use Rattle.std.proofs.Common.{◌≡◌, ◌<◌, ℕ, List, length, Err, subst, sym, ◌∙◌}
 use Rattle.std.specs.Prelude.{IfOk}
-use Rattle.std.proofs.lemmas.Bool.{false≢true}
 use Rattle.s370_store.specs.Access.{Test, Touches}
 use Rattle.s370_intr.specs.Run.{AllNeeded, IsLacking}
 use Rattle.cp_panel.specs.Machine.{Machine, machine_of}
 use Rattle.cp_panel.specs.Panel.{Answer}
 use Rattle.cp_panel.specs.declared.line.LineError.TheVariants.{Memory, FramesOut}
-use Rattle.cp_panel.proofs.OnLines.{IsOn, is_on}
+use Rattle.cp_panel.proofs.OnLines.{is_on}
 use Rattle.cp_panel.proofs.machine.Machine.line.Goals as goal
 
 pub returns-in_default : goal.returns-in_default

@@ -1,8 +1,8 @@
-use Rattle.std.proofs.Common.{◌≡◌, ℕ, rules}
+use Rattle.std.proofs.Common.{◌≡◌, rules}
 use Rattle.s370_intr.proofs.Runs.{more_needs}
 use Rattle.cp_panel.proofs.machine.Machine.tick.Goals as goal
 
 pub returns-in-Running-clause-supply : goal.returns-in-Running-clause-supply
 returns-in-Running-clause-supply g c =
     let s = c.tick_supplied.ensures.supply in
-    (s.0, s.1, more_needs (λ page. page ≡ 0) _ s.0 (λ page zero. (search rules, zero)) s.2)
+    (s.0, s.1, more_needs (λ page. page ≡ 0) _ s.0 (λ page zero. (search rules, zero)) s.2, s.3)

@@ -1,0 +1,101 @@
+//! A storage that brings absent pages for one unit of operation after another.
+//!
+//! What is brought for a unit is held until the unit ends: it tries, brings the page that was absent and tries again, each
+//! page but once, since what is held is present; and then it lets go. So a unit brings no more pages than it needs, and a
+//! storage that can hold nine tells that there is no room only where there is none for any unit.
+//!
+//! Its one theorem: whatever was brought from a state between units on, letting go leads to such a state again, and just
+//! the pages that were brought came from one to the other.
+#![tactic(auto)]
+
+ghost use Rattle.std.specs.Prelude.{◌≡◌, ◌≤◌, ℕ, List, [], ◌++◌, length, true, Contains};
+
+use s370_store::{PlainStorage, Supply};
+
+/// A storage whose absent pages are brought for a unit, and held until it ends.
+///
+/// ```
+/// let done = loop {
+///     match try_it(storage) {
+///         Ok(()) => break Ok(()),
+///         Err(page) => ..                    // Supply::bring
+///     }
+/// };
+/// storage.let_go();
+/// done
+/// ```
+pub trait UnitSupply: Supply {
+    /// Between two units: nothing is held, and there is room to hold the nine pages that a unit may need.
+    ghost IsBetween: { Self → Type 0 };
+
+    /// There is no room for this page, though nothing is held.
+    ghost IsOut: { Self → ℕ → Type 0 };
+
+    /// From one state between units to another just these pages came, in this order; what this storage is lent from stays.
+    ghost Came: { Self → List ℕ → Self → Type 0 };
+
+    /// What was brought is held no longer. It stays present, until another page takes its place.
+    ghost LetsGo: { Self → Self → Type 0 };
+
+    /// Lets go of what was brought. No byte changes, and no key.
+    fn let_go(&mut self)
+        ensures bytes { Self.bytes self.new ≡ Self.bytes self.old }
+        ensures keys { Self.keys self.new ≡ Self.keys self.old }
+        ensures let_go { LetsGo self.old self.new };
+
+    /// What was brought is present, whatever was brought after it.
+    ghost held: { (s t : Self) (pages : List ℕ) (page : ℕ) → Self.Brought s pages t → Contains pages page → Self.present t page ≡ true };
+
+    /// Letting go ends a unit.
+    ghost let_go_between: { (s t u : Self) (pages : List ℕ) → IsBetween s → Self.Brought s pages t → LetsGo t u → IsBetween u };
+
+    /// What was brought has come.
+    ghost let_go_came: { (s t u : Self) (pages : List ℕ) → Self.Brought s pages t → LetsGo t u → Came s pages u };
+
+    /// Where there was no room beside at most nine pages that are held, there is none.
+    ghost let_go_out: { (s t u : Self) (pages : List ℕ) (page : ℕ) → IsBetween s → Self.Brought s pages t → length pages ≤ 9 → Self.IsShort t page → LetsGo t u → IsOut u page };
+
+    /// An access holds nothing.
+    ghost between_kept: { (s t : Self) → Self.Keeps s t → IsBetween s → IsBetween t };
+
+    /// No page comes by an access.
+    ghost came_none: { (s t : Self) → Self.Keeps s t → Came s [] t };
+
+    /// What comes twice comes.
+    ghost came_on: { (s t u : Self) (before after : List ℕ) → Came s before t → Came t after u → Came s (before ++ after) u };
+}
+
+/// All of it is there, so nothing is ever held.
+impl UnitSupply for PlainStorage {
+    ghost use Rattle.std.specs.Prelude.{refl};
+    ghost use Rattle.s370_store.specs.Plain.{plain_bytes, plain_keys};
+
+    ghost IsBetween = { λ _. Unit {0} };
+
+    ghost IsOut = { λ _ _. ⊥ };
+
+    ghost Came = { λ _ _ _. Unit {0} };
+
+    ghost LetsGo = { λ _ _. Unit {0} };
+
+    #[inline]
+    fn let_go(&mut self)
+        ensures bytes { plain_bytes self.new ≡ plain_bytes self.old }
+        ensures keys { plain_keys self.new ≡ plain_keys self.old }
+        ensures let_go { Unit {0} }
+    {}
+
+    ghost held = { λ s t pages page brought listed. refl };
+
+    ghost let_go_between = { λ s t u pages between brought let_go. tt };
+
+    ghost let_go_came = { λ s t u pages brought let_go. tt };
+
+    ghost let_go_out = { λ s t u pages page between brought few short let_go. short };
+
+    ghost between_kept = { λ s t kept between. tt };
+
+    ghost came_none = { λ s t kept. tt };
+
+    ghost came_on = { λ s t u before after a b. tt };
+}
