@@ -2,7 +2,7 @@
 use Rattle.std.proofs.Common.{◌≡◌, ℕ, ◌+◌, ◌*◌, ◌<◌, List, [], ◌++◌, length, get_or, false, Option, Some, None, refl, sym, ◌∙◌, ap, arith, set-set}
 use Rattle.std.proofs.Math.ListN.{set, length-set}
 use Rattle.std.proofs.lemmas.List.{set-get_or}
-use Rattle.std.specs.Prelude.{IfSome}
+use Rattle.std.specs.Prelude.{IfSome, IsSome, All, take}
 use Rattle.cp_frames.specs.declared.numbers.UserPage.{UserPage}
 use Rattle.cp_frames.specs.declared.pool.Frames.TheInside.{Inside}
 use Rattle.cp_frames.specs.Layout.{FrameSupply, owned, frame_of, storages_of, told, IsWhole, IsMapped, IsSound}
@@ -14,6 +14,7 @@ use Rattle.cp_frames.proofs.Halves.{crossed-moved, hold_left, hold_right, once_l
 use Rattle.cp_frames.proofs.Told.{AreSmall, IsNew, tabled-set}
 use Rattle.cp_frames.proofs.Mapped.{mapped-set}
 use Rattle.cp_frames.proofs.Orders.{ordered-set, small_page}
+use Rattle.cp_frames.proofs.Sought.{none_taken}
 use Rattle.cp_frames.proofs.Inside.{IsKept, places_in, owners_in}
 
 moved_in : (f : Inside) (frame slot : ℕ) → IsKept f → frame < length f.owners.items → slot < length f.slot_owners.items →
@@ -38,12 +39,12 @@ new_slot f frame kept lt q h =
     let there = kept.whole.once frame q (hold_left f.owners.items f.slot_owners.items frame q h) in
     (small_left f kept frame q h, no_slot_of_frame f.owners.items f.slot_owners.items q.user q.page.0 frame kept.whole.once there lt)
 
-pub exchange-kept : (f : Inside) (frame slot : ℕ) → IsKept f → frame < length f.owners.items → slot < length f.slot_owners.items → get_or f.pins.items frame false ≡ false →
+pub exchange-kept : (f : Inside) (frame slot end low : ℕ) → IsKept f → frame < length f.owners.items → slot < length f.slot_owners.items → get_or f.pins.items frame false ≡ false → end ≡ length f.order.items → All IsSome (take low (set f.slot_owners.items slot (get_or f.owners.items frame None))) →
     IsSound (set f.frames.items frame (get_or f.slots.items slot [])) (set f.slots.items slot (get_or f.frames.items frame []))
     (set f.owners.items frame (get_or f.slot_owners.items slot None)) (set f.slot_owners.items slot (get_or f.owners.items frame None)) f.sizes.items
     (noted (get_or f.slot_owners.items slot None) (frame * 16) (noted (get_or f.owners.items frame None) 8 f.tables.items))
-    (told (get_or f.owners.items frame None) slot (told (get_or f.slot_owners.items slot None) 4294967295 f.slot_table.items)) f.pins.items f.is_marked f.order.items
-exchange-kept f frame slot kept lt less unpinned = record {
+    (told (get_or f.owners.items frame None) slot (told (get_or f.slot_owners.items slot None) 4294967295 f.slot_table.items)) f.pins.items f.is_marked f.order.items end low
+exchange-kept f frame slot end low kept lt less unpinned all before = record {
   frame_room = rw (length-set, length-set) kept.frame_room;
   slot_room = rw (length-set, length-set) kept.slot_room;
   whole = whole-moved (crossed frame (length f.owners.items + slot)) (places_in f) _ (owners_in f) _ f.sizes.items kept.whole (moved_in f frame slot kept lt less);
@@ -51,6 +52,7 @@ exchange-kept f frame slot kept lt less unpinned = record {
   slots_tabled = tabled-set 4294967295 f.slot_owners.items f.sizes.items f.slot_table.items slot (get_or f.owners.items frame None) (once_right f.owners.items f.slot_owners.items kept.whole.once) (small_right f kept) kept.slots_tabled less (new_slot f frame kept lt);
   ordered = ordered-set f.owners.items f.pins.items f.order.items frame (get_or f.slot_owners.items slot None) kept.ordered unpinned;
   unmarked = kept.unmarked;
+  sought = record { within = omega arith; taken = none_taken (set f.owners.items frame (get_or f.slot_owners.items slot None)) f.order.items end (omega arith); before = before };
 }
 
 pub exchange-storages : (f : Inside) (frame slot : ℕ) → IsKept f → frame < length f.owners.items → slot < length f.slot_owners.items →

@@ -20,7 +20,7 @@ abbrev pub bytes_in : Inside → ℕ → List ℕ
 bytes_in f user = get_or (storages_of (places_in f) (owners_in f) f.sizes.items) user []
 
 abbrev pub IsKept : Inside → Type 0
-IsKept f = IsSound f.frames.items f.slots.items f.owners.items f.slot_owners.items f.sizes.items f.tables.items f.slot_table.items f.pins.items f.is_marked f.order.items
+IsKept f = IsSound f.frames.items f.slots.items f.owners.items f.slot_owners.items f.sizes.items f.tables.items f.slot_table.items f.pins.items f.is_marked f.order.items f.end f.low
 
 -- a page of the user has an entry in the tables
 pub entry_of_page : (f : Inside) (user page : ℕ) → IsKept f → page * 4096 < length (bytes_in f user) → IsEntry f.sizes.items f.tables.items user page

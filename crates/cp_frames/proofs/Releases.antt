@@ -4,7 +4,9 @@ use Rattle.std.specs.Prelude.{All}
 use Rattle.std.specs.List.{range_with_len}
 use Rattle.std.proofs.Math.ListN.{length-map, length-replicate}
 use Rattle.std.proofs.lemmas.List.{map-append}
-use Rattle.std.proofs.lemmas.List.Sorted.{IsPermutation-reverse}
+use Rattle.std.proofs.lemmas.List.FromFn.{length-range_with_len}
+use Rattle.std.proofs.lemmas.List.Sorted.{IsPermutation-reverse, length_permutation}
+use Rattle.cp_frames.proofs.Sought.{none_taken}
 use Rattle.cp_frames.specs.declared.numbers.UserPage.{UserPage}
 use Rattle.cp_frames.specs.declared.pool.Frames.TheInside.{Inside}
 use Rattle.cp_frames.specs.Layout.{cleared_of, without, storages_of, ArePages, IsWhole, IsMapped, IsTabled, IsSound}
@@ -23,10 +25,10 @@ never_pinned (suc n) (suc k) e = never_pinned n k e
 pub both_cleared : (user : ℕ) (owners slots : List (Option UserPage)) → cleared_of user (owners ++ slots) ≡ cleared_of user owners ++ cleared_of user slots
 both_cleared user owners slots = map-append (without user) owners slots
 
-pub released-kept : (f : Inside) (user : ℕ) (tables slot_table : List ℕ) → IsKept f → f.pins.items ≡ replicate (length f.pins.items) false →
-    IsMapped (cleared_of user f.owners.items) f.sizes.items tables → IsTabled 4294967295 (cleared_of user f.slot_owners.items) f.sizes.items slot_table →
-    IsSound f.frames.items f.slots.items (cleared_of user f.owners.items) (cleared_of user f.slot_owners.items) f.sizes.items tables slot_table f.pins.items f.is_marked f.order.items
-released-kept f user tables slot_table kept blank mapped slots_tabled = record {
+pub released-kept : (f : Inside) (user : ℕ) (tables slot_table : List ℕ) (end : ℕ) → IsKept f → f.pins.items ≡ replicate (length f.pins.items) false →
+    IsMapped (cleared_of user f.owners.items) f.sizes.items tables → IsTabled 4294967295 (cleared_of user f.slot_owners.items) f.sizes.items slot_table → end ≡ length f.order.items →
+    IsSound f.frames.items f.slots.items (cleared_of user f.owners.items) (cleared_of user f.slot_owners.items) f.sizes.items tables slot_table f.pins.items f.is_marked f.order.items end 0
+released-kept f user tables slot_table end kept blank mapped slots_tabled all = record {
   frame_room = rw length-map kept.frame_room;
   slot_room = rw length-map kept.slot_room;
   whole = subst (λ (os : List (Option UserPage)). IsWhole (places_in f) os f.sizes.items) (both_cleared user f.owners.items f.slot_owners.items) (whole-cleared (places_in f) (owners_in f) f.sizes.items user kept.whole);
@@ -39,6 +41,7 @@ released-kept f user tables slot_table kept blank mapped slots_tabled = record {
     each = rw length-map kept.ordered.each;
   };
   unmarked = kept.unmarked;
+  sought = record { within = omega arith; taken = none_taken (cleared_of user f.owners.items) f.order.items end (omega arith); before = λ k d lt. absurd (omega (arith, lt)) };
 }
 
 -- the pages in frames
@@ -58,10 +61,19 @@ pub none_both : (n m : ℕ) → let none : ℕ → List (Option UserPage) = λ k
 none_both zero m = ap (λ (k : ℕ). let none : List (Option UserPage) = replicate k None in none) (omega arith)
 none_both (suc n) m = ap (λ (xs : List (Option UserPage)). None ∷ xs) (none_both n m) ∙ ap (λ (k : ℕ). let none : List (Option UserPage) = replicate k None in none) (let e : suc (n + m) ≡ suc n + m = omega arith in e)
 
+order_is : (n : ℕ) → length (reverse (range_with_len 0 n)) ≡ n
+order_is n = length_permutation _ _ (IsPermutation-reverse (range_with_len 0 n)) ∙ length-range_with_len 0 n
+
+long_order : (n : ℕ) → n ≤ length (reverse (range_with_len 0 n))
+long_order n = let e = order_is n in omega arith
+
+order_long : (n : ℕ) → length (reverse (range_with_len 0 n)) ≤ n
+order_long n = let e = order_is n in omega arith
+
 pub sound-first : (frames slots : List (List ℕ)) (owners slot_owners : List (Option UserPage)) (sizes tables slot_table : List ℕ) (pins : List Bool) (order : List ℕ) (n m : ℕ) →
     length frames ≡ n → length slots ≡ m → owners ≡ replicate n None → slot_owners ≡ replicate m None → length tables ≡ 2304 * length sizes →
     ((half : ℕ) → half < 1152 * length sizes → half_at tables (half * 2) ≡ first_half (half / 1152) (get_or sizes (half / 1152) 0) (half % 1152)) → slot_table ≡ replicate (1024 * length sizes) 4294967295 →
-    pins ≡ replicate n false → order ≡ reverse (range_with_len 0 n) → n ≤ 4096 → m ≤ 65536 → length sizes ≤ 64 → All (λ pages. pages ≤ 1024) sizes → IsSound frames slots owners slot_owners sizes tables slot_table pins false order
+    pins ≡ replicate n false → order ≡ reverse (range_with_len 0 n) → n ≤ 4096 → m ≤ 65536 → length sizes ≤ 64 → All (λ pages. pages ≤ 1024) sizes → IsSound frames slots owners slot_owners sizes tables slot_table pins false order n 0
 sound-first frames slots owners slot_owners sizes tables slot_table pins order n m room slot_room e f long halves g h i few many users small =
     let both : length (frames ++ slots) ≡ n + m = omega (arith, length-append frames slots) in
     rw (e, f, g, h, i) (record {
@@ -77,6 +89,7 @@ sound-first frames slots owners slot_owners sizes tables slot_table pins order n
         each = rw length-replicate (IsPermutation-reverse (range_with_len 0 n));
       };
       unmarked = λ _. ap (λ (k : ℕ). replicate k false) (sym (length-replicate n false));
+      sought = record { within = long_order n; taken = none_taken (replicate n None) (reverse (range_with_len 0 n)) n (order_long n); before = λ k d lt. absurd (omega (arith, lt)) };
     })
 
 pub storages-first : (places : List (List ℕ)) (owners slot_owners : List (Option UserPage)) (sizes : List ℕ) (n m : ℕ) → owners ≡ replicate n None → slot_owners ≡ replicate m None →

@@ -1,5 +1,5 @@
 -- What frames, and the pages that stand in them, mean: the storage of each user.
-use Rattle.std.specs.Prelude.{◌≡◌, ℕ, ◌+◌, ◌*◌, ◌/◌, ◌%◌, ◌<◌, ◌≤◌, Bool, true, false, nat_lt, ◌&&◌, ◌==◌, if◌then◌else◌, List, [], ◌++◌, map, length, replicate, slice_index, slice_index_or, Option, Some, None, is_some, IsSome, slice_set}
+use Rattle.std.specs.Prelude.{◌≡◌, ℕ, ◌+◌, ◌*◌, ◌/◌, ◌%◌, ◌<◌, ◌≤◌, Bool, true, false, nat_lt, ◌&&◌, ◌==◌, if◌then◌else◌, List, [], ◌++◌, map, length, replicate, slice_index, slice_index_or, Option, Some, None, is_some, IsSome, slice_set, All, take, drop}
 use Rattle.std.specs.List.{position_from, range_with_len}
 use Rattle.std.specs.List.Sorted.{IsPermutation}
 use Rattle.cp_frames.specs.declared.numbers.UserPage.{UserPage}
@@ -115,9 +115,20 @@ pub record ArePages (owners : List (Option UserPage)) (sizes : List ℕ) : Type 
   pub once : (place : ℕ) (page : UserPage) → Holds owners place page → frame_of owners page.user page.page.0 ≡ Some place
   pub inside : (place : ℕ) (page : UserPage) → Holds owners place page → page.page.0 < slice_index sizes page.user
 
+-- each of these frames has a page
+abbrev pub AreTaken : List (Option UserPage) → List ℕ → Type 0
+AreTaken owners frames = All (λ frame. IsSome (slice_index_or owners frame None)) frames
+
+-- what is always so of where a search for a free frame ends, and of where one for a free slot begins: the frames whose turn is
+-- that or a later one have pages, and so have the slots before
+pub record IsSought (owners slot_owners : List (Option UserPage)) (order : List ℕ) (end low : ℕ) : Type 0 where
+  pub within : end ≤ length order
+  pub taken : AreTaken owners (drop end order)
+  pub before : All IsSome (take low slot_owners)
+
 -- what is always so of frames with their pages, slots with theirs, the users' sizes, the tables of frames and of slots,
--- the pins, whether any may be set, and the order: frames and slots together are places, and each page stands in one place at most
-pub record IsSound (frames slots : List (List ℕ)) (owners slot_owners : List (Option UserPage)) (sizes tables slot_table : List ℕ) (pins : List Bool) (marked : Bool) (order : List ℕ) : Type 0 where
+-- the pins, whether any may be set, the order, and where searches end and begin: frames and slots together are places, and each page stands in one place at most
+pub record IsSound (frames slots : List (List ℕ)) (owners slot_owners : List (Option UserPage)) (sizes tables slot_table : List ℕ) (pins : List Bool) (marked : Bool) (order : List ℕ) (end low : ℕ) : Type 0 where
   pub frame_room : length frames ≡ length owners
   pub slot_room : length slots ≡ length slot_owners
   pub whole : IsWhole (frames ++ slots) (owners ++ slot_owners) sizes
@@ -125,6 +136,7 @@ pub record IsSound (frames slots : List (List ℕ)) (owners slot_owners : List (
   pub slots_tabled : IsTabled 4294967295 slot_owners sizes slot_table
   pub ordered : IsOrdered owners pins order
   pub unmarked : marked ≡ false → pins ≡ replicate (length pins) false
+  pub sought : IsSought owners slot_owners order end low
 
 -- what stands in a frame when a user's pages have left
 abbrev pub without : ℕ → Option UserPage → Option UserPage

@@ -1,7 +1,8 @@
 //! The frames in the order in which their pages came.
-ghost use Rattle.std.specs.Prelude.{reverse, ◌≡◌, ◌<◌, ◌≤◌, ◌+◌, ◌++◌, ◌∷◌, [], length, slice_index, slice_index_or, take, None, true, false, IsSome, IfOk, IfSome, IfNone, All};
+ghost use Rattle.std.specs.Prelude.{reverse, ◌≡◌, ◌<◌, ◌≤◌, ◌+◌, ◌++◌, ◌∷◌, [], length, slice_index, slice_index_or, take, drop, None, true, false, IfOk, IfSome, IfNone, All};
 ghost use Rattle.std.specs.List.{range_with_len, remove};
 ghost use Rattle.cp_frames.specs.Paging.{counted, IsLongest, IsPinned};
+ghost use Rattle.cp_frames.specs.Layout.{AreTaken};
 
 use crate::UserPage;
 use std::alloc::{AllocError, Global};
@@ -18,15 +19,19 @@ pub fn all_frames(alloc: Global, frames: u16) -> Result<Vec<u16>, AllocError>
     Ok(order)
 }
 
-/// The last turn whose frame is free: the one that has the fewest frames after it, which move up when it is put last.
-pub fn free_turn(order: &[u16], owners: &[Option<UserPage>]) -> Option<usize>
-    requires { All (λ frame. frame < length owners.now) order.now }
+/// The last turn whose frame is free, where each frame that has the turn `end` or a later one is taken: the turn that has the
+/// fewest frames after it, which move up when it is put last.
+pub fn free_turn(order: &[u16], owners: &[Option<UserPage>], end: usize) -> Option<usize>
+    requires frames { All (λ frame. frame < length owners.now) order.now }
+    requires end { end ≤ length order.now }
+    requires taken { AreTaken owners.now (drop end order.now) }
     ensures within { IfSome result (λ turn. turn < length order.now) }
     ensures free { IfSome result (λ turn. slice_index_or owners.now (slice_index order.now turn) None ≡ None) }
-    ensures none { IfNone result (All (λ frame. IsSome (slice_index_or owners.now frame None)) order.now) }
+    ensures later { IfSome result (λ turn. AreTaken owners.now (drop (turn + 1) order.now)) }
+    ensures none { IfNone result (AreTaken owners.now order.now) }
 {
-    for after in 0..order.len() {
-        let turn = order.len() - 1 - after;
+    for after in 0..end {
+        let turn = end - 1 - after;
         if owners[order[turn] as usize].is_none() {
             return Some(turn);
         }

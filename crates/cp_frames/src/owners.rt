@@ -1,5 +1,6 @@
 //! Which page stands in each frame, or in each slot.
-ghost use Rattle.std.specs.Prelude.{◌≡◌, ◌<◌, ℕ, List, Some, None, false, length, slice_index, slice_index_or, IsSome, IfOk, IfSome, IfNone, All, replicate};
+ghost use Rattle.std.specs.Prelude.{◌≡◌, ◌<◌, ℕ, List, Option, Some, None, false, length, slice_index, slice_index_or, slice_set, take, IsSome, IfOk, IfSome, IfNone, All, replicate};
+ghost use Rattle.cp_frames.specs.declared.numbers.UserPage.{UserPage};
 ghost use Rattle.cp_frames.specs.Layout.{without, cleared_of, ArePages, IsMapped, IsTabled};
 
 use crate::UserPage;
@@ -28,18 +29,31 @@ pub fn clear_pins(pins: &mut Vec<bool>)
     pins.fill(false);
 }
 
-/// A slot with no page in it.
-pub fn first_free(owners: &[Option<UserPage>]) -> Option<usize>
+/// The first slot with no page in it, where each slot before `low` is taken.
+pub fn first_free(owners: &[Option<UserPage>], low: usize) -> Option<usize>
+    requires { All IsSome (take low owners.now) }
     ensures within { IfSome result (λ slot. slot < length owners.now) }
     ensures free { IfSome result (λ slot. slice_index_or owners.now slot None ≡ None) }
+    ensures before { IfSome result (λ slot. All IsSome (take slot owners.now)) }
     ensures none { IfNone result (All IsSome owners.now) }
 {
-    for (slot, owner) in owners.iter().enumerate() {
-        if owner.is_none() {
+    for slot in low..owners.len() {
+        if owners[slot].is_none() {
             return Some(slot);
         }
     }
     None
+}
+
+/// Before which slot each is still taken, where this one has another owner, or none.
+pub fn low_after(low: usize, slot: usize, owner: Option<UserPage>) -> usize
+    ensures { (owners : List (Option UserPage)) → All IsSome (take low owners) → All IsSome (take result (slice_set owners slot owner)) }
+{
+    if owner.is_none() && slot < low {
+        slot
+    } else {
+        low
+    }
 }
 
 /// Takes each page of a user out of its frame, by the tables of the frames of his pages.

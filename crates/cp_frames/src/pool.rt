@@ -1,14 +1,14 @@
 //! The frames and slots with what stands in them.
-ghost use Rattle.std.specs.Prelude.{reverse, ◌≡◌, ℕ, ◌+◌, ◌-◌, ◌*◌, ◌/◌, ◌%◌, ◌<◌, ◌≤◌, ◌↔◌, ◌++◌, ◌∷◌, [], Option, Some, None, true, false, map, length, slice_index, slice_index_or, slice_set, slice_get, slice_range, IsSome, is_some, IfOk, OnOk, OnErr, IfSome, IfNone, All, replicate};
+ghost use Rattle.std.specs.Prelude.{reverse, ◌≡◌, ℕ, ◌+◌, ◌-◌, ◌*◌, ◌/◌, ◌%◌, ◌<◌, ◌≤◌, ◌↔◌, ◌++◌, ◌∷◌, [], Option, Some, None, true, false, map, length, slice_index, slice_index_or, slice_set, slice_get, slice_range, IsSome, is_some, IfOk, OnOk, OnErr, IfSome, IfNone, All, replicate, drop};
 ghost use Rattle.std.specs.List.{range_with_len};
 ghost use Rattle.s370_store.specs.Access.{put, IsGranted};
-ghost use Rattle.cp_frames.specs.Layout.{frame_of, number_of, is_there, IsZeroPage, cleared_of};
+ghost use Rattle.cp_frames.specs.Layout.{frame_of, number_of, is_there, IsZeroPage, cleared_of, AreTaken};
 ghost use Rattle.cp_frames.specs.Tables.{segment_entry, page_entry, walk};
 ghost use Rattle.cp_frames.specs.Paging.{IsChosen, IsBrought, IsOpen, IsRefused, IsPut, counted, exchanged, filled, came};
 
 use crate::frame::{blank_frames, clear, copy_in, copy_out, copy_over};
 use crate::order::{all_frames, count, free_turn, last, open_turn};
-use crate::owners::{clear_pins, first_free, free_frames, leave, leave_slots, no_pins};
+use crate::owners::{clear_pins, first_free, free_frames, leave, leave_slots, low_after, no_pins};
 use crate::table::{
     INVALID, NO_SEGMENT, NO_SLOT, PAGES, empty_slot_table, entry_of, entry_with, frame_in, half_at,
     new_tables, note, page_place, put_half, segment_place, tell_slot, word_at,
@@ -36,6 +36,8 @@ pub struct Frames {
     pins: Vec<bool>,
     is_marked: bool,
     order: Vec<u16>,
+    end: usize,
+    low: usize,
     page_ins: u64,
     sizes: Vec<u32>,
     tables: Vec<u8>,
@@ -53,7 +55,7 @@ impl Model for Frames {
       supply = record { owners = f.owners.items; slots = f.slot_owners.items; pins = f.pins.items; order = f.order.items; page_ins = f.page_ins };
     } };
 
-    ghost invariant = { λ f. IsSound f.frames.items f.slots.items f.owners.items f.slot_owners.items f.sizes.items f.tables.items f.slot_table.items f.pins.items f.is_marked f.order.items };
+    ghost invariant = { λ f. IsSound f.frames.items f.slots.items f.owners.items f.slot_owners.items f.sizes.items f.tables.items f.slot_table.items f.pins.items f.is_marked f.order.items f.end f.low };
 }
 
 impl Frames {
@@ -97,6 +99,8 @@ impl Frames {
             pins,
             is_marked: false,
             order,
+            end: frame_count,
+            low: 0,
             page_ins: 0,
             sizes,
             tables,
@@ -257,11 +261,12 @@ impl Frames {
             None => return Err(FramesOut),
         };
         let frame = self.frame_in_turn(turn);
+        let end = self.end_after(turn);
         match self.put(frame, user, page) {
             Ok(()) => {}
             Err(_) => return Err(FramesOut),
         }
-        self.come(turn);
+        self.come(turn, end);
         Ok(FrameNo(frame as u16))
     }
 
@@ -269,11 +274,12 @@ impl Frames {
     fn next_turn(&self) -> Option<usize>
         ensures within { IfSome result (λ turn. turn < length self.now.supply.order) }
         ensures chosen { IfSome result (λ turn. IsChosen self.now.supply turn) }
+        ensures later { IfSome result (λ turn. AreTaken self.now.supply.owners (drop (turn + 1) self.now.supply.order)) }
         ensures unpinned { IfSome result (λ turn. slice_index_or self.now.supply.pins (slice_index self.now.supply.order turn) false ≡ false) }
         ensures full { IfNone result (All IsSome self.now.supply.owners) }
         ensures pinned { IfNone result (All (λ pinned. pinned ≡ true) self.now.supply.pins) }
     {
-        match free_turn(&self.order, &self.owners) {
+        match free_turn(&self.order, &self.owners, self.end) {
             Some(turn) => return Some(turn),
             None => {}
         }
@@ -289,6 +295,21 @@ impl Frames {
         ensures few { length self.now.supply.owners ≤ 4096 }
     {
         self.order[turn] as usize
+    }
+
+    /// From which turn on all frames are taken, once a page has come into the frame that has this turn.
+    fn end_after(&self, turn: usize) -> usize
+        requires turn { turn < length self.now.supply.order }
+        requires chosen { IsChosen self.now.supply turn }
+        requires later { AreTaken self.now.supply.owners (drop (turn + 1) self.now.supply.order) }
+        ensures within { result ≤ turn }
+        ensures taken { (page : UserPage) → AreTaken (slice_set self.now.supply.owners (slice_index self.now.supply.order turn) (Some page)) (drop result self.now.supply.order) }
+    {
+        if self.owners[self.order[turn] as usize].is_none() {
+            turn
+        } else {
+            0
+        }
     }
 
     /// Puts a page that stands in no frame into this one, and what stood in it into a slot.
@@ -315,7 +336,7 @@ impl Frames {
             self.fill(frame, user, page);
             return Ok(());
         }
-        match first_free(&self.slot_owners) {
+        match self.free_slot() {
             Some(slot) => {
                 self.exchange(frame, slot);
                 self.fill(frame, user, page);
@@ -323,6 +344,21 @@ impl Frames {
             }
             None => Err(FramesOut),
         }
+    }
+
+    /// A free slot, from which the next search begins.
+    fn free_slot(&mut self) -> Option<usize>
+        ensures same { self.new ≡ self.old }
+        ensures within { IfSome result (λ slot. slot < length self.old.supply.slots) }
+        ensures free { IfSome result (λ slot. slice_index_or self.old.supply.slots slot None ≡ None) }
+        ensures none { IfNone result (All IsSome self.old.supply.slots) }
+    {
+        let found = first_free(&self.slot_owners, self.low);
+        self.low = match found {
+            Some(slot) => slot,
+            None => self.slot_owners.len(),
+        };
+        found
     }
 
     /// Exchanges what stands in a frame and what stands in a slot.
@@ -337,6 +373,8 @@ impl Frames {
         note(&mut self.tables, self.slot_owners[slot], entry_with(frame));
         tell_slot(&mut self.slot_table, self.slot_owners[slot], NO_SLOT);
         tell_slot(&mut self.slot_table, self.owners[frame], slot as u32);
+        self.low = low_after(self.low, slot, self.owners[frame]);
+        self.end = self.order.len();
         swap(&mut self.owners[frame], &mut self.slot_owners[slot]);
         swap(&mut self.frames[frame], &mut self.slots[slot]);
     }
@@ -360,13 +398,17 @@ impl Frames {
         );
     }
 
-    /// Notes that a page has come into the frame that has this turn.
-    fn come(&mut self, turn: usize)
-        requires { turn < length self.old.supply.order }
+    /// Notes that a page has come into the frame that has this turn, and that the frames of the turn `end` and later ones are
+    /// taken.
+    fn come(&mut self, turn: usize, end: usize)
+        requires turn { turn < length self.old.supply.order }
+        requires end { end ≤ turn }
+        requires taken { AreTaken self.old.supply.owners (drop end self.old.supply.order) }
         ensures storages { self.new.storages ≡ self.old.storages }
         ensures supply { self.new.supply ≡ came self.old.supply turn }
     {
         last(&mut self.order, turn);
+        self.end = end;
         self.page_ins = count(self.page_ins);
     }
 
@@ -425,6 +467,8 @@ impl Frames {
         ensures gone_slots { (page : ℕ) → frame_of self.new.supply.slots user page ≡ None }
     {
         self.unpin_all();
+        self.end = self.order.len();
+        self.low = 0;
         leave(&mut self.owners, &mut self.tables, &self.sizes, user);
         leave_slots(&mut self.slot_owners, &mut self.slot_table, user);
     }
@@ -680,6 +724,8 @@ mod tests {
             pins,
             is_marked,
             order,
+            end,
+            low,
             page_ins,
             sizes,
             tables,
@@ -691,6 +737,7 @@ mod tests {
         assert_eq!(rt; sizes.as_slice(), [2u32, 3].as_slice());
         assert_eq!(rt; (tables.len(), slot_table.len()), (4608, 2048));
         assert_eq!(rt; (*is_marked, *page_ins), (false, 0));
+        assert_eq!(rt; (*end, *low), (4, 0));
         Ok(())
     }
 }

@@ -1,5 +1,8 @@
-use Rattle.std.proofs.Common.{◌≡◌, None, sym, arith, length, get_or, ◌<◌, ◌+◌, ◌*◌, ◌∙◌, ap, [], false}
+use Rattle.std.proofs.Common.{Option, subst, ◌≡◌, None, sym, arith, length, get_or, ◌<◌, ◌+◌, ◌*◌, ◌∙◌, ap, [], false}
 use Rattle.std.proofs.lemmas.List.{get_or_read, get_or_append_left}
+use Rattle.std.specs.Prelude.{All, IsSome, take}
+use Rattle.std.proofs.Math.ListN.{set}
+use Rattle.cp_frames.specs.declared.numbers.UserPage.{UserPage}
 use Rattle.cp_frames.specs.Layout.{told}
 use Rattle.cp_frames.specs.Tables.{noted}
 use Rattle.cp_frames.proofs.Halves.{at_right}
@@ -79,10 +82,13 @@ invariant_of-self c =
     c.note-2.ensures ∙ ap (noted c.index-2.result.now c.entry_with.result) (c.note.ensures ∙ ap (λ o. noted o 8 f.tables.items) given)
     ∙ ap (λ o. noted o c.entry_with.result (noted (get_or f.owners.items frame None) 8 f.tables.items)) wanted
     ∙ ap (λ n. noted (get_or f.slot_owners.items slot None) n (noted (get_or f.owners.items frame None) 8 f.tables.items)) c.entry_with.ensures in
+    let given_3 = get_or_read f.owners.items _ _ within c.index-5.ensures None in
+    let low : All IsSome (take c.low_after-self-inside.result (set f.slot_owners.items slot (get_or f.owners.items frame None))) =
+    subst (λ (o : Option UserPage). All IsSome (take c.low_after-self-inside.result (set f.slot_owners.items slot o))) given_3 (c.low_after-self-inside.ensures f.slot_owners.items kept.sought.before) in
     let slot_table : c.tell_slot-2.new.table.items ≡ told (get_or f.owners.items frame None) slot (told (get_or f.slot_owners.items slot None) 4294967295 f.slot_table.items) =
     c.tell_slot-2.ensures ∙ ap (told c.index-4.result.now slot) (c.tell_slot.ensures ∙ ap (λ o. told o 4294967295 f.slot_table.items) wanted_2)
     ∙ ap (λ o. told o slot (told (get_or f.slot_owners.items slot None) 4294967295 f.slot_table.items)) given_2 in
-    rw (o, p, x, y, tables, slot_table) (exchange-kept f frame slot kept within slot_in unpinned)
+    rw (o, p, x, y, tables, slot_table) (exchange-kept f frame slot c.len-self-inside.result c.low_after-self-inside.result kept within slot_in unpinned (omega (arith, c.len-self-inside.ensures, f.order.ok.0)) low)
 
 pub returns-clause-storages : goal.returns-clause-storages
 returns-clause-storages c =

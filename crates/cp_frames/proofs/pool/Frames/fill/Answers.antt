@@ -1,10 +1,11 @@
-use Rattle.std.proofs.Common.{◌≡◌, None, Some, arith, length-append, length, get_or, ◌<◌, ◌*◌, ◌∙◌}
+use Rattle.std.proofs.Common.{◌≡◌, None, Some, arith, length-append, length, get_or, drop, ◌<◌, ◌*◌, ◌∙◌}
 use Rattle.std.proofs.Math.ListN.{set, length-set}
 use Rattle.std.proofs.lemmas.List.{set-append_left, get_or_append_left}
 use Rattle.cp_frames.specs.Layout.{frame_of, owned}
 use Rattle.cp_frames.proofs.Layouts.{whole-brought, storages-brought, length-bytes_of, cleared_by}
 use Rattle.cp_frames.proofs.Exchanges.{tables_filled}
 use Rattle.cp_frames.proofs.Halves.{from_none}
+use Rattle.cp_frames.proofs.Sought.{taken-set}
 use Rattle.cp_frames.proofs.Orders.{ordered-set, free_unpinned}
 use Rattle.cp_frames.proofs.Inside.{bytes_in, entry_of_page, places_in, owners_in}
 use Rattle.cp_frames.proofs.pool.Frames.fill.Goals as goal
@@ -43,6 +44,7 @@ invariant_of-self c =
       slots_tabled = kept.slots_tabled;
       ordered = ordered-set f.owners.items f.pins.items f.order.items frame (Some (owned user page)) kept.ordered (free_unpinned f.owners.items f.pins.items f.order.items frame kept.ordered free);
       unmarked = kept.unmarked;
+      sought = record { within = kept.sought.within; taken = taken-set f.owners.items (drop f.end f.order.items) frame (owned user page) within kept.sought.taken; before = kept.sought.before };
     }
 
 pub returns-clause-storages : goal.returns-clause-storages

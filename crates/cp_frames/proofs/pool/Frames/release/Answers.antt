@@ -1,4 +1,4 @@
-use Rattle.std.proofs.Common.{◌∙◌, ◌≡◌, ap, sym, length, replicate, false, Bool, List}
+use Rattle.std.proofs.Common.{arith, ◌∙◌, ◌≡◌, ap, sym, length, replicate, false, Bool, List}
 use Rattle.std.proofs.lemmas.List.{length-replicate}
 use Rattle.cp_frames.specs.Layout.{Pool, FrameSupply, IsMapped, IsTabled, cleared_of}
 use Rattle.cp_frames.proofs.Layouts.{frame_of-cleared, storages-cleared, length-bytes_of}
@@ -16,7 +16,7 @@ invariant_of-self c =
     let blank : f.pins.items ≡ replicate (length f.pins.items) false = pins ∙ ap (λ n. replicate n false) (sym (ap (λ (ps : List Bool). length ps) pins ∙ length-replicate (length c.args.self.now.supply.pins) false)) in
     let mapped : IsMapped (cleared_of c.args.user f.owners.items) f.sizes.items c.leave.new.tables.items = rw (c.leave.ensures.owners, c.deref.ensures.value) at c.leave.ensures.mapped in
     let slots_tabled : IsTabled 4294967295 (cleared_of c.args.user f.slot_owners.items) f.sizes.items c.leave_slots.new.table.items = rw c.leave_slots.ensures.owners at (c.leave_slots.ensures.tabled f.sizes.items c.self.invariant.slots_tabled) in
-    rw (c.leave.ensures.owners, c.leave_slots.ensures.owners) (released-kept f c.args.user c.leave.new.tables.items c.leave_slots.new.table.items c.self.invariant blank mapped slots_tabled)
+    rw (c.leave.ensures.owners, c.leave_slots.ensures.owners) (released-kept f c.args.user c.leave.new.tables.items c.leave_slots.new.table.items c.len-self-inside.result c.self.invariant blank mapped slots_tabled (omega (arith, c.len-self-inside.ensures, f.order.ok.0)))
 
 pub returns-clause-storages : goal.returns-clause-storages
 returns-clause-storages c =
