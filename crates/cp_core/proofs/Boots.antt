@@ -1,16 +1,16 @@
 -- The parts of a system at boot.
-use Rattle.std.proofs.Common.{◌≡◌, ℕ, ◌+◌, ◌*◌, ◌<◌, ◌≤◌, List, [], ◌∷◌, ◌++◌, length, map, get_or, zero, suc, refl, sym, ◌∙◌, ap, arith, replicate, subst, Bool, false, Option, None}
+use Rattle.std.proofs.Common.{◌≡◌, ℕ, ◌*◌, ◌<◌, ◌≤◌, List, [], ◌∷◌, ◌++◌, length, map, get_or, zero, suc, refl, sym, ◌∙◌, ap, arith, replicate, subst, Bool, false, Option, None}
 use Rattle.std.specs.Prelude.{reverse}
 use Rattle.std.specs.List.{range_with_len}
 use Rattle.std.proofs.lemmas.List.{length-replicate}
 use Rattle.cp_directory.specs.Users.{DirectoryUser}
 use Rattle.cp_frames.specs.declared.numbers.UserPage.{UserPage}
 use Rattle.cp_frames.specs.Layout.{FrameSupply}
+use Rattle.cp_frames.specs.Supplied.{IsBetweenUnits}
 use Rattle.cp_panel.specs.Machine.{Machine, unused}
 use Rattle.cp_panel.specs.Machine.{machine_of as parts_with}
 use Rattle.cp_core.specs.UserMachines.{UserParts, machine_of, Fits}
 use Rattle.cp_core.specs.System.{free_supply, machines_of, new_machine}
-use Rattle.cp_core.specs.Supply.{IsIdle}
 use Rattle.cp_core.specs.Whole.{AreNew, IsNew, IsWhole, no_machine}
 
 -- one seat more
@@ -63,10 +63,11 @@ made a a' b b' c c' d d' e e' p q r t u = rw (p, q, r, t, u) refl
 pub new_supply : (supply : FrameSupply) (frames slots : ℕ) → supply.owners ≡ replicate frames None → supply.slots ≡ replicate slots None → supply.pins ≡ replicate frames false → supply.order ≡ reverse (range_with_len 0 frames) → supply.page_ins ≡ 0 → supply ≡ free_supply frames slots
 new_supply supply frames slots owners taken pins order count = made supply.owners _ supply.slots _ supply.pins _ supply.order _ supply.page_ins _ owners taken pins order count
 
-pub idle_new : (supply : FrameSupply) (frames slots : ℕ) → supply ≡ free_supply frames slots → IsIdle supply
-idle_new supply frames slots is =
-    let none : IsIdle (free_supply frames slots) = ap (λ (n : ℕ). replicate n false) (sym (length-replicate {A = Option UserPage} frames None)) in
-    subst (λ (s : FrameSupply). IsIdle s) (sym is) none
+pub between_new : (supply : FrameSupply) (frames slots : ℕ) → supply ≡ free_supply frames slots → 16 ≤ frames → IsBetweenUnits supply
+between_new supply frames slots is enough =
+    let count : length {A = Option UserPage} (replicate frames None) ≡ frames = length-replicate {A = Option UserPage} frames None in
+    let none : IsBetweenUnits (free_supply frames slots) = record { idle = ap (λ (n : ℕ). replicate n false) (sym count); many = omega (arith, count, enough) } in
+    subst (λ (s : FrameSupply). IsBetweenUnits s) (sym is) none
 
 -- a user's machine at boot, by what it is with any storage of zeros
 pub off_new : (u : UserParts) (user : DirectoryUser) → u.keys ≡ replicate (user.pages * 2) 0 → ((bytes keys : List ℕ) → parts_with u.parts (replicate (length bytes) 0) (replicate (length keys) 0) ≡ unused bytes keys []) → machine_of u (replicate (user.pages * 4096) 0) ≡ new_machine user

@@ -3,5 +3,4 @@ pub mod Histories
 pub mod Boots
 pub mod Switches
 pub mod Kept
-pub mod Pieces
 pub mod Loans

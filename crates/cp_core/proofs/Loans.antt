@@ -8,11 +8,11 @@ use Rattle.cp_directory.specs.Users.{DirectoryUser}
 use Rattle.cp_frames.specs.declared.numbers.UserPage.{UserPage}
 use Rattle.cp_frames.specs.Layout.{Pool, bytes_of, put_page}
 use Rattle.cp_frames.specs.Layout.{written_page as pool_page, written_frame as pool_frame}
+use Rattle.cp_frames.specs.Supplied.{IsBetweenUnits}
 use Rattle.cp_panel.specs.Machine.{Machine}
 use Rattle.cp_core.specs.UserMachines.{UserParts, machine_of, Fits}
 use Rattle.cp_core.specs.System.{SystemView, machines_of, nobody}
 use Rattle.cp_core.specs.Loan.{with_page, written_page, written_frame}
-use Rattle.cp_core.specs.Supply.{IsIdle}
 use Rattle.cp_core.specs.Whole.{IsSystem, IsWhole, no_machine}
 
 -- a page that is written leaves the size of its storage
@@ -43,9 +43,9 @@ whole_page seats pool users (Some there) written whole =
           (same_sizes pool.storages user k bytes (same_size (bytes_of pool user) there.page.0 written)) (whole.fits k less);
     }
 
-idle_page : (pool : Pool) (o : Option UserPage) (written : List ℕ) → IsIdle pool.supply → IsIdle (pool_page pool o written).supply
-idle_page pool None written idle = idle
-idle_page pool (Some there) written idle = idle
+between_page : (pool : Pool) (o : Option UserPage) (written : List ℕ) → IsBetweenUnits pool.supply → IsBetweenUnits (pool_page pool o written).supply
+between_page pool None written rest = rest
+between_page pool (Some there) written rest = rest
 
 -- each user has a machine and a storage that fits it, whatever is written
 whole_written : (seats : List UserParts) (pool : Pool) (users : List DirectoryUser) (frame : ℕ) (written : List ℕ) → IsWhole seats pool.storages users → IsWhole seats (pool_frame pool frame written).storages users
@@ -55,7 +55,7 @@ whole_written seats pool users frame written whole = whole_page seats pool users
 pub system_written : (seats : List UserParts) (pool : Pool) (users : List DirectoryUser) (frame : ℕ) (written : List ℕ) → IsSystem seats pool users → IsSystem seats (pool_frame pool frame written) users
 system_written seats pool users frame written system = record {
   whole = whole_written seats pool users frame written system.whole;
-  idle = idle_page pool (get_or pool.supply.owners frame None) written system.idle;
+  between = between_page pool (get_or pool.supply.owners frame None) written system.between;
 }
 
 set_written : (seats : List UserParts) (storages : List (List ℕ)) (user page : ℕ) (written : List ℕ)

@@ -1,20 +1,21 @@
 -- The whole system as it is seen, and what its events do: to each user what a bare machine does.
-use Rattle.std.specs.Prelude.{◌≡◌, ℕ, ◌==◌, ◌*◌, ◌<◌, ◌≤◌, if◌then◌else◌, Bool, true, false, List, [], ◌∷◌, ◌++◌, length, map, replicate, reverse, slice_index_or, None}
+use Rattle.std.specs.Prelude.{◌≡◌, ℕ, ◌==◌, ◌*◌, ◌≤◌, if◌then◌else◌, Bool, true, false, List, [], ◌∷◌, ◌++◌, length, map, replicate, reverse, slice_index_or, None}
 use Rattle.std.specs.List.{range_with_len}
 use Rattle.s370_store.specs.Access.{Touches}
 use Rattle.s370_intr.specs.declared.next.Reason.TheVariants.{FramesOut as RunFramesOut}
 use Rattle.s370_intr.specs.declared.run.Ran.{Ran as RanUnits}
-use Rattle.s370_intr.specs.Units.{Needs}
 use Rattle.s370_intr.specs.Run.{AllNeeded, IsLacking, RunNeeds}
+use Rattle.s370_intr.specs.Laws.{begun}
 use Rattle.cp_directory.specs.Users.{DirectoryUser}
 use Rattle.cp_frames.specs.Layout.{FrameSupply}
+use Rattle.cp_frames.specs.Supplied.{HasNoRoom, IsBetweenUnits, IsBroughtFor}
 use Rattle.cp_panel.specs.Machine.{Machine, unused}
 use Rattle.cp_panel.specs.Run.{TellsRun}
 use Rattle.cp_panel.specs.Panel.{line, line_needs, switches}
 use Rattle.cp_panel.specs.Tick.{TickNeeds, ticked}
 use Rattle.cp_panel.specs.Life.{Event as Local, Units, Line as Typed, Tick as Ticked, life}
 use Rattle.cp_core.specs.UserMachines.{UserParts, machine_of}
-use Rattle.cp_core.specs.Supply.{IsBroughtFor, IsGivenBack, IsIdle, IsShort}
+use Rattle.cp_core.specs.Supply.{IsGivenBack, IsShort}
 use Rattle.cp_core.specs.Events.{user_of}
 use Rattle.cp_core.specs.declared.events.Ended.{Ended}
 use Rattle.cp_core.specs.declared.events.Ended.TheVariants.{Ran, Done, FramesOut}
@@ -124,11 +125,11 @@ TellsOfTick old reply (Ran ran) new is_short = ⊥
 -- the reply tells what a bare machine tells, or that frames are lacking
 abbrev pub IsTold : SystemView → Event → Reply → SystemView → Type 0
 IsTold old (Run user asked) reply new =
-    TellsOfRun asked (machine_at old user) reply reply.ended (machine_at new user) (IsShort new.supply user (Needs (machine_at new user).core))
+    TellsOfRun asked (machine_at old user) reply reply.ended (machine_at new user) (HasNoRoom new.supply user)
 IsTold old (Line user typed) reply new =
     TellsOfLine typed.now (machine_at old user) reply reply.ended (machine_at new user) (IsShort new.supply user (Touches (line_needs typed.now (machine_at old user))))
 IsTold old (Tick user) reply new =
-    TellsOfTick (machine_at old user) reply reply.ended (machine_at new user) (IsShort new.supply user (TickNeeds (machine_at old user)))
+    TellsOfTick (machine_at old user) reply reply.ended (machine_at new user) (HasNoRoom new.supply user)
 
 -- ---- the supply of frames
 
@@ -150,16 +151,28 @@ gives_back old (Run user asked) = false
 gives_back old (Line user typed) = switches typed.now (machine_at old user)
 gives_back old (Tick user) = false
 
--- only pages that an event needs came
+abbrev pub RunBrings : Ended → ℕ → Type 0
+RunBrings (Ran ran) count = count ≤ 9 * begun ran.units ran.reason
+RunBrings Done count = ⊥
+RunBrings FramesOut count = ⊥
+
+-- how many pages an event may bring: nine for each unit of a run, and nine more where it lacked a frame; one for a tick; as
+-- many as it needs for a line
+abbrev pub MayBring : Event → Reply → ℕ → Type 0
+MayBring (Run user asked) reply count = RunBrings reply.ended count
+MayBring (Line user typed) reply count = Unit {0}
+MayBring (Tick user) reply count = count ≤ 1
+
+-- only pages that an event needs came, and no more than it may bring
 abbrev pub IsBroughtBy : SystemView → Event → Reply → SystemView → Type 0
 IsBroughtBy old event reply new =
-    (pages : List ℕ) × IsBroughtFor (user_of event) pages old.supply new.supply × AllNeeded (EventNeeds old event reply) pages
+    (pages : List ℕ) × IsBroughtFor (user_of event) pages old.supply new.supply × AllNeeded (EventNeeds old event reply) pages × MayBring event reply (length pages)
 
 -- what an event does to frames and slots: no frame is pinned before or after it; where the user's machine is switched on or
 -- off, all his pages are given back, and else only pages that the event needs are brought
 pub record IsSupplied (old : SystemView) (event : Event) (reply : Reply) (new : SystemView) : Type 0 where
-  pub idle_before : IsIdle old.supply
-  pub idle : IsIdle new.supply
+  pub between_before : IsBetweenUnits old.supply
+  pub between : IsBetweenUnits new.supply
   pub given_back : gives_back old event ≡ true → IsGivenBack (user_of event) old.supply new.supply
   pub brought : gives_back old event ≡ false → IsBroughtBy old event reply new
 

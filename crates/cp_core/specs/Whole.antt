@@ -2,10 +2,10 @@
 use Rattle.std.specs.Prelude.{◌≡◌, ℕ, ◌*◌, ◌<◌, ◌≤◌, List, [], ◌∷◌, length, replicate, slice_index_or}
 use Rattle.cp_directory.specs.Users.{DirectoryUser}
 use Rattle.cp_frames.specs.Layout.{Pool}
+use Rattle.cp_frames.specs.Supplied.{IsBetweenUnits}
 use Rattle.cp_panel.specs.Machine.{nothing_pending, reset_cpu}
 use Rattle.cp_panel.specs.declared.machine.Mode.TheVariants.{Off}
 use Rattle.cp_core.specs.UserMachines.{UserParts, Fits, machine_of}
-use Rattle.cp_core.specs.Supply.{IsIdle}
 use Rattle.cp_core.specs.System.{new_machine}
 
 -- the machine of nobody, but for its storage
@@ -25,7 +25,7 @@ pub record IsWhole (machines : List UserParts) (storages : List (List ℕ)) (use
 -- what is so of a system between events
 pub record IsSystem (machines : List UserParts) (pool : Pool) (users : List DirectoryUser) : Type 0 where
   pub whole : IsWhole machines pool.storages users
-  pub idle : IsIdle pool.supply
+  pub between : IsBetweenUnits pool.supply
 
 -- a user's machine at boot: a machine that is off and has zero keys; a storage has 8K at least
 pub record IsNew (machine : UserParts) (user : DirectoryUser) : Type 0 where

@@ -1,14 +1,15 @@
 //! The system: its users, their machines and the frames that they share.
-ghost use Rattle.std.specs.Prelude.{◌≡◌, ◌<◌, ◌≤◌, ◌↔◌, ℕ, List, Err, true, false, IsOk, IfOk, OnErr, OnOk, length, slice_set};
+ghost use Rattle.std.specs.Prelude.{◌≡◌, ◌*◌, ◌<◌, ◌≤◌, ◌↔◌, ℕ, List, Err, true, false, IsOk, IfOk, OnErr, OnOk, length, slice_set};
 ghost use Rattle.s370_store.specs.Access.{Touches};
-ghost use Rattle.s370_intr.specs.Units.{Needs};
+ghost use Rattle.s370_intr.specs.Laws.{begun};
 ghost use Rattle.s370_intr.specs.Run.{AllNeeded, IsLacking, RunNeeds};
 ghost use Rattle.cp_panel.specs.declared.line.LineError.TheVariants as errors;
 ghost use Rattle.cp_panel.specs.Run.{TellsRun};
 ghost use Rattle.cp_panel.specs.Panel.{line, line_needs, line_room, switches};
 ghost use Rattle.cp_panel.specs.Tick.{TickNeeds, ticked};
 ghost use Rattle.cp_core.specs.Events.{MayTakeMemory, user_of};
-ghost use Rattle.cp_core.specs.Supply.{IsBroughtFor, IsGivenBack, IsIdle, IsShort};
+ghost use Rattle.cp_core.specs.Supply.{IsGivenBack, IsShort};
+ghost use Rattle.cp_frames.specs.Supplied.{HasNoRoom, IsBetweenUnits, IsBroughtFor};
 ghost use Rattle.cp_core.specs.System.{EachIsBare, IsApplied, IsSupplied, IsTold, SystemView, machine_at};
 
 use crate::events::{CpError, Ended, Event, Reply};
@@ -109,11 +110,11 @@ impl System {
     /// Lets a user's machine run. This takes no memory.
     fn run(&mut self, user: usize, units: u32) -> MachineRan
         requires { user < length self.old.machines }
-        ensures told { TellsRun units (machine_at self.old user) (record { machine = machine_at self.new user; units = result.ran.units; reason = result.ran.reason; notice = result.notice }) (IsShort self.new.supply user (Needs (machine_at self.new user).core)) }
-        ensures supply { (pages : List ℕ) × IsBroughtFor user pages self.old.supply self.new.supply × AllNeeded (RunNeeds (machine_at self.old user).core result.ran.units result.ran.reason) pages }
+        ensures told { TellsRun units (machine_at self.old user) (record { machine = machine_at self.new user; units = result.ran.units; reason = result.ran.reason; notice = result.notice }) (HasNoRoom self.new.supply user) }
+        ensures supply { (pages : List ℕ) × IsBroughtFor user pages self.old.supply self.new.supply × AllNeeded (RunNeeds (machine_at self.old user).core result.ran.units result.ran.reason) pages × (length pages ≤ 9 * begun result.ran.units result.ran.reason) }
         ensures machines { self.new.machines ≡ slice_set self.old.machines user (machine_at self.new user) }
-        ensures idle_before { IsIdle self.old.supply }
-        ensures idle { IsIdle self.new.supply }
+        ensures between_before { IsBetweenUnits self.old.supply }
+        ensures between { IsBetweenUnits self.new.supply }
         ensures users { self.new.users ≡ self.old.users }
         ensures spent { self.new.is_spent ≡ self.old.is_spent }
     {
@@ -126,11 +127,11 @@ impl System {
         requires { user < length self.old.machines }
         ensures ok { OnOk result (machine_at self.new user ≡ ticked (machine_at self.old user)) }
         ensures err { OnErr result (machine_at self.new user ≡ machine_at self.old user) }
-        ensures frames { OnErr result (IsLacking (TickNeeds (machine_at self.old user)) (length (machine_at self.old user).core.processor.bytes) (IsShort self.new.supply user (TickNeeds (machine_at self.old user)))) }
-        ensures supply { (pages : List ℕ) × IsBroughtFor user pages self.old.supply self.new.supply × AllNeeded (TickNeeds (machine_at self.old user)) pages }
+        ensures frames { OnErr result (IsLacking (TickNeeds (machine_at self.old user)) (length (machine_at self.old user).core.processor.bytes) (HasNoRoom self.new.supply user)) }
+        ensures supply { (pages : List ℕ) × IsBroughtFor user pages self.old.supply self.new.supply × AllNeeded (TickNeeds (machine_at self.old user)) pages × (length pages ≤ 1) }
         ensures machines { self.new.machines ≡ slice_set self.old.machines user (machine_at self.new user) }
-        ensures idle_before { IsIdle self.old.supply }
-        ensures idle { IsIdle self.new.supply }
+        ensures between_before { IsBetweenUnits self.old.supply }
+        ensures between { IsBetweenUnits self.new.supply }
         ensures users { self.new.users ≡ self.old.users }
         ensures spent { self.new.is_spent ≡ self.old.is_spent }
     {
@@ -147,8 +148,8 @@ impl System {
         ensures cleared { switches typed.now (machine_at self.old user) ≡ true → IsGivenBack user self.old.supply self.new.supply }
         ensures supply { switches typed.now (machine_at self.old user) ≡ false → ((pages : List ℕ) × IsBroughtFor user pages self.old.supply self.new.supply × AllNeeded (Touches (line_needs typed.now (machine_at self.old user))) pages) }
         ensures machines { self.new.machines ≡ slice_set self.old.machines user (machine_at self.new user) }
-        ensures idle_before { IsIdle self.old.supply }
-        ensures idle { IsIdle self.new.supply }
+        ensures between_before { IsBetweenUnits self.old.supply }
+        ensures between { IsBetweenUnits self.new.supply }
         ensures users { self.new.users ≡ self.old.users }
         ensures spent { self.new.is_spent ≡ self.old.is_spent }
     {

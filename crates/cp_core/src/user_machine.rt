@@ -1,26 +1,24 @@
 //! A user's machine, of which the storage stands in frames.
-ghost use Rattle.std.specs.Prelude.{◌≡◌, ◌<◌, ◌≤◌, ◌*◌, ◌+◌, ℕ, List, [], Err, IfOk, OnErr, OnOk, length, replicate, slice_set, true, false};
+ghost use Rattle.std.specs.Prelude.{◌≡◌, ◌<◌, ◌≤◌, ◌*◌, ℕ, List, [], Err, IfOk, OnErr, OnOk, length, replicate, slice_set, true, false};
 ghost use Rattle.s370_store.specs.Access.{Touches};
-ghost use Rattle.s370_intr.specs.Units.{Needs};
 ghost use Rattle.s370_intr.specs.Run.{AllNeeded, IsLacking, RunNeeds};
-ghost use Rattle.s370_intr.specs.declared.next.Reason.TheVariants as reasons;
+ghost use Rattle.s370_intr.specs.Laws.{begun};
 ghost use Rattle.cp_frames.specs.Layout.{bytes_of};
 ghost use Rattle.cp_frames.specs.Paging.{IsRefused};
-ghost use Rattle.cp_frames.specs.Supplied.{IsPagedFor};
+ghost use Rattle.cp_frames.specs.Supplied.{HasNoRoom, IsBetweenUnits, IsBroughtFor, IsPagedFor};
 ghost use Rattle.cp_panel.specs.declared.line.LineError.TheVariants as errors;
 ghost use Rattle.cp_panel.specs.Machine.{machine_of as parts_with, unused};
 ghost use Rattle.cp_panel.specs.Run.{TellsRun};
 ghost use Rattle.cp_panel.specs.Panel.{line, line_needs, line_room, switches};
 ghost use Rattle.cp_panel.specs.Tick.{TickNeeds, ticked};
 ghost use Rattle.cp_core.specs.UserMachines.{Fits, machine_of};
-ghost use Rattle.cp_core.specs.Supply.{IsBroughtFor, IsGivenBack, IsIdle, IsShort};
+ghost use Rattle.cp_core.specs.Supply.{IsGivenBack, IsShort};
 
 use cp_console::responses::Response;
 use cp_frames::{Dat, Frames};
 use cp_panel::{LineError, Machine, MachineRan};
 use cp_trap::VirtualCpu;
 use cp_users::UserNo;
-use s370_intr::{Ran, Reason};
 use s370_num::StorageKey;
 use s370_store::FramesOut;
 use s370_subchannels::Subchannels;
@@ -57,74 +55,37 @@ impl UserMachine {
     }
 
     /// Lets the machine run for at most so many units. This takes no memory.
-    ///
-    /// Each page that a unit brings is pinned, so that bringing pages comes to an end. Where all frames are pinned the pins are
-    /// taken away, and the run goes on: it ends for want of a frame only at a unit that finds none when it starts with no pin.
     pub fn run(&mut self, frames: &mut Frames, user: UserNo, count: u32) -> MachineRan
         requires fits { Fits self.old (bytes_of frames.old user) }
-        requires idle { IsIdle frames.old.supply }
+        requires between { IsBetweenUnits frames.old.supply }
         ensures told { let before = machine_of self.old (bytes_of frames.old user) in
             let after = machine_of self.new (bytes_of frames.new user) in
-            TellsRun count before (record { machine = after; units = result.ran.units; reason = result.ran.reason; notice = result.notice }) (IsShort frames.new.supply user (Needs after.core)) }
+            TellsRun count before (record { machine = after; units = result.ran.units; reason = result.ran.reason; notice = result.notice }) (HasNoRoom frames.new.supply user) }
         ensures supply { let before = machine_of self.old (bytes_of frames.old user) in
-            (pages : List ℕ) × IsBroughtFor user pages frames.old.supply frames.new.supply × AllNeeded (RunNeeds before.core result.ran.units result.ran.reason) pages }
+            (pages : List ℕ) × IsBroughtFor user pages frames.old.supply frames.new.supply × AllNeeded (RunNeeds before.core result.ran.units result.ran.reason) pages × (length pages ≤ 9 * begun result.ran.units result.ran.reason) }
         ensures others { frames.new.storages ≡ slice_set frames.old.storages user (bytes_of frames.new user) }
         ensures fits { Fits self.new (bytes_of frames.new user) }
-        ensures idle { IsIdle frames.new.supply }
+        ensures between { IsBetweenUnits frames.new.supply }
     {
-        let mut done = 0;
-        loop {
-            let piece = self.run_pinned(frames, user, count - done);
-            let Ran { units, reason } = piece.ran;
-            if !goes_on(piece.ran) {
-                return MachineRan {
-                    ran: Ran {
-                        units: done + units,
-                        reason,
-                    },
-                    notice: piece.notice,
-                };
-            }
-            done += units;
-        }
-    }
-
-    /// As `run`, but ends where all frames are pinned, also after some units.
-    fn run_pinned(&mut self, frames: &mut Frames, user: UserNo, count: u32) -> MachineRan
-        requires fits { Fits self.old (bytes_of frames.old user) }
-        requires idle { IsIdle frames.old.supply }
-        ensures told { let before = machine_of self.old (bytes_of frames.old user) in
-            let after = machine_of self.new (bytes_of frames.new user) in
-            TellsRun count before (record { machine = after; units = result.ran.units; reason = result.ran.reason; notice = result.notice }) (IsShort frames.new.supply user (RunNeeds before.core result.ran.units result.ran.reason)) }
-        ensures supply { let before = machine_of self.old (bytes_of frames.old user) in
-            (pages : List ℕ) × IsBroughtFor user pages frames.old.supply frames.new.supply × AllNeeded (RunNeeds before.core result.ran.units result.ran.reason) pages }
-        ensures others { frames.new.storages ≡ slice_set frames.old.storages user (bytes_of frames.new user) }
-        ensures fits { Fits self.new (bytes_of frames.new user) }
-        ensures idle { IsIdle frames.new.supply }
-    {
-        let ran = run_over(&mut self.machine, frames, &mut self.keys, user, count);
-        frames.unpin_all();
-        ran
+        run_over(&mut self.machine, frames, &mut self.keys, user, count)
     }
 
     /// A tick of the interval timer. Where there is no room for the page that it needs, nothing has happened. This takes
     /// no memory.
     pub fn tick(&mut self, frames: &mut Frames, user: UserNo) -> Result<(), FramesOut>
         requires fits { Fits self.old (bytes_of frames.old user) }
-        requires idle { IsIdle frames.old.supply }
+        requires between { IsBetweenUnits frames.old.supply }
         ensures ok { OnOk result (machine_of self.new (bytes_of frames.new user) ≡ ticked (machine_of self.old (bytes_of frames.old user))) }
         ensures err { OnErr result (machine_of self.new (bytes_of frames.new user) ≡ machine_of self.old (bytes_of frames.old user)) }
         ensures frames { let before = machine_of self.old (bytes_of frames.old user) in
-            OnErr result (IsLacking (TickNeeds before) (length before.core.processor.bytes) (IsShort frames.new.supply user (TickNeeds before))) }
+            OnErr result (IsLacking (TickNeeds before) (length before.core.processor.bytes) (HasNoRoom frames.new.supply user)) }
         ensures supply { let before = machine_of self.old (bytes_of frames.old user) in
-            (pages : List ℕ) × IsBroughtFor user pages frames.old.supply frames.new.supply × AllNeeded (TickNeeds before) pages }
+            (pages : List ℕ) × IsBroughtFor user pages frames.old.supply frames.new.supply × AllNeeded (TickNeeds before) pages × (length pages ≤ 1) }
         ensures others { frames.new.storages ≡ slice_set frames.old.storages user (bytes_of frames.new user) }
         ensures fits { Fits self.new (bytes_of frames.new user) }
-        ensures idle { IsIdle frames.new.supply }
+        ensures between { IsBetweenUnits frames.new.supply }
     {
-        let ticked = tick_over(&mut self.machine, frames, &mut self.keys, user);
-        frames.unpin_all();
-        ticked
+        tick_over(&mut self.machine, frames, &mut self.keys, user)
     }
 
     /// A line that is typed, and the response, if there is one. Where it is not obeyed nothing has happened.
@@ -135,7 +96,7 @@ impl UserMachine {
         typed: &[u8],
     ) -> Result<Option<Response>, LineError>
         requires fits { Fits self.old (bytes_of frames.old user) }
-        requires idle { IsIdle frames.old.supply }
+        requires between { IsBetweenUnits frames.old.supply }
         ensures ok { let before = machine_of self.old (bytes_of frames.old user) in
             let after = machine_of self.new (bytes_of frames.new user) in
             IfOk result (λ reply. line typed.now before ≡ record { machine = after; reply = reply }) }
@@ -150,22 +111,12 @@ impl UserMachine {
             switches typed.now before ≡ false → ((pages : List ℕ) × IsBroughtFor user pages frames.old.supply frames.new.supply × AllNeeded (Touches (line_needs typed.now before)) pages) }
         ensures others { frames.new.storages ≡ slice_set frames.old.storages user (bytes_of frames.new user) }
         ensures fits { Fits self.new (bytes_of frames.new user) }
-        ensures idle { IsIdle frames.new.supply }
+        ensures between { IsBetweenUnits frames.new.supply }
     {
+        // A line holds what it brings until it ends.
         let reply = line_over(&mut self.machine, frames, &mut self.keys, user, typed);
         frames.unpin_all();
         reply
-    }
-}
-
-/// Whether a run that ended for want of a frame did some units, and so may do more when no frame is pinned.
-fn goes_on(ran: Ran) -> bool
-    ensures yes { result ≡ true → (ran.reason ≡ reasons.FramesOut) × (0 < ran.units) }
-    ensures no { result ≡ false → ran.reason ≡ reasons.FramesOut → ran.units ≡ 0 }
-{
-    match ran.reason {
-        Reason::FramesOut => ran.units > 0,
-        _ => false,
     }
 }
 
@@ -179,11 +130,13 @@ fn run_over(
 ) -> MachineRan
     requires large { 8192 ≤ length (bytes_of frames.old user) }
     requires keyed { length (bytes_of frames.old user) ≤ 2048 * length keys.old }
+    requires between { IsBetweenUnits frames.old.supply }
     ensures told { let before = parts_with machine.old (bytes_of frames.old user) keys.old in
         let after = parts_with machine.new (bytes_of frames.new user) keys.new in
-        TellsRun count before (record { machine = after; units = result.ran.units; reason = result.ran.reason; notice = result.notice }) (IsRefused frames.new.supply user) }
+        TellsRun count before (record { machine = after; units = result.ran.units; reason = result.ran.reason; notice = result.notice }) (HasNoRoom frames.new.supply user) }
     ensures supply { let before = parts_with machine.old (bytes_of frames.old user) keys.old in
-        (pages : List ℕ) × IsPagedFor user pages frames.old.supply frames.new.supply × AllNeeded (RunNeeds before.core result.ran.units result.ran.reason) pages }
+        (pages : List ℕ) × IsBroughtFor user pages frames.old.supply frames.new.supply × AllNeeded (RunNeeds before.core result.ran.units result.ran.reason) pages × (length pages ≤ 9 * begun result.ran.units result.ran.reason) }
+    ensures between { IsBetweenUnits frames.new.supply }
     ensures others { frames.new.storages ≡ slice_set frames.old.storages user (bytes_of frames.new user) }
     ensures size { length (bytes_of frames.new user) ≡ length (bytes_of frames.old user) }
 {
@@ -200,6 +153,7 @@ fn tick_over(
 ) -> Result<(), FramesOut>
     requires large { 8192 ≤ length (bytes_of frames.old user) }
     requires keyed { length (bytes_of frames.old user) ≤ 2048 * length keys.old }
+    requires between { IsBetweenUnits frames.old.supply }
     ensures ok { let before = parts_with machine.old (bytes_of frames.old user) keys.old in
         let after = parts_with machine.new (bytes_of frames.new user) keys.new in
         OnOk result (after ≡ ticked before) }
@@ -207,9 +161,10 @@ fn tick_over(
         let after = parts_with machine.new (bytes_of frames.new user) keys.new in
         OnErr result (after ≡ before) }
     ensures frames { let before = parts_with machine.old (bytes_of frames.old user) keys.old in
-        OnErr result (IsLacking (TickNeeds before) (length (bytes_of frames.old user)) (IsRefused frames.new.supply user)) }
+        OnErr result (IsLacking (TickNeeds before) (length (bytes_of frames.old user)) (HasNoRoom frames.new.supply user)) }
     ensures supply { let before = parts_with machine.old (bytes_of frames.old user) keys.old in
-        (pages : List ℕ) × IsPagedFor user pages frames.old.supply frames.new.supply × AllNeeded (TickNeeds before) pages }
+        (pages : List ℕ) × IsBroughtFor user pages frames.old.supply frames.new.supply × AllNeeded (TickNeeds before) pages × (length pages ≤ 1) }
+    ensures between { IsBetweenUnits frames.new.supply }
     ensures others { frames.new.storages ≡ slice_set frames.old.storages user (bytes_of frames.new user) }
     ensures size { length (bytes_of frames.new user) ≡ length (bytes_of frames.old user) }
 {

@@ -1,10 +1,10 @@
-use Rattle.std.proofs.Common.{◌≡◌, ◌∙◌, ◌*◌, ℕ, List, ap, map, replicate, subst, false, refl}
+use Rattle.std.proofs.Common.{◌≡◌, ◌∙◌, ◌*◌, ℕ, List, ap, arith, map, replicate, subst, false, refl}
 use Rattle.cp_directory.specs.Users.{DirectoryUser}
 use Rattle.cp_panel.specs.Machine.{Machine}
 use Rattle.cp_frames.specs.Layout.{FrameSupply}
 use Rattle.cp_core.specs.System.{SystemView, free_supply, machines_of}
 use Rattle.cp_core.specs.Whole.{AreNew}
-use Rattle.cp_core.proofs.Boots.{blank, idle_new, new_supply, new_machines, whole_new}
+use Rattle.cp_core.proofs.Boots.{blank, between_new, new_supply, new_machines, whole_new}
 use Rattle.cp_core.proofs.system.System.boot.Goals as goal
 
 pub invariant_of-result : goal.invariant_of-result
@@ -15,7 +15,7 @@ invariant_of-result c =
     let stored : c.in-Ok-new.frames.storages ≡ blank users = c.in-Ok-new.ensures.storages ∙ ap (λ (ps : List ℕ). map (λ pages. replicate (pages * 4096) 0) ps) pages in
     record {
       whole = rw stored (whole_new c.in-Ok.machines.items users seated c.requires);
-      idle = idle_new c.in-Ok-new.frames.supply c.frames-2.result c.slots.result (new_supply c.in-Ok-new.frames.supply c.frames-2.result c.slots.result c.in-Ok-new.ensures.owners c.in-Ok-new.ensures.slots c.in-Ok-new.ensures.pins c.in-Ok-new.ensures.order c.in-Ok-new.ensures.page_ins);
+      between = between_new c.in-Ok-new.frames.supply c.frames-2.result c.slots.result (new_supply c.in-Ok-new.frames.supply c.frames-2.result c.slots.result c.in-Ok-new.ensures.owners c.in-Ok-new.ensures.slots c.in-Ok-new.ensures.pins c.in-Ok-new.ensures.order c.in-Ok-new.ensures.page_ins) (omega (arith, c.if-frames-lt16.false, c.frames.ensures.value, c.frames-2.ensures.value));
     }
 
 view_is : (machines machines' : List Machine) (users : List DirectoryUser) (supply supply' : FrameSupply) → machines ≡ machines' → supply ≡ supply' → (let s : SystemView = record { machines = machines; users = users; supply = supply; is_spent = false } in s ≡ record { machines = machines'; users = users; supply = supply'; is_spent = false })

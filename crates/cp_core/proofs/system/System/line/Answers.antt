@@ -4,7 +4,8 @@ use Rattle.s370_store.specs.Access.{Touches}
 use Rattle.s370_intr.specs.Run.{AllNeeded, IsLacking}
 use Rattle.cp_panel.specs.Panel.{line, line_needs, switches}
 use Rattle.cp_panel.specs.declared.line.LineError.TheVariants as errors
-use Rattle.cp_core.specs.Supply.{IsBroughtFor, IsGivenBack, IsShort}
+use Rattle.cp_frames.specs.Supplied.{IsBroughtFor}
+use Rattle.cp_core.specs.Supply.{IsGivenBack, IsShort}
 use Rattle.cp_core.specs.System.{SystemView}
 use Rattle.cp_core.proofs.Systems.{change, is_user, seat_fits, transported, same_if_refused}
 use Rattle.cp_core.proofs.system.System.line.Goals as goal
@@ -27,7 +28,7 @@ new-requires c =
 pub line-requires : goal.line-requires
 line-requires c =
     let inside = is_user c.self.inside.machines.items c.self.inside.frames.storages c.self.inside.directory c.args.self.now.machines c.args.user c.self.invariant.whole (ap (λ (s : SystemView). s.machines) c.self.view_is) c.requires in
-    record { fits = rw c.new.ensures (seat_fits c.self.inside.machines.items c.self.inside.frames.storages c.self.inside.directory c.args.user c.index_mut-machine.result.now c.self.invariant.whole inside c.index_mut-machine.ensures.value); idle = c.self.invariant.idle }
+    record { fits = rw c.new.ensures (seat_fits c.self.inside.machines.items c.self.inside.frames.storages c.self.inside.directory c.args.user c.index_mut-machine.result.now c.self.invariant.whole inside c.index_mut-machine.ensures.value); between = c.self.invariant.between }
 
 pub returns-clause-ok : goal.returns-clause-ok
 returns-clause-ok c =

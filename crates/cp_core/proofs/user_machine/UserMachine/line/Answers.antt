@@ -4,8 +4,10 @@ use Rattle.s370_intr.specs.Run.{AllNeeded, IsLacking}
 use Rattle.cp_frames.specs.Layout.{bytes_of}
 use Rattle.cp_panel.specs.Machine.{machine_of as parts_with}
 use Rattle.cp_panel.specs.Panel.{line_needs, switches}
-use Rattle.cp_core.specs.Supply.{IsBroughtFor, IsGivenBack, IsShort}
-use Rattle.cp_core.proofs.Kept.{brought_for, given_for, idle_again, line_short}
+use Rattle.cp_frames.specs.Supplied.{IsBroughtFor}
+use Rattle.cp_frames.specs.Letting.{between_again, brought_for}
+use Rattle.cp_core.specs.Supply.{IsGivenBack, IsShort}
+use Rattle.cp_core.proofs.Kept.{given_for, line_short}
 use Rattle.cp_core.proofs.user_machine.UserMachine.line.Goals as goal
 
 pub returns-clause-frames : goal.returns-clause-frames
@@ -16,7 +18,7 @@ returns-clause-frames c = λ failed. (
     let new = c.unpin_all.new.self.supply in
     let needs = Touches (line_needs c.args.typed.now before) in
     let l = c.line_over-reply.ensures.frames failed in
-    let short : IsShort new c.args.user needs l.page = line_short c.args.typed.now before c.args.user l.page c.args.frames.now.supply between new c.requires.idle c.line_over-reply.ensures.supply l.needed c.unpin_all.ensures.supply l.short in
+    let short : IsShort new c.args.user needs l.page = line_short c.args.typed.now before c.args.user l.page c.args.frames.now.supply between new c.requires.between c.line_over-reply.ensures.supply l.needed c.unpin_all.ensures.supply l.short in
     let lacking : IsLacking needs (length bytes) (IsShort new c.args.user needs) = record { page = l.page; inside = l.inside; needed = l.needed; short = short } in
     search rules)
 
@@ -34,6 +36,6 @@ returns-clause-supply c = λ off. (
     (s.0, brought_for c.args.user s.0 c.args.frames.now.supply c.line_over-reply.new.frames.supply c.unpin_all.new.self.supply s.1 c.unpin_all.ensures.supply, s.2) in
     search rules)
 
-pub returns-clause-idle : goal.returns-clause-idle
-returns-clause-idle c =
-    idle_again c.args.frames.now.supply c.line_over-reply.new.frames.supply c.unpin_all.new.self.supply c.requires.idle c.line_over-reply.ensures.frames_kept c.line_over-reply.ensures.marks c.unpin_all.ensures.supply
+pub returns-clause-between : goal.returns-clause-between
+returns-clause-between c =
+    between_again c.args.frames.now.supply c.line_over-reply.new.frames.supply c.unpin_all.new.self.supply c.requires.between c.line_over-reply.ensures.frames_kept c.line_over-reply.ensures.marks c.unpin_all.ensures.supply
