@@ -26,8 +26,6 @@ mod order;
 mod owners;
 mod pool;
 mod table;
-#[cfg(test)]
-mod tests;
 
 pub use dat::Dat;
 pub use numbers::{FRAME_SIZE, FrameNo, UserPage};

@@ -124,7 +124,23 @@ impl Frames {
     pub fn page_ins(&self) -> u64
         ensures { result ≡ self.now.supply.page_ins }
     {
-        self.page_ins
+        // All that frames keep: no fields but `frames` and `slots` have bytes of users.
+        let Frames {
+            frames: _,
+            slots: _,
+            owners: _,
+            slot_owners: _,
+            pins: _,
+            is_marked: _,
+            order: _,
+            end: _,
+            low: _,
+            page_ins,
+            sizes: _,
+            tables: _,
+            slot_table: _,
+        } = self;
+        *page_ins
     }
 
     /// The frame in which a page of a user stands. A page that stands in none, and in no slot, is all zero.
@@ -703,41 +719,5 @@ impl Frames {
         let (first, second) = from.split_at(left);
         self.store_part(user, start, first);
         self.store_part(user, start + left as u32, second);
-    }
-}
-
-#[cfg(test)]
-mod tests {
-    use super::*;
-    use std::test::Fail;
-
-    // All that frames keep: no fields but `frames` and `slots` have bytes.
-    #[test]
-    fn frames_have_no_other_parts(rt: HostRuntime) -> Result<(), Fail> {
-        let sizes = vec![in rt.alloc(); 2u32, 3]?;
-        let all = Frames::new(rt.alloc(), 4, 6, sizes)?;
-        let Frames {
-            frames,
-            slots,
-            owners,
-            slot_owners,
-            pins,
-            is_marked,
-            order,
-            end,
-            low,
-            page_ins,
-            sizes,
-            tables,
-            slot_table,
-        } = &all;
-        assert_eq!(rt; (frames.len(), owners.len(), pins.len()), (4, 4, 4));
-        assert_eq!(rt; (slots.len(), slot_owners.len()), (6, 6));
-        assert_eq!(rt; order.as_slice(), [3u16, 2, 1, 0].as_slice());
-        assert_eq!(rt; sizes.as_slice(), [2u32, 3].as_slice());
-        assert_eq!(rt; (tables.len(), slot_table.len()), (4608, 2048));
-        assert_eq!(rt; (*is_marked, *page_ins), (false, 0));
-        assert_eq!(rt; (*end, *low), (4, 0));
-        Ok(())
     }
 }
