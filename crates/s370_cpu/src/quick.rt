@@ -1,5 +1,5 @@
 //! The most frequent instructions, each done in one go where nothing keeps it from being done.
-ghost use Rattle.std.specs.Prelude.{◌≡◌, ℕ, Ok, true, false, length, slice_index};
+ghost use Rattle.std.specs.Prelude.{◌≡◌, ℕ, Ok, IfSome, IfNone, true, false, length, slice_index};
 ghost use Rattle.s370_store.specs.Access.{IsGranted};
 ghost use Rattle.s370_rows.specs.State.{state_of};
 ghost use Rattle.s370_cpu.specs.declared.conclude.Stop.TheVariants as stops;
@@ -30,16 +30,25 @@ use s370_store::{Storage, load_byte};
 /// Does one instruction of a running processor, if it is one of the most frequent, if it is done, and if the processor then
 /// goes on with the next one. Else nothing changes.
 ///
-/// `true` says that it was done. So a loop over instructions has no stop to tell from others, and what it has looked at
-/// before (all that only the supervisor state can change) it need not look at again.
+/// The address of the next instruction says that it was done. So a loop over instructions has no stop to tell from others;
+/// what it has looked at before (all that only the supervisor state can change, the key among it) it need not look at again;
+/// and the address it holds itself, since what was just stored into the PSW would be waited for.
 #[inline(always)]
-pub fn step_quickly<S: Storage>(cpu: &mut Cpu, storage: &mut S) -> bool
+pub fn step_quickly<S: Storage>(
+    cpu: &mut Cpu,
+    storage: &mut S,
+    start: Addr24,
+    key: AccessKey,
+) -> Option<Addr24>
+    requires here { start ≡ cpu.old.psw.address }
+    requires key { key ≡ cpu.old.psw.key }
     ensures done { let before = state_of cpu.old (S.bytes storage.old) (S.keys storage.old) in
         let after = state_of cpu.new (S.bytes storage.new) (S.keys storage.new) in
-        result ≡ true → MeetsUnit (unit before) (S.present storage.old) before stops.Done after }
+        IfSome result (λ _. MeetsUnit (unit before) (S.present storage.old) before stops.Done after) }
+    ensures next { IfSome result (λ next. next ≡ cpu.new.psw.address) }
     ensures still { let before = state_of cpu.old (S.bytes storage.old) (S.keys storage.old) in
         let after = state_of cpu.new (S.bytes storage.new) (S.keys storage.new) in
-        result ≡ false → after ≡ before }
+        IfNone result (after ≡ before) }
     ensures rights { let before = state_of cpu.old (S.bytes storage.old) (S.keys storage.old) in
         let after = state_of cpu.new (S.bytes storage.new) (S.keys storage.new) in
         rights_of after ≡ rights_of before }
@@ -47,17 +56,14 @@ pub fn step_quickly<S: Storage>(cpu: &mut Cpu, storage: &mut S) -> bool
     ensures present { S.present storage.new ≡ S.present storage.old }
     ensures rest { S.Keeps storage.old storage.new }
 {
-    // What is read once stays in a register, whatever the storage does to settle. The tests of the address come first, so
-    // that what settling finds is looked at right after it.
-    let start = cpu.psw.address().get();
-    let key = cpu.psw.key();
-    if start % 2 != 0 {
-        return false;
+    // The tests of the address come first, so that what settling finds is looked at right after it.
+    if start.get() % 2 != 0 {
+        return None;
     }
-    if start % 2048 > 2042 {
-        return false;
+    if start.get() % 2048 > 2042 {
+        return None;
     }
-    storage.settle(start, key);
+    storage.settle(start.get(), key);
     step_settled_quickly(cpu, storage, start, key)
 }
 
@@ -66,17 +72,18 @@ pub fn step_quickly<S: Storage>(cpu: &mut Cpu, storage: &mut S) -> bool
 fn step_settled_quickly<S: Storage>(
     cpu: &mut Cpu,
     storage: &mut S,
-    start: u32,
+    start: Addr24,
     key: AccessKey,
-) -> bool
+) -> Option<Addr24>
     requires here { start ≡ cpu.old.psw.address }
     requires key { key ≡ cpu.old.psw.key }
     ensures done { let before = state_of cpu.old (S.bytes storage.old) (S.keys storage.old) in
         let after = state_of cpu.new (S.bytes storage.new) (S.keys storage.new) in
-        result ≡ true → MeetsUnit (unit before) (S.present storage.old) before stops.Done after }
+        IfSome result (λ _. MeetsUnit (unit before) (S.present storage.old) before stops.Done after) }
+    ensures next { IfSome result (λ next. next ≡ cpu.new.psw.address) }
     ensures still { let before = state_of cpu.old (S.bytes storage.old) (S.keys storage.old) in
         let after = state_of cpu.new (S.bytes storage.new) (S.keys storage.new) in
-        result ≡ false → after ≡ before }
+        IfNone result (after ≡ before) }
     ensures rights { let before = state_of cpu.old (S.bytes storage.old) (S.keys storage.old) in
         let after = state_of cpu.new (S.bytes storage.new) (S.keys storage.new) in
         rights_of after ≡ rights_of before }
@@ -84,11 +91,11 @@ fn step_settled_quickly<S: Storage>(
     ensures present { S.present storage.new ≡ S.present storage.old }
     ensures rest { S.Keeps storage.old storage.new }
 {
-    if !may_fetch_longest(cpu, storage, start, key) {
-        return false;
+    if !may_fetch_longest(cpu, storage, start.get(), key) {
+        return None;
     }
     // One jump, behind which all is compiled for the one operation code.
-    match load_byte(storage, start) {
+    match load_byte(storage, start.get()) {
         0x0E => carry_quickly::<S, 0x0E>(cpu, storage, start),
         0x18 => carry_quickly::<S, 0x18>(cpu, storage, start),
         0x41 => carry_quickly::<S, 0x41>(cpu, storage, start),
@@ -99,14 +106,18 @@ fn step_settled_quickly<S: Storage>(
         0x5A => carry_quickly::<S, 0x5A>(cpu, storage, start),
         0x95 => carry_quickly::<S, 0x95>(cpu, storage, start),
         0xD2 => carry_quickly::<S, 0xD2>(cpu, storage, start),
-        _ => false,
+        _ => None,
     }
 }
 
 /// Goes on with the instruction of this operation code, which stands at the instruction address, once one look was enough
 /// for its fetch.
 #[inline(always)]
-fn carry_quickly<S: Storage, const CODE: u8>(cpu: &mut Cpu, storage: &mut S, start: u32) -> bool
+fn carry_quickly<S: Storage, const CODE: u8>(
+    cpu: &mut Cpu,
+    storage: &mut S,
+    start: Addr24,
+) -> Option<Addr24>
     requires here { start ≡ cpu.old.psw.address }
     requires found { let m = state_of cpu.old (S.bytes storage.old) (S.keys storage.old) in
         (fetched m start).result ≡ Ok (instruction_at (S.bytes storage.old) start) }
@@ -114,10 +125,11 @@ fn carry_quickly<S: Storage, const CODE: u8>(cpu: &mut Cpu, storage: &mut S, sta
     requires known { CODE ≡ slice_index (S.bytes storage.old) start }
     ensures done { let before = state_of cpu.old (S.bytes storage.old) (S.keys storage.old) in
         let after = state_of cpu.new (S.bytes storage.new) (S.keys storage.new) in
-        result ≡ true → MeetsUnit (unit before) (S.present storage.old) before stops.Done after }
+        IfSome result (λ _. MeetsUnit (unit before) (S.present storage.old) before stops.Done after) }
+    ensures next { IfSome result (λ next. next ≡ cpu.new.psw.address) }
     ensures still { let before = state_of cpu.old (S.bytes storage.old) (S.keys storage.old) in
         let after = state_of cpu.new (S.bytes storage.new) (S.keys storage.new) in
-        result ≡ false → after ≡ before }
+        IfNone result (after ≡ before) }
     ensures rights { let before = state_of cpu.old (S.bytes storage.old) (S.keys storage.old) in
         let after = state_of cpu.new (S.bytes storage.new) (S.keys storage.new) in
         rights_of after ≡ rights_of before }
@@ -126,11 +138,11 @@ fn carry_quickly<S: Storage, const CODE: u8>(cpu: &mut Cpu, storage: &mut S, sta
     ensures rest { S.Keeps storage.old storage.new }
 {
     if CODE == EXECUTE {
-        return false;
+        return None;
     }
-    let first = load_known(storage, start, CODE);
+    let first = load_known(storage, start.get(), CODE);
     let ilc = length_of(CODE);
-    let next = cpu.psw.address().wrapping_add(2 * ilc.get() as u32);
+    let next = start.wrapping_add(2 * ilc.get() as u32);
     finish_quickly::<S, CODE>(cpu, storage, Place { next, ilc }, first)
 }
 
@@ -141,17 +153,18 @@ fn finish_quickly<S: Storage, const CODE: u8>(
     storage: &mut S,
     place: Place,
     i: Instruction,
-) -> bool
+) -> Option<Addr24>
     requires same { i.opcode ≡ CODE }
     requires carried { Carries (state_of cpu.old (S.bytes storage.old) (S.keys storage.old)) place.ilc i }
     requires next { let m = state_of cpu.old (S.bytes storage.old) (S.keys storage.old) in
         place ≡ place_at m place.ilc }
     ensures done { let before = state_of cpu.old (S.bytes storage.old) (S.keys storage.old) in
         let after = state_of cpu.new (S.bytes storage.new) (S.keys storage.new) in
-        result ≡ true → MeetsUnit (unit before) (S.present storage.old) before stops.Done after }
+        IfSome result (λ _. MeetsUnit (unit before) (S.present storage.old) before stops.Done after) }
+    ensures next { IfSome result (λ next. next ≡ cpu.new.psw.address) }
     ensures still { let before = state_of cpu.old (S.bytes storage.old) (S.keys storage.old) in
         let after = state_of cpu.new (S.bytes storage.new) (S.keys storage.new) in
-        result ≡ false → after ≡ before }
+        IfNone result (after ≡ before) }
     ensures rights { let before = state_of cpu.old (S.bytes storage.old) (S.keys storage.old) in
         let after = state_of cpu.new (S.bytes storage.new) (S.keys storage.new) in
         rights_of after ≡ rights_of before }
@@ -161,28 +174,28 @@ fn finish_quickly<S: Storage, const CODE: u8>(
 {
     let Place { next, ilc } = place;
     match perform_quickly::<S, CODE>(cpu, storage, Place { next, ilc }, i) {
-        Some(ending) => {
-            go_on(cpu, Place { next, ilc }, ending);
-            true
-        }
-        None => false,
+        Some(ending) => Some(go_on(cpu, Place { next, ilc }, ending)),
+        None => None,
     }
 }
 
-/// Sets the address that an instruction leaves.
+/// Sets the address that an instruction leaves, and answers it.
 #[inline(always)]
-fn go_on(cpu: &mut Cpu, place: Place, ending: Ending)
+fn go_on(cpu: &mut Cpu, place: Place, ending: Ending) -> Addr24
     requires { GoesOn ending }
-    ensures { stopped (Ok ending) place cpu.old ≡ record { stop = stops.Done; cpu = cpu.new } }
+    ensures stop { stopped (Ok ending) place cpu.old ≡ record { stop = stops.Done; cpu = cpu.new } }
+    ensures next { result ≡ cpu.new.psw.address }
 {
-    match ending {
-        Ending::Done => cpu.psw.set_address(place.next),
-        Ending::Branch(address) => cpu.psw.set_address(Addr24::wrapping(address)),
-        Ending::Again => {}
+    let next = match ending {
+        Ending::Done => place.next,
+        Ending::Branch(address) => Addr24::wrapping(address),
+        Ending::Again => return cpu.psw.address(),
         Ending::Interrupted(_) | Ending::SupervisorCall(_) | Ending::InputOutput(_, _) => {
             unreachable!()
         }
-    }
+    };
+    cpu.psw.set_address(next);
+    next
 }
 
 /// Carries out a frequent instruction, but for its address, if nothing keeps it from being done.

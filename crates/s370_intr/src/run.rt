@@ -144,9 +144,12 @@ fn instruct_quickly<S: Storage>(cpu: &mut Cpu, storage: &mut S, limit: u32) -> u
     ensures size { length (S.bytes storage.new) ≡ length (S.bytes storage.old) }
     ensures rest { S.Keeps storage.old storage.new }
 {
+    let mut next = cpu.psw.address();
+    let key = cpu.psw.key();
     for units in 0..limit {
-        if !step_quickly(cpu, storage) {
-            return units;
+        match step_quickly(cpu, storage, next, key) {
+            Some(address) => next = address,
+            None => return units,
         }
     }
     limit

@@ -13,6 +13,8 @@ invariant-loop-units g l =
     let m0 = state_of l.fn.cpu (g.S.Storage.bytes l.fn.storage) (g.S.Storage.keys l.fn.storage) in
     let m = state_of l.cpu (g.S.Storage.bytes l.storage) (g.S.Storage.keys l.storage) in
     record {
+      here : l.next ≡ m.cpu.psw.address;
+      key : l.key ≡ m.cpu.psw.key;
       done : (pending : Pending) (list : List Subchannel) → look (core_of m0 pending list) ≡ Instructs → (run l.units (core_of m0 pending list) ≡ all_done l.units (core_of m pending list)) × (look (core_of m pending list) ≡ Instructs);
       size : length (g.S.Storage.bytes l.storage) ≡ length (g.S.Storage.bytes l.fn.storage);
       rest : g.S.Storage.Keeps l.fn.storage l.storage;
