@@ -105,10 +105,10 @@ fn bring_for_unit<P: Processor, S: UnitSupply>(
     done
 }
 
-/// The unit that a look says, with the pages that it needs; none where it stops. Where there is no room for one of them,
-/// nothing has changed; the pages that were brought for it stay.
+/// The unit that a look says, tried once, and where it lacks a page with all pages that it needs; none where it stops. Where
+/// there is no room for one of them, nothing has changed; the pages that were brought for it stay.
 #[inline(always)]
-fn supplied<P: Processor, S: UnitSupply>(
+fn try_or_bring<P: Processor, S: UnitSupply>(
     said: Next,
     cpu: &mut Cpu,
     spare: &mut Cpu,
@@ -129,6 +129,57 @@ fn supplied<P: Processor, S: UnitSupply>(
     match try_unit::<P, S>(said, cpu, spare, pending, subchannels, storage) {
         Ok(()) => Ok(()),
         Err(_) => bring_for_unit::<P, S>(said, cpu, spare, pending, subchannels, storage),
+    }
+}
+
+/// As `try_or_bring`, out of line.
+#[inline(never)]
+fn accept_supplied<P: Processor, S: UnitSupply>(
+    said: Next,
+    cpu: &mut Cpu,
+    spare: &mut Cpu,
+    pending: &mut Pending,
+    subchannels: &mut Subchannels,
+    storage: &mut S,
+) -> Result<(), FramesOut>
+    requires large { 8192 ≤ length (S.Storage.bytes storage.old) }
+    requires between { S.IsBetween storage.old }
+    ensures unit { let before = core_of (state_of cpu.old (S.Storage.bytes storage.old) (S.Storage.keys storage.old)) pending.old subchannels.old in
+        let after = core_of (state_of cpu.new (S.Storage.bytes storage.new) (S.Storage.keys storage.new)) pending.new subchannels.new in
+        SuppliesUnit said before result after (S.IsOut storage.new) }
+    ensures supply { let before = core_of (state_of cpu.old (S.Storage.bytes storage.old) (S.Storage.keys storage.old)) pending.old subchannels.old in
+        (pages : List ℕ) × S.Came storage.old pages storage.new × AllNeeded (NeedsAt said before) pages × (length pages ≤ 9) }
+    ensures between { S.IsBetween storage.new }
+    ensures size { length (S.Storage.bytes storage.new) ≡ length (S.Storage.bytes storage.old) }
+{
+    try_or_bring::<P, S>(said, cpu, spare, pending, subchannels, storage)
+}
+
+/// The same. An instruction is named here, and all else is out of line, so that nothing of other units is carried through it.
+#[inline(always)]
+fn supplied<P: Processor, S: UnitSupply>(
+    said: Next,
+    cpu: &mut Cpu,
+    spare: &mut Cpu,
+    pending: &mut Pending,
+    subchannels: &mut Subchannels,
+    storage: &mut S,
+) -> Result<(), FramesOut>
+    requires large { 8192 ≤ length (S.Storage.bytes storage.old) }
+    requires between { S.IsBetween storage.old }
+    ensures unit { let before = core_of (state_of cpu.old (S.Storage.bytes storage.old) (S.Storage.keys storage.old)) pending.old subchannels.old in
+        let after = core_of (state_of cpu.new (S.Storage.bytes storage.new) (S.Storage.keys storage.new)) pending.new subchannels.new in
+        SuppliesUnit said before result after (S.IsOut storage.new) }
+    ensures supply { let before = core_of (state_of cpu.old (S.Storage.bytes storage.old) (S.Storage.keys storage.old)) pending.old subchannels.old in
+        (pages : List ℕ) × S.Came storage.old pages storage.new × AllNeeded (NeedsAt said before) pages × (length pages ≤ 9) }
+    ensures between { S.IsBetween storage.new }
+    ensures size { length (S.Storage.bytes storage.new) ≡ length (S.Storage.bytes storage.old) }
+{
+    match said {
+        Next::Instructs => {
+            try_or_bring::<P, S>(Next::Instructs, cpu, spare, pending, subchannels, storage)
+        }
+        _ => accept_supplied::<P, S>(said, cpu, spare, pending, subchannels, storage),
     }
 }
 
