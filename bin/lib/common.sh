@@ -56,6 +56,25 @@ check_paths() {
     check_texts "$@"
 }
 
+# check_sized_paths WORD..: refuses at once what a program of a directory and a script, with frames and slots, would refuse after
+# its build
+check_sized_paths() {
+    count=0
+    expected=option
+    for word in "$@"; do
+        case $expected$word in
+        number*) expected=option ;;
+        option--) expected=path ;;
+        option--frames | option--slots) expected=number ;;
+        option--frames=* | option--slots=*) ;;
+        option-?*) wrong_use ;;
+        *) count=$((count + 1)) ;;
+        esac
+    done
+    [ "$count" -eq 2 ] && [ "$expected" != number ] || wrong_use
+    check_texts "$@"
+}
+
 # the programs read their words as texts
 check_texts() {
     command -v iconv > /dev/null || return 0

@@ -1,4 +1,4 @@
--- The frames of users' pages, and what is written to a frame that is lent.
+-- The frames and slots of users' pages, and what is written to a frame that is lent.
 use Rattle.std.specs.Prelude.{◌≡◌, ℕ, ◌*◌, nat_lt, if◌then◌else◌, List, length, slice_index_or, slice_set, Option, Some, None}
 use Rattle.std.specs.Borrow.{LendsSo, MutBor, Fml, u8, Array}
 use Rattle.cp_frames.specs.declared.numbers.UserPage.{UserPage}
@@ -10,6 +10,10 @@ use Rattle.cp_core.specs.contracts.system.System.{the_row}
 -- the frame in which a page of a user's storage stands; a page past storage stands in none
 abbrev pub frame_at : SystemView → ℕ → ℕ → Option ℕ
 frame_at s user page = if nat_lt (page * 4096) (length (machine_at s user).core.processor.bytes) then frame_of s.supply.owners user page else None
+
+-- the slot in which it stands
+abbrev pub slot_at : SystemView → ℕ → ℕ → Option ℕ
+slot_at s user page = if nat_lt (page * 4096) (length (machine_at s user).core.processor.bytes) then frame_of s.supply.slots user page else None
 
 -- a machine of which a page of storage has this content
 abbrev pub with_page : Machine → ℕ → List ℕ → Machine

@@ -1,5 +1,5 @@
 //! What no script shows of a system, beside the transcripts of `vm370_examples`: too few frames, the machine of nobody, what a
-//! console keeps, a frame that is lent, and how many pages have come.
+//! console keeps, a frame that is lent, how many pages have come, and where they stand.
 //!
 //! It fails at the first thing that is otherwise, and tells it.
 #![tactic(auto)]
@@ -14,6 +14,9 @@ use std::alloc::Global;
 
 /// The fewest frames that a system may have.
 const FEWEST_FRAMES: u32 = 16;
+
+/// The slots of a crowded system.
+const FEW_SLOTS: u32 = 8;
 
 /// User A.
 fn a() -> UserNo {
@@ -181,9 +184,18 @@ fn write_to_first_page(system: &mut System, user: UserNo) -> Result<()> {
     see(past.is_none(), "no frame lies past the last")
 }
 
+/// Types lines of A, and compares how many pages have come into frames after each.
+fn come(system: &mut System, lines: &[(&str, u64)]) -> Result<()> {
+    for (line, pages) in lines {
+        type_lines(system, a(), &[*line])?;
+        see(system.page_ins() == *pages, "so many pages have come")?;
+    }
+    Ok(())
+}
+
 /// Each page that comes into a frame is counted: once, unless it has left since.
 fn pages_that_came(system: &mut System) -> Result<()> {
-    for (line, pages) in [
+    let lines = [
         ("LOGON", 0),
         ("STORE 0 01", 1),
         ("DISPLAY 0", 1),
@@ -192,11 +204,115 @@ fn pages_that_came(system: &mut System) -> Result<()> {
         ("LOGOFF", 2),
         ("LOGON", 2),
         ("DISPLAY 0", 3),
-    ] {
-        type_lines(system, a(), &[line])?;
-        see(system.page_ins() == pages, "so many pages have come")?;
+    ];
+    come(system, &lines)
+}
+
+/// A system of A with 32 pages, on sixteen frames and eight slots.
+fn crowded(alloc: Global) -> Result<System> {
+    let directory = read_directory(alloc, b"USER A PW 128K\n")?;
+    let Some(sizes) = Sizes::new(FEWEST_FRAMES, FEW_SLOTS) else {
+        bail!("so many frames and slots are too many");
+    };
+    Ok(System::boot(alloc, directory, sizes)?)
+}
+
+/// Displays the pages 16 to 31 of A, which take all frames; six pages that came before go to slots.
+fn crowd_out(system: &mut System) -> Result<()> {
+    let lines = [
+        ("DISPLAY 10000", 7),
+        ("DISPLAY 11000", 8),
+        ("DISPLAY 12000", 9),
+        ("DISPLAY 13000", 10),
+        ("DISPLAY 14000", 11),
+        ("DISPLAY 15000", 12),
+        ("DISPLAY 16000", 13),
+        ("DISPLAY 17000", 14),
+        ("DISPLAY 18000", 15),
+        ("DISPLAY 19000", 16),
+        ("DISPLAY 1A000", 17),
+        ("DISPLAY 1B000", 18),
+        ("DISPLAY 1C000", 19),
+        ("DISPLAY 1D000", 20),
+        ("DISPLAY 1E000", 21),
+        ("DISPLAY 1F000", 22),
+        ("BEGIN", 22),
+    ];
+    come(system, &lines)
+}
+
+/// Whether each of these pages of A stands in a frame, or each in a slot, or each nowhere.
+fn stand(system: &System, pages: &[u32], in_frames: bool, in_slots: bool) -> Result<()> {
+    for page in pages {
+        let frame = system.frame_of(a(), Page(*page));
+        let slot = system.slot_of(a(), Page(*page));
+        see(frame.is_some() == in_frames, "a page has a frame, or none")?;
+        see(slot.is_some() == in_slots, "a page has a slot, or none")?;
     }
     Ok(())
+}
+
+/// An EX lies across a page end, its target, an MVC, across another, and so do what is moved and where it goes: one unit brings
+/// eight pages, each once, six from slots and two that stood nowhere. Page 0 is not needed.
+fn a_move_of_eight_pages(system: &mut System) -> Result<()> {
+    let lines = [
+        ("LOGON", 0),
+        // EX 0,0(3) in the pages 1 and 2
+        ("STORE 1FFE 44003000", 2),
+        // MVC 0(8,5),0(7) in the pages 3 and 4
+        ("STORE 3FFC D20750007000", 4),
+        // what is moved, in the pages 7 and 8; it goes to the pages 5 and 6
+        ("STORE 7FFC 0102030405060708", 6),
+        ("STORE G3 00003FFC", 6),
+        ("STORE G5 00005FFC", 6),
+        ("STORE G7 00007FFC", 6),
+        ("STORE PSW 00000000 00001FFE", 6),
+    ];
+    come(system, &lines)?;
+    crowd_out(system)?;
+    stand(system, &[1, 2, 3, 4, 7, 8], false, true)?;
+    stand(system, &[0, 5, 6], false, false)?;
+    run(system, a(), 1)?;
+    see(system.page_ins() == 30, "the unit has brought eight pages")?;
+    stand(system, &[1, 2, 3, 4, 5, 6, 7, 8], true, false)?;
+    // those that came first were given up
+    stand(system, &[16, 17, 18, 19, 20, 21, 22, 23], false, true)?;
+    stand(system, &[24, 25, 26, 27, 28, 29, 30, 31], true, false)?;
+    stand(system, &[0, 9, 15, 32], false, false)?;
+    for place in 0..8 {
+        let moved = system.storage(a(), 0x5FFC + place);
+        see(moved == Some(place as u8 + 1), "each byte is moved")?;
+    }
+    Ok(())
+}
+
+/// An EX lies across a page end, its target, an A, across another, and its operand across a third; the sum overflows, so that the
+/// unit ends in an interruption, which needs page 0: seven pages.
+fn an_overflow_of_seven_pages(system: &mut System) -> Result<()> {
+    let lines = [
+        ("LOGON", 0),
+        // EX 0,0(3) in the pages 1 and 2
+        ("STORE 1FFE 44003000", 2),
+        // A 1,0(5) in the pages 3 and 4
+        ("STORE 3FFE 5A105000", 4),
+        // what is added, in the pages 5 and 6
+        ("STORE 5FFE 00000001", 6),
+        ("STORE G1 7FFFFFFF", 6),
+        ("STORE G3 00003FFE", 6),
+        ("STORE G5 00005FFE", 6),
+        ("STORE PSW 00000000 08001FFE", 6),
+    ];
+    come(system, &lines)?;
+    crowd_out(system)?;
+    stand(system, &[1, 2, 3, 4, 5, 6], false, true)?;
+    stand(system, &[0], false, false)?;
+    run(system, a(), 1)?;
+    see(system.page_ins() == 29, "the unit has brought seven pages")?;
+    stand(system, &[0, 1, 2, 3, 4, 5, 6], true, false)?;
+    stand(system, &[16, 17, 18, 19, 20, 21, 22], false, true)?;
+    stand(system, &[23, 24, 31], true, false)?;
+    let code = system.storage(a(), 0x2B);
+    see(code == Some(8), "the interruption is that of an overflow")
 }
 
 fn main(rt: HostRuntime) -> Result<()> {
@@ -206,6 +322,8 @@ fn main(rt: HostRuntime) -> Result<()> {
     kept_lines(&mut booted(alloc, FEWEST_FRAMES)??)?;
     a_lent_frame(&mut booted(alloc, FEWEST_FRAMES)??)?;
     pages_that_came(&mut booted(alloc, FEWEST_FRAMES)??)?;
+    a_move_of_eight_pages(&mut crowded(alloc)?)?;
+    an_overflow_of_seven_pages(&mut crowded(alloc)?)?;
     println!(rt; "frames, nobody, lines, a lent frame and pages are as they have to be")?;
     Ok(())
 }

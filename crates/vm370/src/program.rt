@@ -132,7 +132,7 @@ pub fn open<R: Files>(rt: &R, path: &str) -> Result<Counted<R::File>, Failure> {
 }
 
 /// The system that the directory at a path states, with so many frames and slots.
-fn boot<R: AllocGlobal + Files>(rt: &R, path: &str, sizes: Sizes) -> Result<System, Failure> {
+pub fn boot<R: AllocGlobal + Files>(rt: &R, path: &str, sizes: Sizes) -> Result<System, Failure> {
     let alloc = rt.alloc();
     let text = read_all(alloc, &mut open(rt, path)?)?;
     let directory = read_directory(alloc, &text)?;

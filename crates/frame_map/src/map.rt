@@ -1,0 +1,106 @@
+//! The map: a line for each run of places that have successive pages of one user, and how many are free.
+ghost use Rattle.std.specs.Prelude.{◌≡◌, ◌<◌, ◌≤◌, length};
+ghost use Rattle.frame_map.specs.Runs.{AreTogether, follows};
+
+use crate::places::{Owner, Places};
+use cp_core::{Sizes, System};
+use cp_directory::User;
+use cp_users::name_of;
+use s370_store::PAGE_SIZE;
+use std::alloc::{AllocError, Global};
+
+/// The map of a system that has so many frames and slots, as lines that are ended by LF: frames, slots, and how many pages have
+/// come into frames so far.
+pub fn frame_map(alloc: Global, system: &System, sizes: Sizes) -> Result<Vec<u8>, AllocError> {
+    let places = Places::of_system(alloc, system, sizes)?;
+    let users = system.directory().users();
+    let mut text = Vec::new(alloc);
+    print_places(alloc, &mut text, "FRAME", &places.frames, users)?;
+    print_places(alloc, &mut text, "SLOT", &places.slots, users)?;
+    let line = format!(in alloc; "PAGE INS {}\n", system.page_ins())?;
+    text.extend_from_slice(line.as_bytes())?;
+    Ok(text)
+}
+
+/// Adds the lines of these places, which are frames or slots by this word: those that have pages, and how many are free.
+fn print_places(
+    alloc: Global,
+    out: &mut Vec<u8>,
+    word: &str,
+    places: &[Option<Owner>],
+    users: &[User],
+) -> Result<(), AllocError> {
+    let mut first = 0;
+    while first < places.len() {
+        let count = run_length(&places[first..]);
+        if let Some(owner) = places[first] {
+            print_run(alloc, out, word, first, count, owner, users)?;
+        }
+        first += count;
+    }
+    let free = places.iter().filter(|place| place.is_none()).count();
+    let line = format!(in alloc; "FREE {word}S {free} OF {}\n", places.len())?;
+    out.extend_from_slice(line.as_bytes())
+}
+
+/// How many of the first places are one run: free ones, or such as have successive pages of one user.
+fn run_length(places: &[Option<Owner>]) -> usize
+    requires { 0 < length places.now }
+    ensures some { 0 < result }
+    ensures most { result ≤ length places.now }
+    ensures together { AreTogether places.now result }
+{
+    let mut count = 1;
+    while count < places.len() && follows(places[count - 1], places[count]) {
+        count += 1;
+    }
+    count
+}
+
+/// Whether a place belongs to the run of the one before it.
+fn follows(before: Option<Owner>, next: Option<Owner>) -> bool
+    ensures { result ≡ follows before next }
+{
+    match (before, next) {
+        (None, None) => true,
+        (Some(before), Some(next)) => {
+            before.user == next.user && u64::from(before.page) + 1 == u64::from(next.page)
+        }
+        _ => false,
+    }
+}
+
+/// Adds the line of so many places from this one on, which have the successive pages of a user from this one on.
+fn print_run(
+    alloc: Global,
+    out: &mut Vec<u8>,
+    word: &str,
+    first: usize,
+    count: usize,
+    owner: Owner,
+    users: &[User],
+) -> Result<(), AllocError> {
+    let page = address_of(owner.page, 0);
+    if count == 1 {
+        let line = format!(in alloc; "{word} {first} ")?;
+        out.extend_from_slice(line.as_bytes())?;
+        out.extend_from_slice(name_of(users, owner.user))?;
+        let line = format!(in alloc; " {page:06X}\n")?;
+        return out.extend_from_slice(line.as_bytes());
+    }
+    let more = count.saturating_sub(1);
+    let last = first.saturating_add(more);
+    let line = format!(in alloc; "{word}S {first}-{last} ")?;
+    out.extend_from_slice(line.as_bytes())?;
+    out.extend_from_slice(name_of(users, owner.user))?;
+    let end = address_of(owner.page, more);
+    let line = format!(in alloc; " {page:06X}-{end:06X}\n")?;
+    out.extend_from_slice(line.as_bytes())
+}
+
+/// The address of the page that is so many after this one.
+fn address_of(page: u32, after: usize) -> u64 {
+    (u64::from(page))
+        .saturating_add(after as u64)
+        .saturating_mul(u64::from(PAGE_SIZE))
+}

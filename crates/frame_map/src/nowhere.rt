@@ -1,0 +1,30 @@
+//! A writer that keeps nothing.
+ghost use Rattle.std.specs.Prelude.{[], None};
+
+use s370_num::host::{HostFault, HostFile, HostWriter};
+
+/// Where what nobody reads is written.
+#[derive(Drop)]
+pub(crate) struct Nowhere;
+
+impl HostFile for Nowhere {
+    ghost failures = { λ _. 0 };
+
+    fn failures(&self) -> u64 {
+        0
+    }
+}
+
+impl HostWriter for Nowhere {
+    ghost contents = { λ _. None };
+
+    ghost held = { λ _. [] };
+
+    fn write(&mut self, bytes: &[u8]) -> Result<usize, HostFault> {
+        Ok(bytes.len())
+    }
+
+    fn flush(&mut self) -> Result<(), HostFault> {
+        Ok(())
+    }
+}

@@ -1,0 +1,60 @@
+//! The program `framemap [--frames N] [--slots N] DIRECTORY SCRIPT`: the script is done as `vm370` does it, and then the map of
+//! frames and slots is printed.
+//!
+//! Its words, its refusals and its exit statuses are those of `vm370`; what that would print is not kept.
+use crate::map::frame_map;
+use crate::nowhere::Nowhere;
+use s370_num::host::{Counted, HostWriter, write_all};
+use std::io;
+use std::rt::{Env, Files};
+use vm370::arguments::arguments;
+use vm370::faults::Failure;
+use vm370::program::{Ended, boot, finish, open, words, wrong_use};
+use vm370::session::session;
+
+/// The program's name, as it tells it.
+const PROGRAM: &str = "framemap";
+
+/// What is told after a usage text: what is printed, an example, and the exit statuses.
+const USAGE_NOTE: &str = "
+Prints who has which frame and which slot after the script, in place of what the terminals show.
+
+Example:
+  printf 'USER A PW 8K\\n' > users
+  printf 'LINE A LOGON\\nLINE A STORE 1000 0A07\\n' > script
+  framemap users script
+
+The map goes to standard output, a fault as one line to standard error. Exit statuses:
+  0  the script was done to its end, and the map is printed
+  1  the directory or the script was refused; the line tells where
+  2  wrong words, or --help
+  3  a file could not be opened, read or written
+  4  there was not memory enough
+";
+
+/// The whole program: what it is started with names a directory and a script, and the map of what that leaves is written. A
+/// failure is told on standard error.
+pub fn program<R: AllocGlobal + Files + Env + Print + Eprint>(rt: &R) -> Ended {
+    finish(rt, run(rt))
+}
+
+/// Reads the words and both files, does the script, and writes the map. A wrong use is told here.
+fn run<R: AllocGlobal + Files + Env + Print + Eprint>(rt: &R) -> Result<(), Failure> {
+    let alloc = rt.alloc();
+    let words = words(rt, PROGRAM)?;
+    let options = match arguments(alloc, PROGRAM, words.as_slice()) {
+        Ok(options) => options,
+        Err(error) => return Err(wrong_use(rt, &error, USAGE_NOTE)),
+    };
+    let mut system = boot(rt, options.directory, options.sizes)?;
+    let mut script = open(rt, options.script)?;
+    session(alloc, &mut system, &mut script, &mut Nowhere)?;
+    let map = frame_map(alloc, &system, options.sizes)?;
+    let Ok(output) = io::BufWriter::new(alloc, io::writer(rt)) else {
+        return Err(Failure::Memory);
+    };
+    let mut writer = Counted::new(output);
+    write_all(&mut writer, &map)?;
+    writer.flush()?;
+    Ok(())
+}

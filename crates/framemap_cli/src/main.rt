@@ -1,0 +1,9 @@
+//! The program `framemap [--frames N] [--slots N] DIRECTORY SCRIPT` (docs/FORMATS.md, "Frame maps").
+#![tactic(auto)]
+
+use frame_map::program::program;
+use vm370::program::Ended;
+
+fn main(rt: HostRuntime) -> Ended {
+    program(&rt)
+}
