@@ -294,6 +294,3 @@ fn event_of<'a>(event: &ScriptEvent<'a>) -> Event<'a>
         ScriptEvent::Serve(_, _) | ScriptEvent::Auto(_) => unreachable!(),
     }
 }
-
-#[cfg(test)]
-mod tests;
