@@ -9,7 +9,8 @@
 //! as the storage of each user, a list of bytes, and as its supply: the page in each frame and in each slot, which frames
 //! are pinned, the order in which their pages came, and how many have come. Where no frame is free for a page that is
 //! wanted, the page longest in its frame among those not pinned is given up for it. [`Dat`] lends one user's pages, with
-//! his keys, as a `Storage` over which a processor runs, and as a `Supply`, which brings his absent pages and pins them.
+//! his keys, as a `Storage` over which a processor runs, as a `Supply`, which brings his absent pages and pins them, and as a
+//! `UnitSupply`, which takes the pins away when a unit ends.
 //!
 //! ```
 //! let mut frames = Frames::new(alloc, 64, 256, sizes)?;

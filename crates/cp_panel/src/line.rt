@@ -21,7 +21,7 @@ pub enum LineError {
     #[error("no memory is left")]
     Memory,
     /// It has to access a page that is not present, and there is no room for it.
-    #[error("no frame is free")]
+    #[error("there is no room for a page that is wanted")]
     FramesOut,
 }
 

@@ -5,9 +5,9 @@ ghost use Rattle.s370_store.specs.Access.{IsAway};
 use crate::{Keyed, Page, PlainStorage};
 use thiserror::Error;
 
-/// No frame is free for a page that is wanted.
+/// There is no room for a page that is wanted: no frame is free for it, and no other page can leave one.
 #[derive(Clone, Copy, Debug, PartialEq, Eq, Error)]
-#[error("no frame is free")]
+#[error("there is no room for a page that is wanted")]
 pub struct FramesOut;
 
 /// A storage whose absent pages can be brought.
