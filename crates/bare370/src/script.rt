@@ -1,4 +1,4 @@
-//! The script of a machine of its own: events, and decks of cards.
+//! The script of a machine of its own: events, decks of cards, and turns.
 ghost use Rattle.std.specs.Prelude.{◌≤◌, IfOk, length};
 
 use bare_installation::{BARE, Event, Installation, Reply};
@@ -18,11 +18,20 @@ const COLUMNS: usize = 80;
 /// What stands for a character that has no byte, and after the last one.
 const BLANK: u8 = 0x40;
 
-/// What a script says that happens to the machine.
+/// What a line of a script asks for.
 #[derive(Drop)]
 pub enum Step<'a> {
-    /// It is let run for at most so many units.
+    /// The machine is let run for at most so many units.
     Run(u32),
+    /// So many turns are dealt.
+    Turns(u32),
+    /// Something else happens to the machine.
+    Happens(Happening<'a>),
+}
+
+/// What a script says that happens to the machine, but for runs.
+#[derive(Drop)]
+pub enum Happening<'a> {
     /// A line is typed.
     Line(&'a [u8]),
     /// Its interval timer ticks.
@@ -33,15 +42,14 @@ pub enum Step<'a> {
     Deck(Vec<Card>),
 }
 
-impl<'a> Step<'a> {
+impl<'a> Happening<'a> {
     /// Lets it happen to the machine, and says what is told.
     pub fn happen(&self, alloc: Global, machine: &mut Installation) -> Result<Reply, AllocError> {
         let event = match self {
-            Step::Run(units) => Event::Run(*units),
-            Step::Line(typed) => Event::Line(typed),
-            Step::Tick => Event::Tick,
-            Step::Serve(device) => Event::Serve(DevAddr::new(*device)),
-            Step::Deck(cards) => Event::Deck(cards.as_slice()),
+            Happening::Line(typed) => Event::Line(typed),
+            Happening::Tick => Event::Tick,
+            Happening::Serve(device) => Event::Serve(DevAddr::new(*device)),
+            Happening::Deck(cards) => Event::Deck(cards.as_slice()),
         };
         machine.apply(alloc, event)
     }
@@ -66,7 +74,8 @@ pub fn read_steps<'a>(
         match deck_of(line) {
             Some(cards) => {
                 let (deck, left) = read_deck(alloc, number, cards, rest)?;
-                if steps.push(Step::Deck(deck)).is_err() {
+                let given = Step::Happens(Happening::Deck(deck));
+                if steps.push(given).is_err() {
                     return Err(ScriptError::Memory);
                 }
                 rest = left;
@@ -79,7 +88,7 @@ pub fn read_steps<'a>(
     Ok(steps)
 }
 
-/// Adds the event that a line of this number names, if it names one.
+/// Adds what a line of this number asks for, if it asks for anything.
 fn read_event<'a>(
     alloc: Global,
     users: &[ScriptUser<'_>; 1],
@@ -93,24 +102,21 @@ fn read_event<'a>(
         Err(ScriptError::Line(_)) => return Err(ScriptError::Line(number)),
     };
     for event in events {
-        let Some(step) = step_of(event) else {
-            return Err(ScriptError::Line(number));
-        };
-        if steps.push(step).is_err() {
+        if steps.push(step_of(event)).is_err() {
             return Err(ScriptError::Memory);
         }
     }
     Ok(())
 }
 
-/// The step of an event of a script whose only user is this machine's; none of turns, which are dealt among users.
-fn step_of(event: ScriptEvent<'_>) -> Option<Step<'_>> {
+/// The step of an event of a script whose only user is this machine's.
+fn step_of(event: ScriptEvent<'_>) -> Step<'_> {
     match event {
-        ScriptEvent::Run(_, units) => Some(Step::Run(units)),
-        ScriptEvent::Line(_, typed) => Some(Step::Line(typed)),
-        ScriptEvent::Tick(_) => Some(Step::Tick),
-        ScriptEvent::Serve(_, device) => Some(Step::Serve(device)),
-        ScriptEvent::Auto(_) => None,
+        ScriptEvent::Run(_, units) => Step::Run(units),
+        ScriptEvent::Line(_, typed) => Step::Happens(Happening::Line(typed)),
+        ScriptEvent::Tick(_) => Step::Happens(Happening::Tick),
+        ScriptEvent::Serve(_, device) => Step::Happens(Happening::Serve(device)),
+        ScriptEvent::Auto(turns) => Step::Turns(turns),
     }
 }
 

@@ -1,8 +1,9 @@
 //! A session of a machine of its own: from a script's bytes to a transcript's bytes.
 ghost use Rattle.std.specs.Prelude.{◌≤◌};
 
+use crate::dealer::Dealer;
 use crate::script::{Step, read_steps};
-use crate::transcript::{print_files, print_step};
+use crate::transcript::{print_files, print_happening, print_run, print_turn};
 use bare_installation::Installation;
 use ckd_volume::{Arm, Sense, Unit, Volume};
 use cp_devices::{Devices, Places};
@@ -93,9 +94,9 @@ fn addresses(alloc: Global, machine: &Installation) -> Result<Vec<u16>, AllocErr
     Ok(addresses)
 }
 
-/// Reads a whole script and judges it; then lets its steps happen to the machine one after another, and writes the lines of
-/// each as it comes, and at the end the files for the operator. Where the script is refused nothing happens, and nothing is
-/// written. After any other failure a beginning of the transcript is written.
+/// Reads a whole script and judges it; then lets its steps happen to the machine and deals its turns one after another, and
+/// writes the lines of each as they come, and at the end the files for the operator. Where the script is refused nothing
+/// happens, and nothing is written. After any other failure a beginning of the transcript is written.
 pub fn bare_session<R: HostReader, W: HostWriter>(
     alloc: Global,
     machine: &mut Installation,
@@ -109,22 +110,54 @@ pub fn bare_session<R: HostReader, W: HostWriter>(
         Err(ScriptError::Memory) => return Err(SessionError::Memory),
         Err(ScriptError::Line(number)) => return Err(SessionError::Line(number)),
     };
-    play(alloc, machine, &steps, writer)
+    let mut dealer = Dealer::new(alloc, deals_turns(&steps))?;
+    dealer.look(machine);
+    play(alloc, machine, &mut dealer, &steps, writer)
 }
 
-/// Lets the steps happen one after another, and writes the lines of each as it comes, and then the files.
+/// Whether turns are dealt by any of the steps.
+fn deals_turns(steps: &[Step<'_>]) -> bool {
+    steps.iter().any(|step| matches!(step, Step::Turns(_)))
+}
+
+/// Lets the steps happen and deals the turns one after another, and writes the lines of each as they come, and then the files.
 fn play<W: HostWriter>(
     alloc: Global,
     machine: &mut Installation,
+    dealer: &mut Dealer,
     steps: &[Step<'_>],
     writer: &mut W,
 ) -> Result<(), SessionError> {
     for step in steps {
-        let lines = print_step(alloc, machine, step)?;
-        write_all(writer, &lines)?;
+        match step {
+            Step::Run(units) => {
+                let lines = print_run(alloc, machine, dealer, *units)?;
+                write_all(writer, &lines)?;
+            }
+            Step::Turns(turns) => deal(alloc, machine, dealer, *turns, writer)?,
+            Step::Happens(happening) => {
+                let lines = print_happening(alloc, machine, dealer, happening)?;
+                write_all(writer, &lines)?;
+            }
+        }
     }
     let files = print_files(alloc, machine)?;
     write_all(writer, &files)?;
     writer.flush()?;
+    Ok(())
+}
+
+/// Deals so many turns, one after another, and writes the lines of each.
+fn deal<W: HostWriter>(
+    alloc: Global,
+    machine: &mut Installation,
+    dealer: &mut Dealer,
+    turns: u32,
+    writer: &mut W,
+) -> Result<(), SessionError> {
+    for _turn in 0..turns {
+        let lines = print_turn(alloc, machine, dealer)?;
+        write_all(writer, &lines)?;
+    }
     Ok(())
 }

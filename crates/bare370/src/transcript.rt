@@ -1,52 +1,114 @@
-//! The transcript of a machine of its own: the lines of an event, and the files at the end.
-use crate::script::Step;
+//! The transcript of a machine of its own: the lines of an event and of a turn, and the files at the end.
+use crate::dealer::{Dealer, SLICE_UNITS};
+use crate::script::Happening;
 use bare_installation::{BARE, FileKind, Installation, Reply};
 use cp_console::printing;
 use cp_console::responses::Response;
 use cp_devices::Told;
+use s370_num::DevAddr;
 use s370_num::ebcdic::printable;
 use std::alloc::{AllocError, Global};
 use unit_record::{Deck, File, Sender, Target};
-use vm370::transcript::{print_line, print_ran};
+use vm370::transcript::{idle_line, print_line, print_ran};
 
-/// Lets a step of the script happen to the machine. The transcript's lines for it, each ended by LF: the answer to a line where
-/// the console has not printed it, what the console printed meanwhile, and then how the event ended.
-pub fn print_step(
+/// Lets what a script says happen to the machine. The transcript's lines for it, each ended by LF: the answer to a line where
+/// the console has not printed it, what the console printed meanwhile, and then how the event ended. The dealer sees what came
+/// of it.
+pub(crate) fn print_happening(
     alloc: Global,
     machine: &mut Installation,
-    step: &Step<'_>,
+    dealer: &mut Dealer,
+    happening: &Happening<'_>,
 ) -> Result<Vec<u8>, AllocError> {
     let mut text = Vec::new(alloc);
     let before = machine.machine().printed();
-    match step.happen(alloc, machine) {
-        Ok(Reply::Ran(told)) => {
-            print_console(alloc, &mut text, machine, before)?;
-            print_ran(alloc, &mut text, BARE, told.ran)?;
-        }
+    match happening.happen(alloc, machine) {
         Ok(Reply::Told(told)) => {
             print_told(alloc, &mut text, machine, told)?;
             print_console(alloc, &mut text, machine, before)?;
         }
         Ok(Reply::Served(done)) => {
             print_console(alloc, &mut text, machine, before)?;
-            print_served(alloc, &mut text, step, done)?;
+            if let Happening::Serve(device) = happening {
+                print_served(alloc, &mut text, *device, done)?;
+            }
         }
-        Ok(Reply::Done) => {}
+        Ok(Reply::Ran(_) | Reply::Done) => {}
         Err(error) => return Err(error),
     }
+    dealer.look(machine);
     Ok(text)
+}
+
+/// Lets the machine run for so many units. The transcript's lines for it: what the console printed meanwhile, and then how
+/// the run ended.
+pub(crate) fn print_run(
+    alloc: Global,
+    machine: &mut Installation,
+    dealer: &mut Dealer,
+    units: u32,
+) -> Result<Vec<u8>, AllocError> {
+    let mut text = Vec::new(alloc);
+    add_run(alloc, &mut text, machine, dealer, units)?;
+    Ok(text)
+}
+
+/// Lets the machine run for so many units, and adds the lines for it.
+fn add_run(
+    alloc: Global,
+    out: &mut Vec<u8>,
+    machine: &mut Installation,
+    dealer: &mut Dealer,
+    units: u32,
+) -> Result<(), AllocError> {
+    let before = machine.machine().printed();
+    let told = dealer.run(machine, units);
+    print_console(alloc, out, machine, before)?;
+    print_ran(alloc, out, BARE, told.ran)
+}
+
+/// Deals a turn: a slice to the user, where the machine is ready, and then a serve of the program that is first in the line,
+/// where one is started. Its lines are those of both, or that there was neither.
+pub(crate) fn print_turn(
+    alloc: Global,
+    machine: &mut Installation,
+    dealer: &mut Dealer,
+) -> Result<Vec<u8>, AllocError> {
+    let mut text = Vec::new(alloc);
+    if dealer.slice(machine.machine().is_ready()) {
+        add_run(alloc, &mut text, machine, dealer, SLICE_UNITS)?;
+    }
+    if let Some(device) = dealer.serve() {
+        add_serve(alloc, &mut text, machine, dealer, device)?;
+    }
+    if text.is_empty() {
+        text.extend_from_slice(idle_line())?;
+    }
+    Ok(text)
+}
+
+/// Serves the device to which a serve is dealt, and adds the lines for it.
+fn add_serve(
+    alloc: Global,
+    out: &mut Vec<u8>,
+    machine: &mut Installation,
+    dealer: &mut Dealer,
+    device: DevAddr,
+) -> Result<(), AllocError> {
+    let before = machine.machine().printed();
+    let done = machine.serve(device)?;
+    dealer.look(machine);
+    print_console(alloc, out, machine, before)?;
+    print_served(alloc, out, device.get(), done)
 }
 
 /// Adds how a device was served.
 fn print_served(
     alloc: Global,
     out: &mut Vec<u8>,
-    step: &Step<'_>,
+    device: u16,
     done: bool,
 ) -> Result<(), AllocError> {
-    let Step::Serve(device) = step else {
-        return Ok(());
-    };
     let word = if done { "SERVED" } else { "IDLE" };
     let line = format!(in alloc; "= BARE {word} {device:03X}\n")?;
     out.extend_from_slice(line.as_bytes())

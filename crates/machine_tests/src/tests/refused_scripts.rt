@@ -9,7 +9,7 @@ fn refuses_a_script_at_its_first_wrong_line(rt: HostRuntime) -> Result<(), Fail>
     let alloc = rt.alloc();
     for (script, line) in [
         (b"LINE BARE LOGON\nLINE A LOGON\n".as_slice(), 2),
-        (b"LINE BARE LOGON\nAUTO 1\n".as_slice(), 2),
+        (b"LINE BARE LOGON\nAUTO 100001\n".as_slice(), 2),
         (b"SERVE BARE 191\n".as_slice(), 1),
         (b"SERVE BARE 9\n".as_slice(), 1),
         // a deck of too few cards, of none, of too many, and of somebody else
