@@ -12,7 +12,7 @@ use Rattle.cp_panel.specs.declared.machine.Mode.{Mode}
 use Rattle.cp_panel.specs.declared.machine.Mode.TheVariants.{Off, Stopped, Running}
 use Rattle.cp_panel.specs.Machine.{Machine}
 use Rattle.cp_panel.specs.Run.{MachineRun, run, run_in}
-use Rattle.cp_core.proofs.Pieces.{Follows, follows_on, more, told_of}
+use Rattle.bare370.proofs.Pieces.{Follows, follows_on, more, told_of}
 
 -- where the first unit is not done, no further one is
 none_looked : (l : Next) (c : Core) (one many : Run) → (looked l c one).units ≡ 0 → looked l c many ≡ looked l c one

@@ -131,7 +131,7 @@ impl Work {
         }
         let pages = vec![in alloc; first, second]?;
         self.frames = Frames::new(alloc, frames as u16, slots, pages)?;
-        self.keys = [StorageKey::ZERO; BLOCKS];
+        self.keys.fill(StorageKey::ZERO);
         format!(in alloc; "done")
     }
 

@@ -1,5 +1,5 @@
 use Rattle.std.proofs.Common.{◌≡◌, ◌≤◌}
-use Rattle.cp_core.proofs.Pieces.{Follows}
+use Rattle.bare370.proofs.Pieces.{Follows}
 use Rattle.bare370.proofs.dealer.Dealer.run_watched.Given as goal
 
 abbrev pub invariant-loop-done : goal.invariant-loop-done
