@@ -109,10 +109,10 @@ impl Work {
                 Some(byte) => format!(in alloc; "{byte:02X}"),
                 None => format!(in alloc; "{OUTSIDE}"),
             },
-            Step::Put(spot, word, key) => self.put(alloc, spot, word, AccessKey::new(key)),
+            Step::Put(spot, word, key) => self.put(alloc, spot, word, key),
             Step::Get(spot) => self.get(alloc, spot),
             Step::Supply(spot) => self.supply(alloc, spot),
-            Step::Key(block, key) => self.set_key(alloc, block, StorageKey::new(key)),
+            Step::Key(block, key) => self.set_key(alloc, block, key),
             Step::Segment(user, segment) => self.segment(alloc, user, segment),
             Step::Entry(user, page) => self.entry(alloc, user, page),
             Step::Count => format!(in alloc; "{}", self.frames.page_ins()),
@@ -191,18 +191,12 @@ impl Work {
         }
     }
 
-    fn put(
-        &mut self,
-        alloc: Global,
-        spot: Spot,
-        word: u32,
-        key: AccessKey,
-    ) -> Result<String, AllocError> {
-        if self.frames.size(spot.user) > MOST_BYTES {
+    fn put(&mut self, alloc: Global, spot: Spot, word: u32, key: u8) -> Result<String, AllocError> {
+        if key >= 16 || self.frames.size(spot.user) > MOST_BYTES {
             return format!(in alloc; "{OUTSIDE}");
         }
         let mut dat = Dat::new(&mut self.frames, &mut self.keys, spot.user);
-        match put(&mut dat, spot.address, word, key) {
+        match put(&mut dat, spot.address, word, AccessKey::new(key)) {
             Ok(()) => format!(in alloc; "done"),
             Err(fault) => told_fault(alloc, fault),
         }
@@ -231,17 +225,12 @@ impl Work {
         }
     }
 
-    fn set_key(
-        &mut self,
-        alloc: Global,
-        block: u32,
-        key: StorageKey,
-    ) -> Result<String, AllocError> {
+    fn set_key(&mut self, alloc: Global, block: u32, key: u8) -> Result<String, AllocError> {
         let block = block as usize;
-        if block >= BLOCKS {
+        if key >= 32 || block >= BLOCKS {
             return format!(in alloc; "{OUTSIDE}");
         }
-        self.keys[block] = key;
+        self.keys[block] = StorageKey::new(key);
         format!(in alloc; "done")
     }
 
