@@ -1,42 +1,17 @@
 //! One user's storage, lent from the frames.
 ghost use Rattle.std.specs.Prelude.{◌≡◌, ◌+◌, ◌*◌, ◌/◌, ◌<◌, ◌≤◌, ◌↔◌, ◌%◌, true, length, replicate, slice_index_or, slice_set, is_some, IfOk, IfSome, IfNone, OnErr, Some, None, false, [], ◌∷◌};
-ghost use Rattle.s370_store.specs.Access.{IsVerdict, tested};
 ghost use Rattle.cp_frames.specs.Layout.{bytes_of, frame_of, number_of, IsZeroPage};
 ghost use Rattle.cp_frames.specs.Paging.{IsBrought, IsOpen, IsRefused};
-ghost use Rattle.cp_frames.specs.Settled.{IsSettled};
 ghost use Rattle.cp_frames.specs.Tables.{segment_entry, page_entry};
 
 use crate::{FrameNo, Frames};
 use cp_users::UserNo;
 use s370_num::{AccessKey, StorageKey};
 use s370_store::{
-    Access, BLOCK_SIZE, Fault, FramesOut, Keyed, Listed, PAGE_SIZE, Page, Range, Storage, Supply,
-    test_range,
+    Access, BLOCK_SIZE, Block, Fault, FramesOut, Keyed, Listed, PAGE_SIZE, Page, Range, Storage,
+    Supply, may_fetch_block, test_range,
 };
 use s370_supply::UnitSupply;
-
-/// The block from which instructions were fetched last, as long as they may still be fetched from it with the protection
-/// key that is remembered beside it, and its page stands in a frame.
-///
-/// The two are one number, so that one comparison tells whether both are the same.
-#[derive(Clone, Copy)]
-struct Near {
-    tag: u32,
-}
-
-impl Near {
-    /// No block: no block and key have this number.
-    const NOTHING: Near = Near { tag: u32::MAX };
-}
-
-/// The number of the block of an address and a protection key together.
-#[inline(always)]
-fn tag_of(start: u32, key: AccessKey) -> u32
-    ensures tag { result ≡ start / 2048 * 16 + key }
-    ensures key { key < 16 }
-{
-    start / BLOCK_SIZE * 16 + u32::from(key.get())
-}
 
 /// One user's pages, of which those that stand in frames are present, and his storage keys.
 ///
@@ -49,10 +24,8 @@ pub struct Dat<'a> {
     keys: &'a mut [StorageKey],
     user: UserNo,
     size: u32,
-    near: Near,
     ghost sized: { size ≡ length (bytes_of frames.now user) },
     ghost keyed: { size ≤ 2048 * length keys.now },
-    ghost settled: { IsSettled (bytes_of frames.now user) keys.now frames.now.supply.owners user near },
 }
 
 impl<'a> Dat<'a> {
@@ -73,7 +46,6 @@ impl<'a> Dat<'a> {
             keys,
             user,
             size,
-            near: Near::NOTHING,
         }
     }
 
@@ -129,7 +101,6 @@ impl<'a> Dat<'a> {
         ensures refused { OnErr result (IsRefused (lent_pool self.old).supply (user_of self.old) page.0) }
         ensures err { OnErr result ((lent_pool self.new).supply ≡ (lent_pool self.old).supply) }
     {
-        self.near = Near::NOTHING;
         self.frames.bring(self.user, page)
     }
 
@@ -152,51 +123,40 @@ impl<'a> Dat<'a> {
     {
         self.frames.unpin_all();
     }
+}
 
-    /// The block of an address, if instructions may be fetched from it with this key and its page stands in a frame.
-    #[inline(never)]
-    fn near_to(&self, start: u32, key: AccessKey) -> Near
-        ensures { IsSettled (lent_bytes self.now) (lent_keys self.now) (lent_pool self.now).supply.owners (user_of self.now) result }
-    {
-        let range = Range {
-            start: start / BLOCK_SIZE * BLOCK_SIZE,
-            count: 1,
-        };
-        let keys = Listed { keys: self.keys };
-        match test_range(self.size, &keys, range, Access::Fetch, key) {
-            Ok(()) => {}
-            Err(_) => return Near::NOTHING,
-        }
-        if range.start as u64 + BLOCK_SIZE as u64 > self.size as u64 {
-            return Near::NOTHING;
-        }
-        match self.frames.frame_at(self.user, range.start) {
-            Some(_) => Near {
-                tag: tag_of(start, key),
-            },
-            None => Near::NOTHING,
-        }
+/// The page of an address, for a page that is absent.
+///
+/// It is out of line so that the page's number is needed for nothing but the slot's place where the page is present: then
+/// the place has one form in the test and in the access that follows it, and the slot is looked at once.
+#[inline(never)]
+fn page_of(address: u32) -> Page
+    ensures { result.0 ≡ address / 4096 }
+{
+    Page(address / PAGE_SIZE)
+}
+
+impl<'a> Storage for Dat<'a> {
+    ghost use Rattle.cp_frames.specs.Lent.{lent_bytes, lent_keys, is_lent_page, KeepsRest, keeps_rest_same, keeps_rest_on};
+    ghost use Rattle.cp_frames.specs.Blocks.{IsInFrame, in_frame_kept};
+
+    ghost bytes = { lent_bytes };
+
+    ghost keys = { lent_keys };
+
+    ghost present = { is_lent_page };
+
+    ghost Keeps = { KeepsRest };
+
+    ghost IsPlaced = { IsInFrame };
+
+    #[inline]
+    fn size(&self) -> u32 {
+        self.size
     }
 
-    /// Whether these bytes lie in the block that is settled for this key.
     #[inline(always)]
-    fn is_near(&self, range: Range, key: AccessKey) -> bool
-        requires { range.count ≤ 256 }
-        ensures near { result ≡ true → (range.start / 2048 * 16 + key ≡ self.now.near.tag) × (range.start % 2048 + range.count ≤ 2048) }
-        ensures key { key < 16 }
-    {
-        if tag_of(range.start, key) != self.near.tag {
-            return false;
-        }
-        range.start % BLOCK_SIZE + range.count <= BLOCK_SIZE
-    }
-
-    /// Tests an access by size, keys and table.
-    #[inline(always)]
-    fn check_here(&self, range: Range, access: Access, key: AccessKey) -> Result<(), Fault>
-        requires { range.count ≤ 256 }
-        ensures { IsVerdict (length (lent_bytes self.now)) (lent_keys self.now) (is_lent_page self.now) key (tested access range ∷ []) result }
-    {
+    fn check(&self, range: Range, access: Access, key: AccessKey) -> Result<(), Fault> {
         test_range(self.size, &Listed { keys: self.keys }, range, access, key)?;
         let Range { start, count } = range;
         if count == 0 {
@@ -217,63 +177,25 @@ impl<'a> Dat<'a> {
         Ok(())
     }
 
-    /// As `check_here`, out of line: then the place of the slot is made once, after it.
     #[inline(never)]
-    fn check_apart(&self, range: Range, access: Access, key: AccessKey) -> Result<(), Fault>
-        requires { range.count ≤ 256 }
-        ensures { IsVerdict (length (lent_bytes self.now)) (lent_keys self.now) (is_lent_page self.now) key (tested access range ∷ []) result }
-    {
-        self.check_here(range, access, key)
-    }
-}
-
-/// The page of an address, for a page that is absent.
-///
-/// It is out of line so that the page's number is needed for nothing but the slot's place where the page is present: then
-/// the place has one form in the test and in the access that follows it, and the slot is looked at once.
-#[inline(never)]
-fn page_of(address: u32) -> Page
-    ensures { result.0 ≡ address / 4096 }
-{
-    Page(address / PAGE_SIZE)
-}
-
-impl<'a> Storage for Dat<'a> {
-    ghost use Rattle.cp_frames.specs.Lent.{lent_bytes, lent_keys, is_lent_page, KeepsRest, keeps_rest_same, keeps_rest_on};
-
-    ghost bytes = { lent_bytes };
-
-    ghost keys = { lent_keys };
-
-    ghost present = { is_lent_page };
-
-    ghost Keeps = { KeepsRest };
-
-    #[inline]
-    fn size(&self) -> u32 {
-        self.size
+    fn find_block(&self, start: u32, key: AccessKey) -> Option<Block> {
+        if !may_fetch_block(self.size, &Listed { keys: self.keys }, start, key) {
+            return None;
+        }
+        let first = start / BLOCK_SIZE * BLOCK_SIZE;
+        match self.frames.frame_at(self.user, first) {
+            Some(frame) => Some(Block {
+                first,
+                place: u32::from(frame.0),
+            }),
+            None => None,
+        }
     }
 
     #[inline(always)]
-    fn check(&self, range: Range, access: Access, key: AccessKey) -> Result<(), Fault> {
-        // An instruction is looked at in six bytes. Operands are not compared with the settled block: where they lie
-        // elsewhere that costs more than it saves where they lie there.
-        if let Access::Fetch = access {
-            if range.count == 6 {
-                if self.is_near(range, key) {
-                    return Ok(());
-                }
-                return self.check_apart(range, access, key);
-            }
-        }
-        self.check_here(range, access, key)
-    }
-
-    #[inline(always)]
-    fn settle(&mut self, start: u32, key: AccessKey) {
-        if tag_of(start, key) != self.near.tag {
-            self.near = self.near_to(start, key);
-        }
+    fn load_in(&self, block: Block, start: u32, into: &mut [u8]) {
+        self.frames
+            .load_in(self.user, block.place as usize, start, into);
     }
 
     #[inline(always)]
@@ -294,6 +216,8 @@ impl<'a> Storage for Dat<'a> {
     ghost keeps_same = { keeps_rest_same };
 
     ghost keeps_on = { keeps_rest_on };
+
+    ghost placed_kept = { in_frame_kept };
 }
 
 impl<'a> Keyed for Dat<'a> {
@@ -304,7 +228,6 @@ impl<'a> Keyed for Dat<'a> {
 
     #[inline]
     fn set_key(&mut self, block: u32, key: StorageKey) {
-        self.near = Near::NOTHING;
         self.keys[block as usize] = key;
     }
 }
@@ -326,7 +249,6 @@ impl<'a> Supply for Dat<'a> {
     ghost Cleared = { GivesBack };
 
     fn clear(&mut self) {
-        self.near = Near::NOTHING;
         self.frames.release(self.user);
         self.keys.fill(StorageKey::ZERO);
     }

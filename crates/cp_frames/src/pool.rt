@@ -549,6 +549,18 @@ impl Frames {
         ensures fits { length (bytes_of self.now user) ≤ 4194304 }
     {
         let frame = self.frame_with(user, start / PAGE_SIZE);
+        self.load_in(user, frame, start, into);
+    }
+
+    /// Copies bytes of one page of a user out, which stands in this frame.
+    #[inline(always)]
+    pub(crate) fn load_in(&self, _user: UserNo, frame: usize, start: u32, into: &mut [u8])
+        requires within { start + length into.old ≤ length (bytes_of self.now _user) }
+        requires one_page { start % 4096 + length into.old ≤ 4096 }
+        requires there { frame_of self.now.supply.owners _user (start / 4096) ≡ Some frame }
+        ensures read { into.new ≡ slice_range (bytes_of self.now _user) start (start + length into.old) }
+        ensures fits { length (bytes_of self.now _user) ≤ 4194304 }
+    {
         copy_out(&self.frames[frame], (start % PAGE_SIZE) as usize, into);
     }
 

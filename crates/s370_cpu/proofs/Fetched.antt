@@ -1,5 +1,5 @@
 -- A fetch of six bytes at once: what passes for all of them passes for each part, and they hold the instruction.
-use Rattle.std.proofs.Common.{◌≡◌, ℕ, ◌+◌, ◌-◌, ◌*◌, ◌/◌, ◌%◌, ◌<◌, ◌≤◌, true, false, length, get_or, drop, List, [], ◌∷◌, None, Ok, refl, ◌∙◌, ap, arith, inl, inr}
+use Rattle.std.proofs.Common.{◌≡◌, ℕ, ◌+◌, ◌-◌, ◌*◌, ◌/◌, ◌%◌, ◌<◌, ◌≤◌, true, false, length, get_or, drop, List, [], ◌∷◌, None, Ok, refl, sym, ◌∙◌, ap, arith, inl, inr}
 use Rattle.std.specs.Prelude.{if◌then◌else◌, nat_lt}
 use Rattle.std.specs.List.{slice_range}
 use Rattle.std.specs.Int.{w16, from_be_bytes}
@@ -34,6 +34,13 @@ fetch_finds m a even e =
     let rest : fault_of m (rest_tests a (halfwords_of (half_at m.bytes a / 256))) ≡ None = rest_fine m a (halfwords_of (half_at m.bytes a / 256)) (short (half_at m.bytes a / 256)) e in
     rw even (ap (λ o. (fetched_after m a o).result) first ∙ ap (rest_fetched m a) rest)
 
+-- what is fetched in two parts: the first halfword, which tells how many there are, and then the others
+pub parts_found : (m : State) (a n : ℕ) (i : Instruction) → a % 2 ≡ 0 → fault_of m (fetch_test a 2 ∷ []) ≡ None → n ≡ halfwords_of (half_at m.bytes a / 256) → 1 < n → fault_of m (fetch_test (a + 2) (2 * (n - 1)) ∷ []) ≡ None → i ≡ instruction_at m.bytes a → (fetched m a).result ≡ Ok i
+parts_found m a n i even first is more rest same =
+    let here : nat_lt 1 n ≡ true = grind (arith, nat_tests) in
+    let fine : fault_of m (rest_tests a (halfwords_of (half_at m.bytes a / 256))) ≡ None = rw (← is) (ap (λ b. fault_of m (if b then fetch_test (a + 2) (2 * (n - 1)) ∷ [] else [])) here ∙ rest) in
+    rw even (ap (λ o. (fetched_after m a o).result) first ∙ (ap (rest_fetched m a) fine ∙ ap Ok (sym same)))
+
 -- ---- the bytes
 
 read_in : (xs : List ℕ) (a b k j : ℕ) → k < b - a → a + k ≡ j → get_or (slice_range xs a b) k 0 ≡ get_or xs j 0
@@ -64,3 +71,11 @@ six_hold bytes six a is small =
     let second : from_be_bytes w16 (get_or six 2 0 ∷ get_or six 3 0 ∷ []) ≡ half_at bytes (a + 2) = rw is (half_in bytes a 2 (a + 2) (omega arith) refl) in
     let third : from_be_bytes w16 (get_or six 4 0 ∷ get_or six 5 0 ∷ []) ≡ half_at bytes (a + 4) = rw is (half_in bytes a 4 (a + 4) (omega arith) refl) in
     made_same (get_or six 0 0) (half_at bytes a / 256) (get_or six 1 0) (half_at bytes a % 256) _ _ _ _ (omega (arith, first)) (omega (arith, first)) second third
+
+-- the instruction of three halfwords
+pub three_hold : (bytes : List ℕ) (a first byte second third n : ℕ) → n ≡ halfwords_of (half_at bytes a / 256) → 2 < n → first ≡ half_at bytes a → byte ≡ first % 256 → second ≡ half_at bytes (a + 2) → third ≡ half_at bytes (a + 4) →
+    record { opcode = first / 256; second_byte = byte; second_half = second; third_half = third } ≡ instruction_at bytes a
+three_hold bytes a first byte second third n is more x b y z =
+    let long : nat_lt (half_at bytes a / 256) 0xC0 ≡ false = grind (arith, nat_tests, common_steps) in
+    let longer : nat_lt (half_at bytes a / 256) 0x40 ≡ false = grind (arith, nat_tests, common_steps) in
+    rw (b, x, y, z, long, longer) refl

@@ -18,6 +18,7 @@ mod control;
 mod execute;
 mod fetch;
 mod fetch_rows;
+mod known;
 mod laws;
 mod opcodes;
 mod quick;

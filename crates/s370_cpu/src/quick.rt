@@ -1,6 +1,6 @@
 //! The most frequent instructions, each done in one go where nothing keeps it from being done.
-ghost use Rattle.std.specs.Prelude.{◌≡◌, ℕ, Ok, IfSome, IfNone, true, false, length, slice_index};
-ghost use Rattle.s370_store.specs.Access.{IsGranted};
+ghost use Rattle.std.specs.Prelude.{◌≡◌, ℕ, ◌+◌, ◌≤◌, Ok, IfSome, IfNone, true, false, length, slice_index};
+ghost use Rattle.s370_store.specs.Blocks.{MayFetch};
 ghost use Rattle.s370_rows.specs.State.{state_of};
 ghost use Rattle.s370_cpu.specs.declared.conclude.Stop.TheVariants as stops;
 ghost use Rattle.s370_cpu.specs.Fetch.{fetched, instruction_at};
@@ -17,18 +17,20 @@ ghost use Rattle.s370_cpu.specs.Unit.{Carries, MeetsUnit, place_at, stopped};
 ghost use Rattle.s370_rows.specs.declared.arithmetic.Arithmetic.TheVariants as operations;
 
 use crate::execute::EXECUTE;
-use crate::fetch::{length_of, load_known, may_fetch_longest};
+use crate::fetch::length_of;
 use crate::fetch_rows::{test_byte_row, word_row_at};
+use crate::known::load_known_in;
 use crate::opcodes::Branching;
 use crate::register_rows::{branch_to, load_address, register_operation};
 use crate::store_rows::store_word_row_at;
 use s370_bytes::{move_long_quickly, move_row};
-use s370_num::{AccessKey, Addr24};
+use s370_num::Addr24;
 use s370_rows::{Arithmetic, ByteTest, Cpu, Ending, Instruction, Place, Refusal};
-use s370_store::{Storage, load_byte};
+use s370_store::{Block, Storage, load_byte_in};
 
 /// Does one instruction of a running processor, if it is one of the most frequent, if it is done, and if the processor then
-/// goes on with the next one. Else nothing changes.
+/// goes on with the next one. Else nothing changes. It stands in a block that was found for fetches with the processor's key,
+/// with room behind it for the longest instruction.
 ///
 /// The address of the next instruction says that it was done. So a loop over instructions has no stop to tell from others;
 /// what it has looked at before (all that only the supervisor state can change, the key among it) it need not look at again;
@@ -38,10 +40,13 @@ pub fn step_quickly<S: Storage>(
     cpu: &mut Cpu,
     storage: &mut S,
     start: Addr24,
-    key: AccessKey,
+    block: Block,
 ) -> Option<Addr24>
     requires here { start ≡ cpu.old.psw.address }
-    requires key { key ≡ cpu.old.psw.key }
+    requires open { MayFetch (length (S.bytes storage.old)) (S.keys storage.old) (S.present storage.old) cpu.old.psw.key block.first }
+    requires placed { S.IsPlaced storage.old block }
+    requires begins { block.first ≤ start }
+    requires ends { start ≤ block.first + 2042 }
     ensures done { let before = state_of cpu.old (S.bytes storage.old) (S.keys storage.old) in
         let after = state_of cpu.new (S.bytes storage.new) (S.keys storage.new) in
         IfSome result (λ _. MeetsUnit (unit before) (S.present storage.old) before stops.Done after) }
@@ -56,27 +61,26 @@ pub fn step_quickly<S: Storage>(
     ensures present { S.present storage.new ≡ S.present storage.old }
     ensures rest { S.Keeps storage.old storage.new }
 {
-    // The tests of the address come first, so that what settling finds is looked at right after it.
     if start.get() % 2 != 0 {
         return None;
     }
-    if start.get() % 2048 > 2042 {
-        return None;
-    }
-    storage.settle(start.get(), key);
-    step_settled_quickly(cpu, storage, start, key)
+    step_found_quickly(cpu, storage, start, block)
 }
 
-/// As [`step_quickly`], once the storage knows what is going to be fetched.
+/// As [`step_quickly`], where the instruction may be fetched.
 #[inline(always)]
-fn step_settled_quickly<S: Storage>(
+fn step_found_quickly<S: Storage>(
     cpu: &mut Cpu,
     storage: &mut S,
     start: Addr24,
-    key: AccessKey,
+    block: Block,
 ) -> Option<Addr24>
     requires here { start ≡ cpu.old.psw.address }
-    requires key { key ≡ cpu.old.psw.key }
+    requires found { let m = state_of cpu.old (S.bytes storage.old) (S.keys storage.old) in
+        (fetched m start).result ≡ Ok (instruction_at (S.bytes storage.old) start) }
+    requires placed { S.IsPlaced storage.old block }
+    requires begins { block.first ≤ start }
+    requires ends { start ≤ block.first + 2042 }
     ensures done { let before = state_of cpu.old (S.bytes storage.old) (S.keys storage.old) in
         let after = state_of cpu.new (S.bytes storage.new) (S.keys storage.new) in
         IfSome result (λ _. MeetsUnit (unit before) (S.present storage.old) before stops.Done after) }
@@ -91,37 +95,36 @@ fn step_settled_quickly<S: Storage>(
     ensures present { S.present storage.new ≡ S.present storage.old }
     ensures rest { S.Keeps storage.old storage.new }
 {
-    if !may_fetch_longest(cpu, storage, start.get(), key) {
-        return None;
-    }
     // One jump, behind which all is compiled for the one operation code.
-    match load_byte(storage, start.get()) {
-        0x0E => carry_quickly::<S, 0x0E>(cpu, storage, start),
-        0x18 => carry_quickly::<S, 0x18>(cpu, storage, start),
-        0x41 => carry_quickly::<S, 0x41>(cpu, storage, start),
-        0x46 => carry_quickly::<S, 0x46>(cpu, storage, start),
-        0x47 => carry_quickly::<S, 0x47>(cpu, storage, start),
-        0x50 => carry_quickly::<S, 0x50>(cpu, storage, start),
-        0x58 => carry_quickly::<S, 0x58>(cpu, storage, start),
-        0x5A => carry_quickly::<S, 0x5A>(cpu, storage, start),
-        0x95 => carry_quickly::<S, 0x95>(cpu, storage, start),
-        0xD2 => carry_quickly::<S, 0xD2>(cpu, storage, start),
+    match load_byte_in(storage, block, start.get()) {
+        0x0E => carry_quickly::<S, 0x0E>(cpu, storage, start, block),
+        0x18 => carry_quickly::<S, 0x18>(cpu, storage, start, block),
+        0x41 => carry_quickly::<S, 0x41>(cpu, storage, start, block),
+        0x46 => carry_quickly::<S, 0x46>(cpu, storage, start, block),
+        0x47 => carry_quickly::<S, 0x47>(cpu, storage, start, block),
+        0x50 => carry_quickly::<S, 0x50>(cpu, storage, start, block),
+        0x58 => carry_quickly::<S, 0x58>(cpu, storage, start, block),
+        0x5A => carry_quickly::<S, 0x5A>(cpu, storage, start, block),
+        0x95 => carry_quickly::<S, 0x95>(cpu, storage, start, block),
+        0xD2 => carry_quickly::<S, 0xD2>(cpu, storage, start, block),
         _ => None,
     }
 }
 
-/// Goes on with the instruction of this operation code, which stands at the instruction address, once one look was enough
-/// for its fetch.
+/// Goes on with the instruction of this operation code, which stands at the instruction address.
 #[inline(always)]
 fn carry_quickly<S: Storage, const CODE: u8>(
     cpu: &mut Cpu,
     storage: &mut S,
     start: Addr24,
+    block: Block,
 ) -> Option<Addr24>
     requires here { start ≡ cpu.old.psw.address }
     requires found { let m = state_of cpu.old (S.bytes storage.old) (S.keys storage.old) in
         (fetched m start).result ≡ Ok (instruction_at (S.bytes storage.old) start) }
-    requires granted { IsGranted (length (S.bytes storage.old)) (S.present storage.old) start 6 }
+    requires placed { S.IsPlaced storage.old block }
+    requires begins { block.first ≤ start }
+    requires ends { start ≤ block.first + 2042 }
     requires known { CODE ≡ slice_index (S.bytes storage.old) start }
     ensures done { let before = state_of cpu.old (S.bytes storage.old) (S.keys storage.old) in
         let after = state_of cpu.new (S.bytes storage.new) (S.keys storage.new) in
@@ -140,7 +143,7 @@ fn carry_quickly<S: Storage, const CODE: u8>(
     if CODE == EXECUTE {
         return None;
     }
-    let first = load_known(storage, start.get(), CODE);
+    let first = load_known_in(storage, block, start.get(), CODE);
     let ilc = length_of(CODE);
     let next = start.wrapping_add(2 * ilc.get() as u32);
     finish_quickly::<S, CODE>(cpu, storage, Place { next, ilc }, first)

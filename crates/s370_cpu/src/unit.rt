@@ -10,8 +10,9 @@ ghost use Rattle.s370_cpu.specs.Unit.{Carries, place_at};
 
 use crate::conclude::{Stop, conclude};
 use crate::execute::{EXECUTE, execute};
-use crate::fetch::{fetch, length_of, load_known, may_fetch_longest};
+use crate::fetch::{fetch, length_of, may_fetch_longest};
 use crate::fetch_rows::fetch_row;
+use crate::known::load_known;
 use crate::opcodes::{Opcode, opcode_of};
 use crate::register_rows::register_row;
 use crate::store_rows::store_row;
@@ -56,20 +57,6 @@ fn perform<S: Storage>(
 /// program status words. An instruction for the supervisor state is handed back, after its fetch, with nothing done.
 #[inline]
 pub fn step<S: Storage>(cpu: &mut Cpu, storage: &mut S) -> Stop
-    ensures unit { let before = state_of cpu.old (S.bytes storage.old) (S.keys storage.old) in
-        let after = state_of cpu.new (S.bytes storage.new) (S.keys storage.new) in
-        MeetsStep (S.present storage.old) before result after }
-    ensures size { length (S.bytes storage.new) ≡ length (S.bytes storage.old) }
-    ensures present { S.present storage.new ≡ S.present storage.old }
-    ensures rest { S.Keeps storage.old storage.new }
-{
-    storage.settle(cpu.psw.address().get(), cpu.psw.key());
-    step_settled(cpu, storage)
-}
-
-/// As [`step`], once the storage knows what is going to be fetched.
-#[inline(always)]
-fn step_settled<S: Storage>(cpu: &mut Cpu, storage: &mut S) -> Stop
     ensures unit { let before = state_of cpu.old (S.bytes storage.old) (S.keys storage.old) in
         let after = state_of cpu.new (S.bytes storage.new) (S.keys storage.new) in
         MeetsStep (S.present storage.old) before result after }

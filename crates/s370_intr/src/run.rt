@@ -1,5 +1,6 @@
 //! Units, one after another.
-ghost use Rattle.std.specs.Prelude.{◌≡◌, ℕ, ◌*◌, ◌≤◌, List, length, Result};
+ghost use Rattle.std.specs.Prelude.{◌≡◌, ℕ, ◌+◌, ◌*◌, ◌<◌, ◌≤◌, List, IfSome, length, Result};
+ghost use Rattle.s370_store.specs.Blocks.{MayFetch};
 ghost use Rattle.s370_rows.specs.State.{state_of};
 ghost use Rattle.s370_intr.specs.Laws.{begun};
 ghost use Rattle.s370_intr.specs.Units.{MeetsUnitAt, NeedsAt, core_of, look};
@@ -14,7 +15,8 @@ use crate::pending::Pending;
 use crate::unit::{Processor, accept, accept_status, instruct_saving};
 use s370_cpu::step_quickly;
 use s370_rows::Cpu;
-use s370_store::{FramesOut, Keyed, Page, Storage};
+use s370_num::{AccessKey, Addr24};
+use s370_store::{Block, FramesOut, Keyed, Page, Storage};
 use s370_subchannels::Subchannels;
 use s370_supply::UnitSupply;
 
@@ -183,8 +185,39 @@ fn supplied<P: Processor, S: UnitSupply>(
     }
 }
 
+/// The block in which the next instruction lies, with room for the longest: the one that was found for the last, or another.
+#[inline(always)]
+fn block_of<S: Storage>(
+    storage: &S,
+    block: Block,
+    next: Addr24,
+    key: AccessKey,
+) -> Option<Block>
+    requires low { block.first < 16777216 }
+    requires open { MayFetch (length (S.bytes storage.now)) (S.keys storage.now) (S.present storage.now) key block.first }
+    requires placed { S.IsPlaced storage.now block }
+    ensures low { IfSome result (λ found. found.first < 16777216) }
+    ensures open { IfSome result (λ found. MayFetch (length (S.bytes storage.now)) (S.keys storage.now) (S.present storage.now) key found.first) }
+    ensures placed { IfSome result (λ found. S.IsPlaced storage.now found) }
+    ensures begins { IfSome result (λ found. found.first ≤ next) }
+    ensures ends { IfSome result (λ found. next ≤ found.first + 2042) }
+{
+    if block.has_room(next.get()) {
+        return Some(block);
+    }
+    match storage.find_block(next.get(), key) {
+        Some(found) => if found.has_room(next.get()) {
+            Some(found)
+        } else {
+            None
+        },
+        None => None,
+    }
+}
+
 /// Instructions that are done in one go, one after another and at most so many: how many were done. After each of them a
-/// look would say what it said before. This has no other unit in it, so that registers are left for what it needs.
+/// look would say what it said before: so the block from which they are fetched is looked up once, as long as they stay in
+/// it. This has no other unit in it, so that registers are left for what it needs.
 #[inline(never)]
 fn instruct_quickly<S: Storage>(cpu: &mut Cpu, storage: &mut S, limit: u32) -> u32
     ensures done { (pending : Pending) → (list : List Subchannel) →
@@ -197,8 +230,16 @@ fn instruct_quickly<S: Storage>(cpu: &mut Cpu, storage: &mut S, limit: u32) -> u
 {
     let mut next = cpu.psw.address();
     let key = cpu.psw.key();
+    let mut block = match storage.find_block(next.get(), key) {
+        Some(found) => found,
+        None => return 0,
+    };
     for units in 0..limit {
-        match step_quickly(cpu, storage, next, key) {
+        block = match block_of(storage, block, next, key) {
+            Some(found) => found,
+            None => return units,
+        };
+        match step_quickly(cpu, storage, next, block) {
             Some(address) => next = address,
             None => return units,
         }

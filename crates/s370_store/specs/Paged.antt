@@ -1,5 +1,6 @@
 -- What a storage with absent pages shows.
-use Rattle.std.specs.Prelude.{ℕ, List, Bool, false, slice_index_or}
+use Rattle.std.specs.Prelude.{◌≡◌, ℕ, ◌+◌, ◌≤◌, List, Bool, false, length, slice_index_or}
+use Rattle.s370_store.specs.declared.block.Block.{Block}
 use Rattle.s370_store.specs.declared.paged.PagedStorage.{PagedStorage}
 
 -- its bytes, also those of absent pages
@@ -17,3 +18,7 @@ paged_flags s = s.present.items
 -- a page is present if it is one of its pages and its flag says so
 abbrev pub is_present : PagedStorage → ℕ → Bool
 is_present s page = slice_index_or (paged_flags s) page false
+
+-- a block that lies in the storage stays in it
+pub paged_placed_kept : (s t : PagedStorage) (block : Block) → length (paged_bytes t) ≡ length (paged_bytes s) → Unit {0} → block.first + 2048 ≤ length (paged_bytes s) → block.first + 2048 ≤ length (paged_bytes t)
+paged_placed_kept s t block e kept h = rw e h

@@ -10,6 +10,7 @@
 //! absent is written over [`Supply`], a storage that brings its absent pages.
 #![tactic(auto)]
 
+mod block;
 mod paged;
 mod place;
 mod plain;
@@ -17,19 +18,22 @@ mod protection;
 mod supply;
 mod words;
 
-ghost use Rattle.std.specs.Prelude.{◌≡◌, ℕ, ◌+◌, ◌*◌, ◌<◌, ◌≤◌, List, [], ◌∷◌, Bool, length, slice_index, slice_range, slice_set};
+ghost use Rattle.std.specs.Prelude.{◌≡◌, ℕ, ◌+◌, ◌*◌, ◌/◌, ◌<◌, ◌≤◌, List, [], ◌∷◌, Bool, IfSome, length, slice_index, slice_range, slice_set};
 ghost use Rattle.s370_store.specs.Access.{tested, IsVerdict, IsGranted, put};
+ghost use Rattle.s370_store.specs.Blocks.{MayFetch};
+ghost use Rattle.s370_store.specs.declared.block.Block.{Block};
 
+pub use block::Block;
 pub use paged::PagedStorage;
 pub use place::{copy_at, put_at};
 pub use plain::PlainStorage;
-pub use protection::{Keyring, Listed, Open, test_range};
+pub use protection::{Keyring, Listed, Open, may_fetch_block, test_range};
 use s370_num::{AccessKey, StorageKey};
 pub use supply::{FramesOut, Supply};
 use thiserror::Error;
 pub use words::{
-    check_two, load_byte, load_doubleword, load_halfword, load_word, store_byte, store_doubleword,
-    store_halfword, store_word,
+    check_two, load_byte, load_byte_in, load_doubleword, load_halfword, load_word, store_byte,
+    store_doubleword, store_halfword, store_word,
 };
 
 /// How many bytes a page has.
@@ -114,13 +118,23 @@ pub trait Storage {
         requires { range.count ≤ 256 }
         ensures { IsVerdict (length (bytes self.now)) (keys self.now) (present self.now) key (tested access range ∷ []) result };
 
-    /// Instructions are going to be fetched from the block of this address, with this protection key. Nothing that can be
-    /// seen changes: a storage may remember what each of those fetches would have to look up.
-    fn settle(&mut self, start: u32, key: AccessKey)
-        ensures bytes { bytes self.new ≡ bytes self.old }
-        ensures keys { keys self.new ≡ keys self.old }
-        ensures present { present self.new ≡ present self.old }
-        ensures rest { Keeps self.old self.new };
+    /// A block stands where it says.
+    ghost IsPlaced: { Self → Block → Type 0 };
+
+    /// Finds the block of an address, if instructions may be fetched from the whole of it with this protection key, and its
+    /// page is present.
+    fn find_block(&self, start: u32, key: AccessKey) -> Option<Block>
+        ensures first { IfSome result (λ block. block.first ≡ start / 2048 * 2048) }
+        ensures open { IfSome result (λ block. MayFetch (length (bytes self.now)) (keys self.now) (present self.now) key block.first) }
+        ensures placed { IfSome result (λ block. IsPlaced self.now block) };
+
+    /// Copies bytes out of a block that was found, one at least.
+    fn load_in(&self, block: Block, start: u32, into: &mut [u8])
+        requires placed { IsPlaced self.now block }
+        requires some { 0 < length into.old }
+        requires begins { block.first ≤ start }
+        requires ends { start + length into.old ≤ block.first + 2048 }
+        ensures { into.new ≡ slice_range (bytes self.now) start (start + length into.old) };
 
     /// Copies at most 256 bytes out, which `check` has granted.
     fn load(&self, start: u32, into: &mut [u8])
@@ -161,6 +175,9 @@ pub trait Storage {
 
     /// What is kept twice is kept.
     ghost keeps_on: { (s t u : Self) → Keeps s t → Keeps t u → Keeps s u };
+
+    /// What is stored moves no block.
+    ghost placed_kept: { (s t : Self) (block : Block) → length (bytes t) ≡ length (bytes s) → Keeps s t → IsPlaced s block → IsPlaced t block };
 }
 
 /// A storage whose keys can be read and set one by one, as a storage with fixed keys can't.

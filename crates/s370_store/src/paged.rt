@@ -1,9 +1,9 @@
 //! A storage with absent pages, for the tests of code that is written over any storage.
-ghost use Rattle.std.specs.Prelude.{◌≡◌, ◌*◌, ◌<◌, ◌≤◌, false, length, replicate, slice_index_or, slice_set, IfOk};
+ghost use Rattle.std.specs.Prelude.{◌≡◌, ◌+◌, ◌*◌, ◌<◌, ◌≤◌, false, length, replicate, slice_index_or, slice_set, IfOk};
 
 use crate::place::put_at;
-use crate::protection::{Listed, test_range};
-use crate::{Access, Fault, Keyed, Page, Range, Storage};
+use crate::protection::{Listed, may_fetch_block, test_range};
+use crate::{Access, Block, Fault, Keyed, Page, Range, Storage};
 use s370_num::{AccessKey, StorageKey};
 use std::alloc::{AllocError, Global};
 
@@ -53,7 +53,7 @@ impl PagedStorage {
 }
 
 impl Storage for PagedStorage {
-    ghost use Rattle.s370_store.specs.Paged.{paged_bytes, paged_keys, is_present};
+    ghost use Rattle.s370_store.specs.Paged.{paged_bytes, paged_keys, is_present, paged_placed_kept};
 
     ghost bytes = { paged_bytes };
 
@@ -62,6 +62,8 @@ impl Storage for PagedStorage {
     ghost present = { is_present };
 
     ghost Keeps = { λ _ _. Unit {0} };
+
+    ghost IsPlaced = { λ s block. block.first + 2048 ≤ length (paged_bytes s) };
 
     fn size(&self) -> u32 {
         self.bytes.len() as u32
@@ -85,7 +87,26 @@ impl Storage for PagedStorage {
         Ok(())
     }
 
-    fn settle(&mut self, _start: u32, _key: AccessKey) {}
+    fn find_block(&self, start: u32, key: AccessKey) -> Option<Block> {
+        let keys = Listed { keys: &self.keys };
+        if !may_fetch_block(self.bytes.len() as u32, &keys, start, key) {
+            return None;
+        }
+        if !flag_at(&self.present, start / 4096) {
+            return None;
+        }
+        let first = start / 2048 * 2048;
+        Some(Block {
+            first,
+            place: first,
+        })
+    }
+
+    fn load_in(&self, _block: Block, start: u32, into: &mut [u8]) {
+        let first = start as usize;
+        let end = first + into.len();
+        into.copy_from_slice(&self.bytes[first..end]);
+    }
 
     fn load(&self, start: u32, into: &mut [u8]) {
         let first = start as usize;
@@ -100,6 +121,8 @@ impl Storage for PagedStorage {
     ghost keeps_same = { λ s. tt };
 
     ghost keeps_on = { λ s t u a b. tt };
+
+    ghost placed_kept = { paged_placed_kept };
 }
 
 impl Keyed for PagedStorage {

@@ -1,9 +1,9 @@
 //! A storage that is all there: what a bare machine has.
-ghost use Rattle.std.specs.Prelude.{◌≡◌, ◌*◌, ◌≤◌, true, length, replicate, IfOk};
+ghost use Rattle.std.specs.Prelude.{◌≡◌, ◌+◌, ◌*◌, ◌≤◌, true, length, replicate, IfOk};
 
 use crate::place::{copy_at, put_at};
-use crate::protection::{Listed, test_range};
-use crate::{Access, Fault, Keyed, Range, Storage};
+use crate::protection::{Listed, may_fetch_block, test_range};
+use crate::{Access, Block, Fault, Keyed, Range, Storage};
 use s370_num::{AccessKey, StorageKey};
 use std::alloc::{AllocError, Global};
 
@@ -57,7 +57,7 @@ impl PlainStorage {
 }
 
 impl Storage for PlainStorage {
-    ghost use Rattle.s370_store.specs.Plain.{plain_bytes, plain_keys};
+    ghost use Rattle.s370_store.specs.Plain.{plain_bytes, plain_keys, plain_placed_kept};
 
     ghost bytes = { plain_bytes };
 
@@ -66,6 +66,8 @@ impl Storage for PlainStorage {
     ghost present = { λ _ _. true };
 
     ghost Keeps = { λ _ _. Unit {0} };
+
+    ghost IsPlaced = { λ s block. block.first + 2048 ≤ length (plain_bytes s) };
 
     #[inline(always)]
     fn size(&self) -> u32 {
@@ -78,8 +80,26 @@ impl Storage for PlainStorage {
         test_range(self.bytes.len() as u32, &keys, range, access, key)
     }
 
+    #[inline(never)]
+    fn find_block(&self, start: u32, key: AccessKey) -> Option<Block> {
+        let keys = Listed { keys: &self.keys };
+        if may_fetch_block(self.bytes.len() as u32, &keys, start, key) {
+            let first = start / 2048 * 2048;
+            Some(Block {
+                first,
+                place: first,
+            })
+        } else {
+            None
+        }
+    }
+
     #[inline(always)]
-    fn settle(&mut self, _start: u32, _key: AccessKey) {}
+    fn load_in(&self, _block: Block, start: u32, into: &mut [u8]) {
+        let first = start as usize;
+        let end = first + into.len();
+        into.copy_from_slice(&self.bytes[first..end]);
+    }
 
     #[inline(always)]
     fn load(&self, start: u32, into: &mut [u8]) {
@@ -101,6 +121,8 @@ impl Storage for PlainStorage {
     ghost keeps_same = { λ s. tt };
 
     ghost keeps_on = { λ s t u a b. tt };
+
+    ghost placed_kept = { plain_placed_kept };
 }
 
 impl Keyed for PlainStorage {

@@ -6,7 +6,7 @@ ghost use Rattle.std.specs.Prelude.{◌≡◌, ◌+◌, ◌≤◌, [], ◌∷◌
 ghost use Rattle.std.specs.Int.{w16, w32, w64, from_be_bytes, to_be_bytes};
 ghost use Rattle.s370_store.specs.Access.{tested, IsVerdict, join_of, IsGranted, put};
 
-use crate::{Access, Fault, Range, Storage};
+use crate::{Access, Block, Fault, Range, Storage};
 use s370_num::AccessKey;
 
 /// The byte at an address.
@@ -17,6 +17,19 @@ pub fn load_byte<S: Storage>(storage: &S, start: u32) -> u8
 {
     let mut into = [0u8; 1];
     storage.load(start, &mut into);
+    into[0]
+}
+
+/// The byte at an address in a block that was found.
+#[inline(always)]
+pub fn load_byte_in<S: Storage>(storage: &S, block: Block, start: u32) -> u8
+    requires placed { S.IsPlaced storage.now block }
+    requires begins { block.first ≤ start }
+    requires ends { start + 1 ≤ block.first + 2048 }
+    ensures { result ≡ slice_index (S.bytes storage.now) start }
+{
+    let mut into = [0u8; 1];
+    storage.load_in(block, start, &mut into);
     into[0]
 }
 

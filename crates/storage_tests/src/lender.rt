@@ -5,7 +5,8 @@ ghost use Rattle.s370_store.specs.Access.{put};
 
 use s370_num::{AccessKey, StorageKey};
 use s370_store::{
-    Access, Fault, Keyed, Listed, Range, Storage, put_at, store_byte, store_doubleword, test_range,
+    Access, Block, Fault, Keyed, Listed, Range, Storage, may_fetch_block, put_at, store_byte,
+    store_doubleword, test_range,
 };
 
 /// Two users' storages side by side: a page and the keys of its two blocks each.
@@ -95,6 +96,8 @@ impl<'a> Storage for Lent<'a> {
 
     ghost Keeps = { λ old new. (new.shared.ghost_name ≡ old.shared.ghost_name) × (new.user ≡ old.user) × ((other : ℕ) → other ≢ old.user → slice_index_or new.shared.now.bytes other [] ≡ slice_index_or old.shared.now.bytes other []) × ((other : ℕ) → other ≢ old.user → slice_index_or new.shared.now.keys other [] ≡ slice_index_or old.shared.now.keys other []) };
 
+    ghost IsPlaced = { λ s block. block.first + 2048 ≤ 4096 };
+
     fn size(&self) -> u32 {
         4096
     }
@@ -106,7 +109,26 @@ impl<'a> Storage for Lent<'a> {
         test_range(4096, &keys, range, access, key)
     }
 
-    fn settle(&mut self, _start: u32, _key: AccessKey) {}
+    fn find_block(&self, start: u32, key: AccessKey) -> Option<Block> {
+        let keys = Listed {
+            keys: self.shared.keys_of(self.user),
+        };
+        if may_fetch_block(4096, &keys, start, key) {
+            let first = start / 2048 * 2048;
+            Some(Block {
+                first,
+                place: first,
+            })
+        } else {
+            None
+        }
+    }
+
+    fn load_in(&self, _block: Block, start: u32, into: &mut [u8]) {
+        let first = start as usize;
+        let end = first + into.len();
+        into.copy_from_slice(&self.shared.bytes_of(self.user)[first..end]);
+    }
 
     fn load(&self, start: u32, into: &mut [u8]) {
         let first = start as usize;
@@ -119,6 +141,8 @@ impl<'a> Storage for Lent<'a> {
     }
 
     ghost keeps_same = { λ s. (refl, refl, λ other ne. refl, λ other ne. refl) };
+
+    ghost placed_kept = { λ s t block e k h. h };
 
     ghost keeps_on = { λ s t u a b. (b.0 ∙ a.0, b.1 ∙ a.1, λ other ne. b.2 other (λ e. ne (e ∙ a.1)) ∙ a.2 other ne, λ other ne. b.3 other (λ e. ne (e ∙ a.1)) ∙ a.3 other ne) };
 }

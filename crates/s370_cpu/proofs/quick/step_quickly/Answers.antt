@@ -1,4 +1,11 @@
+use Rattle.std.proofs.Common.{◌≡◌, ◌%◌, arith}
+use Rattle.s370_rows.specs.State.{state_of}
+use Rattle.s370_store.proofs.Blocks.{block_passes}
+use Rattle.s370_cpu.proofs.Fetched.{fetch_finds}
 use Rattle.s370_cpu.proofs.quick.step_quickly.Goals as goal
 
-pub returns-clause-done : goal.returns-clause-done
-returns-clause-done g c = rw (← c.settle.ensures.bytes, ← c.settle.ensures.keys) c.step_settled_quickly.ensures.done
+pub step_found_quickly-requires-clause-found : goal.step_found_quickly-requires-clause-found
+step_found_quickly-requires-clause-found g c =
+    let m = state_of c.args.cpu.now (g.S.Storage.bytes c.args.storage.now) (g.S.Storage.keys c.args.storage.now) in
+    let even : c.args.start % 2 ≡ 0 = omega arith in
+    fetch_finds m c.args.start even (block_passes _ _ _ _ c.args.block.first c.args.start 6 c.requires.open c.requires.begins (omega (arith, c.requires.ends)))

@@ -13,6 +13,9 @@ loop-units-preserved g c =
     record {
       here = c.in-Some.ensures.next;
       key = c.loop-units.invariant.key ∙ sym (ap (λ (r : Rights). r.key) c.step_quickly.ensures.rights);
+      low = c.in-Some.ensures.low;
+      open = subst (λ (keys : List ℕ). MayFetch _ keys _ c.loop-units.key c.in-Some.found.first) (sym (ap (λ (r : Rights). r.keys) c.step_quickly.ensures.rights)) c.in-Some.ensures.open;
+      placed = g.met.S.Storage.placed_kept _ _ c.in-Some.found c.step_quickly.ensures.size c.step_quickly.ensures.rest c.in-Some.ensures.placed;
       done = λ pending list e.
           (let before = c.loop-units.invariant.done pending list e in
           let step : core_of m' pending list ≡ unit_at (look (core_of m pending list)) (core_of m pending list) = rw before.1 (done_unit m m' pending list (c.in-Some.ensures.done)) in

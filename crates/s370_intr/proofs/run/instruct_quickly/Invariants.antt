@@ -1,4 +1,5 @@
-use Rattle.std.proofs.Common.{◌≡◌, List, length}
+use Rattle.std.proofs.Common.{◌≡◌, ◌<◌, List, length}
+use Rattle.s370_store.specs.Blocks.{MayFetch}
 use Rattle.s370_rows.specs.State.{state_of}
 use Rattle.s370_subchannels.specs.declared.subchannel.Subchannel.{Subchannel}
 use Rattle.s370_intr.specs.declared.next.Next.TheVariants.{Instructs}
@@ -15,6 +16,9 @@ invariant-loop-units g l =
     record {
       here : l.next ≡ m.cpu.psw.address;
       key : l.key ≡ m.cpu.psw.key;
+      low : l.block.first < 16777216;
+      open : MayFetch (length (g.S.Storage.bytes l.storage)) (g.S.Storage.keys l.storage) (g.S.Storage.present l.storage) l.key l.block.first;
+      placed : g.S.Storage.IsPlaced l.storage l.block;
       done : (pending : Pending) (list : List Subchannel) → look (core_of m0 pending list) ≡ Instructs → (run l.units (core_of m0 pending list) ≡ all_done l.units (core_of m pending list)) × (look (core_of m pending list) ≡ Instructs);
       size : length (g.S.Storage.bytes l.storage) ≡ length (g.S.Storage.bytes l.fn.storage);
       rest : g.S.Storage.Keeps l.fn.storage l.storage;

@@ -1,0 +1,58 @@
+//! An instruction that may be fetched, whose operation code is known: GA22-7000, "Instruction Formats".
+ghost use Rattle.std.specs.Prelude.{◌≡◌, ℕ, ◌+◌, ◌≤◌, List, length, slice_index, slice_range, if◌then◌else◌};
+ghost use Rattle.std.specs.Int.{w16, from_be_bytes};
+ghost use Rattle.s370_store.specs.Access.{IsGranted};
+ghost use Rattle.s370_cpu.specs.Fetch.{instruction_at};
+
+use s370_rows::Instruction;
+use s370_store::{Block, Storage};
+
+/// A halfword of an instruction, or zero where it lies past the instruction's length.
+#[inline(always)]
+fn half(past: bool, bytes: [u8; 2]) -> u16
+    ensures { result ≡ (if past then 0 else from_be_bytes w16 bytes) }
+{
+    if past { 0 } else { u16::from_be_bytes(bytes) }
+}
+
+/// The instruction whose bytes these are, as many as the longest has, of which the first, the operation code, is known.
+#[inline(always)]
+fn instruction_in(bytes: &[u8; 6], opcode: u8) -> Instruction
+    ensures instruction { (storage : List ℕ) → (start : ℕ) → bytes.now ≡ slice_range storage start (start + 6) → opcode ≡ slice_index storage start → result ≡ instruction_at storage start }
+    ensures same { result.opcode ≡ opcode }
+{
+    Instruction {
+        opcode,
+        second_byte: bytes[1],
+        second_half: half(opcode < 0x40, [bytes[2], bytes[3]]),
+        third_half: half(opcode < 0xC0, [bytes[4], bytes[5]]),
+    }
+}
+
+/// The instruction at an address from which six bytes may be loaded, of which the first, its operation code, is known.
+#[inline(always)]
+pub fn load_known<S: Storage>(storage: &S, start: u32, opcode: u8) -> Instruction
+    requires granted { IsGranted (length (S.bytes storage.now)) (S.present storage.now) start 6 }
+    requires known { opcode ≡ slice_index (S.bytes storage.now) start }
+    ensures instruction { result ≡ instruction_at (S.bytes storage.now) start }
+    ensures same { result.opcode ≡ opcode }
+{
+    let mut bytes = [0u8; 6];
+    storage.load(start, &mut bytes);
+    instruction_in(&bytes, opcode)
+}
+
+/// The instruction at an address in a block that was found, whose first byte, the operation code, is known.
+#[inline(always)]
+pub fn load_known_in<S: Storage>(storage: &S, block: Block, start: u32, opcode: u8) -> Instruction
+    requires placed { S.IsPlaced storage.now block }
+    requires begins { block.first ≤ start }
+    requires ends { start ≤ block.first + 2042 }
+    requires known { opcode ≡ slice_index (S.bytes storage.now) start }
+    ensures instruction { result ≡ instruction_at (S.bytes storage.now) start }
+    ensures same { result.opcode ≡ opcode }
+{
+    let mut bytes = [0u8; 6];
+    storage.load_in(block, start, &mut bytes);
+    instruction_in(&bytes, opcode)
+}

@@ -1,0 +1,27 @@
+//! A block of storage from which instructions are fetched.
+ghost use Rattle.std.specs.Prelude.{◌≡◌, ◌+◌, ◌<◌, ◌≤◌, true};
+
+/// A block of 2048 bytes that a storage has found for fetches.
+///
+/// What its place is, only the storage knows that found it: whoever fetches one instruction after another from a block passes
+/// it back with each, and nothing is looked up twice.
+#[derive(Clone, Copy, Debug, PartialEq, Eq)]
+pub struct Block {
+    /// The address of its first byte.
+    pub first: u32,
+    /// Where the storage has it.
+    pub place: u32,
+}
+
+impl Block {
+    /// Whether the longest instruction, which has six bytes, would lie in it from this address on.
+    #[inline(always)]
+    pub fn has_room(self, start: u32) -> bool
+        requires { self.first < 16777216 }
+        ensures begins { result ≡ true → self.first ≤ start }
+        ensures ends { result ≡ true → start ≤ self.first + 2042 }
+    {
+        // An address below wraps round to one that is far above.
+        start.wrapping_sub(self.first) <= 2042
+    }
+}
