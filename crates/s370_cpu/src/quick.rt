@@ -43,7 +43,7 @@ pub fn step_quickly<S: Storage>(
     block: Block,
 ) -> Option<Addr24>
     requires here { start ≡ cpu.old.psw.address }
-    requires open { MayFetch (length (S.bytes storage.old)) (S.keys storage.old) (S.present storage.old) cpu.old.psw.key block.first }
+    requires may_fetch { MayFetch (length (S.bytes storage.old)) (S.keys storage.old) (S.present storage.old) cpu.old.psw.key block.first }
     requires placed { S.IsPlaced storage.old block }
     requires begins { block.first ≤ start }
     requires ends { start ≤ block.first + 2042 }

@@ -12,6 +12,7 @@ use Rattle.s370_subchannels.specs.Subchannels.{first_status}
 use Rattle.s370_rows.specs.declared.cpu.Cpu.{Cpu}
 use Rattle.s370_rows.specs.State.{State}
 use Rattle.s370_subchannels.specs.declared.subchannel.Subchannel.{Subchannel}
+use Rattle.s370_store.specs.Blocks.{MayFetch}
 use Rattle.s370_cpu.specs.declared.conclude.Stop.TheVariants.{Done}
 use Rattle.s370_cpu.specs.Laws.{Rights, rights_of}
 use Rattle.s370_cpu.specs.Table.{unit}
@@ -185,3 +186,12 @@ looks_same m m' pending list e =
 
 pub done_unit : (m m' : State) (pending : Pending) (list : List Subchannel) → (unit m).ran ≡ record { stop = Done; state = m' } → core_of m' pending list ≡ unit_at Instructs (core_of m pending list)
 done_unit m m' pending list e = sym (ap (λ (r : Ran). with_configuration (core_of m pending list) (followed r.stop (configuration_of r.state list))) e)
+
+-- what may be fetched from a block, may be as long as size, keys and pages are the same
+pub still_fetches : {size size' : ℕ} {keys keys' : List ℕ} {present present' : ℕ → Bool} (key first : ℕ) → size' ≡ size → keys' ≡ keys → present' ≡ present → MayFetch size keys present key first → MayFetch size' keys' present' key first
+still_fetches key first s k p h = record {
+  aligned = h.aligned;
+  inside = rw s h.inside;
+  passed = rw k h.passed;
+  here = rw p h.here;
+}

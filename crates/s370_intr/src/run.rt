@@ -194,10 +194,10 @@ fn block_of<S: Storage>(
     key: AccessKey,
 ) -> Option<Block>
     requires low { block.first < 16777216 }
-    requires open { MayFetch (length (S.bytes storage.now)) (S.keys storage.now) (S.present storage.now) key block.first }
+    requires may_fetch { MayFetch (length (S.bytes storage.now)) (S.keys storage.now) (S.present storage.now) key block.first }
     requires placed { S.IsPlaced storage.now block }
     ensures low { IfSome result (λ found. found.first < 16777216) }
-    ensures open { IfSome result (λ found. MayFetch (length (S.bytes storage.now)) (S.keys storage.now) (S.present storage.now) key found.first) }
+    ensures may_fetch { IfSome result (λ found. MayFetch (length (S.bytes storage.now)) (S.keys storage.now) (S.present storage.now) key found.first) }
     ensures placed { IfSome result (λ found. S.IsPlaced storage.now found) }
     ensures begins { IfSome result (λ found. found.first ≤ next) }
     ensures ends { IfSome result (λ found. next ≤ found.first + 2042) }

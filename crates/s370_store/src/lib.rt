@@ -125,7 +125,7 @@ pub trait Storage {
     /// page is present.
     fn find_block(&self, start: u32, key: AccessKey) -> Option<Block>
         ensures first { IfSome result (λ block. block.first ≡ start / 2048 * 2048) }
-        ensures open { IfSome result (λ block. MayFetch (length (bytes self.now)) (keys self.now) (present self.now) key block.first) }
+        ensures may_fetch { IfSome result (λ block. MayFetch (length (bytes self.now)) (keys self.now) (present self.now) key block.first) }
         ensures placed { IfSome result (λ block. IsPlaced self.now block) };
 
     /// Copies bytes out of a block that was found, one at least.

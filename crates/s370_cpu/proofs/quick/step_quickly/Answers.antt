@@ -8,4 +8,4 @@ pub step_found_quickly-requires-clause-found : goal.step_found_quickly-requires-
 step_found_quickly-requires-clause-found g c =
     let m = state_of c.args.cpu.now (g.S.Storage.bytes c.args.storage.now) (g.S.Storage.keys c.args.storage.now) in
     let even : c.args.start % 2 ≡ 0 = omega arith in
-    fetch_finds m c.args.start even (block_passes _ _ _ _ c.args.block.first c.args.start 6 c.requires.open c.requires.begins (omega (arith, c.requires.ends)))
+    fetch_finds m c.args.start even (block_passes _ _ _ _ c.args.block.first c.args.start 6 c.requires.may_fetch c.requires.begins (omega (arith, c.requires.ends)))

@@ -1,8 +1,8 @@
-use Rattle.std.proofs.Common.{◌≡◌, ◌∙◌, ap, sym, subst}
+use Rattle.std.proofs.Common.{◌≡◌, ◌∙◌, ℕ, List, ap, sym, subst}
 use Rattle.s370_rows.specs.State.{state_of}
 use Rattle.s370_cpu.specs.Laws.{Rights}
 use Rattle.s370_intr.specs.Units.{core_of, look, unit_at}
-use Rattle.s370_intr.proofs.Runs.{does_more, done_unit, looks_same, Goes}
+use Rattle.s370_intr.proofs.Runs.{does_more, done_unit, looks_same, still_fetches, Goes}
 use Rattle.s370_intr.proofs.run.instruct_quickly.Goals as goal
 
 pub loop-units-preserved : goal.loop-units-preserved
@@ -11,14 +11,14 @@ loop-units-preserved g c =
     let m = state_of c.loop-units.cpu (g.S.Storage.bytes c.loop-units.storage) (g.S.Storage.keys c.loop-units.storage) in
     let m' = state_of c.step_quickly.new.cpu (g.S.Storage.bytes c.step_quickly.new.storage) (g.S.Storage.keys c.step_quickly.new.storage) in
     record {
-      here = c.in-Some.ensures.next;
+      here = c.in-Some-step_quickly.ensures.next;
       key = c.loop-units.invariant.key ∙ sym (ap (λ (r : Rights). r.key) c.step_quickly.ensures.rights);
-      low = c.in-Some.ensures.low;
-      open = subst (λ (keys : List ℕ). MayFetch _ keys _ c.loop-units.key c.in-Some.found.first) (sym (ap (λ (r : Rights). r.keys) c.step_quickly.ensures.rights)) c.in-Some.ensures.open;
-      placed = g.met.S.Storage.placed_kept _ _ c.in-Some.found c.step_quickly.ensures.size c.step_quickly.ensures.rest c.in-Some.ensures.placed;
+      low = c.in-Some-block_of.ensures.low;
+      may_fetch = still_fetches c.key-key.result c.in-Some-block_of.found.first (c.step_quickly.ensures.size) (ap (λ (r : Rights). r.keys) c.step_quickly.ensures.rights) c.step_quickly.ensures.present c.in-Some-block_of.ensures.may_fetch;
+      placed = g.met.S.Storage.placed_kept _ _ c.in-Some-block_of.found c.step_quickly.ensures.size c.step_quickly.ensures.rest c.in-Some-block_of.ensures.placed;
       done = λ pending list e.
           (let before = c.loop-units.invariant.done pending list e in
-          let step : core_of m' pending list ≡ unit_at (look (core_of m pending list)) (core_of m pending list) = rw before.1 (done_unit m m' pending list (c.in-Some.ensures.done)) in
+          let step : core_of m' pending list ≡ unit_at (look (core_of m pending list)) (core_of m pending list) = rw before.1 (done_unit m m' pending list (c.in-Some-step_quickly.ensures.done)) in
           (does_more c.loop-units.units (core_of m0 pending list) (core_of m pending list) (core_of m' pending list) before.0 (subst Goes (sym before.1) tt) step, looks_same m m' pending list c.step_quickly.ensures.rights ∙ before.1));
       size = c.step_quickly.ensures.size ∙ c.loop-units.invariant.size;
       rest = g.met.S.Storage.keeps_on _ _ _ c.loop-units.invariant.rest c.step_quickly.ensures.rest;

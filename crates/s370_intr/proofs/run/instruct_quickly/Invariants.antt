@@ -17,7 +17,7 @@ invariant-loop-units g l =
       here : l.next ≡ m.cpu.psw.address;
       key : l.key ≡ m.cpu.psw.key;
       low : l.block.first < 16777216;
-      open : MayFetch (length (g.S.Storage.bytes l.storage)) (g.S.Storage.keys l.storage) (g.S.Storage.present l.storage) l.key l.block.first;
+      may_fetch : MayFetch (length (g.S.Storage.bytes l.storage)) (g.S.Storage.keys l.storage) (g.S.Storage.present l.storage) l.key l.block.first;
       placed : g.S.Storage.IsPlaced l.storage l.block;
       done : (pending : Pending) (list : List Subchannel) → look (core_of m0 pending list) ≡ Instructs → (run l.units (core_of m0 pending list) ≡ all_done l.units (core_of m pending list)) × (look (core_of m pending list) ≡ Instructs);
       size : length (g.S.Storage.bytes l.storage) ≡ length (g.S.Storage.bytes l.fn.storage);

@@ -2,8 +2,8 @@ use Rattle.std.proofs.Common.{arith, ◌≡◌, ◌*◌, ◌/◌, sym, ap, Optio
 use Rattle.std.specs.Prelude.{is_some}
 use Rattle.cp_frames.proofs.dat.DatStorage.find_block.Goals as goal
 
-pub returns-in-Some-clause-open : goal.returns-in-Some-clause-open
-returns-in-Some-clause-open c =
+pub returns-in-Some-clause-may_fetch : goal.returns-in-Some-clause-may_fetch
+returns-in-Some-clause-may_fetch c =
     let d = c.args.self.now in
     let block : c.args.start / 2048 * 2048 / 2048 ≡ c.args.start / 2048 = omega arith in
     record {
