@@ -2,7 +2,7 @@
 ghost use Rattle.std.specs.Prelude.{reverse, ◌≡◌, ℕ, ◌+◌, ◌-◌, ◌*◌, ◌/◌, ◌%◌, ◌<◌, ◌≤◌, ◌↔◌, ◌++◌, ◌∷◌, [], Option, Some, None, true, false, map, length, slice_index, slice_index_or, slice_set, slice_get, slice_range, IsSome, is_some, IfOk, OnOk, OnErr, IfSome, IfNone, All, replicate, drop};
 ghost use Rattle.std.specs.List.{range_with_len};
 ghost use Rattle.s370_store.specs.Access.{put, IsGranted};
-ghost use Rattle.cp_frames.specs.Layout.{frame_of, number_of, is_there, IsZeroPage, cleared_of, AreTaken};
+ghost use Rattle.cp_frames.specs.Layout.{frame_of, number_of, held, is_there, IsZeroPage, cleared_of, AreTaken};
 ghost use Rattle.cp_frames.specs.Tables.{segment_entry, page_entry, walk};
 ghost use Rattle.cp_frames.specs.Paging.{IsChosen, IsBrought, IsOpen, IsRefused, IsPut, counted, exchanged, filled, came};
 
@@ -10,8 +10,8 @@ use crate::frame::{blank_frames, clear, copy_in, copy_out, copy_over};
 use crate::order::{all_frames, count, free_turn, last, open_turn};
 use crate::owners::{clear_pins, first_free, free_frames, leave, leave_slots, low_after, no_pins};
 use crate::table::{
-    INVALID, NO_SEGMENT, NO_SLOT, PAGES, empty_slot_table, entry_of, entry_with, frame_in, half_at,
-    new_tables, note, page_place, put_half, segment_place, tell_slot, word_at,
+    INVALID, NO_SEGMENT, NO_SLOT, PAGES, empty_looks, empty_slot_table, entry_of, forget, frame_in,
+    half_at, new_tables, note, page_place, segment_place, tell_slot, word_at,
 };
 use crate::{FRAME_SIZE, FrameNo, UserPage};
 use cp_users::UserNo;
@@ -41,6 +41,7 @@ pub struct Frames {
     page_ins: u64,
     sizes: Vec<u32>,
     tables: Vec<u8>,
+    looks: Vec<u16>,
     slot_table: Vec<u32>,
 }
 
@@ -55,7 +56,7 @@ impl Model for Frames {
       supply = record { owners = f.owners.items; slots = f.slot_owners.items; pins = f.pins.items; order = f.order.items; page_ins = f.page_ins };
     } };
 
-    ghost invariant = { λ f. IsSound f.frames.items f.slots.items f.owners.items f.slot_owners.items f.sizes.items f.tables.items f.slot_table.items f.pins.items f.is_marked f.order.items f.end f.low };
+    ghost invariant = { λ f. IsSound f.frames.items f.slots.items f.owners.items f.slot_owners.items f.sizes.items f.tables.items f.looks.items f.slot_table.items f.pins.items f.is_marked f.order.items f.end f.low };
 }
 
 impl Frames {
@@ -90,7 +91,9 @@ impl Frames {
         let frames = blank_frames(alloc, frame_count)?;
         let slots = blank_frames(alloc, slot_count)?;
         let tables = new_tables(alloc, &sizes)?;
-        let slot_table = empty_slot_table(alloc, PAGES * sizes.len())?;
+        let entries = PAGES * sizes.len();
+        let looks = empty_looks(alloc, entries)?;
+        let slot_table = empty_slot_table(alloc, entries)?;
         Ok(Frames {
             frames,
             slots,
@@ -104,6 +107,7 @@ impl Frames {
             page_ins: 0,
             sizes,
             tables,
+            looks,
             slot_table,
         })
     }
@@ -138,6 +142,7 @@ impl Frames {
             page_ins,
             sizes: _,
             tables: _,
+            looks: _,
             slot_table: _,
         } = self;
         *page_ins
@@ -152,16 +157,16 @@ impl Frames {
         ensures apart { IsSome result → frame_of self.now.supply.slots user page.0 ≡ None }
         ensures zero { IfNone result (frame_of self.now.supply.slots user page.0 ≡ None → IsZeroPage (bytes_of self.now user) page.0) }
     {
-        frame_in(half_at(&self.tables, page_place(user.index(), page.0)))
+        frame_in(self.looks[entry_of(user, page.0)])
     }
 
-    /// The entry of a user's page, by the bytes of the tables.
+    /// What is looked up of a user's page: the number of the frame in which it stands, or that of no frame.
     #[inline(always)]
-    fn entry(&self, user: UserNo, page: u32) -> u16
+    fn look(&self, user: UserNo, page: u32) -> u16
         requires { page * 4096 < length (bytes_of self.now user) }
-        ensures { result ≡ page_entry (frame_of self.now.supply.owners user page) }
+        ensures { held 65535 result ≡ frame_of self.now.supply.owners user page }
     {
-        half_at(&self.tables, page_place(user.index(), page))
+        self.looks[entry_of(user, page)]
     }
 
     /// The frame in which a page stands that stands in one.
@@ -171,7 +176,7 @@ impl Frames {
         requires present { IsSome (frame_of self.now.supply.owners user page) }
         ensures { frame_of self.now.supply.owners user page ≡ Some result }
     {
-        usize::from(self.entry(user, page) / 16)
+        usize::from(self.look(user, page))
     }
 
     /// The slot in which a page of a user stands. A page that stands in none, and in no frame, is all zero.
@@ -190,13 +195,13 @@ impl Frames {
         }
     }
 
-    /// The frame in which the page of an address of a user stands: the one look at the table that each access makes.
+    /// The frame in which the page of an address of a user stands: the one look that each access makes.
     #[inline(always)]
     pub(crate) fn frame_at(&self, user: UserNo, start: u32) -> Option<FrameNo>
         requires { start < length (bytes_of self.now user) }
         ensures { number_of result ≡ frame_of self.now.supply.owners user (start / 4096) }
     {
-        frame_in(self.entry(user, start / PAGE_SIZE))
+        frame_in(self.look(user, start / PAGE_SIZE))
     }
 
     /// As `frame_at`, out of line.
@@ -385,8 +390,13 @@ impl Frames {
         ensures storages { self.new.storages ≡ self.old.storages }
         ensures supply { self.new.supply ≡ exchanged self.old.supply frame slot }
     {
-        note(&mut self.tables, self.owners[frame], INVALID);
-        note(&mut self.tables, self.slot_owners[slot], entry_with(frame));
+        forget(&mut self.tables, &mut self.looks, self.owners[frame]);
+        note(
+            &mut self.tables,
+            &mut self.looks,
+            self.slot_owners[slot],
+            frame,
+        );
         tell_slot(&mut self.slot_table, self.slot_owners[slot], NO_SLOT);
         tell_slot(&mut self.slot_table, self.owners[frame], slot as u32);
         self.low = low_after(self.low, slot, self.owners[frame]);
@@ -407,10 +417,11 @@ impl Frames {
     {
         clear(&mut self.frames[frame]);
         self.owners[frame] = Some(UserPage { user, page });
-        put_half(
+        note(
             &mut self.tables,
-            page_place(user.index(), page.0),
-            entry_with(frame),
+            &mut self.looks,
+            Some(UserPage { user, page }),
+            frame,
         );
     }
 
@@ -485,7 +496,13 @@ impl Frames {
         self.unpin_all();
         self.end = self.order.len();
         self.low = 0;
-        leave(&mut self.owners, &mut self.tables, &self.sizes, user);
+        leave(
+            &mut self.owners,
+            &mut self.tables,
+            &mut self.looks,
+            &self.sizes,
+            user,
+        );
         leave_slots(&mut self.slot_owners, &mut self.slot_table, user);
     }
 
