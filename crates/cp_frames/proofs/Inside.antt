@@ -6,7 +6,6 @@ use Rattle.cp_frames.specs.Layout.{frame_of, storage_of, storages_of, Holds, IsS
 use Rattle.std.proofs.lemmas.List.FromFn.{length-map-range_with_len}
 use Rattle.cp_frames.proofs.Layouts.{frame_found, length-bytes_of, user_with}
 use Rattle.cp_frames.proofs.Tables.{IsPlace, place}
-use Rattle.cp_frames.proofs.Mapped.{IsEntry, entry_of_byte}
 use Rattle.cp_frames.proofs.Halves.{from_frame, hold_left}
 
 -- the places: frames, then slots
@@ -20,12 +19,12 @@ abbrev pub bytes_in : Inside → ℕ → List ℕ
 bytes_in f user = get_or (storages_of (places_in f) (owners_in f) f.sizes.items) user []
 
 abbrev pub IsKept : Inside → Type 0
-IsKept f = IsSound f.frames.items f.slots.items f.owners.items f.slot_owners.items f.sizes.items f.tables.items f.slot_table.items f.pins.items f.is_marked f.order.items f.end f.low
+IsKept f = IsSound f.frames.items f.slots.items f.owners.items f.slot_owners.items f.sizes.items f.tables.items f.looks.items f.slot_table.items f.pins.items f.is_marked f.order.items f.end f.low
 
--- a page of the user has an entry in the tables
-pub entry_of_page : (f : Inside) (user page : ℕ) → IsKept f → page * 4096 < length (bytes_in f user) → IsEntry f.sizes.items f.tables.items user page
-entry_of_page f user page kept lt =
-    entry_of_byte (places_in f) (owners_in f) f.owners.items f.sizes.items f.tables.items user page (page * 4096) kept.whole kept.mapped lt (omega arith)
+-- a page of the user has an entry in the list beside the tables, and in that of the slots
+pub look_place_of_page : (f : Inside) (user page : ℕ) → IsKept f → page * 4096 < length (bytes_in f user) → IsPlace f.sizes.items f.looks.items user page
+look_place_of_page f user page kept lt =
+    place 65535 (places_in f) (owners_in f) f.owners.items f.sizes.items f.looks.items user page (page * 4096) kept.whole kept.looked lt (omega arith)
 
 pub slot_place_of_page : (f : Inside) (user page : ℕ) → IsKept f → page * 4096 < length (bytes_in f user) → IsPlace f.sizes.items f.slot_table.items user page
 slot_place_of_page f user page kept lt =

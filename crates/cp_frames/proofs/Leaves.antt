@@ -1,17 +1,17 @@
 -- A user's first pages that have left, and the next one.
-use Rattle.std.proofs.Common.{◌≡◌, ◌≢◌, ℕ, ◌+◌, ◌/◌, ◌<◌, List, [], ◌∷◌, map, length, get_or, ext_get_or, Bool, true, false, cond, ◌==◌, Option, Some, None, refl, get_or-set_other, get_or-set_same, sym, ◌∙◌, ap, arith}
+use Rattle.std.proofs.Common.{◌≡◌, ◌≢◌, ℕ, ◌+◌, ◌*◌, ◌<◌, List, [], ◌∷◌, map, length, get_or, ext_get_or, Bool, true, false, cond, ◌==◌, Option, Some, None, refl, get_or-set_other, get_or-set_same, sym, ◌∙◌, ap, arith}
 use Rattle.std.proofs.Math.ListN.{set, get_or-map, length-map, length-set}
 use Rattle.std.proofs.Math.Decide.{dec_lt}
 use Rattle.std.proofs.lemmas.List.{get_or_past}
 use Rattle.std.proofs.lemmas.Bool.Decides.{nat_tests}
 use Rattle.std.proofs.lemmas.Grind.{common_steps}
 use Rattle.cp_frames.specs.declared.numbers.UserPage.{UserPage}
-use Rattle.cp_frames.specs.Layout.{owned, frame_of, Holds, ArePages, IsMapped, cleared_of, is_under, without, without_under}
-use Rattle.cp_frames.specs.Tables.{half_at, page_place, put_half}
+use Rattle.cp_frames.specs.Layout.{owned, frame_of, held, Holds, ArePages, IsMapped, IsTabled, cleared_of, is_under, without, without_under}
+use Rattle.cp_frames.specs.Tables.{page_place, put_half}
 use Rattle.cp_frames.proofs.Layouts.{dec_eq, frame_found}
-use Rattle.cp_frames.proofs.Tables.{page_is}
-use Rattle.cp_frames.proofs.Mapped.{IsEntry, entry_in, entry_blank, entry_told, mapped-set}
-use Rattle.cp_frames.proofs.Told.{AreSmall, IsNew, is_owned}
+use Rattle.cp_frames.proofs.Tables.{IsPlace, held_none, held_other, page_is}
+use Rattle.cp_frames.proofs.Mapped.{mapped-set}
+use Rattle.cp_frames.proofs.Told.{AreSmall, IsNew, is_owned, tabled-set}
 use Rattle.cp_frames.proofs.Moves.{stands_alone}
 use Rattle.cp_frames.proofs.Halves.{IsOnce}
 use Rattle.cp_frames.proofs.Orders.{not_held}
@@ -103,7 +103,7 @@ left_all user owners sizes pages =
     ∙ all_under user count (get_or owners k None) (λ p h u. (let inside = pages.inside k p h in rw u at inside))
     ∙ sym (get_or-map (without user) owners k None))
 
--- what the tables tell when the next page has left its frame
+-- what the tables and the list beside them tell when the next page has left its frame
 pub mapped_more : (user page frame : ℕ) (owners : List (Option UserPage)) (sizes tables : List ℕ) → ArePages owners sizes → IsMapped (left_by user page owners) sizes tables → frame_of (left_by user page owners) user page ≡ Some frame →
     IsMapped (left_by user (page + 1) owners) sizes (put_half tables (page_place user page) 8)
 mapped_more user page frame owners sizes tables pages mapped there =
@@ -114,17 +114,27 @@ mapped_more user page frame owners sizes tables pages mapped there =
     let e : left_by user (page + 1) owners ≡ set now frame None = left_more user page frame owners pages.once there in
     rw e (rw (page_is now user page frame there) at after)
 
+pub looked_more : (user page frame : ℕ) (owners : List (Option UserPage)) (sizes looks : List ℕ) → ArePages owners sizes → IsTabled 65535 (left_by user page owners) sizes looks → frame_of (left_by user page owners) user page ≡ Some frame →
+    IsTabled 65535 (left_by user (page + 1) owners) sizes (set looks (user * 1024 + page) 65535)
+looked_more user page frame owners sizes looks pages looked there =
+    let now = left_by user page owners in
+    let within = (frame_found now user page frame there).within in
+    let new : IsNew now None = λ q h. cc in
+    let after = tabled-set 65535 now sizes looks frame None (once_left_by user page owners pages.once) (small_left_by user page owners sizes pages) looked within new in
+    let e : left_by user (page + 1) owners ≡ set now frame None = left_more user page frame owners pages.once there in
+    rw e (rw (page_is now user page frame there) at after)
+
 -- the entry of the next page
-pub next_entry : (user page : ℕ) (owners now : List (Option UserPage)) (sizes tables : List ℕ) → ArePages owners sizes → IsMapped now sizes tables → page < get_or sizes user 0 → IsEntry sizes tables user page
-next_entry user page owners now sizes tables pages mapped lt =
+pub next_entry : (user page : ℕ) (owners now : List (Option UserPage)) (sizes looks : List ℕ) → ArePages owners sizes → IsTabled 65535 now sizes looks → page < get_or sizes user 0 → IsPlace sizes looks user page
+next_entry user page owners now sizes looks pages looked lt =
     let small = pages.small user in
     let of_user : user < length sizes = elim (dec_lt user (length sizes)) [ yes h ↦ h | no past ↦ let none = get_or_past sizes user 0 (omega arith) in absurd (omega arith) ] in
-    entry_in now sizes tables user page mapped of_user (omega arith)
+    record { of_user = of_user; of_page = omega arith; low = omega (arith, looked.users); room = omega (arith, looked.entries) }
 
-pub next_there : (user page entry : ℕ) (now : List (Option UserPage)) (sizes tables : List ℕ) → IsMapped now sizes tables → IsEntry sizes tables user page → entry ≡ half_at tables (page_place user page) → entry ≢ 8 → frame_of now user page ≡ Some (entry / 16)
-next_there user page entry now sizes tables mapped at read ne =
-    entry_told (frame_of now user page) entry (read ∙ mapped.pages user page at.of_user at.of_page) ne
+pub next_there : (user page entry : ℕ) (now : List (Option UserPage)) (sizes looks : List ℕ) → IsTabled 65535 now sizes looks → IsPlace sizes looks user page → entry ≡ get_or looks (user * 1024 + page) 0 → entry ≢ 65535 → frame_of now user page ≡ Some entry
+next_there user page entry now sizes looks looked at read ne =
+    sym (held_other 65535 entry (frame_of now user page) ne (ap (held 65535) read ∙ looked.agrees user page at.of_user at.of_page))
 
-pub next_none : (user page entry : ℕ) (now : List (Option UserPage)) (sizes tables : List ℕ) → IsMapped now sizes tables → IsEntry sizes tables user page → entry ≡ half_at tables (page_place user page) → entry ≡ 8 → frame_of now user page ≡ None
-next_none user page entry now sizes tables mapped at read e =
-    entry_blank (frame_of now user page) entry (read ∙ mapped.pages user page at.of_user at.of_page) e
+pub next_none : (user page entry : ℕ) (now : List (Option UserPage)) (sizes looks : List ℕ) → IsTabled 65535 now sizes looks → IsPlace sizes looks user page → entry ≡ get_or looks (user * 1024 + page) 0 → entry ≡ 65535 → frame_of now user page ≡ None
+next_none user page entry now sizes looks looked at read e =
+    sym (held_none 65535 entry (frame_of now user page) e (ap (held 65535) read ∙ looked.agrees user page at.of_user at.of_page))

@@ -1,15 +1,15 @@
 -- What the bytes of the segment and page tables tell.
-use Rattle.std.proofs.Common.{◌≡◌, ◌≢◌, ℕ, ◌+◌, ◌-◌, ◌*◌, ◌/◌, ◌%◌, ◌<◌, ◌≤◌, List, [], length, get_or, replicate, Bool, true, false, cond, Option, Some, None, refl, get_or-set_other, get_or-set_same, sym, ◌∙◌, ap, arith}
-use Rattle.std.specs.Prelude.{IsSome, nat_lt, ◌==◌, ◌||◌}
+use Rattle.std.proofs.Common.{◌≡◌, ◌≢◌, ℕ, ◌+◌, ◌-◌, ◌*◌, ◌/◌, ◌%◌, ◌<◌, ◌≤◌, List, length, get_or, replicate, Bool, true, false, cond, Option, Some, None, refl, get_or-set_other, get_or-set_same, sym, ◌∙◌, ap, arith}
+use Rattle.std.specs.Prelude.{nat_lt, ◌==◌, ◌||◌}
 use Rattle.std.proofs.Math.Decide.{dec_lt}
 use Rattle.std.proofs.Math.ListN.{set, length-set}
 use Rattle.std.proofs.lemmas.List.{length-replicate}
 use Rattle.std.proofs.lemmas.Bool.Decides.{nat_tests}
 use Rattle.std.proofs.lemmas.Grind.{common_steps}
 use Rattle.cp_frames.specs.declared.numbers.UserPage.{UserPage}
-use Rattle.cp_frames.specs.Layout.{owned, is_page, frame_of, storages_of, Holds, IsWhole, IsMapped}
+use Rattle.cp_frames.specs.Layout.{owned, is_page, frame_of, Holds, IsMapped}
 use Rattle.cp_frames.specs.Tables.{half_at, word_at, segment_place, page_place, segment_entry, first_half, page_entry, frame_in, frame_through, walk, put_half, noted}
-use Rattle.cp_frames.proofs.Layouts.{frame_of-none, frame_of-brought, position-set_same, is_this_page, user_with}
+use Rattle.cp_frames.proofs.Layouts.{frame_of-none, frame_of-brought, position-set_same, is_this_page}
 use Rattle.cp_frames.proofs.Tables.{page_is_at}
 use Rattle.cp_frames.proofs.Told.{IsNew, AreSmall, is_owned, left_place}
 use Rattle.cp_frames.proofs.Moves.{stands_nowhere}
@@ -58,13 +58,6 @@ pub record IsEntry (sizes tables : List ℕ) (user page : ℕ) : Type 0 where
 pub entry_in : (owners : List (Option UserPage)) (sizes tables : List ℕ) (user page : ℕ) → IsMapped owners sizes tables → user < length sizes → page < 1024 → IsEntry sizes tables user page
 entry_in owners sizes tables user page mapped in_user in_page =
     record { of_user = in_user; of_page = in_page; low = omega (arith, mapped.users); room = omega (arith, mapped.room) }
-
-pub entry_of_byte : (bytes : List (List ℕ)) (all owners : List (Option UserPage)) (sizes tables : List ℕ) (user page address : ℕ) → IsWhole bytes all sizes → IsMapped owners sizes tables →
-    address < length (get_or (storages_of bytes all sizes) user []) → page ≡ address / 4096 → IsEntry sizes tables user page
-entry_of_byte bytes all owners sizes tables user page address whole mapped lt e =
-    let in_user = user_with bytes all sizes user address lt in
-    let small = whole.small user in
-    entry_in owners sizes tables user page mapped in_user.0 (omega (arith, in_user.1, small))
 
 -- the entry that is noted, and each other
 noted_own : (o : Option UserPage) (user page entry : ℕ) (tables : List ℕ) → page_place user page + 1 < length tables → o ≡ Some (owned user page) → half_at (noted o entry tables) (page_place user page) ≡ entry
@@ -239,18 +232,6 @@ frame_in_entry None = refl
 frame_in_entry (Some frame) =
     let out : (frame * 16 / 8 % 2 == 1) ≡ false = grind (arith, nat_tests) in
     rw out (ap Some (omega arith))
-
-pub frame_of_entry : (o : Option ℕ) (entry : ℕ) → entry ≡ page_entry o → IsSome o → o ≡ Some (entry / 16)
-frame_of_entry None entry e some = cc
-frame_of_entry (Some frame) entry e some = ap Some (omega arith)
-
-pub entry_told : (o : Option ℕ) (entry : ℕ) → entry ≡ page_entry o → entry ≢ 8 → o ≡ Some (entry / 16)
-entry_told None entry e ne = absurd (ne e)
-entry_told (Some frame) entry e ne = ap Some (omega arith)
-
-pub entry_blank : (o : Option ℕ) (entry : ℕ) → entry ≡ page_entry o → entry ≡ 8 → o ≡ None
-entry_blank None entry e is = refl
-entry_blank (Some frame) entry e is = absurd (omega arith)
 
 -- a page past a user's storage stands in no frame
 pub past_none : (owners : List (Option UserPage)) (user page pages : ℕ) → ((k : ℕ) (p : UserPage) → Holds owners k p → p.user ≡ user → p.page.0 < pages) → pages ≤ page → frame_of owners user page ≡ None

@@ -25,14 +25,15 @@ never_pinned (suc n) (suc k) e = never_pinned n k e
 pub both_cleared : (user : ℕ) (owners slots : List (Option UserPage)) → cleared_of user (owners ++ slots) ≡ cleared_of user owners ++ cleared_of user slots
 both_cleared user owners slots = map-append (without user) owners slots
 
-pub released-kept : (f : Inside) (user : ℕ) (tables slot_table : List ℕ) (end : ℕ) → IsKept f → f.pins.items ≡ replicate (length f.pins.items) false →
-    IsMapped (cleared_of user f.owners.items) f.sizes.items tables → IsTabled 4294967295 (cleared_of user f.slot_owners.items) f.sizes.items slot_table → end ≡ length f.order.items →
-    IsSound f.frames.items f.slots.items (cleared_of user f.owners.items) (cleared_of user f.slot_owners.items) f.sizes.items tables slot_table f.pins.items f.is_marked f.order.items end 0
-released-kept f user tables slot_table end kept blank mapped slots_tabled all = record {
+pub released-kept : (f : Inside) (user : ℕ) (tables looks slot_table : List ℕ) (end : ℕ) → IsKept f → f.pins.items ≡ replicate (length f.pins.items) false →
+    IsMapped (cleared_of user f.owners.items) f.sizes.items tables → IsTabled 65535 (cleared_of user f.owners.items) f.sizes.items looks → IsTabled 4294967295 (cleared_of user f.slot_owners.items) f.sizes.items slot_table → end ≡ length f.order.items →
+    IsSound f.frames.items f.slots.items (cleared_of user f.owners.items) (cleared_of user f.slot_owners.items) f.sizes.items tables looks slot_table f.pins.items f.is_marked f.order.items end 0
+released-kept f user tables looks slot_table end kept blank mapped looked slots_tabled all = record {
   frame_room = rw length-map kept.frame_room;
   slot_room = rw length-map kept.slot_room;
   whole = subst (λ (os : List (Option UserPage)). IsWhole (places_in f) os f.sizes.items) (both_cleared user f.owners.items f.slot_owners.items) (whole-cleared (places_in f) (owners_in f) f.sizes.items user kept.whole);
   mapped = mapped;
+  looked = looked;
   slots_tabled = slots_tabled;
   ordered = record {
     frames = rw length-map kept.ordered.frames;
@@ -70,17 +71,18 @@ long_order n = let e = order_is n in omega arith
 order_long : (n : ℕ) → length (reverse (range_with_len 0 n)) ≤ n
 order_long n = let e = order_is n in omega arith
 
-pub sound-first : (frames slots : List (List ℕ)) (owners slot_owners : List (Option UserPage)) (sizes tables slot_table : List ℕ) (pins : List Bool) (order : List ℕ) (n m : ℕ) →
+pub sound-first : (frames slots : List (List ℕ)) (owners slot_owners : List (Option UserPage)) (sizes tables looks slot_table : List ℕ) (pins : List Bool) (order : List ℕ) (n m : ℕ) →
     length frames ≡ n → length slots ≡ m → owners ≡ replicate n None → slot_owners ≡ replicate m None → length tables ≡ 2304 * length sizes →
-    ((half : ℕ) → half < 1152 * length sizes → half_at tables (half * 2) ≡ first_half (half / 1152) (get_or sizes (half / 1152) 0) (half % 1152)) → slot_table ≡ replicate (1024 * length sizes) 4294967295 →
-    pins ≡ replicate n false → order ≡ reverse (range_with_len 0 n) → n ≤ 4096 → m ≤ 65536 → length sizes ≤ 64 → All (λ pages. pages ≤ 1024) sizes → IsSound frames slots owners slot_owners sizes tables slot_table pins false order n 0
-sound-first frames slots owners slot_owners sizes tables slot_table pins order n m room slot_room e f long halves g h i few many users small =
+    ((half : ℕ) → half < 1152 * length sizes → half_at tables (half * 2) ≡ first_half (half / 1152) (get_or sizes (half / 1152) 0) (half % 1152)) → looks ≡ replicate (1024 * length sizes) 65535 → slot_table ≡ replicate (1024 * length sizes) 4294967295 →
+    pins ≡ replicate n false → order ≡ reverse (range_with_len 0 n) → n ≤ 4096 → m ≤ 65536 → length sizes ≤ 64 → All (λ pages. pages ≤ 1024) sizes → IsSound frames slots owners slot_owners sizes tables looks slot_table pins false order n 0
+sound-first frames slots owners slot_owners sizes tables looks slot_table pins order n m room slot_room e f long halves l g h i few many users small =
     let both : length (frames ++ slots) ≡ n + m = omega (arith, length-append frames slots) in
-    rw (e, f, g, h, i) (record {
+    rw (e, f, l, g, h, i) (record {
       frame_room = rw length-replicate room;
       slot_room = rw length-replicate slot_room;
       whole = subst (λ (os : List (Option UserPage)). IsWhole (frames ++ slots) os sizes) (sym (none_both n m)) (whole-none (frames ++ slots) sizes (n + m) both small);
       mapped = mapped-first sizes tables n few users long halves;
+      looked = tabled-none 65535 n sizes (omega arith) users;
       slots_tabled = tabled-none 4294967295 m sizes (omega arith) users;
       ordered = record {
         frames = rw length-replicate few;

@@ -126,13 +126,15 @@ pub record IsSought (owners slot_owners : List (Option UserPage)) (order : List 
   pub taken : AreTaken owners (drop end order)
   pub before : All IsSome (take low slot_owners)
 
--- what is always so of frames with their pages, slots with theirs, the users' sizes, the tables of frames and of slots,
--- the pins, whether any may be set, the order, and where searches end and begin: frames and slots together are places, and each page stands in one place at most
-pub record IsSound (frames slots : List (List ℕ)) (owners slot_owners : List (Option UserPage)) (sizes tables slot_table : List ℕ) (pins : List Bool) (marked : Bool) (order : List ℕ) (end low : ℕ) : Type 0 where
+-- what is always so of frames with their pages, slots with theirs, the users' sizes, the tables of frames, the list beside
+-- them in which a page is looked up, the table of slots, the pins, whether any may be set, the order, and where searches end
+-- and begin: frames and slots together are places, and each page stands in one place at most
+pub record IsSound (frames slots : List (List ℕ)) (owners slot_owners : List (Option UserPage)) (sizes tables looks slot_table : List ℕ) (pins : List Bool) (marked : Bool) (order : List ℕ) (end low : ℕ) : Type 0 where
   pub frame_room : length frames ≡ length owners
   pub slot_room : length slots ≡ length slot_owners
   pub whole : IsWhole (frames ++ slots) (owners ++ slot_owners) sizes
   pub mapped : IsMapped owners sizes tables
+  pub looked : IsTabled 65535 owners sizes looks
   pub slots_tabled : IsTabled 4294967295 slot_owners sizes slot_table
   pub ordered : IsOrdered owners pins order
   pub unmarked : marked ≡ false → pins ≡ replicate (length pins) false

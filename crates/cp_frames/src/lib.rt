@@ -25,6 +25,7 @@ mod frame;
 mod numbers;
 mod order;
 mod owners;
+mod paging;
 mod pool;
 mod table;
 

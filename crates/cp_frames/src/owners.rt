@@ -4,8 +4,9 @@ ghost use Rattle.cp_frames.specs.declared.numbers.UserPage.{UserPage};
 ghost use Rattle.cp_frames.specs.Layout.{without, cleared_of, ArePages, IsMapped, IsTabled};
 
 use crate::UserPage;
-use crate::table::{INVALID, forget_slots, half_at, page_place, put_half};
+use crate::table::{NO_FRAME, entry_of, forget, forget_slots};
 use cp_users::UserNo;
+use s370_store::Page;
 use std::alloc::{AllocError, Global};
 
 /// So many frames or slots with no page in them.
@@ -56,19 +57,33 @@ pub fn low_after(low: usize, slot: usize, owner: Option<UserPage>) -> usize
     }
 }
 
-/// Takes each page of a user out of its frame, by the tables of the frames of his pages.
-pub fn leave(owners: &mut Vec<Option<UserPage>>, tables: &mut Vec<u8>, sizes: &[u32], user: UserNo)
+/// Takes each page of a user out of its frame, which the list beside the tables names.
+pub fn leave(
+    owners: &mut Vec<Option<UserPage>>,
+    tables: &mut Vec<u8>,
+    looks: &mut Vec<u16>,
+    sizes: &[u32],
+    user: UserNo,
+)
     requires pages { ArePages owners.old.items sizes.now }
     requires mapped { IsMapped owners.old.items sizes.now tables.old.items }
+    requires looked { IsTabled 65535 owners.old.items sizes.now looks.old.items }
     ensures owners { owners.new.items ≡ cleared_of user owners.old.items }
     ensures mapped { IsMapped owners.new.items sizes.now tables.new.items }
+    ensures looked { IsTabled 65535 owners.new.items sizes.now looks.new.items }
 {
     for page in 0..pages_of(sizes, user) {
-        let place = page_place(user.index(), page);
-        let entry = half_at(tables, place);
-        if entry != INVALID {
-            owners[usize::from(entry / 16)] = None;
-            put_half(tables, place, INVALID);
+        let frame = looks[entry_of(user, page)];
+        if frame != NO_FRAME {
+            owners[usize::from(frame)] = None;
+            forget(
+                tables,
+                looks,
+                Some(UserPage {
+                    user,
+                    page: Page(page),
+                }),
+            );
         }
     }
 }

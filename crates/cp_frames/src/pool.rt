@@ -2,23 +2,21 @@
 ghost use Rattle.std.specs.Prelude.{reverse, ◌≡◌, ℕ, ◌+◌, ◌-◌, ◌*◌, ◌/◌, ◌%◌, ◌<◌, ◌≤◌, ◌↔◌, ◌++◌, ◌∷◌, [], Option, Some, None, true, false, map, length, slice_index, slice_index_or, slice_set, slice_get, slice_range, IsSome, is_some, IfOk, OnOk, OnErr, IfSome, IfNone, All, replicate, drop};
 ghost use Rattle.std.specs.List.{range_with_len};
 ghost use Rattle.s370_store.specs.Access.{put, IsGranted};
-ghost use Rattle.cp_frames.specs.Layout.{frame_of, number_of, is_there, IsZeroPage, cleared_of, AreTaken};
+ghost use Rattle.cp_frames.specs.Layout.{frame_of, number_of, held, is_there, IsZeroPage, cleared_of};
 ghost use Rattle.cp_frames.specs.Tables.{segment_entry, page_entry, walk};
-ghost use Rattle.cp_frames.specs.Paging.{IsChosen, IsBrought, IsOpen, IsRefused, IsPut, counted, exchanged, filled, came};
 
-use crate::frame::{blank_frames, clear, copy_in, copy_out, copy_over};
-use crate::order::{all_frames, count, free_turn, last, open_turn};
-use crate::owners::{clear_pins, first_free, free_frames, leave, leave_slots, low_after, no_pins};
+use crate::frame::{blank_frames, copy_in, copy_out, copy_over};
+use crate::order::all_frames;
+use crate::owners::{clear_pins, free_frames, leave, leave_slots, no_pins};
 use crate::table::{
-    INVALID, NO_SEGMENT, NO_SLOT, PAGES, empty_slot_table, entry_of, entry_with, frame_in, half_at,
-    new_tables, note, page_place, put_half, segment_place, tell_slot, word_at,
+    INVALID, NO_SEGMENT, NO_SLOT, PAGES, empty_looks, empty_slot_table, entry_of, frame_in,
+    half_at, new_tables, page_place, segment_place, word_at,
 };
 use crate::{FRAME_SIZE, FrameNo, UserPage};
 use cp_users::UserNo;
-use s370_store::{BLOCK_SIZE, FramesOut, PAGE_SIZE, Page};
+use s370_store::{BLOCK_SIZE, PAGE_SIZE, Page};
 use std::alloc::{AllocError, Global};
 use std::marker::Model;
-use std::mem::swap;
 
 /// The most bytes that are loaded or stored at once.
 const LONGEST: usize = 256;
@@ -27,21 +25,23 @@ const LONGEST: usize = 256;
 ///
 /// A page that stands in neither is all zero. A pin is a mark on a frame that only [`Frames::pin`], [`Frames::unpin`],
 /// [`Frames::unpin_all`] and [`Frames::release`] change: the page in a pinned frame is not given up for another.
+// Its fields are the crate's for `paging.rt`; whatever writes one has the invariant to prove.
 #[derive(Drop)]
 pub struct Frames {
-    frames: Vec<[u8; FRAME_SIZE]>,
-    slots: Vec<[u8; FRAME_SIZE]>,
-    owners: Vec<Option<UserPage>>,
-    slot_owners: Vec<Option<UserPage>>,
-    pins: Vec<bool>,
-    is_marked: bool,
-    order: Vec<u16>,
-    end: usize,
-    low: usize,
-    page_ins: u64,
-    sizes: Vec<u32>,
-    tables: Vec<u8>,
-    slot_table: Vec<u32>,
+    pub(crate) frames: Vec<[u8; FRAME_SIZE]>,
+    pub(crate) slots: Vec<[u8; FRAME_SIZE]>,
+    pub(crate) owners: Vec<Option<UserPage>>,
+    pub(crate) slot_owners: Vec<Option<UserPage>>,
+    pub(crate) pins: Vec<bool>,
+    pub(crate) is_marked: bool,
+    pub(crate) order: Vec<u16>,
+    pub(crate) end: usize,
+    pub(crate) low: usize,
+    pub(crate) page_ins: u64,
+    pub(crate) sizes: Vec<u32>,
+    pub(crate) tables: Vec<u8>,
+    pub(crate) looks: Vec<u16>,
+    pub(crate) slot_table: Vec<u32>,
 }
 
 impl Model for Frames {
@@ -55,7 +55,7 @@ impl Model for Frames {
       supply = record { owners = f.owners.items; slots = f.slot_owners.items; pins = f.pins.items; order = f.order.items; page_ins = f.page_ins };
     } };
 
-    ghost invariant = { λ f. IsSound f.frames.items f.slots.items f.owners.items f.slot_owners.items f.sizes.items f.tables.items f.slot_table.items f.pins.items f.is_marked f.order.items f.end f.low };
+    ghost invariant = { λ f. IsSound f.frames.items f.slots.items f.owners.items f.slot_owners.items f.sizes.items f.tables.items f.looks.items f.slot_table.items f.pins.items f.is_marked f.order.items f.end f.low };
 }
 
 impl Frames {
@@ -90,7 +90,9 @@ impl Frames {
         let frames = blank_frames(alloc, frame_count)?;
         let slots = blank_frames(alloc, slot_count)?;
         let tables = new_tables(alloc, &sizes)?;
-        let slot_table = empty_slot_table(alloc, PAGES * sizes.len())?;
+        let entries = PAGES * sizes.len();
+        let looks = empty_looks(alloc, entries)?;
+        let slot_table = empty_slot_table(alloc, entries)?;
         Ok(Frames {
             frames,
             slots,
@@ -104,6 +106,7 @@ impl Frames {
             page_ins: 0,
             sizes,
             tables,
+            looks,
             slot_table,
         })
     }
@@ -138,6 +141,7 @@ impl Frames {
             page_ins,
             sizes: _,
             tables: _,
+            looks: _,
             slot_table: _,
         } = self;
         *page_ins
@@ -152,16 +156,16 @@ impl Frames {
         ensures apart { IsSome result → frame_of self.now.supply.slots user page.0 ≡ None }
         ensures zero { IfNone result (frame_of self.now.supply.slots user page.0 ≡ None → IsZeroPage (bytes_of self.now user) page.0) }
     {
-        frame_in(half_at(&self.tables, page_place(user.index(), page.0)))
+        frame_in(self.looks[entry_of(user, page.0)])
     }
 
-    /// The entry of a user's page, by the bytes of the tables.
+    /// What is looked up of a user's page: the number of the frame in which it stands, or that of no frame.
     #[inline(always)]
-    fn entry(&self, user: UserNo, page: u32) -> u16
+    fn look(&self, user: UserNo, page: u32) -> u16
         requires { page * 4096 < length (bytes_of self.now user) }
-        ensures { result ≡ page_entry (frame_of self.now.supply.owners user page) }
+        ensures { held 65535 result ≡ frame_of self.now.supply.owners user page }
     {
-        half_at(&self.tables, page_place(user.index(), page))
+        self.looks[entry_of(user, page)]
     }
 
     /// The frame in which a page stands that stands in one.
@@ -171,7 +175,7 @@ impl Frames {
         requires present { IsSome (frame_of self.now.supply.owners user page) }
         ensures { frame_of self.now.supply.owners user page ≡ Some result }
     {
-        usize::from(self.entry(user, page) / 16)
+        usize::from(self.look(user, page))
     }
 
     /// The slot in which a page of a user stands. A page that stands in none, and in no frame, is all zero.
@@ -190,13 +194,13 @@ impl Frames {
         }
     }
 
-    /// The frame in which the page of an address of a user stands: the one look at the table that each access makes.
+    /// The frame in which the page of an address of a user stands: the one look that each access makes.
     #[inline(always)]
     pub(crate) fn frame_at(&self, user: UserNo, start: u32) -> Option<FrameNo>
         requires { start < length (bytes_of self.now user) }
         ensures { number_of result ≡ frame_of self.now.supply.owners user (start / 4096) }
     {
-        frame_in(self.entry(user, start / PAGE_SIZE))
+        frame_in(self.look(user, start / PAGE_SIZE))
     }
 
     /// As `frame_at`, out of line.
@@ -252,180 +256,6 @@ impl Frames {
         } else {
             None
         }
-    }
-
-    /// Brings a page into a frame, where it stands in none. No byte of any user changes.
-    ///
-    /// Where no frame is free, the page longest in its frame among those not pinned is given up. It takes a free slot, or the
-    /// slot that the wanted page leaves.
-    pub fn bring(&mut self, user: UserNo, page: Page) -> Result<FrameNo, FramesOut>
-        requires { page.0 * 4096 < length (bytes_of self.old user) }
-        ensures storages { self.new.storages ≡ self.old.storages }
-        ensures there { IfOk result (λ frame. frame_of self.new.supply.owners user page.0 ≡ Some frame.0) }
-        ensures within { IfOk result (λ frame. frame.0 < length self.new.supply.owners) }
-        ensures brought { IfOk result (λ frame. IsBrought self.old.supply self.new.supply user page.0 frame.0) }
-        ensures unpinned { frame_of self.old.supply.owners user page.0 ≡ None → IfOk result (λ frame. IsOpen self.old.supply.pins frame.0) }
-        ensures refused { OnErr result (IsRefused self.old.supply user page.0) }
-        ensures err { OnErr result (self.new ≡ self.old) }
-    {
-        match self.frame_of(user, page) {
-            Some(frame) => return Ok(frame),
-            None => {}
-        }
-        let turn = match self.next_turn() {
-            Some(turn) => turn,
-            None => return Err(FramesOut),
-        };
-        let frame = self.frame_in_turn(turn);
-        let end = self.end_after(turn);
-        match self.put(frame, user, page) {
-            Ok(()) => {}
-            Err(_) => return Err(FramesOut),
-        }
-        self.come(turn, end);
-        Ok(FrameNo(frame as u16))
-    }
-
-    /// The turn of the frame that a page is to come into; none where no frame is free and all are pinned.
-    fn next_turn(&self) -> Option<usize>
-        ensures within { IfSome result (λ turn. turn < length self.now.supply.order) }
-        ensures chosen { IfSome result (λ turn. IsChosen self.now.supply turn) }
-        ensures later { IfSome result (λ turn. AreTaken self.now.supply.owners (drop (turn + 1) self.now.supply.order)) }
-        ensures unpinned { IfSome result (λ turn. slice_index_or self.now.supply.pins (slice_index self.now.supply.order turn) false ≡ false) }
-        ensures full { IfNone result (All IsSome self.now.supply.owners) }
-        ensures pinned { IfNone result (All (λ pinned. pinned ≡ true) self.now.supply.pins) }
-    {
-        match free_turn(&self.order, &self.owners, self.end) {
-            Some(turn) => return Some(turn),
-            None => {}
-        }
-        open_turn(&self.order, &self.pins)
-    }
-
-    /// The frame that has this turn.
-    fn frame_in_turn(&self, turn: usize) -> usize
-        requires { turn < length self.now.supply.order }
-        ensures frame { result ≡ slice_index self.now.supply.order turn }
-        ensures within { result < length self.now.supply.owners }
-        ensures marked { result < length self.now.supply.pins }
-        ensures few { length self.now.supply.owners ≤ 4096 }
-    {
-        self.order[turn] as usize
-    }
-
-    /// From which turn on all frames are taken, once a page has come into the frame that has this turn.
-    fn end_after(&self, turn: usize) -> usize
-        requires turn { turn < length self.now.supply.order }
-        requires chosen { IsChosen self.now.supply turn }
-        requires later { AreTaken self.now.supply.owners (drop (turn + 1) self.now.supply.order) }
-        ensures within { result ≤ turn }
-        ensures taken { (page : UserPage) → AreTaken (slice_set self.now.supply.owners (slice_index self.now.supply.order turn) (Some page)) (drop result self.now.supply.order) }
-    {
-        if self.owners[self.order[turn] as usize].is_none() {
-            turn
-        } else {
-            0
-        }
-    }
-
-    /// Puts a page that stands in no frame into this one, and what stood in it into a slot.
-    fn put(&mut self, frame: usize, user: UserNo, page: Page) -> Result<(), FramesOut>
-        requires inside { page.0 * 4096 < length (bytes_of self.old user) }
-        requires frame { frame < length self.old.supply.owners }
-        requires unpinned { slice_index_or self.old.supply.pins frame false ≡ false }
-        requires absent { frame_of self.old.supply.owners user page.0 ≡ None }
-        ensures storages { self.new.storages ≡ self.old.storages }
-        ensures put { OnOk result (IsPut self.old.supply self.new.supply user page.0 frame) }
-        ensures err { OnErr result (self.new ≡ self.old) }
-        ensures held { OnErr result (IsSome (slice_index_or self.old.supply.owners frame None)) }
-        ensures full { OnErr result (All IsSome self.old.supply.slots) }
-        ensures nowhere { OnErr result (frame_of self.old.supply.slots user page.0 ≡ None) }
-    {
-        match self.slot_of(user, page) {
-            Some(slot) => {
-                self.exchange(frame, slot);
-                return Ok(());
-            }
-            None => {}
-        }
-        if self.owners[frame].is_none() {
-            self.fill(frame, user, page);
-            return Ok(());
-        }
-        match self.free_slot() {
-            Some(slot) => {
-                self.exchange(frame, slot);
-                self.fill(frame, user, page);
-                Ok(())
-            }
-            None => Err(FramesOut),
-        }
-    }
-
-    /// A free slot, from which the next search begins.
-    fn free_slot(&mut self) -> Option<usize>
-        ensures same { self.new ≡ self.old }
-        ensures within { IfSome result (λ slot. slot < length self.old.supply.slots) }
-        ensures free { IfSome result (λ slot. slice_index_or self.old.supply.slots slot None ≡ None) }
-        ensures none { IfNone result (All IsSome self.old.supply.slots) }
-    {
-        let found = first_free(&self.slot_owners, self.low);
-        self.low = match found {
-            Some(slot) => slot,
-            None => self.slot_owners.len(),
-        };
-        found
-    }
-
-    /// Exchanges what stands in a frame and what stands in a slot.
-    fn exchange(&mut self, frame: usize, slot: usize)
-        requires frame { frame < length self.old.supply.owners }
-        requires slot { slot < length self.old.supply.slots }
-        requires unpinned { slice_index_or self.old.supply.pins frame false ≡ false }
-        ensures storages { self.new.storages ≡ self.old.storages }
-        ensures supply { self.new.supply ≡ exchanged self.old.supply frame slot }
-    {
-        note(&mut self.tables, self.owners[frame], INVALID);
-        note(&mut self.tables, self.slot_owners[slot], entry_with(frame));
-        tell_slot(&mut self.slot_table, self.slot_owners[slot], NO_SLOT);
-        tell_slot(&mut self.slot_table, self.owners[frame], slot as u32);
-        self.low = low_after(self.low, slot, self.owners[frame]);
-        self.end = self.order.len();
-        swap(&mut self.owners[frame], &mut self.slot_owners[slot]);
-        swap(&mut self.frames[frame], &mut self.slots[slot]);
-    }
-
-    /// Puts a page that stands nowhere, and so is all zero, into a free frame.
-    fn fill(&mut self, frame: usize, user: UserNo, page: Page)
-        requires inside { page.0 * 4096 < length (bytes_of self.old user) }
-        requires frame { frame < length self.old.supply.owners }
-        requires free { slice_index_or self.old.supply.owners frame None ≡ None }
-        requires absent { frame_of self.old.supply.owners user page.0 ≡ None }
-        requires nowhere { frame_of self.old.supply.slots user page.0 ≡ None }
-        ensures storages { self.new.storages ≡ self.old.storages }
-        ensures supply { self.new.supply ≡ filled self.old.supply frame user page.0 }
-    {
-        clear(&mut self.frames[frame]);
-        self.owners[frame] = Some(UserPage { user, page });
-        put_half(
-            &mut self.tables,
-            page_place(user.index(), page.0),
-            entry_with(frame),
-        );
-    }
-
-    /// Notes that a page has come into the frame that has this turn, and that the frames of the turn `end` and later ones are
-    /// taken.
-    fn come(&mut self, turn: usize, end: usize)
-        requires turn { turn < length self.old.supply.order }
-        requires end { end ≤ turn }
-        requires taken { AreTaken self.old.supply.owners (drop end self.old.supply.order) }
-        ensures storages { self.new.storages ≡ self.old.storages }
-        ensures supply { self.new.supply ≡ came self.old.supply turn }
-    {
-        last(&mut self.order, turn);
-        self.end = end;
-        self.page_ins = count(self.page_ins);
     }
 
     /// Marks a frame: the page in it is not to be given up for another. Nothing is done to a free frame, or past the frames.
@@ -485,7 +315,13 @@ impl Frames {
         self.unpin_all();
         self.end = self.order.len();
         self.low = 0;
-        leave(&mut self.owners, &mut self.tables, &self.sizes, user);
+        leave(
+            &mut self.owners,
+            &mut self.tables,
+            &mut self.looks,
+            &self.sizes,
+            user,
+        );
         leave_slots(&mut self.slot_owners, &mut self.slot_table, user);
     }
 

@@ -2,15 +2,18 @@
 //!
 //! That of the frames is bytes: 2304 for each user, the segment table and 64 page tables of the architecture, with segments of
 //! 64K and pages of 4K (GA22-7000, "Dynamic Address Translation"). That of the slots is a list, 1024 entries for each user.
+//!
+//! Beside the bytes stands such a list of the frames too: what a unit looks up of a page it finds there in one load. No entry
+//! of the one is written without that of the other, by [`note`] and [`forget`].
 ghost use Rattle.std.specs.Prelude.{◌≡◌, ◌≢◌, ℕ, ◌+◌, ◌*◌, ◌/◌, ◌%◌, ◌<◌, ◌≤◌, length, slice_index, IfOk, IfSome, replicate, All};
-ghost use Rattle.cp_frames.specs.Layout.{number_of, told};
-ghost use Rattle.cp_frames.specs.Tables.{half_at, word_at, page_place, segment_entry, segment_place, first_half, frame_in, put_half, noted};
+ghost use Rattle.cp_frames.specs.Layout.{number_of, held, told};
+ghost use Rattle.cp_frames.specs.Tables.{half_at, word_at, page_place, segment_entry, segment_place, first_half, put_half, noted};
 
 use crate::{FrameNo, UserPage};
 use cp_users::UserNo;
 use std::alloc::{AllocError, Global};
 
-/// Entries of a user in a table of slots: the pages of the largest storage.
+/// Entries of a user in a list: the pages of the largest storage.
 pub const PAGES: usize = 1024;
 
 /// Bytes of a user in the table of frames: 64 segment entries of 4 bytes, and 64 page tables of 16 entries of 2 bytes.
@@ -24,6 +27,9 @@ pub const INVALID: u16 = 8;
 
 /// The entry of a segment past the storage: bit 31 is one.
 pub const NO_SEGMENT: u32 = 1;
+
+/// The entry in the list of a page that stands in no frame: the number of no frame.
+pub const NO_FRAME: u16 = 65535;
 
 /// The entry of a page that stands in no slot.
 pub const NO_SLOT: u32 = 4294967295;
@@ -64,7 +70,7 @@ pub fn word_at(tables: &[u8], place: usize) -> u32
 }
 
 /// Writes a halfword at a place of the tables.
-pub fn put_half(tables: &mut Vec<u8>, place: usize, half: u16)
+fn put_half(tables: &mut Vec<u8>, place: usize, half: u16)
     requires { place + 1 < length tables.old.items }
     ensures { tables.new.items ≡ put_half tables.old.items place half }
 {
@@ -72,20 +78,20 @@ pub fn put_half(tables: &mut Vec<u8>, place: usize, half: u16)
     tables[place + 1] = (half % 256) as u8;
 }
 
-/// The frame that a page entry tells; None where the page stands in none.
+/// The frame that an entry of the list tells; None where the page stands in none.
 #[inline(always)]
-pub fn frame_in(entry: u16) -> Option<FrameNo>
-    ensures { number_of result ≡ frame_in entry }
+pub fn frame_in(look: u16) -> Option<FrameNo>
+    ensures { number_of result ≡ held 65535 look }
 {
-    if entry / 8 % 2 == 1 {
+    if look == NO_FRAME {
         None
     } else {
-        Some(FrameNo(entry / 16))
+        Some(FrameNo(look))
     }
 }
 
 /// The entry of a page that stands in this frame.
-pub fn entry_with(frame: usize) -> u16
+fn entry_with(frame: usize) -> u16
     requires { frame < 4096 }
     ensures { result ≡ frame * 16 }
 {
@@ -141,6 +147,13 @@ pub fn new_tables(alloc: Global, sizes: &[u32]) -> Result<Vec<u8>, AllocError>
     Ok(tables)
 }
 
+/// A list in which no page stands in a frame.
+pub fn empty_looks(alloc: Global, count: usize) -> Result<Vec<u16>, AllocError>
+    ensures { IfOk result (λ looks. looks.items ≡ replicate count 65535) }
+{
+    Ok(vec![in alloc; NO_FRAME; count]?)
+}
+
 /// A table in which no page stands in a slot.
 pub fn empty_slot_table(alloc: Global, count: usize) -> Result<Vec<u32>, AllocError>
     ensures { IfOk result (λ table. table.items ≡ replicate count 4294967295) }
@@ -148,7 +161,7 @@ pub fn empty_slot_table(alloc: Global, count: usize) -> Result<Vec<u32>, AllocEr
     Ok(vec![in alloc; NO_SLOT; count]?)
 }
 
-/// The number of the entry of a user's page in a table of slots.
+/// The number of the entry of a user's page in a list.
 #[inline(always)]
 pub fn entry_of(user: UserNo, page: u32) -> usize
     ensures { result ≡ user * 1024 + page }
@@ -156,13 +169,38 @@ pub fn entry_of(user: UserNo, page: u32) -> usize
     user.index() * PAGES + page as usize
 }
 
-/// Makes the entry of a page this.
-pub fn note(tables: &mut Vec<u8>, owner: Option<UserPage>, entry: u16)
-    requires { IfSome owner (λ p. page_place p.user p.page.0 + 1 < length tables.old.items) }
-    ensures { tables.new.items ≡ noted owner entry tables.old.items }
+/// Makes the entry of a page tell this frame, in the tables and in the list beside them.
+pub fn note(tables: &mut Vec<u8>, looks: &mut Vec<u16>, owner: Option<UserPage>, frame: usize)
+    requires tables { IfSome owner (λ p. page_place p.user p.page.0 + 1 < length tables.old.items) }
+    requires looks { IfSome owner (λ p. p.user * 1024 + p.page.0 < length looks.old.items) }
+    requires frame { frame < 4096 }
+    ensures tables { tables.new.items ≡ noted owner (frame * 16) tables.old.items }
+    ensures looks { looks.new.items ≡ told owner frame looks.old.items }
 {
     if let Some(there) = owner {
-        put_half(tables, page_place(there.user.index(), there.page.0), entry);
+        put_half(
+            tables,
+            page_place(there.user.index(), there.page.0),
+            entry_with(frame),
+        );
+        looks[entry_of(there.user, there.page.0)] = frame as u16;
+    }
+}
+
+/// Makes the entry of a page tell no frame, in the tables and in the list beside them.
+pub fn forget(tables: &mut Vec<u8>, looks: &mut Vec<u16>, owner: Option<UserPage>)
+    requires tables { IfSome owner (λ p. page_place p.user p.page.0 + 1 < length tables.old.items) }
+    requires looks { IfSome owner (λ p. p.user * 1024 + p.page.0 < length looks.old.items) }
+    ensures tables { tables.new.items ≡ noted owner 8 tables.old.items }
+    ensures looks { looks.new.items ≡ told owner 65535 looks.old.items }
+{
+    if let Some(there) = owner {
+        put_half(
+            tables,
+            page_place(there.user.index(), there.page.0),
+            INVALID,
+        );
+        looks[entry_of(there.user, there.page.0)] = NO_FRAME;
     }
 }
 

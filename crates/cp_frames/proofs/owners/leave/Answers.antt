@@ -1,26 +1,27 @@
-use Rattle.std.proofs.Common.{◌≡◌, ◌<◌, ◌+◌, ◌/◌, ◌∙◌, List, Option, None, get_or, length, arith, ap, sym, refl}
+use Rattle.std.proofs.Common.{◌≡◌, ◌<◌, ◌+◌, ◌∙◌, List, Option, None, get_or, length, arith, ap, sym}
 use Rattle.std.proofs.Math.ListN.{set}
+use Rattle.std.proofs.lemmas.List.{get_or_read}
 use Rattle.cp_frames.specs.declared.numbers.UserPage.{UserPage}
-use Rattle.cp_frames.specs.Layout.{IsMapped}
-use Rattle.cp_frames.specs.Tables.{half_at, page_place}
+use Rattle.cp_frames.specs.Layout.{IsMapped, IsTabled}
 use Rattle.cp_frames.proofs.Layouts.{frame_found}
-use Rattle.cp_frames.proofs.Leaves.{left_all, left_by, left_more, left_none, left_same, next_entry, next_none, next_there, mapped_more}
-use Rattle.cp_frames.proofs.owners.leave.Goals.{then-entry-ne-INVALID, else-entry-ne-INVALID}
+use Rattle.cp_frames.proofs.Leaves.{left_all, left_by, left_more, left_none, left_same, looked_more, mapped_more, next_entry, next_none, next_there}
+use Rattle.cp_frames.proofs.owners.leave.Goals.{then-frame, else-frame}
 use Rattle.cp_frames.proofs.owners.leave.Goals as goal
 
 pub loop-page-init : goal.loop-page-init
-loop-page-init c = record { owners = sym (left_none c.args.user c.args.owners.now.items); mapped = c.requires.mapped }
+loop-page-init c = record { owners = sym (left_none c.args.user c.args.owners.now.items); mapped = c.requires.mapped; looked = c.requires.looked }
 
-pub half_at-entry-requires : goal.half_at-entry-requires
-half_at-entry-requires c =
+pub index-frame-requires : goal.index-frame-requires
+index-frame-requires c =
     let user = c.args.user in
     let page = c.loop-page.page in
     let was = c.args.owners.now.items in
     let sizes = c.args.sizes.now in
+    let looks = c.loop-page.looks.items in
     let lt : page < get_or sizes user 0 = omega (arith, c.pages_of-page-end.ensures, c.loop-page-test.true) in
-    let mapped : IsMapped (left_by user page was) sizes c.loop-page.tables.items = rw c.loop-page.invariant.owners at c.loop-page.invariant.mapped in
-    let at = next_entry user page was (left_by user page was) sizes c.loop-page.tables.items c.requires.pages mapped lt in
-    rw c.deref.ensures.value (omega (arith, at.room, c.page_place-place.ensures, c.index.ensures.value))
+    let looked : IsTabled 65535 (left_by user page was) sizes looks = rw c.loop-page.invariant.owners at c.loop-page.invariant.looked in
+    let at = next_entry user page was (left_by user page was) sizes looks c.requires.pages looked lt in
+    omega (arith, at.room, c.loop-page.looks.ok.0, c.entry_of.ensures)
 
 pub index_mut-requires : goal.index_mut-requires
 index_mut-requires c =
@@ -28,27 +29,39 @@ index_mut-requires c =
     let page = c.loop-page.page in
     let was = c.args.owners.now.items in
     let sizes = c.args.sizes.now in
-    let tables = c.loop-page.tables.items in
+    let looks = c.loop-page.looks.items in
     let lt : page < get_or sizes user 0 = omega (arith, c.pages_of-page-end.ensures, c.loop-page-test.true) in
-    let mapped : IsMapped (left_by user page was) sizes tables = rw c.loop-page.invariant.owners at c.loop-page.invariant.mapped in
-    let at = next_entry user page was (left_by user page was) sizes tables c.requires.pages mapped lt in
-    let read : c.half_at-entry.result ≡ half_at tables (page_place user page) = rw (c.half_at-entry.ensures, c.deref.ensures.value, c.page_place-place.ensures, c.index.ensures.value) refl in
-    let entry = c.half_at-entry.result in
-    let there = next_there user page entry (left_by user page was) sizes tables mapped at read c.if-entry-ne-INVALID.true in
-    let within = (frame_found (left_by user page was) user page (entry / 16) there).within in
+    let looked : IsTabled 65535 (left_by user page was) sizes looks = rw c.loop-page.invariant.owners at c.loop-page.invariant.looked in
+    let at = next_entry user page was (left_by user page was) sizes looks c.requires.pages looked lt in
+    let read = get_or_read looks _ _ at.room (rw c.entry_of.ensures at c.index-frame.ensures) 0 in
+    let frame = c.index-frame.result.now in
+    let there = next_there user page frame (left_by user page was) sizes looks looked at read c.if-frame.true in
+    let within = (frame_found (left_by user page was) user page frame there).within in
     omega (arith, within, ap length c.loop-page.invariant.owners, c.loop-page.owners.ok.0, c.from.ensures)
 
-pub put_half-requires : goal.put_half-requires
-put_half-requires c =
+pub forget-requires-clause-tables : goal.forget-requires-clause-tables
+forget-requires-clause-tables c =
     let user = c.args.user in
     let page = c.loop-page.page in
     let was = c.args.owners.now.items in
     let sizes = c.args.sizes.now in
-    let tables = c.loop-page.tables.items in
+    let looks = c.loop-page.looks.items in
     let lt : page < get_or sizes user 0 = omega (arith, c.pages_of-page-end.ensures, c.loop-page-test.true) in
-    let mapped : IsMapped (left_by user page was) sizes tables = rw c.loop-page.invariant.owners at c.loop-page.invariant.mapped in
-    let at = next_entry user page was (left_by user page was) sizes tables c.requires.pages mapped lt in
-    omega (arith, at.room, c.page_place-place.ensures, c.index.ensures.value)
+    let looked : IsTabled 65535 (left_by user page was) sizes looks = rw c.loop-page.invariant.owners at c.loop-page.invariant.looked in
+    let at = next_entry user page was (left_by user page was) sizes looks c.requires.pages looked lt in
+    omega (arith, at.of_user, at.of_page, c.loop-page.invariant.mapped.room)
+
+pub forget-requires-clause-looks : goal.forget-requires-clause-looks
+forget-requires-clause-looks c =
+    let user = c.args.user in
+    let page = c.loop-page.page in
+    let was = c.args.owners.now.items in
+    let sizes = c.args.sizes.now in
+    let looks = c.loop-page.looks.items in
+    let lt : page < get_or sizes user 0 = omega (arith, c.pages_of-page-end.ensures, c.loop-page-test.true) in
+    let looked : IsTabled 65535 (left_by user page was) sizes looks = rw c.loop-page.invariant.owners at c.loop-page.invariant.looked in
+    let at = next_entry user page was (left_by user page was) sizes looks c.requires.pages looked lt in
+    at.room
 
 pub loop-page-preserved : goal.loop-page-preserved
 loop-page-preserved c =
@@ -56,20 +69,26 @@ loop-page-preserved c =
     let page = c.loop-page.page in
     let was = c.args.owners.now.items in
     let sizes = c.args.sizes.now in
-    let tables = c.loop-page.tables.items in
+    let looks = c.loop-page.looks.items in
     let lt : page < get_or sizes user 0 = omega (arith, c.pages_of-page-end.ensures, c.loop-page-test.true) in
-    let mapped : IsMapped (left_by user page was) sizes tables = rw c.loop-page.invariant.owners at c.loop-page.invariant.mapped in
-    let at = next_entry user page was (left_by user page was) sizes tables c.requires.pages mapped lt in
-    let read : c.half_at-entry.result ≡ half_at tables (page_place user page) = rw (c.half_at-entry.ensures, c.deref.ensures.value, c.page_place-place.ensures, c.index.ensures.value) refl in
-    let entry = c.half_at-entry.result in
-    elim c.if-entry-ne-INVALID.branch [
-      | then-entry-ne-INVALID w ↦ (let there = next_there user page entry (left_by user page was) sizes tables mapped at read w.if-entry-ne-INVALID.true in
-          let owners : set c.loop-page.owners.items (entry / 16) None ≡ left_by user (page + 1) was =
-          ap (λ (os : List (Option UserPage)). set os (entry / 16) None) c.loop-page.invariant.owners ∙ sym (left_more user page (entry / 16) was c.requires.pages.once there) in
-          rw (w.owners-is, w.tables-is, w.put_half.ensures, w.from.ensures, c.page_place-place.ensures, c.index.ensures.value) (record { owners = owners; mapped = rw owners (mapped_more user page (entry / 16) was sizes tables c.requires.pages mapped there) }))
-      | else-entry-ne-INVALID w ↦ (let nowhere = next_none user page entry (left_by user page was) sizes tables mapped at read w.if-entry-ne-INVALID.false in
+    let looked : IsTabled 65535 (left_by user page was) sizes looks = rw c.loop-page.invariant.owners at c.loop-page.invariant.looked in
+    let at = next_entry user page was (left_by user page was) sizes looks c.requires.pages looked lt in
+    let read = get_or_read looks _ _ at.room (rw c.entry_of.ensures at c.index-frame.ensures) 0 in
+    let frame = c.index-frame.result.now in
+    let mapped : IsMapped (left_by user page was) sizes c.loop-page.tables.items = rw c.loop-page.invariant.owners at c.loop-page.invariant.mapped in
+    elim c.if-frame.branch [
+      | then-frame w ↦ (let there = next_there user page frame (left_by user page was) sizes looks looked at read w.if-frame.true in
+          let owners : set c.loop-page.owners.items frame None ≡ left_by user (page + 1) was =
+          ap (λ (os : List (Option UserPage)). set os frame None) c.loop-page.invariant.owners ∙ sym (left_more user page frame was c.requires.pages.once there) in
+          rw (w.owners-is, w.tables-is, w.looks-is, w.forget.ensures.tables, w.forget.ensures.looks, w.from.ensures)
+          (record {
+            owners = owners;
+            mapped = rw owners (mapped_more user page frame was sizes c.loop-page.tables.items c.requires.pages mapped there);
+            looked = rw owners (looked_more user page frame was sizes looks c.requires.pages looked there);
+          }))
+      | else-frame w ↦ (let nowhere = next_none user page frame (left_by user page was) sizes looks looked at read w.if-frame.false in
           let owners : c.loop-page.owners.items ≡ left_by user (page + 1) was = c.loop-page.invariant.owners ∙ sym (left_same user page was nowhere) in
-          rw (w.owners-is, w.tables-is) (record { owners = owners; mapped = c.loop-page.invariant.mapped }))
+          rw (w.owners-is, w.tables-is, w.looks-is) (record { owners = owners; mapped = c.loop-page.invariant.mapped; looked = c.loop-page.invariant.looked }))
     ]
 
 pub returns-clause-owners : goal.returns-clause-owners

@@ -18,4 +18,4 @@ invariant_of-self c =
     let two = length_permutation _ _ c.self.invariant.ordered.each in
     let long : length c.last.new.order ≡ length f.order.items = ap length is ∙ one ∙ sym two in
     let back = written_back c.last.new.order f.order.items f.order.len (omega (arith, long, f.order.ok.0)) (omega (arith, f.order.ok.0)) in
-    rw (back, is) (record { frame_room = c.self.invariant.frame_room; slot_room = c.self.invariant.slot_room; whole = c.self.invariant.whole; mapped = c.self.invariant.mapped; slots_tabled = c.self.invariant.slots_tabled; ordered = ordered; unmarked = c.self.invariant.unmarked; sought = record { within = omega (arith, c.requires.end, within, ap length is, long); taken = all_last (λ frame. IsSome (get_or f.owners.items frame None)) f.order.items c.args.end c.args.turn c.requires.end within taken; before = c.self.invariant.sought.before } })
+    rw (back, is) (record { frame_room = c.self.invariant.frame_room; slot_room = c.self.invariant.slot_room; whole = c.self.invariant.whole; mapped = c.self.invariant.mapped; looked = c.self.invariant.looked; slots_tabled = c.self.invariant.slots_tabled; ordered = ordered; unmarked = c.self.invariant.unmarked; sought = record { within = omega (arith, c.requires.end, within, ap length is, long); taken = all_last (λ frame. IsSome (get_or f.owners.items frame None)) f.order.items c.args.end c.args.turn c.requires.end within taken; before = c.self.invariant.sought.before } })

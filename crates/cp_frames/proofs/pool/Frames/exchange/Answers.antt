@@ -13,8 +13,8 @@ use Rattle.cp_frames.proofs.Exchanges.{exchange-kept, exchange-storages, note_ro
 use Rattle.cp_frames.proofs.Inside.{places_in, owners_in}
 use Rattle.cp_frames.proofs.pool.Frames.exchange.Goals as goal
 
-pub note-requires : goal.note-requires
-note-requires c =
+pub forget-requires-clause-tables : goal.forget-requires-clause-tables
+forget-requires-clause-tables c =
     let f = c.self.inside in
     let frame = c.args.frame in
     let slot = c.args.slot in
@@ -24,8 +24,19 @@ note-requires c =
     let given = get_or_read f.owners.items _ _ within c.index.ensures None in
     note_room (places_in f) (owners_in f) f.owners.items f.sizes.items f.tables.items frame c.index.result.now kept.whole kept.mapped (get_or_append_left f.owners.items f.slot_owners.items None frame within ∙ sym given)
 
-pub note-requires-2 : goal.note-requires-2
-note-requires-2 c =
+pub forget-requires-clause-looks : goal.forget-requires-clause-looks
+forget-requires-clause-looks c =
+    let f = c.self.inside in
+    let frame = c.args.frame in
+    let slot = c.args.slot in
+    let kept = c.self.invariant in
+    let within : frame < length f.owners.items = rw (← c.self.view_is) at c.requires.frame in
+    let slot_in : slot < length f.slot_owners.items = rw (← c.self.view_is) at c.requires.slot in
+    let given = get_or_read f.owners.items _ _ within c.index.ensures None in
+    entry_room 65535 (places_in f) (owners_in f) f.owners.items f.sizes.items f.looks.items frame c.index.result.now kept.whole kept.looked (get_or_append_left f.owners.items f.slot_owners.items None frame within ∙ sym given)
+
+pub note-requires-clause-tables : goal.note-requires-clause-tables
+note-requires-clause-tables c =
     let f = c.self.inside in
     let frame = c.args.frame in
     let slot = c.args.slot in
@@ -34,7 +45,19 @@ note-requires-2 c =
     let slot_in : slot < length f.slot_owners.items = rw (← c.self.view_is) at c.requires.slot in
     let wanted = get_or_read f.slot_owners.items _ _ slot_in c.index-2.ensures None in
     let room = note_room (places_in f) (owners_in f) f.owners.items f.sizes.items f.tables.items (length f.owners.items + slot) c.index-2.result.now kept.whole kept.mapped (at_right f.owners.items f.slot_owners.items slot None ∙ sym wanted) in
-    rw (c.note.ensures, length-noted) room
+    rw (c.forget.ensures.tables, length-noted) room
+
+pub note-requires-clause-looks : goal.note-requires-clause-looks
+note-requires-clause-looks c =
+    let f = c.self.inside in
+    let frame = c.args.frame in
+    let slot = c.args.slot in
+    let kept = c.self.invariant in
+    let within : frame < length f.owners.items = rw (← c.self.view_is) at c.requires.frame in
+    let slot_in : slot < length f.slot_owners.items = rw (← c.self.view_is) at c.requires.slot in
+    let wanted = get_or_read f.slot_owners.items _ _ slot_in c.index-2.ensures None in
+    let room = entry_room 65535 (places_in f) (owners_in f) f.owners.items f.sizes.items f.looks.items (length f.owners.items + slot) c.index-2.result.now kept.whole kept.looked (at_right f.owners.items f.slot_owners.items slot None ∙ sym wanted) in
+    rw (c.forget.ensures.looks, length-told) room
 
 pub tell_slot-requires : goal.tell_slot-requires
 tell_slot-requires c =
@@ -78,17 +101,19 @@ invariant_of-self c =
     let x = c.swap-2.ensures.x_after ∙ get_or_read f.slots.items _ _ bytes_in c.index_mut-4.ensures.value [] in
     let y = c.swap-2.ensures.y_after ∙ get_or_read f.frames.items _ _ frame_in c.index_mut-3.ensures.value [] in
     let unpinned : get_or f.pins.items frame false ≡ false = rw (← c.self.view_is) at c.requires.unpinned in
-    let tables : c.note-2.new.tables.items ≡ noted (get_or f.slot_owners.items slot None) (frame * 16) (noted (get_or f.owners.items frame None) 8 f.tables.items) =
-    c.note-2.ensures ∙ ap (noted c.index-2.result.now c.entry_with.result) (c.note.ensures ∙ ap (λ o. noted o 8 f.tables.items) given)
-    ∙ ap (λ o. noted o c.entry_with.result (noted (get_or f.owners.items frame None) 8 f.tables.items)) wanted
-    ∙ ap (λ n. noted (get_or f.slot_owners.items slot None) n (noted (get_or f.owners.items frame None) 8 f.tables.items)) c.entry_with.ensures in
+    let tables : c.note.new.tables.items ≡ noted (get_or f.slot_owners.items slot None) (frame * 16) (noted (get_or f.owners.items frame None) 8 f.tables.items) =
+    c.note.ensures.tables ∙ ap (noted c.index-2.result.now (frame * 16)) (c.forget.ensures.tables ∙ ap (λ o. noted o 8 f.tables.items) given)
+    ∙ ap (λ o. noted o (frame * 16) (noted (get_or f.owners.items frame None) 8 f.tables.items)) wanted in
+    let looks : c.note.new.looks.items ≡ told (get_or f.slot_owners.items slot None) frame (told (get_or f.owners.items frame None) 65535 f.looks.items) =
+    c.note.ensures.looks ∙ ap (told c.index-2.result.now frame) (c.forget.ensures.looks ∙ ap (λ o. told o 65535 f.looks.items) given)
+    ∙ ap (λ o. told o frame (told (get_or f.owners.items frame None) 65535 f.looks.items)) wanted in
     let given_3 = get_or_read f.owners.items _ _ within c.index-5.ensures None in
     let low : All IsSome (take c.low_after-self-inside.result (set f.slot_owners.items slot (get_or f.owners.items frame None))) =
     subst (λ (o : Option UserPage). All IsSome (take c.low_after-self-inside.result (set f.slot_owners.items slot o))) given_3 (c.low_after-self-inside.ensures f.slot_owners.items kept.sought.before) in
     let slot_table : c.tell_slot-2.new.table.items ≡ told (get_or f.owners.items frame None) slot (told (get_or f.slot_owners.items slot None) 4294967295 f.slot_table.items) =
     c.tell_slot-2.ensures ∙ ap (told c.index-4.result.now slot) (c.tell_slot.ensures ∙ ap (λ o. told o 4294967295 f.slot_table.items) wanted_2)
     ∙ ap (λ o. told o slot (told (get_or f.slot_owners.items slot None) 4294967295 f.slot_table.items)) given_2 in
-    rw (o, p, x, y, tables, slot_table) (exchange-kept f frame slot c.len-self-inside.result c.low_after-self-inside.result kept within slot_in unpinned (omega (arith, c.len-self-inside.ensures, f.order.ok.0)) low)
+    rw (o, p, x, y, tables, looks, slot_table) (exchange-kept f frame slot c.len-self-inside.result c.low_after-self-inside.result kept within slot_in unpinned (omega (arith, c.len-self-inside.ensures, f.order.ok.0)) low)
 
 pub returns-clause-storages : goal.returns-clause-storages
 returns-clause-storages c =

@@ -3,19 +3,26 @@ use Rattle.std.proofs.Math.ListN.{set, length-set}
 use Rattle.std.proofs.lemmas.List.{set-append_left, get_or_append_left}
 use Rattle.cp_frames.specs.Layout.{frame_of, owned}
 use Rattle.cp_frames.proofs.Layouts.{whole-brought, storages-brought, length-bytes_of, cleared_by}
-use Rattle.cp_frames.proofs.Exchanges.{tables_filled}
+use Rattle.cp_frames.proofs.Exchanges.{tables_filled, looks_filled}
 use Rattle.cp_frames.proofs.Halves.{from_none}
 use Rattle.cp_frames.proofs.Sought.{taken-set}
 use Rattle.cp_frames.proofs.Orders.{ordered-set, free_unpinned}
-use Rattle.cp_frames.proofs.Inside.{bytes_in, entry_of_page, places_in, owners_in}
+use Rattle.cp_frames.proofs.Inside.{bytes_in, look_place_of_page, places_in, owners_in}
 use Rattle.cp_frames.proofs.pool.Frames.fill.Goals as goal
 
-pub put_half-requires : goal.put_half-requires
-put_half-requires c =
+pub note-requires-clause-tables : goal.note-requires-clause-tables
+note-requires-clause-tables c =
     let f = c.self.inside in
     let inside : c.args.page.0 * 4096 < length (bytes_in f c.args.user) = rw (← c.self.view_is) at c.requires.inside in
-    let at = entry_of_page f c.args.user c.args.page.0 c.self.invariant inside in
-    omega (arith, at.room, c.page_place.ensures, c.index.ensures)
+    let at = look_place_of_page f c.args.user c.args.page.0 c.self.invariant inside in
+    omega (arith, at.of_user, at.of_page, c.self.invariant.mapped.room)
+
+pub note-requires-clause-looks : goal.note-requires-clause-looks
+note-requires-clause-looks c =
+    let f = c.self.inside in
+    let inside : c.args.page.0 * 4096 < length (bytes_in f c.args.user) = rw (← c.self.view_is) at c.requires.inside in
+    let at = look_place_of_page f c.args.user c.args.page.0 c.self.invariant inside in
+    at.room
 
 pub invariant_of-self : goal.invariant_of-self
 invariant_of-self c =
@@ -31,7 +38,7 @@ invariant_of-self c =
     let free : get_or f.owners.items frame None ≡ None = rw (← c.self.view_is) at c.requires.free in
     let free_all : get_or (owners_in f) frame None ≡ None = get_or_append_left f.owners.items f.slot_owners.items None frame within ∙ free in
     let inside : page * 4096 < length (bytes_in f user) = rw (← c.self.view_is) at c.requires.inside in
-    let at = entry_of_page f user page kept inside in
+    let at = look_place_of_page f user page kept inside in
     let long = length-bytes_of (places_in f) (owners_in f) f.sizes.items user in
     let bytes_are = set-append_left f.frames.items f.slots.items frame c.clear.new.frame (omega (arith, kept.frame_room)) in
     let owners_are = set-append_left f.owners.items f.slot_owners.items frame (Some (owned user page)) within in
@@ -40,7 +47,8 @@ invariant_of-self c =
       frame_room = rw (length-set, length-set) kept.frame_room;
       slot_room = kept.slot_room;
       whole = rw (← bytes_are, ← owners_are) (whole-brought (places_in f) (set (places_in f) frame c.clear.new.frame) (owners_in f) f.sizes.items user page frame kept.whole (length-set (places_in f) frame c.clear.new.frame) nowhere all_long free_all (omega arith));
-      mapped = rw (c.put_half.ensures, c.page_place.ensures, c.index.ensures.value, c.entry_with.ensures) (tables_filled f user page frame kept at.of_page absent within free);
+      mapped = rw c.note.ensures.tables (tables_filled f user page frame kept at.of_page absent within free);
+      looked = rw c.note.ensures.looks (looks_filled f user page frame kept at.of_page absent within free);
       slots_tabled = kept.slots_tabled;
       ordered = ordered-set f.owners.items f.pins.items f.order.items frame (Some (owned user page)) kept.ordered (free_unpinned f.owners.items f.pins.items f.order.items frame kept.ordered free);
       unmarked = kept.unmarked;

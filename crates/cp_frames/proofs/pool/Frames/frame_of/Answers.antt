@@ -1,32 +1,30 @@
 use Rattle.std.proofs.Common.{◌≡◌, ◌*◌, ◌<◌, sym, ◌∙◌, ap, arith, length, Some, None, Option}
 use Rattle.std.specs.Prelude.{IfSome, IfNone, IsSome}
-use Rattle.cp_frames.specs.Layout.{frame_of, number_of, IsZeroPage}
-use Rattle.cp_frames.specs.Tables.{page_entry, frame_in}
+use Rattle.std.proofs.lemmas.List.{get_or_read}
+use Rattle.cp_frames.specs.Layout.{frame_of, number_of, held, IsZeroPage}
 use Rattle.cp_frames.specs.declared.numbers.FrameNo.{FrameNo}
 use Rattle.cp_frames.proofs.Layouts.{absent-zero, frame_found}
-use Rattle.cp_frames.proofs.Mapped.{frame_in_entry}
 use Rattle.cp_frames.proofs.Halves.{from_none, frame_apart}
-use Rattle.cp_frames.proofs.Inside.{bytes_in, places_in, owners_in, entry_of_page}
+use Rattle.cp_frames.proofs.Inside.{bytes_in, places_in, owners_in, look_place_of_page}
 use Rattle.cp_frames.proofs.pool.Frames.frame_of.Goals as goal
 
-pub half_at-requires : goal.half_at-requires
-half_at-requires c =
+pub index-requires : goal.index-requires
+index-requires c =
     let f = c.self.inside in
     let inside : c.args.page.0 * 4096 < length (bytes_in f c.args.user) = rw (← c.self.view_is) at c.requires in
-    let at = entry_of_page f c.args.user c.args.page.0 c.self.invariant inside in
-    rw c.deref.ensures.value (omega (arith, at.room, c.page_place.ensures, c.index.ensures))
+    let at = look_place_of_page f c.args.user c.args.page.0 c.self.invariant inside in
+    omega (arith, at.room, f.looks.ok.0, c.entry_of.ensures)
 
 pub returns : goal.returns
 returns c =
     let f = c.self.inside in
     let user = c.args.user in
     let page = c.args.page.0 in
-    let inside : page * 4096 < length (bytes_in f user) = rw (← c.self.view_is) at c.requires in
-    let at = entry_of_page f user page c.self.invariant inside in
     let owners = f.owners.items in
-    let read : c.half_at.result ≡ page_entry (frame_of owners user page) =
-    rw (c.half_at.ensures, c.deref.ensures.value, c.page_place.ensures, c.index.ensures.value) (c.self.invariant.mapped.pages user page at.of_user at.of_page) in
-    let told : number_of c.frame_in.result ≡ frame_of owners user page = c.frame_in.ensures ∙ ap frame_in read ∙ frame_in_entry (frame_of owners user page) in
+    let inside : page * 4096 < length (bytes_in f user) = rw (← c.self.view_is) at c.requires in
+    let at = look_place_of_page f user page c.self.invariant inside in
+    let read = get_or_read f.looks.items _ _ at.room (rw c.entry_of.ensures at c.index.ensures) 0 in
+    let told : number_of c.frame_in.result ≡ frame_of owners user page = c.frame_in.ensures ∙ ap (held 65535) read ∙ c.self.invariant.looked.agrees user page at.of_user at.of_page in
     let once = c.self.invariant.whole.once in
     let within : (o : Option FrameNo) → number_of o ≡ frame_of owners user page → IfSome o (λ frame. frame.0 < length owners) = elim [
       | None ↦ λ e. tt
