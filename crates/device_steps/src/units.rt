@@ -3,7 +3,9 @@ use crate::spelling::{byte, bytes, cut, decimal, told};
 use anyhow::{Result, bail};
 use s370_walk::{Answer, Command, Device, Flags, Order};
 use std::alloc::{AllocError, Global};
-use unit_record::{Console, Deck, Entry, File, Printer, Punch, Reader, Sender, Target};
+use unit_record::{
+    Console, Deck, Entry, File, Printer, Punch, RECORD_LENGTH, Reader, Sender, Target,
+};
 
 /// One device of each kind.
 #[derive(Drop)]
@@ -188,8 +190,8 @@ impl Units {
 /// Types a line of host characters, and tells whether it is kept.
 fn type_line(alloc: Global, console: &mut Console, operand: &str) -> Result<String> {
     let line = bytes(alloc, operand)?;
-    if line.len() > 132 {
-        bail!("a line has 132 characters");
+    if line.len() > RECORD_LENGTH {
+        bail!("a line has {RECORD_LENGTH} characters");
     }
     let arrival = console.line(&line)?;
     Ok(format!(in alloc; "{arrival:?}")?)
