@@ -27,7 +27,6 @@ fn failure_of(operand: &str) -> Result<Failure> {
         "image" => Ok(Failure::from(ImageError::Device(u64::from(decimal(number)?)))),
         "file" => Ok(Failure::File(u64::from(decimal(number)?))),
         "memory" => Ok(Failure::from(TextError::Memory)),
-        "usage" => Ok(Failure::Usage),
         _ => bail!("{name} is no failure"),
     }
 }

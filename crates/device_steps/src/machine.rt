@@ -33,14 +33,6 @@ fn told_page(alloc: Global, done: Result<(), Page>) -> Result<String, AllocError
     }
 }
 
-/// What is told of an access.
-fn told_fault(alloc: Global, fault: Fault) -> Result<String, AllocError> {
-    match fault {
-        Fault::Absent(page) => told_page(alloc, Err(page)),
-        _ => format!(in alloc; "past storage"),
-    }
-}
-
 /// Stores a doubleword with key 0.
 fn put<S: Storage>(storage: &mut S, start: u32, word: u64) -> Result<(), Fault> {
     storage.check(Range { start, count: 8 }, Access::Store, AccessKey::ZERO)?;
@@ -149,17 +141,17 @@ impl Machine {
 
     fn store(&mut self, alloc: Global, operand: &str) -> Result<String> {
         let (start, digits) = cut(operand);
-        match put(&mut self.storage, address(start)?, hexadecimal(digits)?) {
-            Ok(()) => Ok(format!(in alloc; "done")?),
-            Err(fault) => Ok(told_fault(alloc, fault)?),
+        if put(&mut self.storage, address(start)?, hexadecimal(digits)?).is_err() {
+            bail!("nothing can be stored at {start}");
         }
+        Ok(format!(in alloc; "done")?)
     }
 
     fn load(&self, alloc: Global, operand: &str) -> Result<String> {
-        match get(&self.storage, address(operand)?) {
-            Ok(word) => Ok(format!(in alloc; "{word:016X}")?),
-            Err(fault) => Ok(told_fault(alloc, fault)?),
-        }
+        let Ok(word) = get(&self.storage, address(operand)?) else {
+            bail!("nothing can be loaded from {operand}");
+        };
+        Ok(format!(in alloc; "{word:016X}")?)
     }
 
     fn key(&self, alloc: Global, operand: &str) -> Result<String> {
