@@ -186,7 +186,7 @@ impl<'a> Storage for Dat<'a> {
         match self.frames.frame_at(self.user, first) {
             Some(frame) => Some(Block {
                 first,
-                place: u32::from(frame.0),
+                place: usize::from(frame.0),
             }),
             None => None,
         }
@@ -194,8 +194,7 @@ impl<'a> Storage for Dat<'a> {
 
     #[inline(always)]
     fn load_in(&self, block: Block, start: u32, into: &mut [u8]) {
-        self.frames
-            .load_in(self.user, block.place as usize, start, into);
+        self.frames.load_in(self.user, block.place, start, into);
     }
 
     #[inline(always)]

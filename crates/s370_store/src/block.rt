@@ -10,7 +10,7 @@ pub struct Block {
     /// The address of its first byte.
     pub first: u32,
     /// Where the storage has it.
-    pub place: u32,
+    pub place: usize,
 }
 
 impl Block {

@@ -98,7 +98,7 @@ impl Storage for PagedStorage {
         let first = start / 2048 * 2048;
         Some(Block {
             first,
-            place: first,
+            place: first as usize,
         })
     }
 

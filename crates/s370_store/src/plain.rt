@@ -87,7 +87,7 @@ impl Storage for PlainStorage {
             let first = start / 2048 * 2048;
             Some(Block {
                 first,
-                place: first,
+                place: first as usize,
             })
         } else {
             None

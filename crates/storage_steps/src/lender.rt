@@ -117,7 +117,7 @@ impl<'a> Storage for Lent<'a> {
             let first = start / 2048 * 2048;
             Some(Block {
                 first,
-                place: first,
+                place: first as usize,
             })
         } else {
             None
