@@ -1,5 +1,5 @@
 //! The frames and slots with what stands in them.
-ghost use Rattle.std.specs.Prelude.{reverse, ◌≡◌, ℕ, ◌+◌, ◌-◌, ◌*◌, ◌/◌, ◌%◌, ◌<◌, ◌≤◌, ◌↔◌, ◌++◌, ◌∷◌, [], Option, Some, None, true, false, map, length, slice_index, slice_index_or, slice_set, slice_get, slice_range, IsSome, is_some, IfOk, OnOk, OnErr, IfSome, IfNone, All, replicate, drop};
+ghost use Rattle.std.specs.Prelude.{reverse, ◌≡◌, ℕ, ◌+◌, ◌-◌, ◌*◌, ◌/◌, ◌%◌, ◌<◌, ◌≤◌, ◌↔◌, ◌++◌, Option, Some, None, true, false, map, length, slice_index_or, slice_set, slice_get, slice_range, IsSome, is_some, IfOk, IfSome, IfNone, All, replicate};
 ghost use Rattle.std.specs.List.{range_with_len};
 ghost use Rattle.s370_store.specs.Access.{put, IsGranted};
 ghost use Rattle.cp_frames.specs.Layout.{frame_of, number_of, held, is_there, IsZeroPage, cleared_of};

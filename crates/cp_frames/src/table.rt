@@ -5,7 +5,7 @@
 //!
 //! Beside the bytes stands such a list of the frames too: what a unit looks up of a page it finds there in one load. No entry
 //! of the one is written without that of the other, by [`note`] and [`forget`].
-ghost use Rattle.std.specs.Prelude.{◌≡◌, ◌≢◌, ℕ, ◌+◌, ◌*◌, ◌/◌, ◌%◌, ◌<◌, ◌≤◌, length, slice_index, IfOk, IfSome, replicate, All};
+ghost use Rattle.std.specs.Prelude.{◌≡◌, ◌≢◌, ℕ, ◌+◌, ◌*◌, ◌/◌, ◌%◌, ◌<◌, ◌≤◌, length, slice_index, IfOk, IfSome, replicate};
 ghost use Rattle.cp_frames.specs.Layout.{number_of, held, told};
 ghost use Rattle.cp_frames.specs.Tables.{half_at, word_at, page_place, segment_entry, segment_place, first_half, put_half, noted};
 
