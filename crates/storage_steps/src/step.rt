@@ -1,4 +1,6 @@
 //! A step, by its words.
+ghost use Rattle.std.specs.Prelude.{◌≤◌};
+
 use cp_text::lines::place_of;
 use cp_text::numbers::hexadecimal_of;
 use cp_text::words::words_of;
@@ -37,13 +39,13 @@ impl<'a> Step<'a> {
         hexadecimal_of(1, 8, self.word(place)).unwrap_or(0)
     }
 
-    /// The range whose start and whose count stand at a place and behind it. It has less than 256 bytes.
-    pub fn range(&self, place: usize) -> Range
+    /// The range whose start and whose count stand at these places. It has at most 256 bytes.
+    pub fn range(&self, start: usize, count: usize) -> Range
         ensures { result.count ≤ 256 }
     {
         Range {
-            start: self.number(place),
-            count: self.number(place + 1) & 0xFF,
+            start: self.number(start),
+            count: self.number(count).min(256),
         }
     }
 

@@ -52,7 +52,7 @@ fn four_blocks(alloc: Global) -> Result<PlainStorage, AllocError> {
 /// `access 800 2 fetch 5`: whether an access is granted.
 fn access(alloc: Global, step: &Step<'_>) -> Result<String, AllocError> {
     let storage = four_blocks(alloc)?;
-    let outcome = storage.check(step.range(1), step.access(3), step.key(4));
+    let outcome = storage.check(step.range(1, 2), step.access(3), step.key(4));
     verdict(alloc, outcome)
 }
 
@@ -61,9 +61,9 @@ fn both(alloc: Global, step: &Step<'_>) -> Result<String, AllocError> {
     let storage = four_blocks(alloc)?;
     let outcome = check_two(
         &storage,
-        step.range(1),
+        step.range(1, 2),
         Access::Fetch,
-        step.range(3),
+        step.range(3, 4),
         Access::Fetch,
         step.key(5),
     );
@@ -77,7 +77,7 @@ fn paged(alloc: Global, step: &Step<'_>) -> Result<String, AllocError> {
     storage.set_present(Page(0), true);
     storage.set_key(1, StorageKey::new(7));
     storage.set_key(2, StorageKey::new(7));
-    let outcome = storage.check(step.range(1), Access::Fetch, step.key(3));
+    let outcome = storage.check(step.range(1, 2), Access::Fetch, step.key(3));
     verdict(alloc, outcome)
 }
 
