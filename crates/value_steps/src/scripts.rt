@@ -23,34 +23,30 @@ pub fn script(alloc: Global, step: &Step<'_>) -> Result<String, AllocError> {
         Err(ScriptError::Memory) => return Err(AllocError),
     };
     let mut told = String::new(alloc);
-    for event in events {
-        let event = event_told(alloc, event)?;
-        add(&mut told, event.as_str())?;
+    for event in &events {
+        add_event(alloc, &mut told, event)?;
     }
     Ok(told)
 }
 
-/// An event, with its user by number; `Event::user` names the same user.
-fn event_told(alloc: Global, event: ScriptEvent<'_>) -> Result<String, AllocError> {
-    let user = match event.user() {
-        Some(user) => user.number(),
-        None => u8::MAX,
-    };
-    match event {
-        ScriptEvent::Run(_, units) => format!(in alloc; "{user} runs {units};"),
-        ScriptEvent::Line(_, typed) => {
-            let typed = quoted(alloc, typed)?;
-            format!(in alloc; "{user} types {typed};")
+/// Adds the number of an event's user, what happens, and what the line says of it.
+fn add_event(alloc: Global, told: &mut String, event: &ScriptEvent<'_>) -> Result<(), AllocError> {
+    match event.user() {
+        Some(user) => {
+            let number = user.number().to_string(alloc)?;
+            add(told, number.as_str())?;
         }
-        ScriptEvent::Tick(_) => format!(in alloc; "{user} ticks;"),
-        ScriptEvent::Serve(_, device) => format!(in alloc; "{user} serves {device:03X};"),
-        ScriptEvent::Auto(turns) => {
-            let who = if event.user().is_none() {
-                "nobody"
-            } else {
-                "somebody"
-            };
-            format!(in alloc; "{who} is named for {turns} turns;")
-        }
+        None => add(told, "nobody")?,
     }
+    let what = match event {
+        ScriptEvent::Run(_, units) => format!(in alloc; "run {units};")?,
+        ScriptEvent::Line(_, typed) => {
+            let text = quoted(alloc, typed)?;
+            format!(in alloc; "line {text};")?
+        }
+        ScriptEvent::Tick(_) => String::from_str(alloc, "tick;")?,
+        ScriptEvent::Serve(_, device) => format!(in alloc; "serve {device:03X};")?,
+        ScriptEvent::Auto(turns) => format!(in alloc; "auto {turns};")?,
+    };
+    add(told, what.as_str())
 }
