@@ -1,6 +1,5 @@
 //! One user's storage, lent from the frames.
-ghost use Rattle.std.specs.Prelude.{◌≡◌, ◌+◌, ◌*◌, ◌/◌, ◌<◌, ◌≤◌, ◌↔◌, ◌%◌, true, length, replicate, slice_index_or, slice_set, is_some, Ok, IfOk, IfSome, IfNone, OnErr, Some, None, false, [], ◌∷◌};
-ghost use Rattle.s370_store.specs.Access.{IsVerdict, tested};
+ghost use Rattle.std.specs.Prelude.{◌≡◌, ◌+◌, ◌*◌, ◌/◌, ◌<◌, ◌≤◌, ◌↔◌, ◌%◌, true, length, replicate, slice_index_or, slice_set, is_some, IfOk, IfSome, IfNone, OnErr, Some, None, false, [], ◌∷◌};
 ghost use Rattle.cp_frames.specs.Layout.{bytes_of, frame_of, number_of, IsZeroPage};
 ghost use Rattle.cp_frames.specs.Paging.{IsBrought, IsOpen, IsRefused};
 ghost use Rattle.cp_frames.specs.Tables.{segment_entry, page_entry};
@@ -124,57 +123,6 @@ impl<'a> Dat<'a> {
     {
         self.frames.unpin_all();
     }
-
-    /// Whether one look is enough for an access: it lies in one block, which size and key grant, and whose page stands in a
-    /// frame.
-    #[inline(always)]
-    fn is_granted_at_once(&self, range: Range, access: Access, key: AccessKey) -> bool
-        requires { range.count ≤ 256 }
-        ensures { result ≡ true → IsVerdict (length (lent_bytes self.now)) (lent_keys self.now) (is_lent_page self.now) key (tested access range ∷ []) (Ok tt) }
-    {
-        let Range { start, count } = range;
-        if count == 0 {
-            return false;
-        }
-        if start % BLOCK_SIZE + count > BLOCK_SIZE {
-            return false;
-        }
-        match test_range(self.size, &Listed { keys: self.keys }, range, access, key) {
-            Ok(()) => {}
-            Err(_) => return false,
-        }
-        match self.frames.frame_at(self.user, start) {
-            Some(_) => true,
-            None => false,
-        }
-    }
-
-    /// Tests an access by size, keys and table, whatever there is to look at. It is out of line, so that an access which one
-    /// look grants has nothing of it beside it.
-    #[inline(never)]
-    fn check_apart(&self, range: Range, access: Access, key: AccessKey) -> Result<(), Fault>
-        requires { range.count ≤ 256 }
-        ensures { IsVerdict (length (lent_bytes self.now)) (lent_keys self.now) (is_lent_page self.now) key (tested access range ∷ []) result }
-    {
-        test_range(self.size, &Listed { keys: self.keys }, range, access, key)?;
-        let Range { start, count } = range;
-        if count == 0 {
-            return Ok(());
-        }
-        match self.frames.frame_at(self.user, start) {
-            Some(_) => {}
-            None => return Err(Fault::Absent(page_of(start))),
-        }
-        if start % BLOCK_SIZE + count <= BLOCK_SIZE {
-            return Ok(());
-        }
-        let last = start + (count - 1);
-        match self.frames.frame_apart(self.user, last) {
-            Some(_) => {}
-            None => return Err(Fault::Absent(page_of(last))),
-        }
-        Ok(())
-    }
 }
 
 /// The page of an address, for a page that is absent.
@@ -209,10 +157,24 @@ impl<'a> Storage for Dat<'a> {
 
     #[inline(always)]
     fn check(&self, range: Range, access: Access, key: AccessKey) -> Result<(), Fault> {
-        if self.is_granted_at_once(range, access, key) {
+        test_range(self.size, &Listed { keys: self.keys }, range, access, key)?;
+        let Range { start, count } = range;
+        if count == 0 {
             return Ok(());
         }
-        self.check_apart(range, access, key)
+        match self.frames.frame_at(self.user, start) {
+            Some(_) => {}
+            None => return Err(Fault::Absent(page_of(start))),
+        }
+        if start % BLOCK_SIZE + count <= BLOCK_SIZE {
+            return Ok(());
+        }
+        let last = start + (count - 1);
+        match self.frames.frame_apart(self.user, last) {
+            Some(_) => {}
+            None => return Err(Fault::Absent(page_of(last))),
+        }
+        Ok(())
     }
 
     #[inline(never)]
