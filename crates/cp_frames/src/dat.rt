@@ -1,5 +1,6 @@
 //! One user's storage, lent from the frames.
-ghost use Rattle.std.specs.Prelude.{◌≡◌, ◌+◌, ◌*◌, ◌/◌, ◌<◌, ◌≤◌, ◌↔◌, ◌%◌, true, length, replicate, slice_index_or, slice_set, is_some, IfOk, IfSome, IfNone, OnErr, Some, None, false, [], ◌∷◌};
+ghost use Rattle.std.specs.Prelude.{◌≡◌, ◌+◌, ◌*◌, ◌/◌, ◌<◌, ◌≤◌, ◌↔◌, ◌%◌, true, length, replicate, slice_index_or, slice_set, is_some, Ok, IfOk, IfSome, IfNone, OnErr, Some, None, false, [], ◌∷◌};
+ghost use Rattle.s370_store.specs.Access.{IsVerdict, tested};
 ghost use Rattle.cp_frames.specs.Layout.{bytes_of, frame_of, number_of, IsZeroPage};
 ghost use Rattle.cp_frames.specs.Paging.{IsBrought, IsOpen, IsRefused};
 ghost use Rattle.cp_frames.specs.Tables.{segment_entry, page_entry};
@@ -123,6 +124,31 @@ impl<'a> Dat<'a> {
     {
         self.frames.unpin_all();
     }
+
+    /// Whether one look grants an access: it lies in one block, size and key pass it, and its page stands in a frame.
+    #[inline(always)]
+    fn is_open(&self, range: Range, access: Access, key: AccessKey) -> bool
+        requires { range.count ≤ 256 }
+        ensures granted { result ≡ true → IsVerdict (length (lent_bytes self.now)) (lent_keys self.now) (is_lent_page self.now) key (tested access range ∷ []) (Ok tt) }
+        ensures some { result ≡ true → 0 < range.count }
+        ensures one_block { result ≡ true → range.start % 2048 + range.count ≤ 2048 }
+    {
+        let Range { start, count } = range;
+        if count == 0 {
+            return false;
+        }
+        if start % BLOCK_SIZE + count > BLOCK_SIZE {
+            return false;
+        }
+        match test_range(self.size, &Listed { keys: self.keys }, range, access, key) {
+            Ok(()) => {}
+            Err(_) => return false,
+        }
+        match self.frames.frame_at(self.user, start) {
+            Some(_) => true,
+            None => false,
+        }
+    }
 }
 
 /// The page of an address, for a page that is absent.
@@ -175,6 +201,23 @@ impl<'a> Storage for Dat<'a> {
             None => return Err(Fault::Absent(page_of(last))),
         }
         Ok(())
+    }
+
+    #[inline(always)]
+    fn grants_at_once(&self, range: Range, access: Access, key: AccessKey) -> bool {
+        self.is_open(range, access, key)
+    }
+
+    #[inline(always)]
+    fn copy_at_once(&mut self, from: u32, to: u32, count: u32, key: AccessKey) -> bool {
+        if !self.is_open(Range { start: to, count }, Access::Store, key) {
+            return false;
+        }
+        if !self.is_open(Range { start: from, count }, Access::Fetch, key) {
+            return false;
+        }
+        self.frames.copy_part(self.user, from, to, count);
+        true
     }
 
     #[inline(never)]

@@ -470,7 +470,7 @@ impl Frames {
 
     /// Copies bytes of one page into one page.
     #[inline(always)]
-    fn copy_part(&mut self, user: UserNo, from: u32, to: u32, count: u32)
+    pub(crate) fn copy_part(&mut self, user: UserNo, from: u32, to: u32, count: u32)
         requires source { from + count ≤ length (bytes_of self.old user) }
         requires target { to + count ≤ length (bytes_of self.old user) }
         requires some { 0 < count }

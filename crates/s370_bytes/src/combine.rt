@@ -42,7 +42,7 @@ impl Combine {
 
 /// How many bytes are read before one that was made is read.
 #[inline(always)]
-fn lag_of(to: u32, from: u32, count: u32) -> u32
+pub fn lag_of(to: u32, from: u32, count: u32) -> u32
     requires { 0 < count }
     ensures value { result ≡ lag_of to from count }
     ensures some { 0 < result }

@@ -12,6 +12,7 @@ mod digits;
 mod long;
 mod masks;
 mod multiple;
+mod straight;
 mod translate;
 
 pub use combine::{Combine, combine_row, move_row};
@@ -23,4 +24,5 @@ pub use masks::{compare_characters_row, insert_characters_row, store_characters_
 pub use multiple::{
     load_multiple_row, load_registers, store_multiple_row, store_registers, words_range,
 };
+pub use straight::move_straight;
 pub use translate::{translate_row, translate_test_row};

@@ -10,7 +10,7 @@ ghost use Rattle.s370_bytes.specs.Strings.{padded};
 use crate::compare::equal_front;
 use s370_num::{Addr24, ConditionCode, Register};
 use s370_psw::ProgramCode;
-use s370_rows::{Cpu, Ending, Instruction, Refusal, grant_two, order_of};
+use s370_rows::{Cpu, Ending, Instruction, Refusal, copy_granted, grant_two, order_of};
 use s370_store::{Access, Range, Storage};
 
 /// A long operand: its address, its length and the byte above the length.
@@ -265,19 +265,9 @@ fn move_whole_part<S: Storage>(cpu: &mut Cpu, storage: &mut S, r1: Register, r2:
     let second = Operand::of(cpu, r2);
     let to = first.address.get();
     let from = second.address.get();
-    let target = Range {
-        start: to,
-        count: 256,
-    };
-    let source = Range {
-        start: from,
-        count: 256,
-    };
-    match grant_two(cpu, storage, target, Access::Store, source, Access::Fetch) {
-        Ok(()) => {}
-        Err(_) => return false,
+    if !copy_granted(cpu, storage, from, to, 256) {
+        return false;
     }
-    storage.copy(from, to, 256);
     first.past(256).set(cpu, r1);
     second.past(256).set(cpu, r2);
     true

@@ -16,7 +16,7 @@ use Rattle.s370_rows.specs.Rows.{Left, MeetsRow, Outcome, Row, Stored, after, fa
 use Rattle.s370_cpu.specs.declared.conclude.Stop.TheVariants.{Done as DoneStop}
 use Rattle.s370_bytes.specs.Long.{long_moved}
 use Rattle.s370_cpu.specs.Laws.{rights_of}
-use Rattle.s370_cpu.specs.Quick.{GoesOn, MeetsQuick, done_of, part_of, whole_of}
+use Rattle.s370_cpu.specs.Quick.{GoesOn, MeetsAtOnce, MeetsQuick, part_of, whole_of}
 use Rattle.s370_cpu.specs.Table.{row_of, unit}
 use Rattle.s370_cpu.specs.Unit.{Carries, MeetsUnit, Stopped, place_at, stopped}
 use Rattle.s370_cpu.proofs.Units.{carried_meets, whole_meets}
@@ -49,10 +49,9 @@ quick_done r present m ending m' h e =
     let q : GoesOnQuietly m ending m' = subst (λ (x : Result Outcome ProgramCode). IsQuietOutcome m x) e (quiet_outcome m r.refused (fault_of m r.tests) r.leaves h) in
     (e, q.0, q.1)
 
-pub quick_of : (r : Row) (present : ℕ → Bool) (m : State) (outcome : Result Ending Refusal) (answer : Option Ending) (m' : State) → LeavesQuiet m r.leaves → MeetsRow r present m outcome m' → answer ≡ done_of outcome → MeetsQuick r present m answer m'
-quick_of r present m (Ok ending) answer m' h e a = rw a (quick_done r present m ending m' h e)
-quick_of r present m (Err (Suppressed code)) answer m' h e a = rw a e.1
-quick_of r present m (Err (Missing page)) answer m' h e a = rw a e.0
+pub quick_of : (r : Row) (present : ℕ → Bool) (m : State) (answer : Option Ending) (m' : State) → LeavesQuiet m r.leaves → MeetsAtOnce r present m answer m' → MeetsQuick r present m answer m'
+quick_of r present m None m' h e = e
+quick_of r present m (Some ending) m' h e = quick_done r present m ending m' h e
 
 pub branches_go_on : (b : Bool) (target : ℕ) → GoesOn (branches b target)
 branches_go_on true target = tt

@@ -16,11 +16,6 @@ GoesOn (Interrupted code) = ⊥
 GoesOn (SupervisorCall n) = ⊥
 GoesOn (InputOutput operation device) = ⊥
 
--- how a row ended that was not refused
-abbrev pub done_of : Result Ending Refusal → Option Ending
-done_of (Ok ending) = Some ending
-done_of (Err refusal) = None
-
 -- a part that was done
 abbrev pub part_of : Bool → Option Ending
 part_of true = Some Again
@@ -30,6 +25,11 @@ part_of false = None
 abbrev pub whole_of : Bool → Option Ending
 whole_of true = Some Done
 whole_of false = None
+
+-- the row, where one look at its operand grants it; or nothing is changed
+abbrev pub MeetsAtOnce : Row → (ℕ → Bool) → State → Option Ending → State → Type 0
+MeetsAtOnce r present old None new = new ≡ old
+MeetsAtOnce r present old (Some ending) new = MeetsRow r present old (Ok ending) new
 
 -- the row, where the processor goes on after it and nobody's rights change; or nothing is changed
 abbrev pub MeetsQuick : Row → (ℕ → Bool) → State → Option Ending → State → Type 0

@@ -4,29 +4,29 @@ ghost use Rattle.s370_store.specs.Blocks.{MayFetch};
 ghost use Rattle.s370_rows.specs.State.{state_of};
 ghost use Rattle.s370_cpu.specs.declared.conclude.Stop.TheVariants as stops;
 ghost use Rattle.s370_cpu.specs.Fetch.{fetched, instruction_at};
-ghost use Rattle.s370_cpu.specs.FetchRows.{word_operation};
+ghost use Rattle.s370_cpu.specs.FetchRows.{byte_tested, word_operation};
 ghost use Rattle.s370_cpu.specs.StoreRows.{word_stored};
 ghost use Rattle.s370_bytes.specs.Combine.{string_combined};
 ghost use Rattle.s370_bytes.specs.declared.combine.Combine.TheVariants as combines;
 ghost use Rattle.s370_rows.specs.Rows.{MeetsRow};
 ghost use Rattle.s370_rows.specs.declared.ending.Ending.TheVariants as endings;
 ghost use Rattle.s370_cpu.specs.Laws.{rights_of};
-ghost use Rattle.s370_cpu.specs.Quick.{GoesOn, MeetsQuick, done_of, part_of, whole_of};
+ghost use Rattle.s370_cpu.specs.Quick.{GoesOn, MeetsAtOnce, MeetsQuick, part_of, whole_of};
 ghost use Rattle.s370_cpu.specs.Table.{row_of, unit};
 ghost use Rattle.s370_cpu.specs.Unit.{Carries, MeetsUnit, place_at, stopped};
 ghost use Rattle.s370_rows.specs.declared.arithmetic.Arithmetic.TheVariants as operations;
 
 use crate::execute::EXECUTE;
 use crate::fetch::length_of;
-use crate::fetch_rows::{test_byte_row, word_row_at};
 use crate::known::load_known_in;
 use crate::opcodes::Branching;
-use crate::register_rows::{branch_to, load_address, register_operation};
-use crate::store_rows::store_word_row_at;
-use s370_bytes::{move_long_quickly, move_row};
+use crate::register_rows::{branch_register, branch_to, load_address, register_operation};
+use s370_bytes::{move_long_quickly, move_row, move_straight};
 use s370_num::Addr24;
-use s370_rows::{Arithmetic, ByteTest, Cpu, Ending, Instruction, Place, Refusal};
-use s370_store::{Block, Storage, load_byte_in};
+use s370_rows::{
+    Arithmetic, ByteTest, Cpu, Ending, Instruction, Place, arithmetic_row, is_granted, test_byte,
+};
+use s370_store::{Access, Block, Range, Storage, load_byte, load_byte_in, load_word, store_word};
 
 /// Does one instruction of a running processor, if it is one of the most frequent, if it is done, and if the processor then
 /// goes on with the next one. Else nothing changes. It stands in a block that was found for fetches with the processor's key,
@@ -97,14 +97,27 @@ fn step_found_quickly<S: Storage>(
 {
     // One jump, behind which all is compiled for the one operation code.
     match load_byte_in(storage, block, start.get()) {
+        0x07 => carry_quickly::<S, 0x07>(cpu, storage, start, block),
         0x0E => carry_quickly::<S, 0x0E>(cpu, storage, start, block),
+        0x12 => carry_quickly::<S, 0x12>(cpu, storage, start, block),
+        0x14 => carry_quickly::<S, 0x14>(cpu, storage, start, block),
+        0x15 => carry_quickly::<S, 0x15>(cpu, storage, start, block),
+        0x16 => carry_quickly::<S, 0x16>(cpu, storage, start, block),
+        0x17 => carry_quickly::<S, 0x17>(cpu, storage, start, block),
         0x18 => carry_quickly::<S, 0x18>(cpu, storage, start, block),
+        0x19 => carry_quickly::<S, 0x19>(cpu, storage, start, block),
         0x41 => carry_quickly::<S, 0x41>(cpu, storage, start, block),
         0x46 => carry_quickly::<S, 0x46>(cpu, storage, start, block),
         0x47 => carry_quickly::<S, 0x47>(cpu, storage, start, block),
         0x50 => carry_quickly::<S, 0x50>(cpu, storage, start, block),
+        0x54 => carry_quickly::<S, 0x54>(cpu, storage, start, block),
+        0x55 => carry_quickly::<S, 0x55>(cpu, storage, start, block),
+        0x56 => carry_quickly::<S, 0x56>(cpu, storage, start, block),
+        0x57 => carry_quickly::<S, 0x57>(cpu, storage, start, block),
         0x58 => carry_quickly::<S, 0x58>(cpu, storage, start, block),
+        0x59 => carry_quickly::<S, 0x59>(cpu, storage, start, block),
         0x5A => carry_quickly::<S, 0x5A>(cpu, storage, start, block),
+        0x91 => carry_quickly::<S, 0x91>(cpu, storage, start, block),
         0x95 => carry_quickly::<S, 0x95>(cpu, storage, start, block),
         0xD2 => carry_quickly::<S, 0xD2>(cpu, storage, start, block),
         _ => None,
@@ -220,28 +233,30 @@ fn perform_quickly<S: Storage, const CODE: u8>(
     ensures rest { S.Keeps storage.old storage.new }
 {
     match CODE {
+        0x07 => Some(branch_register(Branching::Condition, cpu, place, i)),
         0x0E => part_of(move_long_quickly(cpu, storage, i)),
+        0x12 => Some(register_operation(Arithmetic::LoadAndTest, cpu, i)),
+        0x14 => Some(register_operation(Arithmetic::And, cpu, i)),
+        0x15 => Some(register_operation(Arithmetic::CompareLogical, cpu, i)),
+        0x16 => Some(register_operation(Arithmetic::Or, cpu, i)),
+        0x17 => Some(register_operation(Arithmetic::ExclusiveOr, cpu, i)),
         0x18 => Some(register_operation(Arithmetic::Load, cpu, i)),
+        0x19 => Some(register_operation(Arithmetic::Compare, cpu, i)),
         0x41 => Some(load_address(cpu, i)),
         0x46 => Some(branch_to(Branching::Count, cpu, place, i)),
         0x47 => Some(branch_to(Branching::Condition, cpu, place, i)),
         0x50 => store_quickly(cpu, storage, i),
-        0x58 => load_quickly(cpu, storage, i),
+        0x54 => word_quickly(Arithmetic::And, cpu, storage, i),
+        0x55 => word_quickly(Arithmetic::CompareLogical, cpu, storage, i),
+        0x56 => word_quickly(Arithmetic::Or, cpu, storage, i),
+        0x57 => word_quickly(Arithmetic::ExclusiveOr, cpu, storage, i),
+        0x58 => word_quickly(Arithmetic::Load, cpu, storage, i),
+        0x59 => word_quickly(Arithmetic::Compare, cpu, storage, i),
         0x5A => add_quickly(cpu, storage, i),
-        0x95 => done_of(test_byte_row(ByteTest::CompareLogical, cpu, storage, i)),
+        0x91 => test_byte_quickly(ByteTest::UnderMask, cpu, storage, i),
+        0x95 => test_byte_quickly(ByteTest::CompareLogical, cpu, storage, i),
         0xD2 => whole_of(move_quickly(cpu, storage, i)),
         _ => None,
-    }
-}
-
-/// How a row ended that was not refused.
-#[inline(always)]
-fn done_of(outcome: Result<Ending, Refusal>) -> Option<Ending>
-    ensures { result ≡ done_of outcome }
-{
-    match outcome {
-        Ok(ending) => Some(ending),
-        Err(_) => None,
     }
 }
 
@@ -261,13 +276,7 @@ fn whole_of(did: bool) -> Option<Ending>
     if did { Some(Ending::Done) } else { None }
 }
 
-/// Whether the word at an address lies in one block. Where it is asked first, what is done over two is left out of the code.
-#[inline(always)]
-fn lies_in_one_block(start: u32) -> bool {
-    start % 2048 <= 2044
-}
-
-/// 50 ST, where the word lies in one block.
+/// The word at the second operand's address is stored, where one look grants it; else nothing changes.
 #[inline(always)]
 fn store_quickly<S: Storage>(cpu: &Cpu, storage: &mut S, i: Instruction) -> Option<Ending>
     ensures row { let before = state_of cpu.now (S.bytes storage.old) (S.keys storage.old) in
@@ -278,27 +287,34 @@ fn store_quickly<S: Storage>(cpu: &Cpu, storage: &mut S, i: Instruction) -> Opti
     ensures rest { S.Keeps storage.old storage.new }
 {
     let start = cpu.indexed(i.r2(), i.second_half).get();
-    if !lies_in_one_block(start) {
+    if !is_granted(cpu, storage, Range { start, count: 4 }, Access::Store) {
         return None;
     }
-    done_of(store_word_row_at(cpu, storage, i, start))
+    store_word(storage, start, cpu.general[i.r1().index()]);
+    Some(Ending::Done)
 }
 
-/// 58 L, where the word lies in one block.
+/// An operation on a register and the word at the second operand's address, where one look grants it; else nothing changes.
 #[inline(always)]
-fn load_quickly<S: Storage>(cpu: &mut Cpu, storage: &S, i: Instruction) -> Option<Ending>
+fn word_quickly<S: Storage>(
+    operation: Arithmetic,
+    cpu: &mut Cpu,
+    storage: &S,
+    i: Instruction,
+) -> Option<Ending>
     ensures { let before = state_of cpu.old (S.bytes storage.now) (S.keys storage.now) in
         let after = state_of cpu.new (S.bytes storage.now) (S.keys storage.now) in
-        MeetsQuick (word_operation operations.Load before i) (S.present storage.now) before result after }
+        MeetsAtOnce (word_operation operation before i) (S.present storage.now) before result after }
 {
     let start = cpu.indexed(i.r2(), i.second_half).get();
-    if !lies_in_one_block(start) {
+    if !is_granted(cpu, storage, Range { start, count: 4 }, Access::Fetch) {
         return None;
     }
-    done_of(word_row_at(Arithmetic::Load, cpu, storage, i, start))
+    let b = load_word(storage, start);
+    Some(arithmetic_row(operation, cpu, i.r1(), b))
 }
 
-/// 5A A, where the word lies in one block, and no overflow interrupts.
+/// 5A A, where no overflow interrupts.
 #[inline(always)]
 fn add_quickly<S: Storage>(cpu: &mut Cpu, storage: &S, i: Instruction) -> Option<Ending>
     ensures { let before = state_of cpu.old (S.bytes storage.now) (S.keys storage.now) in
@@ -308,14 +324,32 @@ fn add_quickly<S: Storage>(cpu: &mut Cpu, storage: &S, i: Instruction) -> Option
     if cpu.psw.program_mask() >= 8 {
         return None;
     }
-    let start = cpu.indexed(i.r2(), i.second_half).get();
-    if !lies_in_one_block(start) {
-        return None;
-    }
-    done_of(word_row_at(Arithmetic::Add, cpu, storage, i, start))
+    word_quickly(Arithmetic::Add, cpu, storage, i)
 }
 
-/// D2 MVC. The row is a call; one call more would copy the instruction, which the processor was just writing byte by byte.
+/// A test of the byte at the first operand's address, where one look grants it; else nothing changes.
+#[inline(always)]
+fn test_byte_quickly<S: Storage>(
+    test: ByteTest,
+    cpu: &mut Cpu,
+    storage: &S,
+    i: Instruction,
+) -> Option<Ending>
+    ensures { let before = state_of cpu.old (S.bytes storage.now) (S.keys storage.now) in
+        let after = state_of cpu.new (S.bytes storage.now) (S.keys storage.now) in
+        MeetsAtOnce (byte_tested test before i) (S.present storage.now) before result after }
+{
+    let start = cpu.based(i.second_half).get();
+    if !is_granted(cpu, storage, Range { start, count: 1 }, Access::Fetch) {
+        return None;
+    }
+    let byte = load_byte(storage, start);
+    cpu.psw.set_condition(test_byte(test, byte, i.second_byte));
+    Some(Ending::Done)
+}
+
+/// D2 MVC: as one copy, where it is one. Else its row is a call; one call more would copy the instruction, which the processor
+/// was just writing byte by byte.
 #[inline(always)]
 fn move_quickly<S: Storage>(cpu: &mut Cpu, storage: &mut S, i: Instruction) -> bool
     ensures done { let before = state_of cpu.old (S.bytes storage.old) (S.keys storage.old) in
@@ -328,6 +362,9 @@ fn move_quickly<S: Storage>(cpu: &mut Cpu, storage: &mut S, i: Instruction) -> b
     ensures present { S.present storage.new ≡ S.present storage.old }
     ensures rest { S.Keeps storage.old storage.new }
 {
+    if move_straight(cpu, storage, i) {
+        return true;
+    }
     match move_row(cpu, storage, i) {
         Ok(_) => true,
         Err(_) => false,

@@ -1,5 +1,5 @@
 //! The rows that access no storage.
-ghost use Rattle.std.specs.Prelude.{◌≡◌, ℕ, ◌<◌, Ok, slice_index, true};
+ghost use Rattle.std.specs.Prelude.{◌≡◌, ℕ, ◌<◌, ◌==◌, not, Ok, slice_index, true};
 ghost use Rattle.s370_rows.specs.Formats.{indexed_address, r1_of, r2_of};
 ghost use Rattle.s370_rows.specs.Load.{address_loaded};
 ghost use Rattle.s370_rows.specs.Product.{multiplied, quotient_left};
@@ -85,6 +85,15 @@ pub fn branch_to(kind: Branching, cpu: &mut Cpu, place: Place, i: Instruction) -
 {
     let target = cpu.indexed(i.r2(), i.second_half).get();
     branch_row(kind, cpu, place, i, true, target)
+}
+
+/// 05 BALR, 06 BCTR, 07 BCR: a branch to the address in a register, but none where the field is zero.
+#[inline(always)]
+pub fn branch_register(kind: Branching, cpu: &mut Cpu, place: Place, i: Instruction) -> Ending
+    ensures { branched kind cpu.old place i (not (r2_of i == 0)) (slice_index cpu.old.general (r2_of i)) ≡ record { ending = result; cpu = cpu.new } }
+{
+    let target = cpu.general[i.r2().index()];
+    branch_row(kind, cpu, place, i, i.r2().number() != 0, target)
 }
 
 /// An operation on two registers.

@@ -1,6 +1,7 @@
 //! Leave to access storage.
-ghost use Rattle.std.specs.Prelude.{◌≡◌, ℕ, ◌≤◌, Bool, List, [], ◌∷◌, length};
-ghost use Rattle.s370_store.specs.Access.{IsVerdict, Test, tested};
+ghost use Rattle.std.specs.Prelude.{◌≡◌, ℕ, ◌+◌, ◌≤◌, Bool, true, false, List, [], ◌∷◌, Ok, length, slice_range};
+ghost use Rattle.s370_store.specs.Access.{IsVerdict, Test, put, test_of, tested};
+ghost use Rattle.s370_store.specs.declared.Access.TheVariants.{Fetch, Store};
 ghost use Rattle.s370_rows.specs.State.{State, state_of};
 ghost use Rattle.s370_rows.specs.Rows.{Grants};
 
@@ -46,6 +47,32 @@ pub fn grant_two<S: Storage>(
         cpu.psw.key(),
     );
     leave_of(answer)
+}
+
+/// Whether one look grants leave to access a range of at most 256 bytes with the key of the PSW.
+#[inline(always)]
+pub fn is_granted<S: Storage>(cpu: &Cpu, storage: &S, range: Range, access: Access) -> bool
+    requires { range.count ≤ 256 }
+    ensures { result ≡ true → Grants (state_of cpu.now (S.bytes storage.now) (S.keys storage.now)) (S.present storage.now) (tested access range ∷ []) (Ok tt) }
+{
+    storage.grants_at_once(range, access, cpu.psw.key())
+}
+
+/// Copies at most 256 bytes from one place to another, as if all were read before any is written, where one look at each grants
+/// leave with the key of the PSW; else nothing changes.
+#[inline(always)]
+pub fn copy_granted<S: Storage>(cpu: &Cpu, storage: &mut S, from: u32, to: u32, count: u32) -> bool
+    requires { count ≤ 256 }
+    ensures granted { let m = state_of cpu.now (S.bytes storage.old) (S.keys storage.old) in
+        result ≡ true → Grants m (S.present storage.old) (test_of Store to count ∷ test_of Fetch from count ∷ []) (Ok tt) }
+    ensures moved { result ≡ true → S.bytes storage.new ≡ put (S.bytes storage.old) to (slice_range (S.bytes storage.old) from (from + count)) }
+    ensures still { result ≡ false → S.bytes storage.new ≡ S.bytes storage.old }
+    ensures size { length (S.bytes storage.new) ≡ length (S.bytes storage.old) }
+    ensures keys { S.keys storage.new ≡ S.keys storage.old }
+    ensures present { S.present storage.new ≡ S.present storage.old }
+    ensures rest { S.Keeps storage.old storage.new }
+{
+    storage.copy_at_once(from, to, count, cpu.psw.key())
 }
 
 /// What the answer of a check is to the instruction that asked.

@@ -17,6 +17,10 @@ pub record Test : Type 0 where
 abbrev pub tested : Access → Range → Test
 tested access range = record { access = access; start = range.start; count = range.count }
 
+-- the access of this kind to so many bytes from an address on
+abbrev pub test_of : Access → ℕ → ℕ → Test
+test_of access start count = record { access = access; start = start; count = count }
+
 -- whether an access with this protection key passes a block with this key in storage: the key in storage has four bits of
 -- access control, and a last bit of fetch protection; a store passes where the access control matches the protection key,
 -- a fetch also where the bit is zero, and the protection key zero passes always

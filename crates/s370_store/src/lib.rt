@@ -18,8 +18,9 @@ mod protection;
 mod supply;
 mod words;
 
-ghost use Rattle.std.specs.Prelude.{◌≡◌, ℕ, ◌+◌, ◌*◌, ◌/◌, ◌<◌, ◌≤◌, List, [], ◌∷◌, Bool, IfSome, length, slice_index, slice_range, slice_set};
-ghost use Rattle.s370_store.specs.Access.{tested, IsVerdict, IsGranted, put};
+ghost use Rattle.std.specs.Prelude.{◌≡◌, ℕ, ◌+◌, ◌*◌, ◌/◌, ◌<◌, ◌≤◌, List, [], ◌∷◌, Bool, true, false, Ok, IfSome, length, slice_index, slice_range, slice_set};
+ghost use Rattle.s370_store.specs.Access.{tested, test_of, IsVerdict, IsGranted, put};
+ghost use Rattle.s370_store.specs.declared.Access.TheVariants.{Fetch, Store};
 ghost use Rattle.s370_store.specs.Blocks.{MayFetch};
 ghost use Rattle.s370_store.specs.declared.block.Block.{Block};
 
@@ -136,6 +137,19 @@ pub trait Storage {
         requires ends { start + length into.old ≤ block.first + 2048 }
         ensures { into.new ≡ slice_range (bytes self.now) start (start + length into.old) };
 
+    /// Whether one look grants an access to at most 256 bytes. Where it does not, `check` may grant it still: so this is for
+    /// code that has another way then.
+    #[inline(always)]
+    fn grants_at_once(&self, range: Range, access: Access, key: AccessKey) -> bool
+        requires { range.count ≤ 256 }
+        ensures { result ≡ true → IsVerdict (length (bytes self.now)) (keys self.now) (present self.now) key (tested access range ∷ []) (Ok tt) }
+    {
+        match self.check(range, access, key) {
+            Ok(()) => true,
+            Err(_) => false,
+        }
+    }
+
     /// Copies at most 256 bytes out, which `check` has granted.
     fn load(&self, start: u32, into: &mut [u8])
         requires granted { IsGranted (length (bytes self.now)) (present self.now) start (length into.old) }
@@ -168,6 +182,32 @@ pub trait Storage {
         let part = &mut buffer[..count as usize];
         self.load(from, part);
         self.store(to, part);
+    }
+
+    /// Copies at most 256 bytes from one place to another as if all were read before any is written, where one look at each
+    /// place grants it; else nothing changes.
+    #[inline(always)]
+    fn copy_at_once(&mut self, from: u32, to: u32, count: u32, key: AccessKey) -> bool
+        requires { count ≤ 256 }
+        ensures granted { result ≡ true → IsVerdict (length (bytes self.old)) (keys self.old) (present self.old) key (test_of Store to count ∷ test_of Fetch from count ∷ []) (Ok tt) }
+        ensures moved { result ≡ true → bytes self.new ≡ put (bytes self.old) to (slice_range (bytes self.old) from (from + count)) }
+        ensures still { result ≡ false → bytes self.new ≡ bytes self.old }
+        ensures size { length (bytes self.new) ≡ length (bytes self.old) }
+        ensures keys { keys self.new ≡ keys self.old }
+        ensures present { present self.new ≡ present self.old }
+        ensures rest { Keeps self.old self.new }
+    {
+        if count == 0 {
+            return false;
+        }
+        if !self.grants_at_once(Range { start: to, count }, Access::Store, key) {
+            return false;
+        }
+        if !self.grants_at_once(Range { start: from, count }, Access::Fetch, key) {
+            return false;
+        }
+        self.copy(from, to, count);
+        true
     }
 
     /// All is kept where nothing changes.
