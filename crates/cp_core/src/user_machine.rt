@@ -144,7 +144,9 @@ fn run_over(
     machine.run::<VirtualCpu, Dat<'_>>(&mut dat, count)
 }
 
-/// A tick of a machine whose storage is lent from frames.
+/// A tick of a machine whose storage is lent from frames. It is out of line, as lines are, so that a run has not to make room for
+/// what they say.
+#[inline(never)]
 fn tick_over(
     machine: &mut Machine,
     frames: &mut Frames,
@@ -173,6 +175,7 @@ fn tick_over(
 }
 
 /// A line to a machine whose storage is lent from frames.
+#[inline(never)]
 fn line_over(
     machine: &mut Machine,
     frames: &mut Frames,
