@@ -14,8 +14,8 @@ use crate::next::{Next, Reason, look};
 use crate::pending::Pending;
 use crate::unit::{Processor, accept, accept_status, instruct_saving};
 use s370_cpu::step_quickly;
-use s370_rows::Cpu;
 use s370_num::{AccessKey, Addr24};
+use s370_rows::Cpu;
 use s370_store::{Block, FramesOut, Keyed, Page, Storage};
 use s370_subchannels::Subchannels;
 use s370_supply::UnitSupply;
@@ -187,12 +187,7 @@ fn supplied<P: Processor, S: UnitSupply>(
 
 /// The block in which the next instruction lies, with room for the longest: the one that was found for the last, or another.
 #[inline(always)]
-fn block_of<S: Storage>(
-    storage: &S,
-    block: Block,
-    next: Addr24,
-    key: AccessKey,
-) -> Option<Block>
+fn block_of<S: Storage>(storage: &S, block: Block, next: Addr24, key: AccessKey) -> Option<Block>
     requires low { block.first < 16777216 }
     requires may_fetch { MayFetch (length (S.bytes storage.now)) (S.keys storage.now) (S.present storage.now) key block.first }
     requires placed { S.IsPlaced storage.now block }
