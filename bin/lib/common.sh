@@ -187,7 +187,7 @@ build() {
     crates=$(crates_of "$program_crate")
     # shellcheck disable=SC2086
     count=$(printf '%s\n' $crates | wc -l | tr -d ' ')
-    say "proving and building $program_crate, $count crates: the first time this takes 20 to 60 minutes by the host," \
+    say "proving and building $program_crate, $count crates: the first time this takes 15 to 60 minutes by the host," \
         "after an edit mostly less than one"
     say "the log is $log"
     number=0
