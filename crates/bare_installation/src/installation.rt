@@ -100,8 +100,10 @@ impl Installation {
         ensures devices { self.new.equipped.devices ≡ self.old.equipped.devices }
         ensures files { self.new.files ≡ self.old.files }
     {
-        self.machine
-            .run::<RealCpu, PlainStorage>(&mut self.storage, count)
+        let ran = self
+            .machine
+            .run::<RealCpu, PlainStorage>(&mut self.storage, count);
+        MachineRan::told(ran)
     }
 
     /// A tick of the interval timer, which steps where the machine runs. This takes no memory.

@@ -60,8 +60,10 @@ impl Bare {
     pub fn units(&mut self, count: u32) -> MachineRan
         ensures { run count self.old ≡ record { machine = self.new; units = result.ran.units; reason = result.ran.reason; notice = result.notice } }
     {
-        self.machine
-            .run::<RealCpu, PlainStorage>(&mut self.storage, count)
+        let ran = self
+            .machine
+            .run::<RealCpu, PlainStorage>(&mut self.storage, count);
+        MachineRan::told(ran)
     }
 
     /// A line that the operator types, and the response, if there is one. Where memory is refused nothing has happened,

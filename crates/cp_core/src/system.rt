@@ -4,7 +4,7 @@ ghost use Rattle.s370_store.specs.Access.{Touches};
 ghost use Rattle.s370_intr.specs.Laws.{begun};
 ghost use Rattle.s370_intr.specs.Run.{AllNeeded, IsLacking, RunNeeds};
 ghost use Rattle.cp_panel.specs.declared.line.LineError.TheVariants as errors;
-ghost use Rattle.cp_panel.specs.Run.{TellsRun};
+ghost use Rattle.cp_panel.specs.Run.{TellsRun, notice_of};
 ghost use Rattle.cp_panel.specs.Panel.{line, line_needs, line_room, switches};
 ghost use Rattle.cp_panel.specs.Tick.{TickNeeds, ticked};
 ghost use Rattle.cp_core.specs.Events.{MayTakeMemory, user_of};
@@ -17,8 +17,9 @@ use crate::user_machine::UserMachine;
 use cp_console::responses::Response;
 use cp_directory::Directory;
 use cp_frames::Frames;
-use cp_panel::{LineError, MachineRan};
+use cp_panel::{LineError, notice_of};
 use cp_users::UserNo;
+use s370_intr::Ran;
 use s370_store::FramesOut;
 use std::marker::Model;
 
@@ -108,10 +109,10 @@ impl System {
     }
 
     /// Lets a user's machine run. This takes no memory.
-    fn run(&mut self, user: usize, units: u32) -> MachineRan
+    fn run(&mut self, user: usize, units: u32) -> Ran
         requires { user < length self.old.machines }
-        ensures told { TellsRun units (machine_at self.old user) (record { machine = machine_at self.new user; units = result.ran.units; reason = result.ran.reason; notice = result.notice }) (HasNoRoom self.new.supply user) }
-        ensures supply { (pages : List ℕ) × IsBroughtFor user pages self.old.supply self.new.supply × AllNeeded (RunNeeds (machine_at self.old user).core result.ran.units result.ran.reason) pages × (length pages ≤ 9 * begun result.ran.units result.ran.reason) }
+        ensures told { TellsRun units (machine_at self.old user) (record { machine = machine_at self.new user; units = result.units; reason = result.reason; notice = notice_of result.reason }) (HasNoRoom self.new.supply user) }
+        ensures supply { (pages : List ℕ) × IsBroughtFor user pages self.old.supply self.new.supply × AllNeeded (RunNeeds (machine_at self.old user).core result.units result.reason) pages × (length pages ≤ 9 * begun result.units result.reason) }
         ensures machines { self.new.machines ≡ slice_set self.old.machines user (machine_at self.new user) }
         ensures between_before { IsBetweenUnits self.old.supply }
         ensures between { IsBetweenUnits self.new.supply }
@@ -179,10 +180,10 @@ impl System {
         match event {
             Event::Run(user, units) => {
                 let place = self.place_of(user)?;
-                let MachineRan { ran, notice } = self.run(place, units);
+                let ran = self.run(place, units);
                 Ok(Reply {
                     ended: Ended::Ran(ran),
-                    said: notice,
+                    said: notice_of(ran.reason),
                 })
             }
             Event::Line(user, typed) => {

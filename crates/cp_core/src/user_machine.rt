@@ -8,7 +8,7 @@ ghost use Rattle.cp_frames.specs.Paging.{IsRefused};
 ghost use Rattle.cp_frames.specs.Supplied.{HasNoRoom, IsBetweenUnits, IsBroughtFor, IsPagedFor};
 ghost use Rattle.cp_panel.specs.declared.line.LineError.TheVariants as errors;
 ghost use Rattle.cp_panel.specs.Machine.{machine_of as parts_with, unused};
-ghost use Rattle.cp_panel.specs.Run.{TellsRun};
+ghost use Rattle.cp_panel.specs.Run.{TellsRun, notice_of};
 ghost use Rattle.cp_panel.specs.Panel.{line, line_needs, line_room, switches};
 ghost use Rattle.cp_panel.specs.Tick.{TickNeeds, ticked};
 ghost use Rattle.cp_core.specs.UserMachines.{Fits, machine_of};
@@ -16,9 +16,10 @@ ghost use Rattle.cp_core.specs.Supply.{IsGivenBack, IsShort};
 
 use cp_console::responses::Response;
 use cp_frames::{Dat, Frames};
-use cp_panel::{LineError, Machine, MachineRan};
+use cp_panel::{LineError, Machine};
 use cp_trap::VirtualCpu;
 use cp_users::UserNo;
+use s370_intr::Ran;
 use s370_num::StorageKey;
 use s370_store::FramesOut;
 use s370_subchannels::Subchannels;
@@ -55,14 +56,14 @@ impl UserMachine {
     }
 
     /// Lets the machine run for at most so many units. This takes no memory.
-    pub fn run(&mut self, frames: &mut Frames, user: UserNo, count: u32) -> MachineRan
+    pub fn run(&mut self, frames: &mut Frames, user: UserNo, count: u32) -> Ran
         requires fits { Fits self.old (bytes_of frames.old user) }
         requires between { IsBetweenUnits frames.old.supply }
         ensures told { let before = machine_of self.old (bytes_of frames.old user) in
             let after = machine_of self.new (bytes_of frames.new user) in
-            TellsRun count before (record { machine = after; units = result.ran.units; reason = result.ran.reason; notice = result.notice }) (HasNoRoom frames.new.supply user) }
+            TellsRun count before (record { machine = after; units = result.units; reason = result.reason; notice = notice_of result.reason }) (HasNoRoom frames.new.supply user) }
         ensures supply { let before = machine_of self.old (bytes_of frames.old user) in
-            (pages : List ℕ) × IsBroughtFor user pages frames.old.supply frames.new.supply × AllNeeded (RunNeeds before.core result.ran.units result.ran.reason) pages × (length pages ≤ 9 * begun result.ran.units result.ran.reason) }
+            (pages : List ℕ) × IsBroughtFor user pages frames.old.supply frames.new.supply × AllNeeded (RunNeeds before.core result.units result.reason) pages × (length pages ≤ 9 * begun result.units result.reason) }
         ensures others { frames.new.storages ≡ slice_set frames.old.storages user (bytes_of frames.new user) }
         ensures fits { Fits self.new (bytes_of frames.new user) }
         ensures between { IsBetweenUnits frames.new.supply }
@@ -127,15 +128,15 @@ fn run_over(
     keys: &mut [StorageKey],
     user: UserNo,
     count: u32,
-) -> MachineRan
+) -> Ran
     requires large { 8192 ≤ length (bytes_of frames.old user) }
     requires keyed { length (bytes_of frames.old user) ≤ 2048 * length keys.old }
     requires between { IsBetweenUnits frames.old.supply }
     ensures told { let before = parts_with machine.old (bytes_of frames.old user) keys.old in
         let after = parts_with machine.new (bytes_of frames.new user) keys.new in
-        TellsRun count before (record { machine = after; units = result.ran.units; reason = result.ran.reason; notice = result.notice }) (HasNoRoom frames.new.supply user) }
+        TellsRun count before (record { machine = after; units = result.units; reason = result.reason; notice = notice_of result.reason }) (HasNoRoom frames.new.supply user) }
     ensures supply { let before = parts_with machine.old (bytes_of frames.old user) keys.old in
-        (pages : List ℕ) × IsBroughtFor user pages frames.old.supply frames.new.supply × AllNeeded (RunNeeds before.core result.ran.units result.ran.reason) pages × (length pages ≤ 9 * begun result.ran.units result.ran.reason) }
+        (pages : List ℕ) × IsBroughtFor user pages frames.old.supply frames.new.supply × AllNeeded (RunNeeds before.core result.units result.reason) pages × (length pages ≤ 9 * begun result.units result.reason) }
     ensures between { IsBetweenUnits frames.new.supply }
     ensures others { frames.new.storages ≡ slice_set frames.old.storages user (bytes_of frames.new user) }
     ensures size { length (bytes_of frames.new user) ≡ length (bytes_of frames.old user) }

@@ -27,4 +27,4 @@ mod tick;
 pub use display_store::{change, display};
 pub use line::LineError;
 pub use machine::{Machine, Mode};
-pub use run::MachineRan;
+pub use run::{MachineRan, notice_of};

@@ -19,7 +19,8 @@ pub struct MachineRan {
 }
 
 /// The notice of a machine that stops by itself.
-fn notice_of(reason: Reason) -> Option<Response>
+#[inline]
+pub fn notice_of(reason: Reason) -> Option<Response>
     ensures { result ≡ notice_of reason }
 {
     match reason {
@@ -29,26 +30,30 @@ fn notice_of(reason: Reason) -> Option<Response>
     }
 }
 
-/// What a run tells.
-fn told(units: u32, reason: Reason, notice: Option<Response>) -> MachineRan
-    ensures units { result.ran.units ≡ units }
-    ensures reason { result.ran.reason ≡ reason }
-    ensures notice { result.notice ≡ notice }
-{
-    let ran = Ran { units, reason };
-    MachineRan { ran, notice }
+impl MachineRan {
+    /// What a run tells, with its notice.
+    pub fn told(ran: Ran) -> MachineRan
+        ensures ran { result.ran ≡ ran }
+        ensures notice { result.notice ≡ notice_of ran.reason }
+    {
+        MachineRan {
+            ran,
+            notice: notice_of(ran.reason),
+        }
+    }
 }
 
 impl Machine {
-    /// Lets the machine run for at most so many units. This takes no memory.
-    pub fn run<P: Processor, S: UnitSupply>(&mut self, storage: &mut S, count: u32) -> MachineRan
+    /// Lets the machine run for at most so many units. This takes no memory. What it printed, if it stopped, is [`notice_of`]
+    /// the reason: a run that goes on carries no room for it.
+    pub fn run<P: Processor, S: UnitSupply>(&mut self, storage: &mut S, count: u32) -> Ran
         requires large { 8192 ≤ length (S.Storage.bytes storage.old) }
         requires between { S.IsBetween storage.old }
         ensures told { let before = machine_of self.old (S.Storage.bytes storage.old) (S.Storage.keys storage.old) in
             let after = machine_of self.new (S.Storage.bytes storage.new) (S.Storage.keys storage.new) in
-            TellsRun count before (record { machine = after; units = result.ran.units; reason = result.ran.reason; notice = result.notice }) (S.IsOut storage.new) }
+            TellsRun count before (record { machine = after; units = result.units; reason = result.reason; notice = notice_of result.reason }) (S.IsOut storage.new) }
         ensures supply { let before = machine_of self.old (S.Storage.bytes storage.old) (S.Storage.keys storage.old) in
-            (pages : List ℕ) × S.Came storage.old pages storage.new × AllNeeded (RunNeeds before.core result.ran.units result.ran.reason) pages × (length pages ≤ 9 * begun result.ran.units result.ran.reason) }
+            (pages : List ℕ) × S.Came storage.old pages storage.new × AllNeeded (RunNeeds before.core result.units result.reason) pages × (length pages ≤ 9 * begun result.units result.reason) }
         ensures between { S.IsBetween storage.new }
         ensures size { length (S.Storage.bytes storage.new) ≡ length (S.Storage.bytes storage.old) }
         ensures room { length self.new.output + self.new.room ≡ length self.old.output + self.old.room }
@@ -56,18 +61,21 @@ impl Machine {
         match self.mode {
             Mode::Running => {}
             Mode::Off | Mode::Stopped => {
-                return told(0, Reason::Stopped, None);
+                return Ran {
+                    units: 0,
+                    reason: Reason::Stopped,
+                };
             }
         }
-        let Ran { units, reason } = run_units::<P, S>(
+        let ran = run_units::<P, S>(
             &mut self.cpu,
             &mut self.pending,
             &mut self.subchannels,
             storage,
             count,
         );
-        self.halt(notice_of(reason));
-        told(units, reason, notice_of(reason))
+        self.halt(notice_of(ran.reason));
+        ran
     }
 
     /// Stops the machine with a notice, where there is one.

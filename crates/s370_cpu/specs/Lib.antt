@@ -8,4 +8,3 @@ pub mod StoreRows
 pub mod Control
 pub mod Table
 pub mod Laws
-pub mod Quick

@@ -4,8 +4,7 @@
 //! stop, that the instruction table in `specs/` does (IBM System/370 Principles of Operation, GA22-7000); or it answers
 //! that a page is not present, which the instruction has to access, and has changed nothing. It is given the registers
 //! and a storage, and it takes no interruption: who calls it swaps the program status words, and goes on with an
-//! instruction for the supervisor state by [`supervise`], of which the same holds over the table of those. The most frequent
-//! instructions are done by [`step_quickly`], or nothing is changed.
+//! instruction for the supervisor state by [`supervise`], of which the same holds over the table of those.
 //!
 //! Of the table itself five laws hold, over all instructions: a byte that is changed was tested for storing
 //! ([`changed_bytes_were_tested`]), its block's key in storage matches the protection key ([`protection_holds`]), the
@@ -21,16 +20,19 @@ mod fetch_rows;
 mod known;
 mod laws;
 mod opcodes;
-mod quick;
 mod register_rows;
 mod store_rows;
 mod unit;
 
 pub use conclude::Stop;
 pub use control::supervise;
+pub use execute::EXECUTE;
+pub use fetch::length_of;
+pub use known::load_known_in;
 pub use laws::{
     changed_bytes_were_tested, few_pages_are_asked_for, few_ranges_are_tested, problem_state_holds,
     protection_holds,
 };
-pub use quick::step_quickly;
+pub use opcodes::Branching;
+pub use register_rows::{branch_register, branch_to, load_address, register_operation};
 pub use unit::step;

@@ -1,5 +1,6 @@
 //! The rows that access no storage.
-ghost use Rattle.std.specs.Prelude.{◌≡◌, ℕ, ◌<◌, ◌==◌, not, Ok, slice_index, true};
+ghost use Rattle.std.specs.Prelude.{◌≡◌, ℕ, ◌<◌, ◌==◌, not, Ok, false, slice_index, true};
+ghost use Rattle.s370_rows.specs.declared.place.Place.{Place};
 ghost use Rattle.s370_rows.specs.Formats.{indexed_address, r1_of, r2_of};
 ghost use Rattle.s370_rows.specs.Load.{address_loaded};
 ghost use Rattle.s370_rows.specs.Product.{multiplied, quotient_left};
@@ -78,11 +79,29 @@ fn shift_pair(shift: Shift, cpu: &mut Cpu, i: Instruction) -> Result<Ending, Pro
     Ok(shift_pair_row(shift, cpu, i.r1(), count))
 }
 
+/// Whether a branch is taken where there is an address to branch to.
+#[inline(always)]
+fn is_taken(kind: Branching, cpu: &Cpu, i: Instruction) -> bool
+    ensures { result ≡ false → (place : Place) → (target : ℕ) → branched kind cpu.now place i true target ≡ branched kind cpu.now place i false 0 }
+{
+    match kind {
+        Branching::Count => cpu.general[i.r1().index()] != 1,
+        Branching::Condition => i.r1().number() >> (3 - cpu.psw.condition().get()) & 1 == 1,
+        Branching::Link => true,
+    }
+}
+
 /// 45 BAL, 46 BCT, 47 BC: a branch to the second operand's address.
+///
+/// The address is made up only for a branch that is taken. So the real processor foretells which instruction comes next, and
+/// does not wait for the count or the condition to choose between two addresses.
 #[inline(always)]
 pub fn branch_to(kind: Branching, cpu: &mut Cpu, place: Place, i: Instruction) -> Ending
     ensures { branched kind cpu.old place i true (indexed_address cpu.old (r2_of i) i.second_half) ≡ record { ending = result; cpu = cpu.new } }
 {
+    if !is_taken(kind, cpu, i) {
+        return branch_row(kind, cpu, place, i, false, 0);
+    }
     let target = cpu.indexed(i.r2(), i.second_half).get();
     branch_row(kind, cpu, place, i, true, target)
 }

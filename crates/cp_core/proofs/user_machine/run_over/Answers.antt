@@ -3,7 +3,7 @@ use Rattle.cp_frames.specs.Layout.{Pool, bytes_of}
 use Rattle.cp_frames.specs.Lent.{user_of, lent_pool, lent_keys}
 use Rattle.cp_frames.specs.Supplied.{HasNoRoom}
 use Rattle.cp_panel.specs.Machine.{machine_of as parts_with}
-use Rattle.cp_panel.specs.Run.{TellsRun}
+use Rattle.cp_panel.specs.Run.{TellsRun, notice_of}
 use Rattle.cp_core.proofs.user_machine.run_over.Goals as goal
 
 pub returns-clause-told : goal.returns-clause-told
@@ -15,7 +15,7 @@ returns-clause-told c =
     let after : user_of left ≡ c.args.user = c.run.ensures.supply.1.kept.same_user ∙ before in
     let Told : Pool → List ℕ → ℕ → ℕ → Type 0 =
     λ pool keys b a. TellsRun c.args.count (parts_with c.args.machine.now (bytes_of pool b) keys)
-    (record { machine = parts_with c.run.new.self (bytes_of (lent_pool left) a) (lent_keys left); units = r.ran.units; reason = r.ran.reason; notice = r.notice }) (HasNoRoom (lent_pool left).supply a) in
+    (record { machine = parts_with c.run.new.self (bytes_of (lent_pool left) a) (lent_keys left); units = r.units; reason = r.reason; notice = notice_of r.reason }) (HasNoRoom (lent_pool left).supply a) in
     let first : Told (lent_pool made) (lent_keys made) (user_of made) (user_of left) = c.run.ensures.told in
     let second : Told (lent_pool made) (lent_keys made) c.args.user (user_of left) = subst (λ (u : ℕ). Told (lent_pool made) (lent_keys made) u (user_of left)) before first in
     let third : Told (lent_pool made) (lent_keys made) c.args.user c.args.user = subst (λ (u : ℕ). Told (lent_pool made) (lent_keys made) c.args.user u) after second in

@@ -3,10 +3,10 @@ use Rattle.s370_rows.specs.Registers.{Ended}
 use Rattle.s370_rows.specs.State.{state_of}
 use Rattle.s370_rows.specs.Rows.{judged, outcome_of}
 use Rattle.s370_cpu.specs.Opcodes.{opcode_at}
-use Rattle.s370_cpu.specs.Quick.{MeetsQuick}
+use Rattle.s370_quick.specs.Quick.{MeetsQuick}
 use Rattle.s370_cpu.specs.Table.{row_named, untested}
-use Rattle.s370_cpu.proofs.Frequent.{branches_go_on, long_quiet, quick_done, quick_of, quick_part, quick_whole}
-use Rattle.s370_cpu.proofs.quick.perform_quickly.Goals as goal
+use Rattle.s370_quick.proofs.Frequent.{branches_go_on, long_quiet, quick_done, quick_of, quick_part, quick_whole}
+use Rattle.s370_quick.proofs.quick.perform_quickly.Goals as goal
 
 pub returns-in-7-clause-row : goal.returns-in-7-clause-row
 unfolding opcode_at

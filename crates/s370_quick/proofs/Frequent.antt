@@ -16,7 +16,7 @@ use Rattle.s370_rows.specs.Rows.{Left, MeetsRow, Outcome, Row, Stored, after, fa
 use Rattle.s370_cpu.specs.declared.conclude.Stop.TheVariants.{Done as DoneStop}
 use Rattle.s370_bytes.specs.Long.{long_moved}
 use Rattle.s370_cpu.specs.Laws.{rights_of}
-use Rattle.s370_cpu.specs.Quick.{GoesOn, MeetsAtOnce, MeetsQuick, part_of, whole_of}
+use Rattle.s370_quick.specs.Quick.{GoesOn, MeetsAtOnce, MeetsQuick, part_of, whole_of}
 use Rattle.s370_cpu.specs.Table.{row_of, unit}
 use Rattle.s370_cpu.specs.Unit.{Carries, MeetsUnit, Stopped, place_at, stopped}
 use Rattle.s370_cpu.proofs.Units.{carried_meets, whole_meets}

@@ -4,8 +4,8 @@ use Rattle.s370_rows.specs.State.{State, state_of}
 use Rattle.s370_rows.specs.Rows.{MeetsRow}
 use Rattle.s370_bytes.specs.Combine.{string_combined}
 use Rattle.s370_bytes.specs.declared.combine.Combine.TheVariants.{Move}
-use Rattle.s370_cpu.proofs.Frequent.{whole_done}
-use Rattle.s370_cpu.proofs.quick.move_quickly.Goals as goal
+use Rattle.s370_quick.proofs.Frequent.{whole_done}
+use Rattle.s370_quick.proofs.quick.move_quickly.Goals as goal
 
 pub returns-in-Ok-clause-done : goal.returns-in-Ok-clause-done
 returns-in-Ok-clause-done g c t =

@@ -2,7 +2,7 @@ use Rattle.std.proofs.Common.{◌≡◌, ◌%◌, arith}
 use Rattle.s370_rows.specs.State.{state_of}
 use Rattle.s370_store.proofs.Blocks.{block_passes}
 use Rattle.s370_cpu.proofs.Fetched.{fetch_finds}
-use Rattle.s370_cpu.proofs.quick.step_quickly.Goals as goal
+use Rattle.s370_quick.proofs.quick.step_quickly.Goals as goal
 
 pub step_found_quickly-requires-clause-found : goal.step_found_quickly-requires-clause-found
 step_found_quickly-requires-clause-found g c =

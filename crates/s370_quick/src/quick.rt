@@ -11,17 +11,16 @@ ghost use Rattle.s370_bytes.specs.declared.combine.Combine.TheVariants as combin
 ghost use Rattle.s370_rows.specs.Rows.{MeetsRow};
 ghost use Rattle.s370_rows.specs.declared.ending.Ending.TheVariants as endings;
 ghost use Rattle.s370_cpu.specs.Laws.{rights_of};
-ghost use Rattle.s370_cpu.specs.Quick.{GoesOn, MeetsAtOnce, MeetsQuick, part_of, whole_of};
+ghost use Rattle.s370_quick.specs.Quick.{GoesOn, MeetsAtOnce, MeetsQuick, part_of, whole_of};
 ghost use Rattle.s370_cpu.specs.Table.{row_of, unit};
 ghost use Rattle.s370_cpu.specs.Unit.{Carries, MeetsUnit, place_at, stopped};
 ghost use Rattle.s370_rows.specs.declared.arithmetic.Arithmetic.TheVariants as operations;
 
-use crate::execute::EXECUTE;
-use crate::fetch::length_of;
-use crate::known::load_known_in;
-use crate::opcodes::Branching;
-use crate::register_rows::{branch_register, branch_to, load_address, register_operation};
 use s370_bytes::{move_long_quickly, move_row, move_straight};
+use s370_cpu::{
+    Branching, EXECUTE, branch_register, branch_to, length_of, load_address, load_known_in,
+    register_operation,
+};
 use s370_num::Addr24;
 use s370_rows::{
     Arithmetic, ByteTest, Cpu, Ending, Instruction, Place, arithmetic_row, is_granted, test_byte,
