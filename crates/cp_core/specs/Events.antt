@@ -14,3 +14,9 @@ abbrev pub MayTakeMemory : Event → Type 0
 MayTakeMemory (Run user units) = ⊥
 MayTakeMemory (Line user typed) = Unit {0}
 MayTakeMemory (Tick user) = ⊥
+
+-- an event that is no run
+abbrev pub IsNoRun : Event → Type 0
+IsNoRun (Run user asked) = ⊥
+IsNoRun (Line user typed) = Unit {0}
+IsNoRun (Tick user) = Unit {0}

@@ -7,7 +7,7 @@ ghost use Rattle.cp_panel.specs.declared.line.LineError.TheVariants as errors;
 ghost use Rattle.cp_panel.specs.Run.{TellsRun, notice_of};
 ghost use Rattle.cp_panel.specs.Panel.{line, line_needs, line_room, switches};
 ghost use Rattle.cp_panel.specs.Tick.{TickNeeds, ticked};
-ghost use Rattle.cp_core.specs.Events.{MayTakeMemory, user_of};
+ghost use Rattle.cp_core.specs.Events.{IsNoRun, MayTakeMemory, user_of};
 ghost use Rattle.cp_core.specs.Supply.{IsGivenBack, IsShort};
 ghost use Rattle.cp_frames.specs.Supplied.{HasNoRoom, IsBetweenUnits, IsBroughtFor};
 ghost use Rattle.cp_core.specs.System.{EachIsBare, IsApplied, IsSupplied, IsTold, SystemView, machine_at};
@@ -168,7 +168,6 @@ impl System {
         ensures user { IsOk result → user_of event.entry < length self.old.machines }
         ensures users { self.new.users ≡ self.old.users }
         ensures alive { IsOk result → self.new.is_spent ≡ false }
-
         ensures spent { (result ≡ Err CpError.Spent) ↔ (self.old.is_spent ≡ true) }
         ensures unchanged_if_spent { result ≡ Err CpError.Spent → self.new ≡ self.old }
         ensures no_such_user { (result ≡ Err CpError.NoSuchUser) ↔ ((self.old.is_spent ≡ false) × (length self.old.machines ≤ user_of event.entry)) }
@@ -186,6 +185,31 @@ impl System {
                     said: notice_of(ran.reason),
                 })
             }
+            Event::Line(user, typed) => self.apply_apart(Event::Line(user, typed)),
+            Event::Tick(user) => self.apply_apart(Event::Tick(user)),
+        }
+    }
+
+    /// Applies an event that is no run. It is out of line, so that a run has not to make room for what the others say.
+    #[inline(never)]
+    fn apply_apart(&mut self, event: Event<'_>) -> Result<Reply, CpError>
+        requires { IsNoRun event }
+        ensures views { IfOk result (λ reply. IsApplied self.old event.entry reply self.new) }
+        ensures told { IfOk result (λ reply. IsTold self.old event.entry reply self.new) }
+        ensures supplied { IfOk result (λ reply. IsSupplied self.old event.entry reply self.new) }
+        ensures user { IsOk result → user_of event.entry < length self.old.machines }
+        ensures users { self.new.users ≡ self.old.users }
+        ensures alive { IsOk result → self.new.is_spent ≡ false }
+        ensures spent { (result ≡ Err CpError.Spent) ↔ (self.old.is_spent ≡ true) }
+        ensures unchanged_if_spent { result ≡ Err CpError.Spent → self.new ≡ self.old }
+        ensures no_such_user { (result ≡ Err CpError.NoSuchUser) ↔ ((self.old.is_spent ≡ false) × (length self.old.machines ≤ user_of event.entry)) }
+        ensures not_stated { result ≡ Err CpError.NoSuchUser → length self.old.users ≤ user_of event.entry }
+        ensures unchanged_for_nobody { result ≡ Err CpError.NoSuchUser → self.new ≡ self.old }
+        ensures memory { result ≡ Err CpError.Memory → (self.new.is_spent ≡ true) × MayTakeMemory event.entry }
+        ensures unchanged_without_memory { result ≡ Err CpError.Memory → (user : ℕ) → machine_at self.new user ≡ machine_at self.old user }
+    {
+        match event {
+            Event::Run(_, _) => unreachable!(),
             Event::Line(user, typed) => {
                 let place = self.place_of(user)?;
                 match self.line(place, typed) {

@@ -1,5 +1,5 @@
 //! One user's storage, lent from the frames.
-ghost use Rattle.std.specs.Prelude.{◌≡◌, ◌+◌, ◌*◌, ◌/◌, ◌<◌, ◌≤◌, ◌↔◌, ◌%◌, true, length, replicate, slice_index_or, slice_set, is_some, Ok, IfOk, IfSome, IfNone, OnErr, Some, None, false, [], ◌∷◌};
+ghost use Rattle.std.specs.Prelude.{◌≡◌, ◌+◌, ◌*◌, ◌/◌, ◌<◌, ◌≤◌, ◌↔◌, ◌%◌, true, length, replicate, slice_index_or, slice_set, is_some, Ok, IfOk, IfSome, IfNone, IsSome, OnErr, Some, None, false, [], ◌∷◌};
 ghost use Rattle.s370_store.specs.Access.{IsVerdict, tested};
 ghost use Rattle.cp_frames.specs.Layout.{bytes_of, frame_of, number_of, IsZeroPage};
 ghost use Rattle.cp_frames.specs.Paging.{IsBrought, IsOpen, IsRefused};
@@ -125,28 +125,30 @@ impl<'a> Dat<'a> {
         self.frames.unpin_all();
     }
 
-    /// Whether one look grants an access: it lies in one block, size and key pass it, and its page stands in a frame.
+    /// The frame of an access that one look grants: it lies in one block, size and key pass it, and its page stands in a frame.
     #[inline(always)]
-    fn is_open(&self, range: Range, access: Access, key: AccessKey) -> bool
+    fn open_frame(&self, range: Range, access: Access, key: AccessKey) -> Option<FrameNo>
         requires { range.count ≤ 256 }
-        ensures granted { result ≡ true → IsVerdict (length (lent_bytes self.now)) (lent_keys self.now) (is_lent_page self.now) key (tested access range ∷ []) (Ok tt) }
-        ensures some { result ≡ true → 0 < range.count }
-        ensures one_block { result ≡ true → range.start % 2048 + range.count ≤ 2048 }
+        ensures granted { IsSome result → IsVerdict (length (lent_bytes self.now)) (lent_keys self.now) (is_lent_page self.now) key (tested access range ∷ []) (Ok tt) }
+        ensures some { IsSome result → 0 < range.count }
+        ensures inside { IsSome result → range.start + range.count ≤ length (lent_bytes self.now) }
+        ensures one_block { IsSome result → range.start % 2048 + range.count ≤ 2048 }
+        ensures frame { IfSome result (λ frame. lent_frame self.now (range.start / 4096) ≡ Some frame.0) }
     {
         let Range { start, count } = range;
         if count == 0 {
-            return false;
+            return None;
         }
         if start % BLOCK_SIZE + count > BLOCK_SIZE {
-            return false;
+            return None;
         }
         match test_range(self.size, &Listed { keys: self.keys }, range, access, key) {
             Ok(()) => {}
-            Err(_) => return false,
+            Err(_) => return None,
         }
         match self.frames.frame_at(self.user, start) {
-            Some(_) => true,
-            None => false,
+            Some(frame) => Some(frame),
+            None => None,
         }
     }
 }
@@ -205,18 +207,24 @@ impl<'a> Storage for Dat<'a> {
 
     #[inline(always)]
     fn grants_at_once(&self, range: Range, access: Access, key: AccessKey) -> bool {
-        self.is_open(range, access, key)
+        match self.open_frame(range, access, key) {
+            Some(_) => true,
+            None => false,
+        }
     }
 
     #[inline(always)]
     fn copy_at_once(&mut self, from: u32, to: u32, count: u32, key: AccessKey) -> bool {
-        if !self.is_open(Range { start: to, count }, Access::Store, key) {
-            return false;
-        }
-        if !self.is_open(Range { start: from, count }, Access::Fetch, key) {
-            return false;
-        }
-        self.frames.copy_part(self.user, from, to, count);
+        let target = match self.open_frame(Range { start: to, count }, Access::Store, key) {
+            Some(frame) => usize::from(frame.0),
+            None => return false,
+        };
+        let source = match self.open_frame(Range { start: from, count }, Access::Fetch, key) {
+            Some(frame) => usize::from(frame.0),
+            None => return false,
+        };
+        self.frames
+            .copy_placed(self.user, source, from, target, to, count);
         true
     }
 

@@ -470,7 +470,7 @@ impl Frames {
 
     /// Copies bytes of one page into one page.
     #[inline(always)]
-    pub(crate) fn copy_part(&mut self, user: UserNo, from: u32, to: u32, count: u32)
+    fn copy_part(&mut self, user: UserNo, from: u32, to: u32, count: u32)
         requires source { from + count ≤ length (bytes_of self.old user) }
         requires target { to + count ≤ length (bytes_of self.old user) }
         requires some { 0 < count }
@@ -486,6 +486,33 @@ impl Frames {
     {
         let source = self.frame_with(user, from / PAGE_SIZE);
         let target = self.frame_with(user, to / PAGE_SIZE);
+        self.copy_placed(user, source, from, target, to, count);
+    }
+
+    /// Copies bytes of one page of a user into one page, which stand in these frames.
+    #[inline(always)]
+    pub(crate) fn copy_placed(
+        &mut self,
+        _user: UserNo,
+        source: usize,
+        from: u32,
+        target: usize,
+        to: u32,
+        count: u32,
+    )
+        requires source { from + count ≤ length (bytes_of self.old _user) }
+        requires target { to + count ≤ length (bytes_of self.old _user) }
+        requires some { 0 < count }
+        requires short { count ≤ 256 }
+        requires page_of_source { from % 4096 + count ≤ 4096 }
+        requires page_of_target { to % 4096 + count ≤ 4096 }
+        requires source_there { frame_of self.old.supply.owners _user (from / 4096) ≡ Some source }
+        requires target_there { frame_of self.old.supply.owners _user (to / 4096) ≡ Some target }
+        ensures bytes { bytes_of self.new _user ≡ put (bytes_of self.old _user) to (slice_range (bytes_of self.old _user) from (from + count)) }
+        ensures size { length (bytes_of self.new _user) ≡ length (bytes_of self.old _user) }
+        ensures others { self.new.storages ≡ slice_set self.old.storages _user (bytes_of self.new _user) }
+        ensures supply { self.new.supply ≡ self.old.supply }
+    {
         copy_over(
             &mut self.frames,
             source,

@@ -14,6 +14,7 @@ use crate::next::{Next, Reason, look};
 use crate::pending::Pending;
 use crate::unit::{Processor, accept, accept_status, instruct_saving};
 use s370_num::{AccessKey, Addr24};
+use s370_psw::Psw;
 use s370_quick::step_quickly;
 use s370_rows::Cpu;
 use s370_store::{Block, FramesOut, Keyed, Page, Storage};
@@ -259,6 +260,15 @@ fn go_quickly<S: Storage>(said: Next, cpu: &mut Cpu, storage: &mut S, limit: u32
     }
 }
 
+/// Registers of zeros, over which others are written before they are read.
+fn blank_cpu() -> Cpu {
+    Cpu {
+        general: [0; 16],
+        control: [0; 16],
+        psw: Psw::from_word(0),
+    }
+}
+
 /// At most so many units of a running processor. Each brings the pages that it needs, nine at most, and what is brought for
 /// one stays until it ends. This takes no memory.
 pub fn run_units<P: Processor, S: UnitSupply>(
@@ -278,7 +288,7 @@ pub fn run_units<P: Processor, S: UnitSupply>(
     ensures between { S.IsBetween storage.new }
     ensures size { length (S.Storage.bytes storage.new) ≡ length (S.Storage.bytes storage.old) }
 {
-    let mut spare = *cpu;
+    let mut spare = blank_cpu();
     let mut units = 0;
     while units < count {
         let next = look(cpu, *pending, subchannels);

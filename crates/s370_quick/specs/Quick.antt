@@ -1,8 +1,7 @@
 -- What an instruction may answer that is done only where nothing keeps it from being done.
-use Rattle.std.specs.Prelude.{◌≡◌, ℕ, Bool, true, false, Option, Some, None, Result, Ok, Err}
+use Rattle.std.specs.Prelude.{◌≡◌, ℕ, Bool, true, false, Option, Some, None, Ok}
 use Rattle.s370_rows.specs.declared.ending.Ending.{Ending}
 use Rattle.s370_rows.specs.declared.ending.Ending.TheVariants.{Done, Branch, Again, Interrupted, SupervisorCall, InputOutput}
-use Rattle.s370_rows.specs.declared.ending.Refusal.{Refusal}
 use Rattle.s370_rows.specs.State.{State}
 use Rattle.s370_rows.specs.Rows.{Row, MeetsRow}
 use Rattle.s370_cpu.specs.Laws.{rights_of}

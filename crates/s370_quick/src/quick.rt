@@ -9,6 +9,7 @@ ghost use Rattle.s370_cpu.specs.StoreRows.{word_stored};
 ghost use Rattle.s370_bytes.specs.Combine.{string_combined};
 ghost use Rattle.s370_bytes.specs.declared.combine.Combine.TheVariants as combines;
 ghost use Rattle.s370_rows.specs.Rows.{MeetsRow};
+ghost use Rattle.s370_rows.specs.declared.instruction.Instruction.{Instruction};
 ghost use Rattle.s370_rows.specs.declared.ending.Ending.TheVariants as endings;
 ghost use Rattle.s370_cpu.specs.Laws.{rights_of};
 ghost use Rattle.s370_quick.specs.Quick.{GoesOn, MeetsAtOnce, MeetsQuick, part_of, whole_of};
@@ -347,10 +348,10 @@ fn test_byte_quickly<S: Storage>(
     Some(Ending::Done)
 }
 
-/// D2 MVC: as one copy, where it is one. Else its row is a call; one call more would copy the instruction, which the processor
-/// was just writing byte by byte.
+/// D2 MVC: as one copy, where it is one.
 #[inline(always)]
 fn move_quickly<S: Storage>(cpu: &mut Cpu, storage: &mut S, i: Instruction) -> bool
+    requires { i.opcode ≡ 0xD2 }
     ensures done { let before = state_of cpu.old (S.bytes storage.old) (S.keys storage.old) in
         let after = state_of cpu.new (S.bytes storage.new) (S.keys storage.new) in
         result ≡ true → MeetsRow (string_combined combines.Move before i) (S.present storage.old) before (Ok endings.Done) after }
@@ -364,6 +365,36 @@ fn move_quickly<S: Storage>(cpu: &mut Cpu, storage: &mut S, i: Instruction) -> b
     if move_straight(cpu, storage, i) {
         return true;
     }
+    move_apart(cpu, storage, i.second_byte, i.second_half, i.third_half)
+}
+
+/// D2 MVC by its row. It is given the parts of the instruction, so that the loop need not write the instruction to memory for an
+/// MVC that is one copy.
+#[inline(never)]
+fn move_apart<S: Storage>(
+    cpu: &mut Cpu,
+    storage: &mut S,
+    second_byte: u8,
+    second_half: u16,
+    third_half: u16,
+) -> bool
+    ensures done { let before = state_of cpu.old (S.bytes storage.old) (S.keys storage.old) in
+        let after = state_of cpu.new (S.bytes storage.new) (S.keys storage.new) in
+        let i : Instruction = record { opcode = 0xD2; second_byte = second_byte; second_half = second_half; third_half = third_half } in
+        result ≡ true → MeetsRow (string_combined combines.Move before i) (S.present storage.old) before (Ok endings.Done) after }
+    ensures still { let before = state_of cpu.old (S.bytes storage.old) (S.keys storage.old) in
+        let after = state_of cpu.new (S.bytes storage.new) (S.keys storage.new) in
+        result ≡ false → after ≡ before }
+    ensures size { length (S.bytes storage.new) ≡ length (S.bytes storage.old) }
+    ensures present { S.present storage.new ≡ S.present storage.old }
+    ensures rest { S.Keeps storage.old storage.new }
+{
+    let i = Instruction {
+        opcode: 0xD2,
+        second_byte,
+        second_half,
+        third_half,
+    };
     match move_row(cpu, storage, i) {
         Ok(_) => true,
         Err(_) => false,

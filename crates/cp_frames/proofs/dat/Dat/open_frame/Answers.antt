@@ -1,10 +1,10 @@
 use Rattle.std.proofs.Common.{arith, ◌≡◌, ◌+◌, ◌/◌, true, sym, ap, Option, ℕ}
 use Rattle.std.specs.Prelude.{is_some}
 use Rattle.cp_frames.specs.Lent.{is_lent_page}
-use Rattle.cp_frames.proofs.dat.Dat.is_open.Goals as goal
+use Rattle.cp_frames.proofs.dat.Dat.open_frame.Goals as goal
 
 pub returns-in-Some-clause-granted : goal.returns-in-Some-clause-granted
-returns-in-Some-clause-granted c yes_it_is =
+returns-in-Some-clause-granted c is_there =
     let d = c.args.self.now in
     let start = c.args.range.start in
     let there : is_lent_page d (start / 4096) ≡ true = ap (λ (o : Option ℕ). is_some o) (sym c.in-Some.ensures) in
