@@ -86,24 +86,22 @@ fn said(system: &mut System, user: UserNo, typed: &[u8]) -> Result<Option<Respon
     Ok(reply.said)
 }
 
-/// Lets a user run: how many units were done, and what was said.
-fn ran(system: &mut System, user: UserNo, units: u32) -> Result<(u32, Option<Response>)> {
-    let reply = system.apply(Event::Run(user, units))?;
-    match reply.ended {
-        Ended::Ran(ran) => Ok((ran.units, reply.said)),
-        Ended::Done | Ended::FramesOut => Ok((0, reply.said)),
-    }
-}
-
 /// Units of a bare machine: how many were done.
 fn on_bare(machine: &mut Bare, units: u32) -> u64 {
     u64::from(machine.units(units).ran.units)
 }
 
-/// Units of a user: how many were done.
-fn of_user(system: &mut System, user: UserNo, units: u32) -> Result<u64> {
-    let (done, _said) = ran(system, user, units)?;
-    Ok(u64::from(done))
+/// Units of a user: how many were done, if the system lives. It makes no error, whose place would be a part of each turn.
+fn of_user(system: &mut System, user: UserNo, units: u32) -> Option<u64> {
+    let reply = match system.apply(Event::Run(user, units)) {
+        Ok(reply) => reply,
+        Err(_) => return None,
+    };
+    let _said: Option<Response> = reply.said;
+    Some(match reply.ended {
+        Ended::Ran(ran) => u64::from(ran.units),
+        Ended::Done | Ended::FramesOut => 0,
+    })
 }
 
 /// Units of all users in turns: how many were done together.
@@ -111,7 +109,10 @@ fn in_turns(system: &mut System, units: u32) -> Result<u64> {
     let mut done = 0u64;
     for _ in 0..units / (TURN * u32::from(USERS)) {
         for user in 0..USERS {
-            done = done.wrapping_add(of_user(system, UserNo::new(user), TURN)?);
+            match of_user(system, UserNo::new(user), TURN) {
+                Some(units) => done = done.wrapping_add(units),
+                None => bail!("the system is spent"),
+            }
         }
     }
     Ok(done)
@@ -139,7 +140,10 @@ impl Guests {
     pub fn run(&mut self, units: u32) -> Result<u64> {
         match self {
             Guests::Bare(machine) => Ok(on_bare(machine, units)),
-            Guests::One(system) => of_user(system, UserNo::new(0), units),
+            Guests::One(system) => match of_user(system, UserNo::new(0), units) {
+                Some(done) => Ok(done),
+                None => bail!("the system is spent"),
+            },
             Guests::Eight(system) => in_turns(system, units),
         }
     }

@@ -161,6 +161,7 @@ impl System {
     /// Applies an event. To the user whom it names it is what a bare machine does; every other user's machine stays.
     ///
     /// A system for which memory was refused is spent: from then on it answers nothing else.
+    #[inline(always)]
     pub fn apply(&mut self, event: Event<'_>) -> Result<Reply, CpError>
         ensures views { IfOk result (λ reply. IsApplied self.old event.entry reply self.new) }
         ensures told { IfOk result (λ reply. IsTold self.old event.entry reply self.new) }
