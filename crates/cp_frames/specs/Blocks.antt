@@ -1,16 +1,19 @@
 -- Where the block stands from which instructions are fetched.
-use Rattle.std.specs.Prelude.{◌≡◌, ℕ, ◌+◌, ◌/◌, ◌%◌, ◌≤◌, length, Some}
-use Rattle.std.proofs.Common.{◌∙◌, ap, sym}
+use Rattle.std.specs.Prelude.{◌≡◌, ℕ, ◌+◌, ◌/◌, ◌%◌, ◌<◌, ◌≤◌, length, Some}
+use Rattle.std.proofs.Common.{◌∙◌, ap}
 use Rattle.s370_store.specs.declared.block.Block.{Block}
 use Rattle.cp_frames.specs.declared.dat.Dat.{Dat}
 use Rattle.cp_frames.specs.Layout.{FrameSupply, frame_of}
 use Rattle.cp_frames.specs.Lent.{KeepsRest, lent_bytes, lent_frame}
 
--- a block of the user's storage, of which the page stands in the frame that is its place
+-- a block of the user's storage, of which the page stands in a frame: its place is that of its first byte among the bytes of
+-- all frames, one after another
 pub record IsInFrame (d : Dat) (block : Block) : Type 0 where
   pub aligned : block.first % 2048 ≡ 0
   pub inside : block.first + 2048 ≤ length (lent_bytes d)
-  pub frame : lent_frame d (block.first / 4096) ≡ Some block.place
+  pub frame : lent_frame d (block.first / 4096) ≡ Some (block.place / 4096)
+  pub offset : block.place % 4096 ≡ block.first % 4096
+  pub low : block.place < 268435456
 
 -- where no page moves it stays there
 pub in_frame_kept : (s t : Dat) (block : Block) → length (lent_bytes t) ≡ length (lent_bytes s) → KeepsRest s t → IsInFrame s block → IsInFrame t block
@@ -18,4 +21,6 @@ in_frame_kept s t block e k h = record {
   aligned = h.aligned;
   inside = rw e h.inside;
   frame = ap (λ (supply : FrameSupply). frame_of supply.owners t.user (block.first / 4096)) k.same_supply ∙ (ap (λ (user : ℕ). frame_of s.frames.now.supply.owners user (block.first / 4096)) k.same_user ∙ h.frame);
+  offset = h.offset;
+  low = h.low;
 }

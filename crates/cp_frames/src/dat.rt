@@ -5,7 +5,7 @@ ghost use Rattle.cp_frames.specs.Layout.{bytes_of, frame_of, number_of, IsZeroPa
 ghost use Rattle.cp_frames.specs.Paging.{IsBrought, IsOpen, IsRefused};
 ghost use Rattle.cp_frames.specs.Tables.{segment_entry, page_entry};
 
-use crate::{FrameNo, Frames};
+use crate::{FRAME_SIZE, FrameNo, Frames};
 use cp_users::UserNo;
 use s370_num::{AccessKey, StorageKey};
 use s370_store::{
@@ -237,7 +237,7 @@ impl<'a> Storage for Dat<'a> {
         match self.frames.frame_at(self.user, first) {
             Some(frame) => Some(Block {
                 first,
-                place: usize::from(frame.0),
+                place: usize::from(frame.0) * FRAME_SIZE + (first % PAGE_SIZE) as usize,
             }),
             None => None,
         }
@@ -245,7 +245,8 @@ impl<'a> Storage for Dat<'a> {
 
     #[inline(always)]
     fn load_in(&self, block: Block, start: u32, into: &mut [u8]) {
-        self.frames.load_in(self.user, block.place, start, into);
+        let place = block.place + (start - block.first) as usize;
+        self.frames.load_in(self.user, place, start, into);
     }
 
     #[inline(always)]

@@ -5,7 +5,7 @@ ghost use Rattle.s370_store.specs.Access.{put, IsGranted};
 ghost use Rattle.cp_frames.specs.Layout.{frame_of, number_of, held, is_there, IsZeroPage, cleared_of};
 ghost use Rattle.cp_frames.specs.Tables.{segment_entry, page_entry, walk};
 
-use crate::frame::{blank_frames, copy_in, copy_out, copy_over};
+use crate::frame::{blank_frames, copy_in, copy_out, copy_out_at, copy_over};
 use crate::order::all_frames;
 use crate::owners::{clear_pins, free_frames, leave, leave_slots, no_pins};
 use crate::table::{
@@ -385,12 +385,24 @@ impl Frames {
         ensures fits { length (bytes_of self.now user) ≤ 4194304 }
     {
         let frame = self.frame_with(user, start / PAGE_SIZE);
-        self.load_in(user, frame, start, into);
+        self.load_from(user, frame, start, into);
+    }
+
+    /// Copies bytes of one page of a user out, of which the first has this place among the bytes of all frames.
+    #[inline(always)]
+    pub(crate) fn load_in(&self, _user: UserNo, place: usize, start: u32, into: &mut [u8])
+        requires within { start + length into.old ≤ length (bytes_of self.now _user) }
+        requires one_page { start % 4096 + length into.old ≤ 4096 }
+        requires there { frame_of self.now.supply.owners _user (start / 4096) ≡ Some (place / 4096) }
+        requires offset { place % 4096 ≡ start % 4096 }
+        ensures { into.new ≡ slice_range (bytes_of self.now _user) start (start + length into.old) }
+    {
+        copy_out_at(&self.frames, place, into);
     }
 
     /// Copies bytes of one page of a user out, which stands in this frame.
     #[inline(always)]
-    pub(crate) fn load_in(&self, _user: UserNo, frame: usize, start: u32, into: &mut [u8])
+    fn load_from(&self, _user: UserNo, frame: usize, start: u32, into: &mut [u8])
         requires within { start + length into.old ≤ length (bytes_of self.now _user) }
         requires one_page { start % 4096 + length into.old ≤ 4096 }
         requires there { frame_of self.now.supply.owners _user (start / 4096) ≡ Some frame }
