@@ -245,9 +245,7 @@ impl<'a> Storage for Dat<'a> {
 
     #[inline(always)]
     fn load_in(&self, block: Block, start: u32, into: &mut [u8]) {
-        // As `Block::has_room` has it, so that it is made once for both.
-        let offset = start.wrapping_sub(block.first);
-        let place = block.place + offset as usize;
+        let place = block.place + (start - block.first) as usize;
         self.frames.load_in(self.user, place, start, into);
     }
 
