@@ -97,6 +97,7 @@ fn of_user(system: &mut System, user: UserNo, units: u32) -> Option<u64> {
         Ok(reply) => reply,
         Err(_) => return None,
     };
+    // The prover finds the type of what was said only where a function names it.
     let _said: Option<Response> = reply.said;
     Some(match reply.ended {
         Ended::Ran(ran) => u64::from(ran.units),

@@ -10,7 +10,7 @@
 //! let mut machine = Machine::new(alloc, Subchannels::new(alloc));
 //! machine.line(&mut storage, b"LOGON")?;
 //! machine.line(&mut storage, b"BEGIN 100")?;
-//! let told = machine.run::<RealCpu, _>(&mut storage, 100);
+//! let ran = machine.run::<RealCpu, _>(&mut storage, 100);
 //! ```
 #![tactic(auto)]
 

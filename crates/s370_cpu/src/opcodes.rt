@@ -8,8 +8,11 @@ use s370_rows::{Arithmetic, ByteChange, ByteTest, IndexBranch, IoOperation, Shif
 /// When a branch is taken, and what else it does.
 #[derive(Clone, Copy, Debug, PartialEq, Eq)]
 pub enum Branching {
+    /// Where one less is left in a register.
     Count,
+    /// Where the mask has the condition code's bit.
     Condition,
+    /// Always; a register takes the link information.
     Link,
 }
 
