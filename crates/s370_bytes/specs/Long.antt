@@ -1,5 +1,5 @@
 -- MVCL and CLCL, a part of at most 256 bytes at a time: GA22-7000, "Move Long" and "Compare Logical Long".
-use Rattle.std.specs.Prelude.{ℕ, ◌+◌, ◌-◌, ◌*◌, ◌/◌, ◌%◌, ◌^◌, ◌==◌, nat_lt, if◌then◌else◌, ◌&&◌, Bool, List, [], ◌∷◌, slice_index, slice_range, min, max, None}
+use Rattle.std.specs.Prelude.{◌≡◌, ◌≢◌, ℕ, ◌+◌, ◌-◌, ◌*◌, ◌/◌, ◌%◌, ◌^◌, ◌==◌, nat_lt, if◌then◌else◌, ◌&&◌, Bool, List, [], ◌∷◌, slice_index, slice_range, min, max, None}
 use Rattle.s370_psw.specs.declared.program.ProgramCode.TheVariants.{Specification}
 use Rattle.s370_rows.specs.declared.cpu.Cpu.{Cpu}
 use Rattle.s370_rows.specs.declared.instruction.Instruction.{Instruction}
@@ -23,6 +23,12 @@ operand_of cpu r = record {
 
 abbrev pub with_operand : Cpu → ℕ → Operand → Cpu
 with_operand cpu r o = with_register (with_register cpu r o.address) (r + 1) (o.pad * 2 ^ 24 + o.count)
+
+-- registers that begin two pairs, of which none is in both
+pub record ArePairs (r1 r2 : ℕ) : Type 0 where
+  pub first : r1 % 2 ≡ 0
+  pub second : r2 % 2 ≡ 0
+  pub apart : r1 ≢ r2
 
 -- what is left of an operand after n bytes of it
 abbrev pub past : Operand → ℕ → Operand

@@ -1,10 +1,11 @@
 //! The long move and the long comparison, a part of at most 256 bytes at a time.
 ghost use Rattle.std.specs.Prelude.{◌≡◌, ℕ, ◌+◌, ◌^◌, ◌<◌, ◌≤◌, Ok, true, false, length, min, slice_range, replicate};
 ghost use Rattle.s370_rows.specs.declared.ending.Ending.TheVariants as endings;
+ghost use Rattle.s370_rows.specs.declared.instruction.Instruction.{Instruction};
 ghost use Rattle.s370_store.specs.Access.{IsGranted, put};
 ghost use Rattle.s370_rows.specs.State.{state_of};
 ghost use Rattle.s370_rows.specs.Rows.{MeetsRow};
-ghost use Rattle.s370_bytes.specs.Long.{operand_of, with_operand, past, counts_code, destroys, part_moved, long_moved, longest, part_ordered, pairs_ordered, part_compared, long_compared};
+ghost use Rattle.s370_bytes.specs.Long.{ArePairs, operand_of, with_operand, past, counts_code, destroys, part_moved, long_moved, longest, part_ordered, pairs_ordered, part_compared, long_compared};
 ghost use Rattle.s370_bytes.specs.Strings.{padded};
 
 use crate::compare::equal_front;
@@ -53,6 +54,19 @@ impl Operand {
             count: self.count - count,
             pad: self.pad,
         }
+    }
+
+    /// Sets the pair that names an operand to this, which is what is left of it after some bytes: no more are taken than its
+    /// count has, so the byte above the count stays as it is.
+    #[inline(always)]
+    fn set_left(self, cpu: &mut Cpu, register: Register, count: u32)
+        requires register { register < 15 }
+        requires enough { count ≤ (operand_of cpu.old register).count }
+        requires left { self ≡ past (operand_of cpu.old register) count }
+        ensures { cpu.new ≡ with_operand cpu.old register self }
+    {
+        cpu.general[register.index()] = self.address.get();
+        cpu.general[register.index() + 1] -= count;
     }
 
     /// Sets the pair that names an operand.
@@ -249,6 +263,7 @@ pub fn move_long_row<S: Storage>(
 fn move_whole_part<S: Storage>(cpu: &mut Cpu, storage: &mut S, r1: Register, r2: Register) -> bool
     requires first { r1 < 15 }
     requires second { r2 < 15 }
+    requires apart { ArePairs r1 r2 }
     requires more { 256 < (operand_of cpu.old r1).count }
     requires whole { 256 ≤ (operand_of cpu.old r2).count }
     ensures done { let before = state_of cpu.old (S.bytes storage.old) (S.keys storage.old) in
@@ -268,15 +283,16 @@ fn move_whole_part<S: Storage>(cpu: &mut Cpu, storage: &mut S, r1: Register, r2:
     if !copy_granted(cpu, storage, from, to, 256) {
         return false;
     }
-    first.past(256).set(cpu, r1);
-    second.past(256).set(cpu, r2);
+    first.past(256).set_left(cpu, r1, 256);
+    second.past(256).set_left(cpu, r2, 256);
     true
 }
 
-/// 0E MVCL, where a part of 256 bytes is moved and more are left. Else nothing changes.
+/// 0E MVCL with this second byte, where a part of 256 bytes is moved and more are left. Else nothing changes.
 #[inline(never)]
-pub fn move_long_quickly<S: Storage>(cpu: &mut Cpu, storage: &mut S, i: Instruction) -> bool
-    ensures done { let before = state_of cpu.old (S.bytes storage.old) (S.keys storage.old) in
+pub fn move_long_quickly<S: Storage>(cpu: &mut Cpu, storage: &mut S, second_byte: u8) -> bool
+    ensures done { let i : Instruction = record { opcode = 0x0E; second_byte = second_byte; second_half = 0; third_half = 0 } in
+        let before = state_of cpu.old (S.bytes storage.old) (S.keys storage.old) in
         let after = state_of cpu.new (S.bytes storage.new) (S.keys storage.new) in
         result ≡ true → MeetsRow (long_moved before i) (S.present storage.old) before (Ok endings.Again) after }
     ensures still { let before = state_of cpu.old (S.bytes storage.old) (S.keys storage.old) in
@@ -286,12 +302,15 @@ pub fn move_long_quickly<S: Storage>(cpu: &mut Cpu, storage: &mut S, i: Instruct
     ensures present { S.present storage.new ≡ S.present storage.old }
     ensures rest { S.Keeps storage.old storage.new }
 {
-    let r1 = i.r1();
-    let r2 = i.r2();
+    let r1 = Register::new(second_byte >> 4);
+    let r2 = Register::new(second_byte & 0xF);
     if r1.number() % 2 != 0 {
         return false;
     }
     if r2.number() % 2 != 0 {
+        return false;
+    }
+    if r1.number() == r2.number() {
         return false;
     }
     let first = Operand::of(cpu, r1);

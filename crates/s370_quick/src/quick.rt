@@ -1,5 +1,5 @@
 //! The most frequent instructions, each done in one go where nothing keeps it from being done.
-ghost use Rattle.std.specs.Prelude.{◌≡◌, ℕ, ◌+◌, ◌≤◌, Ok, IfSome, IfNone, true, false, length, slice_index};
+ghost use Rattle.std.specs.Prelude.{◌≡◌, ℕ, ◌+◌, ◌%◌, ◌≤◌, Ok, IfSome, IfNone, true, false, length, slice_index};
 ghost use Rattle.s370_store.specs.Blocks.{MayFetch};
 ghost use Rattle.s370_rows.specs.State.{state_of};
 ghost use Rattle.s370_cpu.specs.declared.conclude.Stop.TheVariants as stops;
@@ -29,8 +29,8 @@ use s370_rows::{
 use s370_store::{Access, Block, Range, Storage, load_byte, load_byte_in, load_word, store_word};
 
 /// Does one instruction of a running processor, if it is one of the most frequent, if it is done, and if the processor then
-/// goes on with the next one. Else nothing changes. It stands in a block that was found for fetches with the processor's key,
-/// with room behind it for the longest instruction.
+/// goes on with the next one. Else nothing changes. It stands at an even address in a block that was found for fetches with the
+/// processor's key, with room behind it for the longest instruction.
 ///
 /// The address of the next instruction says that it was done. So a loop over instructions has no stop to tell from others;
 /// what it has looked at before (all that only the supervisor state can change, the key among it) it need not look at again;
@@ -47,6 +47,7 @@ pub fn step_quickly<S: Storage>(
     requires placed { S.IsPlaced storage.old block }
     requires begins { block.first ≤ start }
     requires ends { start ≤ block.first + 2042 }
+    requires even { start % 2 ≡ 0 }
     ensures done { let before = state_of cpu.old (S.bytes storage.old) (S.keys storage.old) in
         let after = state_of cpu.new (S.bytes storage.new) (S.keys storage.new) in
         IfSome result (λ _. MeetsUnit (unit before) (S.present storage.old) before stops.Done after) }
@@ -61,9 +62,6 @@ pub fn step_quickly<S: Storage>(
     ensures present { S.present storage.new ≡ S.present storage.old }
     ensures rest { S.Keeps storage.old storage.new }
 {
-    if start.get() % 2 != 0 {
-        return None;
-    }
     step_found_quickly(cpu, storage, start, block)
 }
 
@@ -234,7 +232,7 @@ fn perform_quickly<S: Storage, const CODE: u8>(
 {
     match CODE {
         0x07 => Some(branch_register(Branching::Condition, cpu, place, i)),
-        0x0E => part_of(move_long_quickly(cpu, storage, i)),
+        0x0E => part_of(move_long_quickly(cpu, storage, i.second_byte)),
         0x12 => Some(register_operation(Arithmetic::LoadAndTest, cpu, i)),
         0x14 => Some(register_operation(Arithmetic::And, cpu, i)),
         0x15 => Some(register_operation(Arithmetic::CompareLogical, cpu, i)),

@@ -1,5 +1,7 @@
 -- What lies in a block from which instructions may be fetched, passes.
-use Rattle.std.proofs.Common.{◌≡◌, ℕ, ◌+◌, ◌/◌, ◌<◌, ◌≤◌, Bool, true, List, [], ◌∷◌, get_or, None, arith}
+use Rattle.std.proofs.Common.{◌≡◌, ℕ, ◌+◌, ◌*◌, ◌/◌, ◌%◌, ◌<◌, ◌≤◌, Bool, true, List, [], ◌∷◌, get_or, None, arith}
+use Rattle.std.specs.Int.Bits.{bit_or}
+use Rattle.std.proofs.lemmas.Nat.{le_or_l, le_or_r}
 use Rattle.s370_store.specs.Access.{first_fault, is_passed, IsGranted}
 use Rattle.s370_store.specs.declared.Access.TheVariants.{Fetch}
 use Rattle.s370_store.specs.Blocks.{MayFetch}
@@ -17,3 +19,10 @@ block_granted size keys present key first start n m low high = record {
   inside = omega (arith, low, high, m.inside);
   here = λ k h. (let at : (start + k) / 4096 ≡ first / 4096 = omega (arith, low, high, m.aligned) in rw at m.here);
 }
+
+-- a number that is small when it is turned right by a bit is even, and twice as small
+pub even_below : (n turned : ℕ) → turned ≡ bit_or (n / 2) (n * 2147483648 % 4294967296) → turned ≤ 1021 → (n ≤ 2042) × (n % 2 ≡ 0)
+even_below n turned e h =
+    let halved : n / 2 ≤ 1021 = omega (arith, e, h, le_or_l (n / 2) (n * 2147483648 % 4294967296)) in
+    let last : n * 2147483648 % 4294967296 ≤ 1021 = omega (arith, e, h, le_or_r (n / 2) (n * 2147483648 % 4294967296)) in
+    (omega arith, omega arith)

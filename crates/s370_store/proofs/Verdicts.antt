@@ -1,5 +1,5 @@
 -- What the tests of ranges answer, from what a check looks at.
-use Rattle.std.proofs.Common.{◌≡◌, ℕ, ◌+◌, ◌/◌, ◌<◌, ◌≤◌, ◌≢◌, Bool, true, false, List, [], ◌∷◌, get_or, Some, None, refl, arith, zero, suc, ◌⊎◌, Result, Ok, Err, inl, inr, ◌-◌}
+use Rattle.std.proofs.Common.{◌≡◌, ℕ, ◌+◌, ◌/◌, ◌%◌, add-zero, ◌<◌, ◌≤◌, ◌≢◌, Bool, true, false, List, [], ◌∷◌, get_or, Some, None, refl, arith, zero, suc, ◌⊎◌, Result, Ok, Err, inl, inr, ◌-◌}
 use Rattle.std.proofs.lemmas.Grind.{common_steps}
 use Rattle.std.proofs.lemmas.Bool.{cases_eq, true_from_ne_false, both_ways}
 use Rattle.std.proofs.lemmas.Bool.Decides.{nat_tests}
@@ -52,6 +52,14 @@ pub ends_permit : (keys : List ℕ) (key : ℕ) (access : Access) (start n last 
 ends_permit keys key access start n last few e first_passes last_passes =
     permits keys key access start n (λ k h.
     elim (either_end start k n last few e h) [ inl f ↦ rw f first_passes | inr f ↦ rw f last_passes ])
+
+-- the bytes of a range in one block pass as the block does
+pub block_permits : (keys : List ℕ) (key : ℕ) (access : Access) (start n : ℕ) (b : Bool) → 0 < n → start % 2048 + n ≤ 2048 → is_passed access key (get_or keys (start / 2048) 0) ≡ b → is_permitted_from keys key access start n ≡ b
+block_permits keys key access start n true some room p =
+    permits keys key access start n (λ k h. (let at : (start + k) / 2048 ≡ start / 2048 = omega (arith, room, h) in rw at p))
+block_permits keys key access start n false some room p =
+    let first : is_passed access key (get_or keys ((start + 0) / 2048) 0) ≡ false = rw add-zero p in
+    forbids keys key access start n 0 some first
 
 pub one_fine : (size : ℕ) (keys : List ℕ) (key : ℕ) (t : Test) → is_addressable size t ≡ true → is_permitted keys key t ≡ true → first_fault size keys key (t ∷ []) ≡ None
 one_fine size keys key t a p = rw (a, p)

@@ -1,5 +1,5 @@
 //! A block of storage from which instructions are fetched.
-ghost use Rattle.std.specs.Prelude.{◌≡◌, ◌+◌, ◌<◌, ◌≤◌, true};
+ghost use Rattle.std.specs.Prelude.{◌≡◌, ◌+◌, ◌%◌, ◌<◌, ◌≤◌, true};
 
 /// A block of 2048 bytes that a storage has found for fetches.
 ///
@@ -14,14 +14,18 @@ pub struct Block {
 }
 
 impl Block {
-    /// Whether the longest instruction, which has six bytes, would lie in it from this address on.
+    /// Whether this is an even address from which on the longest instruction, which has six bytes, would lie in it.
+    ///
+    /// Both are one comparison: turned right by a bit an odd number is greater than any even one.
     #[inline(always)]
     pub fn has_room(self, start: u32) -> bool
-        requires { self.first < 16777216 }
+        requires low { self.first < 16777216 }
+        requires even { self.first % 2 ≡ 0 }
         ensures begins { result ≡ true → self.first ≤ start }
         ensures ends { result ≡ true → start ≤ self.first + 2042 }
+        ensures even { result ≡ true → start % 2 ≡ 0 }
     {
         // An address below wraps round to one that is far above.
-        start.wrapping_sub(self.first) <= 2042
+        start.wrapping_sub(self.first).rotate_right(1) <= 1021
     }
 }

@@ -28,7 +28,7 @@ pub use block::Block;
 pub use paged::PagedStorage;
 pub use place::{copy_at, put_at};
 pub use plain::PlainStorage;
-pub use protection::{Keyring, Listed, Open, may_fetch_block, test_range};
+pub use protection::{Keyring, Listed, Open, may_fetch_block, passes_in_block, test_range};
 use s370_num::{AccessKey, StorageKey};
 pub use supply::{FramesOut, Supply};
 use thiserror::Error;

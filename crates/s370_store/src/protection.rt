@@ -1,6 +1,6 @@
 //! The test of an access by size and keys, the one that each storage makes (GA22-7000, "Protection").
-ghost use Rattle.std.specs.Prelude.{◌≡◌, ◌+◌, ◌*◌, ◌/◌, ◌<◌, ◌≤◌, [], ◌∷◌, true, length, slice_index, ℕ, List, replicate};
-ghost use Rattle.s370_store.specs.Access.{IsVerdict, tested, is_passed};
+ghost use Rattle.std.specs.Prelude.{◌≡◌, ◌+◌, ◌*◌, ◌/◌, ◌%◌, ◌<◌, ◌≤◌, [], ◌∷◌, true, length, slice_index, ℕ, List, replicate};
+ghost use Rattle.s370_store.specs.Access.{IsVerdict, tested, is_passed, is_permitted};
 ghost use Rattle.s370_store.specs.declared.Access.TheVariants.{Fetch};
 
 use crate::{Access, Fault, Range};
@@ -70,6 +70,22 @@ fn block_passes<K: Keyring>(keys: &K, block: u32, access: Access, key: AccessKey
     ensures { result ≡ is_passed access key (slice_index (K.of_blocks keys.now) block) }
 {
     passes(access, key, keys.key_at(block))
+}
+
+/// Whether the key of the block in which a range lies lets the access pass: the test of an access by key alone.
+///
+/// It is for a storage that knows without the test of the size that the range lies in it.
+#[inline(always)]
+pub fn passes_in_block<K: Keyring>(keys: &K, range: Range, access: Access, key: AccessKey) -> bool
+    requires inside { range.start < 2048 * length (K.of_blocks keys.now) }
+    requires some { 0 < range.count }
+    requires one_block { range.start % 2048 + range.count ≤ 2048 }
+    ensures { result ≡ is_permitted (K.of_blocks keys.now) key (tested access range) }
+{
+    if key.get() == 0 {
+        return true;
+    }
+    block_passes(keys, range.start / 2048, access, key)
 }
 
 /// Whether size and keys let each byte of the block of an address be fetched with this protection key.

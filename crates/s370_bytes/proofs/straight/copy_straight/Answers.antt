@@ -1,6 +1,5 @@
-use Rattle.std.proofs.Common.{arith, refl, sym, ◌≡◌, ◌∙◌, ℕ, ◌+◌, List, length, slice_range, ap}
+use Rattle.std.proofs.Common.{arith, refl, sym, ◌≡◌, ◌∙◌, ℕ, ◌+◌, List, slice_range, ap}
 use Rattle.s370_store.specs.Access.{put}
-use Rattle.s370_bytes.specs.Combine.{lag_of}
 use Rattle.s370_bytes.specs.declared.combine.Combine.TheVariants.{Move}
 use Rattle.s370_bytes.proofs.Places.{length-range}
 use Rattle.s370_bytes.proofs.Changes.{made_is, lagged_source}

@@ -1,4 +1,4 @@
-use Rattle.std.proofs.Common.{◌≡◌, ◌%◌, arith}
+use Rattle.std.proofs.Common.{arith}
 use Rattle.s370_rows.specs.State.{state_of}
 use Rattle.s370_store.proofs.Blocks.{block_passes}
 use Rattle.s370_cpu.proofs.Fetched.{fetch_finds}
@@ -7,5 +7,4 @@ use Rattle.s370_quick.proofs.quick.step_quickly.Goals as goal
 pub step_found_quickly-requires-clause-found : goal.step_found_quickly-requires-clause-found
 step_found_quickly-requires-clause-found g c =
     let m = state_of c.args.cpu.now (g.S.Storage.bytes c.args.storage.now) (g.S.Storage.keys c.args.storage.now) in
-    let even : c.args.start % 2 ≡ 0 = omega arith in
-    fetch_finds m c.args.start even (block_passes _ _ _ _ c.args.block.first c.args.start 6 c.requires.may_fetch c.requires.begins (omega (arith, c.requires.ends)))
+    fetch_finds m c.args.start c.requires.even (block_passes _ _ _ _ c.args.block.first c.args.start 6 c.requires.may_fetch c.requires.begins (omega (arith, c.requires.ends)))
