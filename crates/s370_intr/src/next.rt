@@ -1,7 +1,8 @@
 //! What a running processor does next.
-ghost use Rattle.std.specs.Prelude.{◌≡◌, ℕ, List};
+ghost use Rattle.std.specs.Prelude.{◌≡◌, ℕ, List, true};
 ghost use Rattle.s370_rows.specs.State.{state_of};
 ghost use Rattle.s370_intr.specs.Units.{core_of, look, offered, waits};
+ghost use Rattle.s370_intr.specs.declared.next.Next.TheVariants.{Instructs};
 
 use crate::pending::Pending;
 use s370_psw::Psw;
@@ -36,6 +37,37 @@ pub enum Next {
     AcceptsStatus(Status),
     /// It does an instruction.
     Instructs,
+}
+
+/// Whether a running processor does an instruction next, where nothing is pending. Where it says no, [`look`] tells what comes
+/// next, which can be an instruction still.
+#[inline(always)]
+pub fn is_plain(cpu: &Cpu, pending: Pending, subchannels: &Subchannels) -> bool
+    ensures { (bytes keys : List ℕ) → result ≡ true → look (core_of (state_of cpu.now bytes keys) pending subchannels.now) ≡ Instructs }
+{
+    if cpu.psw.is_ec() {
+        return false;
+    }
+    if cpu.psw.waits() {
+        return false;
+    }
+    if pending.is_any() {
+        return false;
+    }
+    subchannels.is_quiet(&cpu.psw)
+}
+
+/// What a running processor does next, of which it is known already whether it is an instruction with nothing pending.
+#[inline(always)]
+pub fn next_of(is_plain: bool, cpu: &Cpu, pending: Pending, subchannels: &Subchannels) -> Next
+    requires { (bytes keys : List ℕ) → is_plain ≡ true → look (core_of (state_of cpu.now bytes keys) pending subchannels.now) ≡ Instructs }
+    ensures { (bytes keys : List ℕ) → result ≡ look (core_of (state_of cpu.now bytes keys) pending subchannels.now) }
+{
+    if is_plain {
+        Next::Instructs
+    } else {
+        look(cpu, pending, subchannels)
+    }
 }
 
 /// What a running processor does next.

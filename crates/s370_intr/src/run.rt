@@ -1,5 +1,5 @@
 //! Units, one after another.
-ghost use Rattle.std.specs.Prelude.{◌≡◌, ℕ, ◌+◌, ◌*◌, ◌<◌, ◌≤◌, List, IfSome, length, Result};
+ghost use Rattle.std.specs.Prelude.{◌≡◌, ℕ, ◌+◌, ◌*◌, ◌%◌, ◌<◌, ◌≤◌, List, IfSome, IsSome, length, Result, true};
 ghost use Rattle.s370_store.specs.Blocks.{MayFetch};
 ghost use Rattle.s370_rows.specs.State.{state_of};
 ghost use Rattle.s370_intr.specs.Laws.{begun};
@@ -10,7 +10,7 @@ ghost use Rattle.s370_intr.specs.declared.next.Reason.TheVariants as reasons;
 ghost use Rattle.s370_subchannels.specs.declared.subchannel.Subchannel.{Subchannel};
 ghost use Rattle.s370_intr.specs.declared.pending.Pending.{Pending};
 
-use crate::next::{Next, Reason, look};
+use crate::next::{Next, Reason, is_plain, next_of};
 use crate::pending::Pending;
 use crate::unit::{Processor, accept, accept_status, instruct_saving};
 use s370_num::{AccessKey, Addr24};
@@ -186,7 +186,8 @@ fn supplied<P: Processor, S: UnitSupply>(
     }
 }
 
-/// The block in which the next instruction lies, with room for the longest: the one that was found for the last, or another.
+/// The block in which the next instruction lies, at an even address and with room for the longest: the one that was found for the
+/// last, or another.
 #[inline(always)]
 fn block_of<S: Storage>(storage: &S, block: Block, next: Addr24, key: AccessKey) -> Option<Block>
     requires low { block.first < 16777216 }
@@ -197,6 +198,7 @@ fn block_of<S: Storage>(storage: &S, block: Block, next: Addr24, key: AccessKey)
     ensures placed { IfSome result (λ found. S.IsPlaced storage.now found) }
     ensures begins { IfSome result (λ found. found.first ≤ next) }
     ensures ends { IfSome result (λ found. next ≤ found.first + 2042) }
+    ensures even { IsSome result → next % 2 ≡ 0 }
 {
     if block.has_room(next.get()) {
         return Some(block);
@@ -243,20 +245,21 @@ fn instruct_quickly<S: Storage>(cpu: &mut Cpu, storage: &mut S, limit: u32) -> u
     limit
 }
 
-/// The same, where the look says that there is an instruction; else none.
+/// The same, where there is an instruction with nothing pending; else none.
 #[inline(always)]
-fn go_quickly<S: Storage>(said: Next, cpu: &mut Cpu, storage: &mut S, limit: u32) -> u32
+fn go_quickly<S: Storage>(is_plain: bool, cpu: &mut Cpu, storage: &mut S, limit: u32) -> u32
     ensures done { (pending : Pending) → (list : List Subchannel) →
         let before = core_of (state_of cpu.old (S.bytes storage.old) (S.keys storage.old)) pending list in
         let after = core_of (state_of cpu.new (S.bytes storage.new) (S.keys storage.new)) pending list in
-        look before ≡ said → (run result before ≡ record { core = after; units = result; reason = reasons.Count }) × (look after ≡ said) }
+        (is_plain ≡ true → look before ≡ next.Instructs) → (run result before ≡ record { core = after; units = result; reason = reasons.Count }) × (is_plain ≡ true → look after ≡ next.Instructs) }
     ensures within { result ≤ limit }
     ensures size { length (S.bytes storage.new) ≡ length (S.bytes storage.old) }
     ensures rest { S.Keeps storage.old storage.new }
 {
-    match said {
-        Next::Instructs => instruct_quickly(cpu, storage, limit),
-        _ => 0,
+    if is_plain {
+        instruct_quickly(cpu, storage, limit)
+    } else {
+        0
     }
 }
 
@@ -291,11 +294,13 @@ pub fn run_units<P: Processor, S: UnitSupply>(
     let mut spare = blank_cpu();
     let mut units = 0;
     while units < count {
-        let next = look(cpu, *pending, subchannels);
-        units += go_quickly(next, cpu, storage, count - units);
+        // A turn that ends here has made up nothing that tells what else could come.
+        let is_plain = is_plain(cpu, *pending, subchannels);
+        units += go_quickly(is_plain, cpu, storage, count - units);
         if units == count {
             continue;
         }
+        let next = next_of(is_plain, cpu, *pending, subchannels);
         match next {
             Next::Stops(reason) => return Ran { units, reason },
             _ => {}

@@ -1,4 +1,4 @@
-use Rattle.std.proofs.Common.{◌≡◌, ◌∙◌, ℕ, List, ap, sym, subst}
+use Rattle.std.proofs.Common.{◌≡◌, ◌∙◌, ap, sym, subst}
 use Rattle.s370_rows.specs.State.{state_of}
 use Rattle.s370_cpu.specs.Laws.{Rights}
 use Rattle.s370_intr.specs.Units.{core_of, look, unit_at}

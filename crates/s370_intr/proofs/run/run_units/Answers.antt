@@ -16,8 +16,8 @@ loop-units-preserved-then-units-count g c =
     let first = core_of (state_of c.args.cpu.now (g.S.Storage.bytes c.args.storage.now) (g.S.Storage.keys c.args.storage.now)) c.args.pending.now c.args.subchannels.now in
     let before = core_of (state_of c.loop-units.cpu (g.S.Storage.bytes c.loop-units.storage) (g.S.Storage.keys c.loop-units.storage)) c.loop-units.pending c.loop-units.subchannels in
     let now = core_of (state_of c.go_quickly-units.new.cpu (g.S.Storage.bytes c.go_quickly-units.new.storage) (g.S.Storage.keys c.go_quickly-units.new.storage)) c.loop-units.pending c.loop-units.subchannels in
-    let said : look before ≡ c.look-next.result = sym (c.look-next.ensures (g.S.Storage.bytes c.loop-units.storage) (g.S.Storage.keys c.loop-units.storage)) in
-    let quick = c.go_quickly-units.ensures.done c.loop-units.pending c.loop-units.subchannels said in
+    let plain = c.is_plain-is_plain.ensures (g.S.Storage.bytes c.loop-units.storage) (g.S.Storage.keys c.loop-units.storage) in
+    let quick = c.go_quickly-units.ensures.done c.loop-units.pending c.loop-units.subchannels plain in
     let ran : run k first ≡ all_done k now = does_many k0 n first before now c.loop-units.invariant.ran quick.0 in
     let within : n ≤ c.args.count - k0 = c.go_quickly-units.ensures.within in
     let start : k0 ≤ c.args.count = c.loop-units.invariant.within in
@@ -39,13 +39,13 @@ returns-in-Stops-clause-told g c =
     let first = core_of (state_of c.args.cpu.now (g.S.Storage.bytes c.args.storage.now) (g.S.Storage.keys c.args.storage.now)) c.args.pending.now c.args.subchannels.now in
     let before = core_of (state_of c.loop-units.cpu (g.S.Storage.bytes c.loop-units.storage) (g.S.Storage.keys c.loop-units.storage)) c.loop-units.pending c.loop-units.subchannels in
     let now = core_of (state_of c.go_quickly-units.new.cpu (g.S.Storage.bytes c.go_quickly-units.new.storage) (g.S.Storage.keys c.go_quickly-units.new.storage)) c.loop-units.pending c.loop-units.subchannels in
-    let said : look before ≡ c.look-next.result = sym (c.look-next.ensures (g.S.Storage.bytes c.loop-units.storage) (g.S.Storage.keys c.loop-units.storage)) in
-    let quick = c.go_quickly-units.ensures.done c.loop-units.pending c.loop-units.subchannels said in
+    let plain = c.is_plain-is_plain.ensures (g.S.Storage.bytes c.loop-units.storage) (g.S.Storage.keys c.loop-units.storage) in
+    let quick = c.go_quickly-units.ensures.done c.loop-units.pending c.loop-units.subchannels plain in
     let ran : run k first ≡ all_done k now = does_many k0 n first before now c.loop-units.invariant.ran quick.0 in
     let within : n ≤ c.args.count - k0 = c.go_quickly-units.ensures.within in
     let start : k0 ≤ c.args.count = c.loop-units.invariant.within in
     let less : k < c.args.count = omega (arith, within, start, c.if-units-count.false) in
-    let e : c.look-next.result ≡ look now = sym quick.1 in
+    let e : c.next_of-next.result ≡ look now = c.next_of-next.ensures (g.S.Storage.bytes c.go_quickly-units.new.storage) (g.S.Storage.keys c.go_quickly-units.new.storage) in
     tells_stop k c.args.count first now c.in-Stops.reason _ ran less (sym e ∙ c.in-Stops.is)
 
 pub returns-in-Stops-clause-supply : goal.returns-in-Stops-clause-supply
@@ -73,19 +73,19 @@ returns-in-Err g c =
     let first = core_of (state_of c.args.cpu.now (g.S.Storage.bytes c.args.storage.now) (g.S.Storage.keys c.args.storage.now)) c.args.pending.now c.args.subchannels.now in
     let before = core_of (state_of c.loop-units.cpu (g.S.Storage.bytes c.loop-units.storage) (g.S.Storage.keys c.loop-units.storage)) c.loop-units.pending c.loop-units.subchannels in
     let now = core_of (state_of c.go_quickly-units.new.cpu (g.S.Storage.bytes c.go_quickly-units.new.storage) (g.S.Storage.keys c.go_quickly-units.new.storage)) c.loop-units.pending c.loop-units.subchannels in
-    let said : look before ≡ c.look-next.result = sym (c.look-next.ensures (g.S.Storage.bytes c.loop-units.storage) (g.S.Storage.keys c.loop-units.storage)) in
-    let quick = c.go_quickly-units.ensures.done c.loop-units.pending c.loop-units.subchannels said in
+    let plain = c.is_plain-is_plain.ensures (g.S.Storage.bytes c.loop-units.storage) (g.S.Storage.keys c.loop-units.storage) in
+    let quick = c.go_quickly-units.ensures.done c.loop-units.pending c.loop-units.subchannels plain in
     let ran : run k first ≡ all_done k now = does_many k0 n first before now c.loop-units.invariant.ran quick.0 in
     let within : n ≤ c.args.count - k0 = c.go_quickly-units.ensures.within in
     let start : k0 ≤ c.args.count = c.loop-units.invariant.within in
     let less : k < c.args.count = omega (arith, within, start, c.if-units-count.false) in
-    let e : c.look-next.result ≡ look now = sym quick.1 in
+    let e : c.next_of-next.result ≡ look now = c.next_of-next.ensures (g.S.Storage.bytes c.go_quickly-units.new.storage) (g.S.Storage.keys c.go_quickly-units.new.storage) in
     let s = c.loop-units.invariant.supply in
     let brought = g.met.S.UnitSupply.came_on _ _ _ s.0 [] s.1 (g.met.S.UnitSupply.came_none _ _ c.go_quickly-units.ensures.rest) in
     let t = c.in-Err.ensures.supply in
     let needed : AllNeeded (NeedsAt (look now) now) t.0 = subst (λ (l : Next). AllNeeded (NeedsAt l now) t.0) e t.2 in
     record {
-      told = tells_cut k c.args.count first now _ c.look-next.result _ ran less e c.in-Err.ensures.unit.0 c.in-Err.ensures.unit.1;
+      told = tells_cut k c.args.count first now _ c.next_of-next.result _ ran less e c.in-Err.ensures.unit.0 c.in-Err.ensures.unit.1;
       supply = (
         (s.0 ++ []) ++ t.0,
         g.met.S.UnitSupply.came_on _ _ _ (s.0 ++ []) t.0 brought t.1,
@@ -104,18 +104,18 @@ loop-units-preserved g c =
     let first = core_of (state_of c.args.cpu.now (g.S.Storage.bytes c.args.storage.now) (g.S.Storage.keys c.args.storage.now)) c.args.pending.now c.args.subchannels.now in
     let before = core_of (state_of c.loop-units.cpu (g.S.Storage.bytes c.loop-units.storage) (g.S.Storage.keys c.loop-units.storage)) c.loop-units.pending c.loop-units.subchannels in
     let now = core_of (state_of c.go_quickly-units.new.cpu (g.S.Storage.bytes c.go_quickly-units.new.storage) (g.S.Storage.keys c.go_quickly-units.new.storage)) c.loop-units.pending c.loop-units.subchannels in
-    let said : look before ≡ c.look-next.result = sym (c.look-next.ensures (g.S.Storage.bytes c.loop-units.storage) (g.S.Storage.keys c.loop-units.storage)) in
-    let quick = c.go_quickly-units.ensures.done c.loop-units.pending c.loop-units.subchannels said in
+    let plain = c.is_plain-is_plain.ensures (g.S.Storage.bytes c.loop-units.storage) (g.S.Storage.keys c.loop-units.storage) in
+    let quick = c.go_quickly-units.ensures.done c.loop-units.pending c.loop-units.subchannels plain in
     let ran : run k first ≡ all_done k now = does_many k0 n first before now c.loop-units.invariant.ran quick.0 in
     let within : n ≤ c.args.count - k0 = c.go_quickly-units.ensures.within in
     let start : k0 ≤ c.args.count = c.loop-units.invariant.within in
     let less : k < c.args.count = omega (arith, within, start, c.if-units-count.false) in
-    let e : c.look-next.result ≡ look now = sym quick.1 in
+    let e : c.next_of-next.result ≡ look now = c.next_of-next.ensures (g.S.Storage.bytes c.go_quickly-units.new.storage) (g.S.Storage.keys c.go_quickly-units.new.storage) in
     let s = c.loop-units.invariant.supply in
     let brought = g.met.S.UnitSupply.came_on _ _ _ s.0 [] s.1 (g.met.S.UnitSupply.came_none _ _ c.go_quickly-units.ensures.rest) in
     let t = c.in-Ok.ensures.supply in
     let new = core_of (state_of c.supplied.new.cpu (g.S.Storage.bytes c.supplied.new.storage) (g.S.Storage.keys c.supplied.new.storage)) c.supplied.new.pending c.supplied.new.subchannels in
-    let goes : Goes (look now) = subst Goes e (not_stopped c.look-next.result c.in_default.not-Stops) in
+    let goes : Goes (look now) = subst Goes e (not_stopped c.next_of-next.result c.in_default.not-Stops) in
     let step : new ≡ unit_at (look now) now = subst (λ (l : Next). new ≡ unit_at l now) e c.in-Ok.ensures.unit in
     let needed : AllNeeded (NeedsAt (look now) now) t.0 = subst (λ (l : Next). AllNeeded (NeedsAt l now) t.0) e t.2 in
     record {
@@ -130,3 +130,9 @@ loop-units-preserved g c =
       between = c.in-Ok.ensures.between;
       size = c.in-Ok.ensures.size ∙ c.go_quickly-units.ensures.size ∙ c.loop-units.invariant.size;
     }
+
+pub next_of-next-requires : goal.next_of-next-requires
+next_of-next-requires g c bytes keys is_it =
+    let plain = c.is_plain-is_plain.ensures (g.S.Storage.bytes c.loop-units.storage) (g.S.Storage.keys c.loop-units.storage) in
+    let quick = c.go_quickly-units.ensures.done c.loop-units.pending c.loop-units.subchannels plain in
+    quick.1 is_it
