@@ -10,7 +10,7 @@ use cp_users::UserNo;
 use s370_num::{AccessKey, StorageKey};
 use s370_store::{
     Access, BLOCK_SIZE, Block, Fault, FramesOut, Keyed, Listed, PAGE_SIZE, Page, Range, Storage,
-    Supply, may_fetch_block, test_range,
+    Supply, may_fetch_block, passes_in_block, test_range,
 };
 use s370_supply::UnitSupply;
 
@@ -27,6 +27,7 @@ pub struct Dat<'a> {
     size: u32,
     ghost sized: { size ≡ length (bytes_of frames.now user) },
     ghost keyed: { size ≤ 2048 * length keys.now },
+    ghost whole: { size % 4096 ≡ 0 },
 }
 
 impl<'a> Dat<'a> {
@@ -142,9 +143,12 @@ impl<'a> Dat<'a> {
         if start % BLOCK_SIZE + count > BLOCK_SIZE {
             return None;
         }
-        match test_range(self.size, &Listed { keys: self.keys }, range, access, key) {
-            Ok(()) => {}
-            Err(_) => return None,
+        // A storage has whole blocks, so one that has a byte of a block has all of it.
+        if start >= self.size {
+            return None;
+        }
+        if !passes_in_block(&Listed { keys: self.keys }, range, access, key) {
+            return None;
         }
         match self.frames.frame_at(self.user, start) {
             Some(frame) => Some(frame),
@@ -235,17 +239,21 @@ impl<'a> Storage for Dat<'a> {
         }
         let first = start / BLOCK_SIZE * BLOCK_SIZE;
         match self.frames.frame_at(self.user, first) {
-            Some(frame) => Some(Block {
-                first,
-                place: usize::from(frame.0) * FRAME_SIZE + (first % PAGE_SIZE) as usize,
-            }),
+            Some(frame) => {
+                let place = usize::from(frame.0) * FRAME_SIZE + (first % PAGE_SIZE) as usize;
+                Some(Block {
+                    first,
+                    place: place.wrapping_sub(first as usize),
+                })
+            }
             None => None,
         }
     }
 
     #[inline(always)]
     fn load_in(&self, block: Block, start: u32, into: &mut [u8]) {
-        let place = block.place + (start - block.first) as usize;
+        // The place of an address is one addition, so that the next instruction waits for no more.
+        let place = block.place.wrapping_add(start as usize);
         self.frames.load_in(self.user, place, start, into);
     }
 

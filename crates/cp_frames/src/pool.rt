@@ -113,7 +113,8 @@ impl Frames {
 
     /// How many bytes a user has: none where there is no such user.
     pub fn size(&self, user: UserNo) -> u32
-        ensures { result ≡ length (bytes_of self.now user) }
+        ensures bytes { result ≡ length (bytes_of self.now user) }
+        ensures whole { result % 4096 ≡ 0 }
     {
         let user = user.index();
         if user < self.sizes.len() {

@@ -9,7 +9,7 @@ pub returns-then-from : goal.returns-then-from
 returns-then-from c =
     let bytes = (machine_at c.args.self.now c.args.user).core.processor.bytes in
     let same = bytes_are c.self.inside.machines.items c.self.inside.frames.storages c.self.inside.directory c.args.self.now.machines c.args.user c.self.invariant.whole (ap (λ (s : SystemView). s.machines) c.self.view_is) (omega arith) in
-    let size : c.size.result ≡ length bytes = c.size.ensures ∙ ap (λ (xs : List ℕ). length xs) same in
+    let size : c.size.result ≡ length bytes = c.size.ensures.bytes ∙ ap (λ (xs : List ℕ). length xs) same in
     let above = rw (c.from.ensures, c.from-2.ensures, c.from-3.ensures, size) at c.if-from.true in
     sym (past (c.args.page.0 * 4096) (length bytes) (frame_of c.args.self.now.supply.owners c.args.user c.args.page.0) None (omega (arith, above)))
 
@@ -17,7 +17,7 @@ pub returns : goal.returns
 returns c =
     let bytes = (machine_at c.args.self.now c.args.user).core.processor.bytes in
     let same = bytes_are c.self.inside.machines.items c.self.inside.frames.storages c.self.inside.directory c.args.self.now.machines c.args.user c.self.invariant.whole (ap (λ (s : SystemView). s.machines) c.self.view_is) (omega arith) in
-    let size : c.size.result ≡ length bytes = c.size.ensures ∙ ap (λ (xs : List ℕ). length xs) same in
+    let size : c.size.result ≡ length bytes = c.size.ensures.bytes ∙ ap (λ (xs : List ℕ). length xs) same in
     let below = rw (c.from.ensures, c.from-2.ensures, c.from-3.ensures, size) at c.if-from.false in
     let there = c.frame_of.ensures.frame ∙ ap (λ (s : SystemView). frame_of s.supply.owners c.args.user c.args.page.0) c.self.view_is in
     there ∙ sym (before (c.args.page.0 * 4096) (length bytes) (frame_of c.args.self.now.supply.owners c.args.user c.args.page.0) None (omega (arith, below)))

@@ -1,5 +1,6 @@
-use Rattle.std.proofs.Common.{arith, ◌≡◌, ◌+◌, ◌/◌, true, sym, ap, Option, ℕ}
+use Rattle.std.proofs.Common.{arith, ◌≡◌, ◌+◌, ◌/◌, ◌≤◌, true, sym, ap, Option, ℕ}
 use Rattle.std.specs.Prelude.{is_some}
+use Rattle.s370_store.proofs.Verdicts.{inside, one_fine}
 use Rattle.cp_frames.specs.Lent.{is_lent_page}
 use Rattle.cp_frames.proofs.dat.Dat.open_frame.Goals as goal
 
@@ -8,5 +9,6 @@ returns-in-Some-clause-granted c is_there =
     let d = c.args.self.now in
     let start = c.args.range.start in
     let there : is_lent_page d (start / 4096) ≡ true = ap (λ (o : Option ℕ). is_some o) (sym c.in-Some.ensures) in
-    let granted = c.in-Ok.ensures.1.0 (omega arith) in
-    rw (← d.sized) (c.in-Ok.ensures.0, (λ some. record { inside = granted.inside; here = λ k h. (let page : (start + k) / 4096 ≡ start / 4096 = omega arith in rw page there) }, tt))
+    let room : start + c.args.range.count ≤ d.size = omega (arith, d.whole) in
+    let passes = sym c.passes_in_block.ensures in
+    rw (← d.sized) (one_fine _ _ _ _ (inside d.size c.args.access start c.args.range.count room) (rw c.if-not-passes_in_block.false at passes), (λ some. record { inside = room; here = λ k h. (let page : (start + k) / 4096 ≡ start / 4096 = omega arith in rw page there) }, tt))
