@@ -126,31 +126,23 @@ impl<'a> Dat<'a> {
         self.frames.unpin_all();
     }
 
-    /// The frame of an access that one look grants: it lies in one block, size and key pass it, and its page stands in a frame.
+    /// The frame of an access within one block that one look grants: size and key pass it, and its page stands in a frame.
     #[inline(always)]
     fn open_frame(&self, range: Range, access: Access, key: AccessKey) -> Option<FrameNo>
-        requires { range.count ≤ 256 }
+        requires some { 0 < range.count }
+        requires one_block { range.start % 2048 + range.count ≤ 2048 }
         ensures granted { IsSome result → IsVerdict (length (lent_bytes self.now)) (lent_keys self.now) (is_lent_page self.now) key (tested access range ∷ []) (Ok tt) }
-        ensures some { IsSome result → 0 < range.count }
         ensures inside { IsSome result → range.start + range.count ≤ length (lent_bytes self.now) }
-        ensures one_block { IsSome result → range.start % 2048 + range.count ≤ 2048 }
         ensures frame { IfSome result (λ frame. lent_frame self.now (range.start / 4096) ≡ Some frame.0) }
     {
-        let Range { start, count } = range;
-        if count == 0 {
-            return None;
-        }
-        if start % BLOCK_SIZE + count > BLOCK_SIZE {
-            return None;
-        }
         // A storage has whole blocks, so one that has a byte of a block has all of it.
-        if start >= self.size {
+        if range.start >= self.size {
             return None;
         }
         if !passes_in_block(&Listed { keys: self.keys }, range, access, key) {
             return None;
         }
-        match self.frames.frame_at(self.user, start) {
+        match self.frames.frame_at(self.user, range.start) {
             Some(frame) => Some(frame),
             None => None,
         }
@@ -211,6 +203,13 @@ impl<'a> Storage for Dat<'a> {
 
     #[inline(always)]
     fn grants_at_once(&self, range: Range, access: Access, key: AccessKey) -> bool {
+        let Range { start, count } = range;
+        if count == 0 {
+            return false;
+        }
+        if start % BLOCK_SIZE + count > BLOCK_SIZE {
+            return false;
+        }
         match self.open_frame(range, access, key) {
             Some(_) => true,
             None => false,
@@ -219,6 +218,15 @@ impl<'a> Storage for Dat<'a> {
 
     #[inline(always)]
     fn copy_at_once(&mut self, from: u32, to: u32, count: u32, key: AccessKey) -> bool {
+        if count == 0 {
+            return false;
+        }
+        if to % BLOCK_SIZE + count > BLOCK_SIZE {
+            return false;
+        }
+        if from % BLOCK_SIZE + count > BLOCK_SIZE {
+            return false;
+        }
         let target = match self.open_frame(Range { start: to, count }, Access::Store, key) {
             Some(frame) => usize::from(frame.0),
             None => return false,
