@@ -25,7 +25,7 @@ impl Block {
         ensures ends { result ≡ true → start ≤ self.first + 2042 }
         ensures even { result ≡ true → start % 2 ≡ 0 }
     {
-        // An address below wraps round to one that is far above.
+        // Six bytes lie in it up to 2042, twice 1021. An address below wraps round to one that is far above.
         start.wrapping_sub(self.first).rotate_right(1) <= 1021
     }
 }
