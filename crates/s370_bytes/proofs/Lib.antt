@@ -2,7 +2,7 @@ pub mod Bases
 pub mod Changes
 pub mod FromRight
 pub mod Padding
-pub mod Pairs
+pub mod Parts
 pub mod Places
 pub mod Stored
 pub mod Translated

@@ -2,7 +2,7 @@ use Rattle.std.proofs.Common.{◌≡◌, arith, ◌∙◌, ap}
 use Rattle.s370_rows.specs.declared.cpu.Cpu.{Cpu}
 use Rattle.s370_bytes.specs.Long.{operand_of, past, with_operand}
 use Rattle.s370_bytes.specs.declared.long.Operand.{Operand}
-use Rattle.s370_bytes.proofs.Pairs.{whole_part}
+use Rattle.s370_bytes.proofs.Parts.{whole_part}
 use Rattle.s370_bytes.proofs.long.move_whole_part.Goals as goal
 
 pub returns-clause-done : goal.returns-clause-done
