@@ -1,5 +1,5 @@
 //! The long move and the long comparison, a part of at most 256 bytes at a time.
-ghost use Rattle.std.specs.Prelude.{◌≡◌, ℕ, ◌+◌, ◌^◌, ◌<◌, ◌≤◌, Ok, true, false, length, min, slice_range, replicate};
+ghost use Rattle.std.specs.Prelude.{◌≡◌, ℕ, ◌+◌, ◌^◌, ◌<◌, ◌≤◌, ◌⊎◌, Ok, true, false, length, min, slice_index, slice_range, replicate};
 ghost use Rattle.s370_rows.specs.declared.ending.Ending.TheVariants as endings;
 ghost use Rattle.s370_rows.specs.declared.instruction.Instruction.{Instruction};
 ghost use Rattle.s370_store.specs.Access.{IsGranted, put};
@@ -258,9 +258,26 @@ pub fn move_long_row<S: Storage>(
     move_part(cpu, storage, r1, r2)
 }
 
-/// One part of the long move that has all its bytes, and is not the last. Where they can't be moved, nothing changes.
+/// Whether a part that is moved to an address has none of the two bytes at another.
 #[inline(always)]
-fn move_whole_part<S: Storage>(cpu: &mut Cpu, storage: &mut S, r1: Register, r2: Register) -> bool
+fn is_apart(to: u32, start: u32) -> bool
+    requires to { to < 2 ^ 24 }
+    requires start { start < 2 ^ 24 }
+    ensures { result ≡ true → (start + 1 < to) ⊎ (to + 256 ≤ start) }
+{
+    start + 1 < to || to + 256 <= start
+}
+
+/// One part of the long move that has all its bytes, is not the last, and changes none of the two bytes at an address. Where
+/// they can't be moved, nothing changes.
+#[inline(always)]
+fn move_whole_part<S: Storage>(
+    cpu: &mut Cpu,
+    storage: &mut S,
+    start: Addr24,
+    r1: Register,
+    r2: Register,
+) -> bool
     requires first { r1 < 15 }
     requires second { r2 < 15 }
     requires apart { ArePairs r1 r2 }
@@ -272,6 +289,8 @@ fn move_whole_part<S: Storage>(cpu: &mut Cpu, storage: &mut S, r1: Register, r2:
     ensures still { let before = state_of cpu.old (S.bytes storage.old) (S.keys storage.old) in
         let after = state_of cpu.new (S.bytes storage.new) (S.keys storage.new) in
         result ≡ false → after ≡ before }
+    ensures kept { (k : ℕ) → k ≤ 1 → slice_index (S.bytes storage.new) (start + k) ≡ slice_index (S.bytes storage.old) (start + k) }
+    ensures psw { cpu.new.psw ≡ cpu.old.psw }
     ensures size { length (S.bytes storage.new) ≡ length (S.bytes storage.old) }
     ensures present { S.present storage.new ≡ S.present storage.old }
     ensures rest { S.Keeps storage.old storage.new }
@@ -280,6 +299,9 @@ fn move_whole_part<S: Storage>(cpu: &mut Cpu, storage: &mut S, r1: Register, r2:
     let second = Operand::of(cpu, r2);
     let to = first.address.get();
     let from = second.address.get();
+    if !is_apart(to, start.get()) {
+        return false;
+    }
     if !copy_granted(cpu, storage, from, to, 256) {
         return false;
     }
@@ -288,9 +310,15 @@ fn move_whole_part<S: Storage>(cpu: &mut Cpu, storage: &mut S, r1: Register, r2:
     true
 }
 
-/// 0E MVCL with this second byte, where a part of 256 bytes is moved and more are left. Else nothing changes.
-#[inline(never)]
-pub fn move_long_quickly<S: Storage>(cpu: &mut Cpu, storage: &mut S, second_byte: u8) -> bool
+/// 0E MVCL with this second byte, where a part of 256 bytes is moved that has none of the two bytes at an address, and more are
+/// left. Else nothing changes.
+#[inline(always)]
+pub fn move_long_quickly<S: Storage>(
+    cpu: &mut Cpu,
+    storage: &mut S,
+    start: Addr24,
+    second_byte: u8,
+) -> bool
     ensures done { let i : Instruction = record { opcode = 0x0E; second_byte = second_byte; second_half = 0; third_half = 0 } in
         let before = state_of cpu.old (S.bytes storage.old) (S.keys storage.old) in
         let after = state_of cpu.new (S.bytes storage.new) (S.keys storage.new) in
@@ -298,6 +326,8 @@ pub fn move_long_quickly<S: Storage>(cpu: &mut Cpu, storage: &mut S, second_byte
     ensures still { let before = state_of cpu.old (S.bytes storage.old) (S.keys storage.old) in
         let after = state_of cpu.new (S.bytes storage.new) (S.keys storage.new) in
         result ≡ false → after ≡ before }
+    ensures kept { (k : ℕ) → k ≤ 1 → slice_index (S.bytes storage.new) (start + k) ≡ slice_index (S.bytes storage.old) (start + k) }
+    ensures psw { cpu.new.psw ≡ cpu.old.psw }
     ensures size { length (S.bytes storage.new) ≡ length (S.bytes storage.old) }
     ensures present { S.present storage.new ≡ S.present storage.old }
     ensures rest { S.Keeps storage.old storage.new }
@@ -324,7 +354,7 @@ pub fn move_long_quickly<S: Storage>(cpu: &mut Cpu, storage: &mut S, second_byte
     if destroys(first, second) {
         return false;
     }
-    move_whole_part(cpu, storage, r1, r2)
+    move_whole_part(cpu, storage, start, r1, r2)
 }
 
 /// The lesser of two counts.

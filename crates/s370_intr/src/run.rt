@@ -1,7 +1,8 @@
 //! Units, one after another.
-ghost use Rattle.std.specs.Prelude.{◌≡◌, ℕ, ◌+◌, ◌*◌, ◌%◌, ◌<◌, ◌≤◌, List, IfSome, IsSome, length, Result, true};
+ghost use Rattle.std.specs.Prelude.{◌≡◌, ℕ, ◌+◌, ◌*◌, ◌/◌, ◌%◌, ◌<◌, ◌≤◌, List, IfSome, IsSome, length, Result, true};
 ghost use Rattle.s370_store.specs.Blocks.{MayFetch};
 ghost use Rattle.s370_rows.specs.State.{state_of};
+ghost use Rattle.s370_quick.specs.Quick.{IsLongMoveAt};
 ghost use Rattle.s370_intr.specs.Laws.{begun};
 ghost use Rattle.s370_intr.specs.Units.{MeetsUnitAt, NeedsAt, core_of, look};
 ghost use Rattle.s370_intr.specs.declared.next.Next.TheVariants as next;
@@ -15,11 +16,14 @@ use crate::pending::Pending;
 use crate::unit::{Processor, accept, accept_status, instruct_saving};
 use s370_num::{AccessKey, Addr24};
 use s370_psw::Psw;
-use s370_quick::step_quickly;
+use s370_quick::{move_part_quickly, step_quickly};
 use s370_rows::Cpu;
-use s370_store::{Block, FramesOut, Keyed, Page, Storage};
+use s370_store::{Block, FramesOut, Keyed, Page, Storage, load_byte_in};
 use s370_subchannels::Subchannels;
 use s370_supply::UnitSupply;
+
+/// 0E MVCL.
+const LONG_MOVE: u8 = 0x0E;
 
 /// How many units a run did, and why it did no more.
 #[derive(Clone, Copy, Debug, PartialEq, Eq)]
@@ -186,6 +190,17 @@ fn supplied<P: Processor, S: UnitSupply>(
     }
 }
 
+/// The block of an address, where the one that was found for the last instruction ends. It is out of line, so that the loop over
+/// instructions has no more in it than a call.
+#[inline(never)]
+fn find_again<S: Storage>(storage: &S, next: Addr24, key: AccessKey) -> Option<Block>
+    ensures first { IfSome result (λ found. found.first ≡ next / 2048 * 2048) }
+    ensures may_fetch { IfSome result (λ found. MayFetch (length (S.bytes storage.now)) (S.keys storage.now) (S.present storage.now) key found.first) }
+    ensures placed { IfSome result (λ found. S.IsPlaced storage.now found) }
+{
+    storage.find_block(next.get(), key)
+}
+
 /// The block in which the next instruction lies, at an even address and with room for the longest: the one that was found for the
 /// last, or another.
 #[inline(always)]
@@ -203,7 +218,7 @@ fn block_of<S: Storage>(storage: &S, block: Block, next: Addr24, key: AccessKey)
     if block.has_room(next.get()) {
         return Some(block);
     }
-    match storage.find_block(next.get(), key) {
+    match find_again(storage, next, key) {
         Some(found) => if found.has_room(next.get()) {
             Some(found)
         } else {
@@ -211,6 +226,64 @@ fn block_of<S: Storage>(storage: &S, block: Block, next: Addr24, key: AccessKey)
         },
         None => None,
     }
+}
+
+/// Parts of an MVCL that stands at the instruction address, one after another and at most so many: how many were done. They have
+/// a loop of their own, since each of them moves so much that what is done once for all of them counts.
+#[inline(never)]
+fn move_parts<S: Storage>(
+    cpu: &mut Cpu,
+    storage: &mut S,
+    start: Addr24,
+    second_byte: u8,
+    limit: u32,
+) -> u32
+    requires here { start ≡ cpu.old.psw.address }
+    requires stands { IsLongMoveAt (state_of cpu.old (S.bytes storage.old) (S.keys storage.old)) (S.present storage.old) start second_byte }
+    ensures done { (pending : Pending) → (list : List Subchannel) →
+        let before = core_of (state_of cpu.old (S.bytes storage.old) (S.keys storage.old)) pending list in
+        let after = core_of (state_of cpu.new (S.bytes storage.new) (S.keys storage.new)) pending list in
+        look before ≡ next.Instructs → (run result before ≡ record { core = after; units = result; reason = reasons.Count }) × (look after ≡ next.Instructs) }
+    ensures within { result ≤ limit }
+    ensures size { length (S.bytes storage.new) ≡ length (S.bytes storage.old) }
+    ensures rest { S.Keeps storage.old storage.new }
+{
+    for units in 0..limit {
+        if !move_part_quickly(cpu, storage, start, second_byte) {
+            return units;
+        }
+    }
+    limit
+}
+
+/// The same, where an MVCL stands in a block that was found; else none.
+#[inline(always)]
+fn move_parts_in<S: Storage>(
+    cpu: &mut Cpu,
+    storage: &mut S,
+    start: Addr24,
+    block: Block,
+    limit: u32,
+) -> u32
+    requires here { start ≡ cpu.old.psw.address }
+    requires may_fetch { MayFetch (length (S.bytes storage.old)) (S.keys storage.old) (S.present storage.old) cpu.old.psw.key block.first }
+    requires placed { S.IsPlaced storage.old block }
+    requires begins { block.first ≤ start }
+    requires ends { start ≤ block.first + 2042 }
+    requires even { start % 2 ≡ 0 }
+    ensures done { (pending : Pending) → (list : List Subchannel) →
+        let before = core_of (state_of cpu.old (S.bytes storage.old) (S.keys storage.old)) pending list in
+        let after = core_of (state_of cpu.new (S.bytes storage.new) (S.keys storage.new)) pending list in
+        look before ≡ next.Instructs → (run result before ≡ record { core = after; units = result; reason = reasons.Count }) × (look after ≡ next.Instructs) }
+    ensures within { result ≤ limit }
+    ensures size { length (S.bytes storage.new) ≡ length (S.bytes storage.old) }
+    ensures rest { S.Keeps storage.old storage.new }
+{
+    if load_byte_in(storage, block, start.get()) != LONG_MOVE {
+        return 0;
+    }
+    let second_byte = load_byte_in(storage, block, start.get() + 1);
+    move_parts(cpu, storage, start, second_byte, limit)
 }
 
 /// Instructions that are done in one go, one after another and at most so many: how many were done. After each of them a
@@ -239,7 +312,7 @@ fn instruct_quickly<S: Storage>(cpu: &mut Cpu, storage: &mut S, limit: u32) -> u
         };
         match step_quickly(cpu, storage, next, block) {
             Some(address) => next = address,
-            None => return units,
+            None => return units + move_parts_in(cpu, storage, next, block, limit - units),
         }
     }
     limit
@@ -291,16 +364,18 @@ pub fn run_units<P: Processor, S: UnitSupply>(
     ensures between { S.IsBetween storage.new }
     ensures size { length (S.Storage.bytes storage.new) ≡ length (S.Storage.bytes storage.old) }
 {
+    let mut plain = is_plain(cpu, *pending, subchannels);
+    let mut units = go_quickly(plain, cpu, storage, count);
+    // A turn that ends here has made up nothing that only other units need.
+    if units == count {
+        return Ran {
+            units,
+            reason: Reason::Count,
+        };
+    }
     let mut spare = blank_cpu();
-    let mut units = 0;
     while units < count {
-        // A turn that ends here has made up nothing that tells what else could come.
-        let is_plain = is_plain(cpu, *pending, subchannels);
-        units += go_quickly(is_plain, cpu, storage, count - units);
-        if units == count {
-            continue;
-        }
-        let next = next_of(is_plain, cpu, *pending, subchannels);
+        let next = next_of(plain, cpu, *pending, subchannels);
         match next {
             Next::Stops(reason) => return Ran { units, reason },
             _ => {}
@@ -315,6 +390,8 @@ pub fn run_units<P: Processor, S: UnitSupply>(
             }
         }
         units += 1;
+        plain = is_plain(cpu, *pending, subchannels);
+        units += go_quickly(plain, cpu, storage, count - units);
     }
     Ran {
         units: count,

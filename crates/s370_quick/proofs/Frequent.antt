@@ -14,7 +14,7 @@ use Rattle.s370_rows.specs.Rows.{Left, MeetsRow, Outcome, Row, Stored, after, fa
 use Rattle.s370_cpu.specs.declared.conclude.Stop.TheVariants.{Done as DoneStop}
 use Rattle.s370_bytes.specs.Long.{long_moved}
 use Rattle.s370_cpu.specs.Laws.{rights_of}
-use Rattle.s370_quick.specs.Quick.{GoesOn, MeetsAtOnce, MeetsQuick, part_of, whole_of}
+use Rattle.s370_quick.specs.Quick.{GoesOn, MeetsAtOnce, MeetsQuick, whole_of}
 use Rattle.s370_cpu.specs.Table.{row_of, unit}
 use Rattle.s370_cpu.specs.Unit.{Carries, MeetsUnit, Stopped, place_at, stopped}
 use Rattle.s370_cpu.proofs.Units.{carried_meets, whole_meets}
@@ -79,16 +79,9 @@ quick_if : (r : Row) (present : ℕ → Bool) (m : State) (did : Bool) (ending :
 quick_if r present m true ending m' h d s = quick_done r present m ending m' h (d refl)
 quick_if r present m false ending m' h d s = s refl
 
-part_is : (did : Bool) → part_of did ≡ (if did then Some Again else None)
-part_is true = refl
-part_is false = refl
-
 whole_is : (did : Bool) → whole_of did ≡ (if did then Some Done else None)
 whole_is true = refl
 whole_is false = refl
-
-pub quick_part : (r : Row) (present : ℕ → Bool) (m : State) (did : Bool) (answer : Option Ending) (m' : State) → LeavesQuiet m r.leaves → (did ≡ true → MeetsRow r present m (Ok Again) m') → (did ≡ false → m' ≡ m) → answer ≡ part_of did → MeetsQuick r present m answer m'
-quick_part r present m did answer m' h d s a = subst (λ (o : Option Ending). MeetsQuick r present m o m') (sym (a ∙ part_is did)) (quick_if r present m did Again m' h d s)
 
 pub quick_whole : (r : Row) (present : ℕ → Bool) (m : State) (did : Bool) (answer : Option Ending) (m' : State) → LeavesQuiet m r.leaves → (did ≡ true → MeetsRow r present m (Ok Done) m') → (did ≡ false → m' ≡ m) → answer ≡ whole_of did → MeetsQuick r present m answer m'
 quick_whole r present m did answer m' h d s a = subst (λ (o : Option Ending). MeetsQuick r present m o m') (sym (a ∙ whole_is did)) (quick_if r present m did Done m' h d s)

@@ -1,1 +1,2 @@
 pub mod Frequent
+pub mod LongMoves

@@ -1,5 +1,6 @@
 -- What an instruction may answer that is done only where nothing keeps it from being done.
-use Rattle.std.specs.Prelude.{◌≡◌, ℕ, Bool, true, false, Option, Some, None, Ok}
+use Rattle.std.specs.Prelude.{◌≡◌, ℕ, ◌+◌, ◌%◌, ◌≤◌, Bool, true, false, length, slice_index, Option, Some, None, Ok}
+use Rattle.s370_store.specs.Blocks.{MayFetch}
 use Rattle.s370_rows.specs.declared.ending.Ending.{Ending}
 use Rattle.s370_rows.specs.declared.ending.Ending.TheVariants.{Done, Branch, Again, Interrupted, SupervisorCall, InputOutput}
 use Rattle.s370_rows.specs.State.{State}
@@ -14,11 +15,6 @@ GoesOn Again = Unit {0}
 GoesOn (Interrupted code) = ⊥
 GoesOn (SupervisorCall n) = ⊥
 GoesOn (InputOutput operation device) = ⊥
-
--- a part that was done
-abbrev pub part_of : Bool → Option Ending
-part_of true = Some Again
-part_of false = None
 
 -- a row that was done
 abbrev pub whole_of : Bool → Option Ending
@@ -35,3 +31,13 @@ abbrev pub MeetsQuick : Row → (ℕ → Bool) → State → Option Ending → S
 MeetsQuick r present old None new = new ≡ old
 MeetsQuick r present old (Some ending) new =
     MeetsRow r present old (Ok ending) new × GoesOn ending × (rights_of new ≡ rights_of old)
+
+-- an MVCL with this second byte stands at an address, and the key of the PSW lets it be fetched there
+pub record IsLongMoveAt (m : State) (present : ℕ → Bool) (start second_byte : ℕ) : Type 0 where
+  pub block : ℕ
+  pub may_fetch : MayFetch (length m.bytes) m.keys present m.cpu.psw.key block
+  pub begins : block ≤ start
+  pub ends : start ≤ block + 2042
+  pub even : start % 2 ≡ 0
+  pub opcode : slice_index m.bytes start ≡ 0x0E
+  pub second : slice_index m.bytes (start + 1) ≡ second_byte

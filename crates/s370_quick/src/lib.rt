@@ -8,4 +8,4 @@
 
 mod quick;
 
-pub use quick::step_quickly;
+pub use quick::{move_part_quickly, step_quickly};

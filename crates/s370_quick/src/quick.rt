@@ -12,7 +12,7 @@ ghost use Rattle.s370_rows.specs.Rows.{MeetsRow};
 ghost use Rattle.s370_rows.specs.declared.instruction.Instruction.{Instruction};
 ghost use Rattle.s370_rows.specs.declared.ending.Ending.TheVariants as endings;
 ghost use Rattle.s370_cpu.specs.Laws.{rights_of};
-ghost use Rattle.s370_quick.specs.Quick.{GoesOn, MeetsAtOnce, MeetsQuick, part_of, whole_of};
+ghost use Rattle.s370_quick.specs.Quick.{GoesOn, IsLongMoveAt, MeetsAtOnce, MeetsQuick, whole_of};
 ghost use Rattle.s370_cpu.specs.Table.{row_of, unit};
 ghost use Rattle.s370_cpu.specs.Unit.{Carries, MeetsUnit, place_at, stopped};
 ghost use Rattle.s370_rows.specs.declared.arithmetic.Arithmetic.TheVariants as operations;
@@ -96,7 +96,6 @@ fn step_found_quickly<S: Storage>(
     // One jump, behind which all is compiled for the one operation code.
     match load_byte_in(storage, block, start.get()) {
         0x07 => carry_quickly::<S, 0x07>(cpu, storage, start, block),
-        0x0E => carry_quickly::<S, 0x0E>(cpu, storage, start, block),
         0x12 => carry_quickly::<S, 0x12>(cpu, storage, start, block),
         0x14 => carry_quickly::<S, 0x14>(cpu, storage, start, block),
         0x15 => carry_quickly::<S, 0x15>(cpu, storage, start, block),
@@ -120,6 +119,37 @@ fn step_found_quickly<S: Storage>(
         0xD2 => carry_quickly::<S, 0xD2>(cpu, storage, start, block),
         _ => None,
     }
+}
+
+/// One part of an MVCL that stands at the instruction address, where it has all its 256 bytes, changes nothing of the MVCL, and
+/// is not the last. Else nothing changes. Either way the same MVCL is the next instruction.
+///
+/// So a loop over parts need not fetch it again.
+#[inline(always)]
+pub fn move_part_quickly<S: Storage>(
+    cpu: &mut Cpu,
+    storage: &mut S,
+    start: Addr24,
+    second_byte: u8,
+) -> bool
+    requires here { start ≡ cpu.old.psw.address }
+    requires stands { IsLongMoveAt (state_of cpu.old (S.bytes storage.old) (S.keys storage.old)) (S.present storage.old) start second_byte }
+    ensures done { let before = state_of cpu.old (S.bytes storage.old) (S.keys storage.old) in
+        let after = state_of cpu.new (S.bytes storage.new) (S.keys storage.new) in
+        result ≡ true → MeetsUnit (unit before) (S.present storage.old) before stops.Done after }
+    ensures still { let before = state_of cpu.old (S.bytes storage.old) (S.keys storage.old) in
+        let after = state_of cpu.new (S.bytes storage.new) (S.keys storage.new) in
+        result ≡ false → after ≡ before }
+    ensures here { start ≡ cpu.new.psw.address }
+    ensures stands { IsLongMoveAt (state_of cpu.new (S.bytes storage.new) (S.keys storage.new)) (S.present storage.new) start second_byte }
+    ensures rights { let before = state_of cpu.old (S.bytes storage.old) (S.keys storage.old) in
+        let after = state_of cpu.new (S.bytes storage.new) (S.keys storage.new) in
+        rights_of after ≡ rights_of before }
+    ensures size { length (S.bytes storage.new) ≡ length (S.bytes storage.old) }
+    ensures present { S.present storage.new ≡ S.present storage.old }
+    ensures rest { S.Keeps storage.old storage.new }
+{
+    move_long_quickly(cpu, storage, start, second_byte)
 }
 
 /// Goes on with the instruction of this operation code, which stands at the instruction address.
@@ -232,7 +262,6 @@ fn perform_quickly<S: Storage, const CODE: u8>(
 {
     match CODE {
         0x07 => Some(branch_register(Branching::Condition, cpu, place, i)),
-        0x0E => part_of(move_long_quickly(cpu, storage, i.second_byte)),
         0x12 => Some(register_operation(Arithmetic::LoadAndTest, cpu, i)),
         0x14 => Some(register_operation(Arithmetic::And, cpu, i)),
         0x15 => Some(register_operation(Arithmetic::CompareLogical, cpu, i)),
@@ -256,14 +285,6 @@ fn perform_quickly<S: Storage, const CODE: u8>(
         0xD2 => whole_of(move_quickly(cpu, storage, i)),
         _ => None,
     }
-}
-
-/// How a row ended of which a part was done.
-#[inline(always)]
-fn part_of(did: bool) -> Option<Ending>
-    ensures { result ≡ part_of did }
-{
-    if did { Some(Ending::Again) } else { None }
 }
 
 /// How a row ended that was done.

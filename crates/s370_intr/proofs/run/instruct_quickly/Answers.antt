@@ -1,8 +1,8 @@
 use Rattle.std.proofs.Common.{◌≡◌, ◌∙◌, ap, sym, subst}
-use Rattle.s370_rows.specs.State.{state_of}
+use Rattle.s370_rows.specs.State.{State, state_of}
 use Rattle.s370_cpu.specs.Laws.{Rights}
-use Rattle.s370_intr.specs.Units.{core_of, look, unit_at}
-use Rattle.s370_intr.proofs.Runs.{does_more, done_unit, looks_same, still_fetches, Goes}
+use Rattle.s370_intr.specs.Units.{Core, core_of, look, unit_at}
+use Rattle.s370_intr.proofs.Runs.{all_done, does_many, does_more, done_unit, looks_same, still_fetches, Goes}
 use Rattle.s370_intr.proofs.run.instruct_quickly.Goals as goal
 
 pub loop-units-preserved : goal.loop-units-preserved
@@ -23,3 +23,18 @@ loop-units-preserved g c =
       size = c.step_quickly.ensures.size ∙ c.loop-units.invariant.size;
       rest = g.met.S.Storage.keeps_on _ _ _ c.loop-units.invariant.rest c.step_quickly.ensures.rest;
     }
+
+pub returns-in-None-step_quickly-clause-done : goal.returns-in-None-step_quickly-clause-done
+returns-in-None-step_quickly-clause-done g c pending list e =
+    let m0 = state_of c.args.cpu.now (g.S.Storage.bytes c.args.storage.now) (g.S.Storage.keys c.args.storage.now) in
+    let m = state_of c.loop-units.cpu (g.S.Storage.bytes c.loop-units.storage) (g.S.Storage.keys c.loop-units.storage) in
+    let m1 = state_of c.step_quickly.new.cpu (g.S.Storage.bytes c.step_quickly.new.storage) (g.S.Storage.keys c.step_quickly.new.storage) in
+    let m2 = state_of c.move_parts_in.new.cpu (g.S.Storage.bytes c.move_parts_in.new.storage) (g.S.Storage.keys c.move_parts_in.new.storage) in
+    let before = c.loop-units.invariant.done pending list e in
+    let same : core_of m1 pending list ≡ core_of m pending list = ap (λ (x : State). core_of x pending list) c.in-None-step_quickly.ensures.still in
+    let parts = c.move_parts_in.ensures.done pending list (ap look same ∙ before.1) in
+    (does_many c.loop-units.units c.move_parts_in.result (core_of m0 pending list) (core_of m1 pending list) (core_of m2 pending list) (before.0 ∙ ap (λ (x : Core). all_done c.loop-units.units x) (sym same)) parts.0, parts.1)
+
+pub returns-in-None-step_quickly-clause-rest : goal.returns-in-None-step_quickly-clause-rest
+returns-in-None-step_quickly-clause-rest g c =
+    g.met.S.Storage.keeps_on _ _ _ (g.met.S.Storage.keeps_on _ _ _ c.loop-units.invariant.rest c.step_quickly.ensures.rest) c.move_parts_in.ensures.rest

@@ -5,7 +5,7 @@ use Rattle.s370_rows.specs.Rows.{judged, outcome_of}
 use Rattle.s370_cpu.specs.Opcodes.{opcode_at}
 use Rattle.s370_quick.specs.Quick.{MeetsQuick}
 use Rattle.s370_cpu.specs.Table.{row_named, untested}
-use Rattle.s370_quick.proofs.Frequent.{branches_go_on, long_quiet, quick_done, quick_of, quick_part, quick_whole}
+use Rattle.s370_quick.proofs.Frequent.{branches_go_on, quick_done, quick_of, quick_whole}
 use Rattle.s370_quick.proofs.quick.perform_quickly.Goals as goal
 
 pub returns-in-7-clause-row : goal.returns-in-7-clause-row
@@ -17,15 +17,6 @@ returns-in-7-clause-row g c =
     subst (λ (code : ℕ). MeetsQuick (row_named (opcode_at code) m c.args.place c.args.i) present m (Some c.branch_register.result) after) (sym (c.requires.same ∙ c.in-7.is))
     (quick_done (row_named (opcode_at 7) m c.args.place c.args.i) present m c.branch_register.result after (record { goes_on = branches_go_on _ _; rights = refl })
     (ap (λ (e : Ended). outcome_of m (judged m (untested (Ok e)))) c.branch_register.ensures))
-
-pub returns-in-14-clause-row : goal.returns-in-14-clause-row
-unfolding opcode_at
-returns-in-14-clause-row g c =
-    let m = state_of c.args.cpu.now (g.S.Storage.bytes c.args.storage.now) (g.S.Storage.keys c.args.storage.now) in
-    let present = g.S.Storage.present c.args.storage.now in
-    let after = state_of c.move_long_quickly.new.cpu (g.S.Storage.bytes c.move_long_quickly.new.storage) (g.S.Storage.keys c.move_long_quickly.new.storage) in
-    subst (λ (code : ℕ). MeetsQuick (row_named (opcode_at code) m c.args.place c.args.i) present m c.part_of.result after) (sym (c.requires.same ∙ c.in-14.is))
-    (quick_part (row_named (opcode_at 14) m c.args.place c.args.i) present m c.move_long_quickly.result c.part_of.result after (long_quiet m c.args.i) c.move_long_quickly.ensures.done c.move_long_quickly.ensures.still c.part_of.ensures)
 
 pub returns-in-18-clause-row : goal.returns-in-18-clause-row
 unfolding opcode_at

@@ -1,0 +1,66 @@
+-- A part of an MVCL, after which the same MVCL is the next instruction.
+use Rattle.std.proofs.Common.{◌≡◌, ℕ, ◌+◌, ◌-◌, ◌<◌, ◌≤◌, Bool, true, false, List, Ok, get_or, drop, length, slice_index, slice_range, refl, sym, ◌∙◌, ap, arith, subst}
+use Rattle.std.proofs.lemmas.List.{get_or-take, get_or-drop}
+use Rattle.s370_store.proofs.Blocks.{block_passes}
+use Rattle.s370_rows.specs.declared.instruction.Instruction.{Instruction}
+use Rattle.s370_rows.specs.declared.ending.Ending.TheVariants.{Again}
+use Rattle.s370_rows.specs.State.{State}
+use Rattle.s370_rows.specs.Rows.{MeetsRow}
+use Rattle.s370_bytes.specs.Long.{long_moved}
+use Rattle.s370_cpu.specs.Fetch.{fetched, instruction_at}
+use Rattle.s370_cpu.specs.Laws.{Rights, rights_of}
+use Rattle.s370_cpu.specs.Opcodes.{opcode_at}
+use Rattle.s370_cpu.specs.Table.{unit}
+use Rattle.s370_cpu.specs.Unit.{Carries, MeetsUnit}
+use Rattle.s370_cpu.specs.declared.conclude.Stop.TheVariants.{Done as DoneStop}
+use Rattle.s370_cpu.proofs.Fetched.{fetch_finds, first_of, made, six_hold}
+use Rattle.s370_quick.specs.Quick.{IsLongMoveAt}
+use Rattle.s370_quick.proofs.Frequent.{long_quiet, quick_done, quick_unit}
+
+abbrev long_move : ℕ → Instruction
+long_move second_byte = record { opcode = 0x0E; second_byte = second_byte; second_half = 0; third_half = 0 }
+
+second_of : (bytes : List ℕ) (a : ℕ) → get_or (slice_range bytes a (a + 6)) 1 0 ≡ get_or bytes (a + 1) 0
+second_of bytes a = get_or-take (a + 6 - a) (drop a bytes) 1 0 (omega arith) ∙ get_or-drop a bytes 1 0
+
+made_long : (o s h t second_byte : ℕ) (i : Instruction) → made o s h t ≡ i → o ≡ 0x0E → s ≡ second_byte → i ≡ long_move second_byte
+made_long o s h t second_byte i e a b = sym e ∙ (ap (λ x. made x s h t) a ∙ ap (λ x. made 0x0E x h t) b)
+
+long_at : (bytes : List ℕ) (a second_byte : ℕ) → slice_index bytes a ≡ 0x0E → slice_index bytes (a + 1) ≡ second_byte → second_byte < 256 → instruction_at bytes a ≡ long_move second_byte
+long_at bytes a second_byte o s small =
+    let six = slice_range bytes a (a + 6) in
+    let first : get_or six 0 0 ≡ 0x0E = first_of bytes six a refl ∙ o in
+    let second : get_or six 1 0 ≡ second_byte = second_of bytes a ∙ s in
+    made_long _ _ _ _ second_byte (instruction_at bytes a) (six_hold bytes six a refl (rw second small)) first second
+
+fetches : (m : State) (present : ℕ → Bool) (start second_byte : ℕ) → second_byte < 256 → IsLongMoveAt m present start second_byte → (fetched m start).result ≡ Ok (long_move second_byte)
+fetches m present start second_byte small h =
+    fetch_finds m start h.even (block_passes _ _ _ _ h.block start 6 h.may_fetch h.begins (omega (arith, h.ends))) ∙ ap Ok (long_at m.bytes start second_byte h.opcode h.second small)
+
+-- the unit that a part is
+pub part_unit : (m m' : State) (present : ℕ → Bool) (start second_byte : ℕ) → start ≡ m.cpu.psw.address → second_byte < 256 → IsLongMoveAt m present start second_byte → MeetsRow (long_moved m (long_move second_byte)) present m (Ok Again) m' → MeetsUnit (unit m) present m DoneStop m'
+unfolding opcode_at
+part_unit m m' present start second_byte here small h row =
+    let fetch : (fetched m m.cpu.psw.address).result ≡ Ok (long_move second_byte) = subst (λ (a : ℕ). (fetched m a).result ≡ Ok (long_move second_byte)) here (fetches m present start second_byte small h) in
+    let carries : Carries m 1 (long_move second_byte) = record { first = long_move second_byte; fetch = fetch; length_code = refl; execute = refl } in
+    quick_unit m 1 (long_move second_byte) Again m'.cpu present m' carries row refl
+
+pub part_rights : (m m' : State) (did : Bool) (present : ℕ → Bool) (i : Instruction) → (did ≡ true → MeetsRow (long_moved m i) present m (Ok Again) m') → (did ≡ false → m' ≡ m) → rights_of m' ≡ rights_of m
+part_rights m m' true present i done still = (quick_done (long_moved m i) present m Again m' (long_quiet m i) (done refl)).2
+part_rights m m' false present i done still = ap rights_of (still refl)
+
+-- it stands there as long as its bytes, the keys, the pages and the rights are the same
+pub still_stands : (m m' : State) (present present' : ℕ → Bool) (start second_byte : ℕ) → length m'.bytes ≡ length m.bytes → rights_of m' ≡ rights_of m → present' ≡ present → ((k : ℕ) → k ≤ 1 → slice_index m'.bytes (start + k) ≡ slice_index m.bytes (start + k)) → IsLongMoveAt m present start second_byte → IsLongMoveAt m' present' start second_byte
+still_stands m m' present present' start second_byte size rights same kept h =
+    let keys : m'.keys ≡ m.keys = ap (λ (r : Rights). r.keys) rights in
+    let key : m'.cpu.psw.key ≡ m.cpu.psw.key = ap (λ (r : Rights). r.key) rights in
+    let zero : start + 0 ≡ start = omega arith in
+    record {
+      block = h.block;
+      may_fetch = record { aligned = h.may_fetch.aligned; inside = rw size h.may_fetch.inside; passed = rw (keys, key) h.may_fetch.passed; here = rw same h.may_fetch.here };
+      begins = h.begins;
+      ends = h.ends;
+      even = h.even;
+      opcode = rw zero at (kept 0 (omega arith)) ∙ h.opcode;
+      second = kept 1 (omega arith) ∙ h.second;
+    }
