@@ -240,7 +240,7 @@ impl<'a> Storage for Dat<'a> {
         true
     }
 
-    #[inline(never)]
+    #[inline(always)]
     fn find_block(&self, start: u32, key: AccessKey) -> Option<Block> {
         if !may_fetch_block(self.size, &Listed { keys: self.keys }, start, key) {
             return None;

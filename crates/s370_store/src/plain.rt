@@ -80,7 +80,7 @@ impl Storage for PlainStorage {
         test_range(self.bytes.len() as u32, &keys, range, access, key)
     }
 
-    #[inline(never)]
+    #[inline(always)]
     fn find_block(&self, start: u32, key: AccessKey) -> Option<Block> {
         let keys = Listed { keys: &self.keys };
         if may_fetch_block(self.bytes.len() as u32, &keys, start, key) {
