@@ -6,7 +6,10 @@ use Rattle.s370_intr.specs.declared.next.Next.{Next}
 use Rattle.s370_intr.specs.declared.next.Next.TheVariants.{Stops, Accepts, AcceptsStatus, Instructs}
 use Rattle.s370_intr.specs.declared.next.Reason.{Reason}
 use Rattle.s370_intr.specs.declared.next.Reason.TheVariants.{Count, FramesOut}
-use Rattle.s370_intr.specs.Units.{Core, look, unit_at, Needs, NeedsAt}
+use Rattle.s370_rows.specs.State.{State}
+use Rattle.s370_subchannels.specs.declared.subchannel.Subchannel.{Subchannel}
+use Rattle.s370_intr.specs.declared.pending.Pending.{Pending}
+use Rattle.s370_intr.specs.Units.{Core, core_of, look, unit_at, Needs, NeedsAt}
 
 -- what a run leaves, how many units it did, and why it did no more
 pub record Run : Type 0 where
@@ -29,6 +32,13 @@ looked Instructs c rest = one_more rest
 abbrev pub run : ℕ → Core → Run
 run zero c = record { core = c; units = 0; reason = Count }
 run (suc n) c = looked (look c) c (run n (unit_at (look c) c))
+
+-- n units of a processor that has an instruction next, which leave it with an instruction next, whatever is pending
+abbrev pub DoesInstructions : ℕ → State → State → Type 0
+DoesInstructions n m m' = (pending : Pending) → (list : List Subchannel) →
+    let before = core_of m pending list in
+    let after = core_of m' pending list in
+    look before ≡ Instructs → (run n before ≡ record { core = after; units = n; reason = Count }) × (look after ≡ Instructs)
 
 -- ---- pages that are brought
 

@@ -6,7 +6,7 @@ ghost use Rattle.s370_quick.specs.Quick.{IsLongMoveAt};
 ghost use Rattle.s370_intr.specs.Laws.{begun};
 ghost use Rattle.s370_intr.specs.Units.{MeetsUnitAt, NeedsAt, core_of, look};
 ghost use Rattle.s370_intr.specs.declared.next.Next.TheVariants as next;
-ghost use Rattle.s370_intr.specs.Run.{AllNeeded, RunNeeds, SuppliesUnit, TellsRun, run};
+ghost use Rattle.s370_intr.specs.Run.{AllNeeded, DoesInstructions, RunNeeds, SuppliesUnit, TellsRun, run};
 ghost use Rattle.s370_intr.specs.declared.next.Reason.TheVariants as reasons;
 ghost use Rattle.s370_subchannels.specs.declared.subchannel.Subchannel.{Subchannel};
 ghost use Rattle.s370_intr.specs.declared.pending.Pending.{Pending};
@@ -240,10 +240,9 @@ fn move_parts<S: Storage>(
 ) -> u32
     requires here { start ≡ cpu.old.psw.address }
     requires stands { IsLongMoveAt (state_of cpu.old (S.bytes storage.old) (S.keys storage.old)) (S.present storage.old) start second_byte }
-    ensures done { (pending : Pending) → (list : List Subchannel) →
-        let before = core_of (state_of cpu.old (S.bytes storage.old) (S.keys storage.old)) pending list in
-        let after = core_of (state_of cpu.new (S.bytes storage.new) (S.keys storage.new)) pending list in
-        look before ≡ next.Instructs → (run result before ≡ record { core = after; units = result; reason = reasons.Count }) × (look after ≡ next.Instructs) }
+    ensures done { let before = state_of cpu.old (S.bytes storage.old) (S.keys storage.old) in
+        let after = state_of cpu.new (S.bytes storage.new) (S.keys storage.new) in
+        DoesInstructions result before after }
     ensures within { result ≤ limit }
     ensures size { length (S.bytes storage.new) ≡ length (S.bytes storage.old) }
     ensures rest { S.Keeps storage.old storage.new }
@@ -271,10 +270,9 @@ fn move_parts_in<S: Storage>(
     requires begins { block.first ≤ start }
     requires ends { start ≤ block.first + 2042 }
     requires even { start % 2 ≡ 0 }
-    ensures done { (pending : Pending) → (list : List Subchannel) →
-        let before = core_of (state_of cpu.old (S.bytes storage.old) (S.keys storage.old)) pending list in
-        let after = core_of (state_of cpu.new (S.bytes storage.new) (S.keys storage.new)) pending list in
-        look before ≡ next.Instructs → (run result before ≡ record { core = after; units = result; reason = reasons.Count }) × (look after ≡ next.Instructs) }
+    ensures done { let before = state_of cpu.old (S.bytes storage.old) (S.keys storage.old) in
+        let after = state_of cpu.new (S.bytes storage.new) (S.keys storage.new) in
+        DoesInstructions result before after }
     ensures within { result ≤ limit }
     ensures size { length (S.bytes storage.new) ≡ length (S.bytes storage.old) }
     ensures rest { S.Keeps storage.old storage.new }
@@ -291,10 +289,9 @@ fn move_parts_in<S: Storage>(
 /// it. This has no other unit in it, so that registers are left for what it needs.
 #[inline(never)]
 fn instruct_quickly<S: Storage>(cpu: &mut Cpu, storage: &mut S, limit: u32) -> u32
-    ensures done { (pending : Pending) → (list : List Subchannel) →
-        let before = core_of (state_of cpu.old (S.bytes storage.old) (S.keys storage.old)) pending list in
-        let after = core_of (state_of cpu.new (S.bytes storage.new) (S.keys storage.new)) pending list in
-        look before ≡ next.Instructs → (run result before ≡ record { core = after; units = result; reason = reasons.Count }) × (look after ≡ next.Instructs) }
+    ensures done { let before = state_of cpu.old (S.bytes storage.old) (S.keys storage.old) in
+        let after = state_of cpu.new (S.bytes storage.new) (S.keys storage.new) in
+        DoesInstructions result before after }
     ensures within { result ≤ limit }
     ensures size { length (S.bytes storage.new) ≡ length (S.bytes storage.old) }
     ensures rest { S.Keeps storage.old storage.new }

@@ -1,12 +1,7 @@
-use Rattle.std.proofs.Common.{◌≡◌, ◌<◌, List, length}
+use Rattle.std.proofs.Common.{◌≡◌, ◌<◌, length}
 use Rattle.s370_store.specs.Blocks.{MayFetch}
 use Rattle.s370_rows.specs.State.{state_of}
-use Rattle.s370_subchannels.specs.declared.subchannel.Subchannel.{Subchannel}
-use Rattle.s370_intr.specs.declared.next.Next.TheVariants.{Instructs}
-use Rattle.s370_intr.specs.declared.pending.Pending.{Pending}
-use Rattle.s370_intr.specs.Units.{core_of, look}
-use Rattle.s370_intr.specs.Run.{run}
-use Rattle.s370_intr.proofs.Runs.{all_done}
+use Rattle.s370_intr.specs.Run.{DoesInstructions}
 use Rattle.s370_intr.proofs.run.instruct_quickly.Given as goal
 
 abbrev pub invariant-loop-units : goal.invariant-loop-units
@@ -19,7 +14,7 @@ invariant-loop-units g l =
       low : l.block.first < 16777216;
       may_fetch : MayFetch (length (g.S.Storage.bytes l.storage)) (g.S.Storage.keys l.storage) (g.S.Storage.present l.storage) l.key l.block.first;
       placed : g.S.Storage.IsPlaced l.storage l.block;
-      done : (pending : Pending) (list : List Subchannel) → look (core_of m0 pending list) ≡ Instructs → (run l.units (core_of m0 pending list) ≡ all_done l.units (core_of m pending list)) × (look (core_of m pending list) ≡ Instructs);
+      done : DoesInstructions l.units m0 m;
       size : length (g.S.Storage.bytes l.storage) ≡ length (g.S.Storage.bytes l.fn.storage);
       rest : g.S.Storage.Keeps l.fn.storage l.storage;
     }
