@@ -6,7 +6,7 @@ use Rattle.std.proofs.lemmas.List.{length-replicate}
 use Rattle.cp_directory.specs.Users.{DirectoryUser}
 use Rattle.cp_frames.specs.declared.numbers.UserPage.{UserPage}
 use Rattle.cp_frames.specs.Layout.{FrameSupply}
-use Rattle.cp_frames.specs.Supplied.{IsBetweenUnits}
+use Rattle.cp_dat.specs.Supplied.{IsBetweenUnits}
 use Rattle.cp_panel.specs.Machine.{Machine, unused}
 use Rattle.cp_panel.specs.Machine.{machine_of as parts_with}
 use Rattle.cp_core.specs.UserMachines.{UserParts, machine_of, Fits}

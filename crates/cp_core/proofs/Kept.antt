@@ -7,10 +7,10 @@ use Rattle.std.proofs.lemmas.List.Elements.{All-get_or}
 use Rattle.s370_intr.specs.Run.{AllNeeded}
 use Rattle.s370_intr.proofs.Brings.{listed}
 use Rattle.cp_frames.specs.Layout.{FrameSupply, without}
-use Rattle.cp_frames.specs.Lent.{lent_pool, user_of}
+use Rattle.cp_dat.specs.Lent.{lent_pool, user_of}
 use Rattle.cp_frames.specs.Paging.{IsPinned, IsRefused}
-use Rattle.cp_frames.specs.Supplied.{GivesBack, HasSuch, IsBetweenUnits, IsPagedFor, unpinned}
-use Rattle.cp_frames.specs.declared.dat.Dat.{Dat}
+use Rattle.cp_dat.specs.Supplied.{GivesBack, HasSuch, IsBetweenUnits, IsPagedFor, unpinned}
+use Rattle.cp_dat.specs.declared.dat.Dat.{Dat}
 use Rattle.cp_panel.specs.Machine.{Machine}
 use Rattle.cp_panel.specs.Panel.{line_needs, switches}
 use Rattle.cp_core.proofs.Switches.{switch_needs_none}

@@ -8,7 +8,7 @@ use Rattle.cp_directory.specs.Users.{DirectoryUser}
 use Rattle.cp_frames.specs.declared.numbers.UserPage.{UserPage}
 use Rattle.cp_frames.specs.Layout.{Pool, bytes_of, put_page}
 use Rattle.cp_frames.specs.Layout.{written_page as pool_page, written_frame as pool_frame}
-use Rattle.cp_frames.specs.Supplied.{IsBetweenUnits}
+use Rattle.cp_dat.specs.Supplied.{IsBetweenUnits}
 use Rattle.cp_panel.specs.Machine.{Machine}
 use Rattle.cp_core.specs.UserMachines.{UserParts, machine_of, Fits}
 use Rattle.cp_core.specs.System.{SystemView, machines_of, nobody}

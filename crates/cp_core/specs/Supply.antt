@@ -1,8 +1,8 @@
 -- What a line does to the frames and slots in which users' pages stand. What a run and a tick do is said by
--- cp_frames/specs/Supplied.antt.
+-- cp_dat/specs/Supplied.antt.
 use Rattle.std.specs.Prelude.{◌≡◌, ℕ, ◌<◌, ◌⊎◌, All, length, IsSome, false}
 use Rattle.cp_frames.specs.Layout.{FrameSupply, cleared_of, is_there}
-use Rattle.cp_frames.specs.Supplied.{HasSuch}
+use Rattle.cp_dat.specs.Supplied.{HasSuch}
 
 -- every slot is taken, and the page stands in none
 abbrev pub HasNoSlot : FrameSupply → ℕ → ℕ → Type 0

@@ -8,7 +8,7 @@ use Rattle.s370_intr.specs.Run.{AllNeeded, IsLacking, RunNeeds}
 use Rattle.s370_intr.specs.Laws.{begun}
 use Rattle.cp_directory.specs.Users.{DirectoryUser}
 use Rattle.cp_frames.specs.Layout.{FrameSupply}
-use Rattle.cp_frames.specs.Supplied.{HasNoRoom, IsBetweenUnits, IsBroughtFor}
+use Rattle.cp_dat.specs.Supplied.{HasNoRoom, IsBetweenUnits, IsBroughtFor}
 use Rattle.cp_panel.specs.Machine.{Machine, unused}
 use Rattle.cp_panel.specs.Run.{TellsRun}
 use Rattle.cp_panel.specs.Panel.{line, line_needs, switches}

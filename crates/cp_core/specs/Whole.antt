@@ -2,7 +2,7 @@
 use Rattle.std.specs.Prelude.{◌≡◌, ℕ, ◌*◌, ◌<◌, ◌≤◌, List, [], ◌∷◌, length, replicate, slice_index_or}
 use Rattle.cp_directory.specs.Users.{DirectoryUser}
 use Rattle.cp_frames.specs.Layout.{Pool}
-use Rattle.cp_frames.specs.Supplied.{IsBetweenUnits}
+use Rattle.cp_dat.specs.Supplied.{IsBetweenUnits}
 use Rattle.cp_panel.specs.Machine.{nothing_pending, reset_cpu}
 use Rattle.cp_panel.specs.declared.machine.Mode.TheVariants.{Off}
 use Rattle.cp_core.specs.UserMachines.{UserParts, Fits, machine_of}

@@ -9,7 +9,7 @@ ghost use Rattle.cp_panel.specs.Panel.{line, line_needs, line_room, switches};
 ghost use Rattle.cp_panel.specs.Tick.{TickNeeds, ticked};
 ghost use Rattle.cp_core.specs.Events.{IsNoRun, MayTakeMemory, user_of};
 ghost use Rattle.cp_core.specs.Supply.{IsGivenBack, IsShort};
-ghost use Rattle.cp_frames.specs.Supplied.{HasNoRoom, IsBetweenUnits, IsBroughtFor};
+ghost use Rattle.cp_dat.specs.Supplied.{HasNoRoom, IsBetweenUnits, IsBroughtFor};
 ghost use Rattle.cp_core.specs.System.{EachIsBare, IsApplied, IsSupplied, IsTold, SystemView, machine_at};
 
 use crate::events::{CpError, Ended, Event, Reply};

@@ -5,7 +5,7 @@ ghost use Rattle.s370_intr.specs.Run.{AllNeeded, IsLacking, RunNeeds};
 ghost use Rattle.s370_intr.specs.Laws.{begun};
 ghost use Rattle.cp_frames.specs.Layout.{bytes_of};
 ghost use Rattle.cp_frames.specs.Paging.{IsRefused};
-ghost use Rattle.cp_frames.specs.Supplied.{HasNoRoom, IsBetweenUnits, IsBroughtFor, IsPagedFor};
+ghost use Rattle.cp_dat.specs.Supplied.{HasNoRoom, IsBetweenUnits, IsBroughtFor, IsPagedFor};
 ghost use Rattle.cp_panel.specs.declared.line.LineError.TheVariants as errors;
 ghost use Rattle.cp_panel.specs.Machine.{machine_of as parts_with, unused};
 ghost use Rattle.cp_panel.specs.Run.{TellsRun, notice_of};
@@ -15,7 +15,8 @@ ghost use Rattle.cp_core.specs.UserMachines.{Fits, machine_of};
 ghost use Rattle.cp_core.specs.Supply.{IsGivenBack, IsShort};
 
 use cp_console::responses::Response;
-use cp_frames::{Dat, Frames};
+use cp_dat::Dat;
+use cp_frames::Frames;
 use cp_panel::{LineError, Machine};
 use cp_trap::VirtualCpu;
 use cp_users::UserNo;

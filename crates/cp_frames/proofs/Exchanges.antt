@@ -5,7 +5,7 @@ use Rattle.std.proofs.lemmas.List.{set-get_or}
 use Rattle.std.specs.Prelude.{IfSome, IsSome, All, take}
 use Rattle.cp_frames.specs.declared.numbers.UserPage.{UserPage}
 use Rattle.cp_frames.specs.declared.pool.Frames.TheInside.{Inside}
-use Rattle.cp_frames.specs.Layout.{FrameSupply, owned, frame_of, storages_of, told, IsWhole, IsMapped, IsTabled, IsSound}
+use Rattle.cp_frames.specs.Layout.{FrameSupply, owned, frame_entry, frame_of, slot_entry, storages_of, told, IsWhole, IsMapped, IsTabled, IsSound}
 use Rattle.cp_frames.specs.Tables.{page_place, put_half, noted}
 use Rattle.cp_frames.specs.Paging.{IsGivenUp, IsPut, exchanged, filled}
 use Rattle.cp_frames.proofs.Tables.{page_is}
@@ -43,15 +43,15 @@ pub exchange-kept : (f : Inside) (frame slot end low : ℕ) → IsKept f → fra
     IsSound (set f.frames.items frame (get_or f.slots.items slot [])) (set f.slots.items slot (get_or f.frames.items frame []))
     (set f.owners.items frame (get_or f.slot_owners.items slot None)) (set f.slot_owners.items slot (get_or f.owners.items frame None)) f.sizes.items
     (noted (get_or f.slot_owners.items slot None) (frame * 16) (noted (get_or f.owners.items frame None) 8 f.tables.items))
-    (told (get_or f.slot_owners.items slot None) frame (told (get_or f.owners.items frame None) 65535 f.looks.items))
-    (told (get_or f.owners.items frame None) slot (told (get_or f.slot_owners.items slot None) 4294967295 f.slot_table.items)) f.pins.items f.is_marked f.order.items end low
+    (told frame_entry (get_or f.slot_owners.items slot None) (Some frame) (told frame_entry (get_or f.owners.items frame None) None f.looks.items))
+    (told slot_entry (get_or f.owners.items frame None) (Some slot) (told slot_entry (get_or f.slot_owners.items slot None) None f.slot_table.items)) f.pins.items f.is_marked f.order.items end low
 exchange-kept f frame slot end low kept lt less unpinned all before = record {
   frame_room = rw (length-set, length-set) kept.frame_room;
   slot_room = rw (length-set, length-set) kept.slot_room;
   whole = whole-moved (crossed frame (length f.owners.items + slot)) (places_in f) _ (owners_in f) _ f.sizes.items kept.whole (moved_in f frame slot kept lt less);
   mapped = mapped-set f.owners.items f.sizes.items f.tables.items frame (get_or f.slot_owners.items slot None) (once_left f.owners.items f.slot_owners.items kept.whole.once) (small_left f kept) kept.mapped lt (new_frame f slot kept);
-  looked = tabled-set 65535 f.owners.items f.sizes.items f.looks.items frame (get_or f.slot_owners.items slot None) (once_left f.owners.items f.slot_owners.items kept.whole.once) (small_left f kept) kept.looked lt (new_frame f slot kept);
-  slots_tabled = tabled-set 4294967295 f.slot_owners.items f.sizes.items f.slot_table.items slot (get_or f.owners.items frame None) (once_right f.owners.items f.slot_owners.items kept.whole.once) (small_right f kept) kept.slots_tabled less (new_slot f frame kept lt);
+  looked = tabled-set frame_entry f.owners.items f.sizes.items f.looks.items frame (get_or f.slot_owners.items slot None) (once_left f.owners.items f.slot_owners.items kept.whole.once) (small_left f kept) kept.looked lt (new_frame f slot kept);
+  slots_tabled = tabled-set slot_entry f.slot_owners.items f.sizes.items f.slot_table.items slot (get_or f.owners.items frame None) (once_right f.owners.items f.slot_owners.items kept.whole.once) (small_right f kept) kept.slots_tabled less (new_slot f frame kept lt);
   ordered = ordered-set f.owners.items f.pins.items f.order.items frame (get_or f.slot_owners.items slot None) kept.ordered unpinned;
   unmarked = kept.unmarked;
   sought = record { within = omega arith; taken = none_taken (set f.owners.items frame (get_or f.slot_owners.items slot None)) f.order.items end (omega arith); before = before };
@@ -73,11 +73,11 @@ tables_filled f user page frame kept small absent within free =
     rw free at (mapped-set f.owners.items f.sizes.items f.tables.items frame (Some wanted) (once_left f.owners.items f.slot_owners.items kept.whole.once) (small_left f kept) kept.mapped within new)
 
 pub looks_filled : (f : Inside) (user page frame : ℕ) → IsKept f → page < 1024 → frame_of f.owners.items user page ≡ None → frame < length f.owners.items → get_or f.owners.items frame None ≡ None →
-    IsTabled 65535 (set f.owners.items frame (Some (owned user page))) f.sizes.items (set f.looks.items (user * 1024 + page) frame)
+    IsTabled frame_entry (set f.owners.items frame (Some (owned user page))) f.sizes.items (set f.looks.items (user * 1024 + page) (frame_entry (Some frame) page))
 looks_filled f user page frame kept small absent within free =
     let wanted : UserPage = owned user page in
     let new : IsNew f.owners.items (Some wanted) = λ q h. (let is : wanted ≡ q = cc in rw (← is) (small, absent)) in
-    rw free at (tabled-set 65535 f.owners.items f.sizes.items f.looks.items frame (Some wanted) (once_left f.owners.items f.slot_owners.items kept.whole.once) (small_left f kept) kept.looked within new)
+    rw free at (tabled-set frame_entry f.owners.items f.sizes.items f.looks.items frame (Some wanted) (once_left f.owners.items f.slot_owners.items kept.whole.once) (small_left f kept) kept.looked within new)
 
 -- what a page leaves and what is given up
 pub put_exchanged : (s : FrameSupply) (user page frame slot : ℕ) → frame_of s.slots user page ≡ Some slot → IsPut s (exchanged s frame slot) user page frame

@@ -1,8 +1,8 @@
 -- The entry of a page in the tables, and its place, by the parts of Frames.
-use Rattle.std.proofs.Common.{◌≡◌, ℕ, ◌+◌, ◌*◌, ◌/◌, ◌<◌, ◌≤◌, List, [], ◌++◌, length, get_or, Option, Some, arith}
+use Rattle.std.proofs.Common.{◌≡◌, ℕ, ◌+◌, ◌*◌, ◌/◌, ◌<◌, ◌≤◌, List, [], ◌++◌, length, get_or, Option, Some, refl, ◌∙◌, arith}
 use Rattle.cp_frames.specs.declared.numbers.UserPage.{UserPage}
 use Rattle.cp_frames.specs.declared.pool.Frames.TheInside.{Inside}
-use Rattle.cp_frames.specs.Layout.{frame_of, storage_of, storages_of, Holds, IsSound}
+use Rattle.cp_frames.specs.Layout.{frame_entry, frame_of, slot_entry, storage_of, storages_of, Holds, IsSound}
 use Rattle.std.proofs.lemmas.List.FromFn.{length-map-range_with_len}
 use Rattle.cp_frames.proofs.Layouts.{frame_found, length-bytes_of, user_with}
 use Rattle.cp_frames.proofs.Tables.{IsPlace, place}
@@ -21,14 +21,22 @@ bytes_in f user = get_or (storages_of (places_in f) (owners_in f) f.sizes.items)
 abbrev pub IsKept : Inside → Type 0
 IsKept f = IsSound f.frames.items f.slots.items f.owners.items f.slot_owners.items f.sizes.items f.tables.items f.looks.items f.slot_table.items f.pins.items f.is_marked f.order.items f.end f.low
 
--- a page of the user has an entry in the list beside the tables, and in that of the slots
+-- an address of the user has an entry in the list beside the tables, which tells the frame of its page
+pub look_place : (f : Inside) (user start : ℕ) → IsKept f → start < length (bytes_in f user) → IsPlace f.sizes.items f.looks.items user (start / 4096)
+look_place f user start kept lt = place frame_entry (places_in f) (owners_in f) f.owners.items f.sizes.items f.looks.items user (start / 4096) start kept.whole kept.looked lt refl
+
+pub looked_at : (f : Inside) (user start entry : ℕ) → IsKept f → start < length (bytes_in f user) → entry ≡ get_or f.looks.items (user * 1024 + start / 4096) 0 → entry ≡ frame_entry (frame_of f.owners.items user (start / 4096)) (start / 4096)
+looked_at f user start entry kept lt read =
+    let at = look_place f user start kept lt in read ∙ kept.looked.agrees user (start / 4096) at.of_user at.of_page
+
+-- a page of the user has an entry in that list, and in that of the slots
 pub look_place_of_page : (f : Inside) (user page : ℕ) → IsKept f → page * 4096 < length (bytes_in f user) → IsPlace f.sizes.items f.looks.items user page
 look_place_of_page f user page kept lt =
-    place 65535 (places_in f) (owners_in f) f.owners.items f.sizes.items f.looks.items user page (page * 4096) kept.whole kept.looked lt (omega arith)
+    place frame_entry (places_in f) (owners_in f) f.owners.items f.sizes.items f.looks.items user page (page * 4096) kept.whole kept.looked lt (omega arith)
 
 pub slot_place_of_page : (f : Inside) (user page : ℕ) → IsKept f → page * 4096 < length (bytes_in f user) → IsPlace f.sizes.items f.slot_table.items user page
 slot_place_of_page f user page kept lt =
-    place 4294967295 (places_in f) (owners_in f) f.slot_owners.items f.sizes.items f.slot_table.items user page (page * 4096) kept.whole kept.slots_tabled lt (omega arith)
+    place slot_entry (places_in f) (owners_in f) f.slot_owners.items f.sizes.items f.slot_table.items user page (page * 4096) kept.whole kept.slots_tabled lt (omega arith)
 
 -- a user who has a byte is a user
 pub of_user : (f : Inside) (user start : ℕ) {n : ℕ} → start + n ≤ length (bytes_in f user) → 0 < n → user < length f.sizes.items

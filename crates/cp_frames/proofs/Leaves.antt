@@ -6,10 +6,10 @@ use Rattle.std.proofs.lemmas.List.{get_or_past}
 use Rattle.std.proofs.lemmas.Bool.Decides.{nat_tests}
 use Rattle.std.proofs.lemmas.Grind.{common_steps}
 use Rattle.cp_frames.specs.declared.numbers.UserPage.{UserPage}
-use Rattle.cp_frames.specs.Layout.{owned, frame_of, held, Holds, ArePages, IsMapped, IsTabled, cleared_of, is_under, without, without_under}
+use Rattle.cp_frames.specs.Layout.{owned, frame_entry, frame_of, Holds, ArePages, IsMapped, IsTabled, cleared_of, is_under, without, without_under}
 use Rattle.cp_frames.specs.Tables.{page_place, put_half}
 use Rattle.cp_frames.proofs.Layouts.{dec_eq, frame_found}
-use Rattle.cp_frames.proofs.Tables.{IsPlace, held_none, held_other, page_is}
+use Rattle.cp_frames.proofs.Tables.{IsPlace, TellsFrame, frame_none, page_is, tells}
 use Rattle.cp_frames.proofs.Mapped.{mapped-set}
 use Rattle.cp_frames.proofs.Told.{AreSmall, IsNew, is_owned, tabled-set}
 use Rattle.cp_frames.proofs.Moves.{stands_alone}
@@ -114,27 +114,27 @@ mapped_more user page frame owners sizes tables pages mapped there =
     let e : left_by user (page + 1) owners ≡ set now frame None = left_more user page frame owners pages.once there in
     rw e (rw (page_is now user page frame there) at after)
 
-pub looked_more : (user page frame : ℕ) (owners : List (Option UserPage)) (sizes looks : List ℕ) → ArePages owners sizes → IsTabled 65535 (left_by user page owners) sizes looks → frame_of (left_by user page owners) user page ≡ Some frame →
-    IsTabled 65535 (left_by user (page + 1) owners) sizes (set looks (user * 1024 + page) 65535)
+pub looked_more : (user page frame : ℕ) (owners : List (Option UserPage)) (sizes looks : List ℕ) → ArePages owners sizes → IsTabled frame_entry (left_by user page owners) sizes looks → frame_of (left_by user page owners) user page ≡ Some frame →
+    IsTabled frame_entry (left_by user (page + 1) owners) sizes (set looks (user * 1024 + page) 1)
 looked_more user page frame owners sizes looks pages looked there =
     let now = left_by user page owners in
     let within = (frame_found now user page frame there).within in
     let new : IsNew now None = λ q h. cc in
-    let after = tabled-set 65535 now sizes looks frame None (once_left_by user page owners pages.once) (small_left_by user page owners sizes pages) looked within new in
+    let after = tabled-set frame_entry now sizes looks frame None (once_left_by user page owners pages.once) (small_left_by user page owners sizes pages) looked within new in
     let e : left_by user (page + 1) owners ≡ set now frame None = left_more user page frame owners pages.once there in
     rw e (rw (page_is now user page frame there) at after)
 
 -- the entry of the next page
-pub next_entry : (user page : ℕ) (owners now : List (Option UserPage)) (sizes looks : List ℕ) → ArePages owners sizes → IsTabled 65535 now sizes looks → page < get_or sizes user 0 → IsPlace sizes looks user page
+pub next_entry : (user page : ℕ) (owners now : List (Option UserPage)) (sizes looks : List ℕ) → ArePages owners sizes → IsTabled frame_entry now sizes looks → page < get_or sizes user 0 → IsPlace sizes looks user page
 next_entry user page owners now sizes looks pages looked lt =
     let small = pages.small user in
     let of_user : user < length sizes = elim (dec_lt user (length sizes)) [ yes h ↦ h | no past ↦ let none = get_or_past sizes user 0 (omega arith) in absurd (omega arith) ] in
     record { of_user = of_user; of_page = omega arith; low = omega (arith, looked.users); room = omega (arith, looked.entries) }
 
-pub next_there : (user page entry : ℕ) (now : List (Option UserPage)) (sizes looks : List ℕ) → IsTabled 65535 now sizes looks → IsPlace sizes looks user page → entry ≡ get_or looks (user * 1024 + page) 0 → entry ≢ 65535 → frame_of now user page ≡ Some entry
+pub next_there : (user page entry : ℕ) (now : List (Option UserPage)) (sizes looks : List ℕ) → IsTabled frame_entry now sizes looks → IsPlace sizes looks user page → entry ≡ get_or looks (user * 1024 + page) 0 → entry ≢ 1 → TellsFrame now user page entry
 next_there user page entry now sizes looks looked at read ne =
-    sym (held_other 65535 entry (frame_of now user page) ne (ap (held 65535) read ∙ looked.agrees user page at.of_user at.of_page))
+    tells now user page entry (frame_of now user page) refl looked.few (read ∙ looked.agrees user page at.of_user at.of_page) ne
 
-pub next_none : (user page entry : ℕ) (now : List (Option UserPage)) (sizes looks : List ℕ) → IsTabled 65535 now sizes looks → IsPlace sizes looks user page → entry ≡ get_or looks (user * 1024 + page) 0 → entry ≡ 65535 → frame_of now user page ≡ None
+pub next_none : (user page entry : ℕ) (now : List (Option UserPage)) (sizes looks : List ℕ) → IsTabled frame_entry now sizes looks → IsPlace sizes looks user page → entry ≡ get_or looks (user * 1024 + page) 0 → entry ≡ 1 → frame_of now user page ≡ None
 next_none user page entry now sizes looks looked at read e =
-    sym (held_none 65535 entry (frame_of now user page) e (ap (held 65535) read ∙ looked.agrees user page at.of_user at.of_page))
+    frame_none (frame_of now user page) entry page (read ∙ looked.agrees user page at.of_user at.of_page) e

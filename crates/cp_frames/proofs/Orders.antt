@@ -144,9 +144,9 @@ small_page bytes all sizes k p whole e =
     ]
 
 -- the entry of a page that stands somewhere is in each table
-pub entry_room : (nowhere : ℕ) (bytes : List (List ℕ)) (all owners : List (Option UserPage)) (sizes table : List ℕ) (k : ℕ) (o : Option UserPage) → IsWhole bytes all sizes → IsTabled nowhere owners sizes table → get_or all k None ≡ o →
+pub entry_room : (entry : Option ℕ → ℕ → ℕ) (bytes : List (List ℕ)) (all owners : List (Option UserPage)) (sizes table : List ℕ) (k : ℕ) (o : Option UserPage) → IsWhole bytes all sizes → IsTabled entry owners sizes table → get_or all k None ≡ o →
     IfSome o (λ p. p.user * 1024 + p.page.0 < length table)
-entry_room nowhere bytes all owners sizes table k None whole tabled e = tt
-entry_room nowhere bytes all owners sizes table k (Some p) whole tabled e =
+entry_room entry bytes all owners sizes table k None whole tabled e = tt
+entry_room entry bytes all owners sizes table k (Some p) whole tabled e =
     let small = small_page bytes all sizes k p whole e in
     omega (arith, tabled.entries, small.0, small.1)

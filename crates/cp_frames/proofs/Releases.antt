@@ -9,7 +9,7 @@ use Rattle.std.proofs.lemmas.List.Sorted.{IsPermutation-reverse, length_permutat
 use Rattle.cp_frames.proofs.Sought.{none_taken}
 use Rattle.cp_frames.specs.declared.numbers.UserPage.{UserPage}
 use Rattle.cp_frames.specs.declared.pool.Frames.TheInside.{Inside}
-use Rattle.cp_frames.specs.Layout.{cleared_of, without, storages_of, ArePages, IsWhole, IsMapped, IsTabled, IsSound}
+use Rattle.cp_frames.specs.Layout.{cleared_of, frame_entry, slot_entry, without, storages_of, ArePages, IsWhole, IsMapped, IsTabled, IsSound}
 use Rattle.cp_frames.specs.Tables.{half_at, first_half}
 use Rattle.cp_frames.proofs.Layouts.{whole-cleared, storages-none}
 use Rattle.cp_frames.proofs.Tables.{tabled-none, whole-none}
@@ -26,7 +26,7 @@ pub both_cleared : (user : ℕ) (owners slots : List (Option UserPage)) → clea
 both_cleared user owners slots = map-append (without user) owners slots
 
 pub released-kept : (f : Inside) (user : ℕ) (tables looks slot_table : List ℕ) (end : ℕ) → IsKept f → f.pins.items ≡ replicate (length f.pins.items) false →
-    IsMapped (cleared_of user f.owners.items) f.sizes.items tables → IsTabled 65535 (cleared_of user f.owners.items) f.sizes.items looks → IsTabled 4294967295 (cleared_of user f.slot_owners.items) f.sizes.items slot_table → end ≡ length f.order.items →
+    IsMapped (cleared_of user f.owners.items) f.sizes.items tables → IsTabled frame_entry (cleared_of user f.owners.items) f.sizes.items looks → IsTabled slot_entry (cleared_of user f.slot_owners.items) f.sizes.items slot_table → end ≡ length f.order.items →
     IsSound f.frames.items f.slots.items (cleared_of user f.owners.items) (cleared_of user f.slot_owners.items) f.sizes.items tables looks slot_table f.pins.items f.is_marked f.order.items end 0
 released-kept f user tables looks slot_table end kept blank mapped looked slots_tabled all = record {
   frame_room = rw length-map kept.frame_room;
@@ -73,7 +73,7 @@ order_long n = let e = order_is n in omega arith
 
 pub sound-first : (frames slots : List (List ℕ)) (owners slot_owners : List (Option UserPage)) (sizes tables looks slot_table : List ℕ) (pins : List Bool) (order : List ℕ) (n m : ℕ) →
     length frames ≡ n → length slots ≡ m → owners ≡ replicate n None → slot_owners ≡ replicate m None → length tables ≡ 2304 * length sizes →
-    ((half : ℕ) → half < 1152 * length sizes → half_at tables (half * 2) ≡ first_half (half / 1152) (get_or sizes (half / 1152) 0) (half % 1152)) → looks ≡ replicate (1024 * length sizes) 65535 → slot_table ≡ replicate (1024 * length sizes) 4294967295 →
+    ((half : ℕ) → half < 1152 * length sizes → half_at tables (half * 2) ≡ first_half (half / 1152) (get_or sizes (half / 1152) 0) (half % 1152)) → looks ≡ replicate (1024 * length sizes) 1 → slot_table ≡ replicate (1024 * length sizes) 4294967295 →
     pins ≡ replicate n false → order ≡ reverse (range_with_len 0 n) → n ≤ 4096 → m ≤ 65536 → length sizes ≤ 64 → All (λ pages. pages ≤ 1024) sizes → IsSound frames slots owners slot_owners sizes tables looks slot_table pins false order n 0
 sound-first frames slots owners slot_owners sizes tables looks slot_table pins order n m room slot_room e f long halves l g h i few many users small =
     let both : length (frames ++ slots) ≡ n + m = omega (arith, length-append frames slots) in
@@ -82,8 +82,8 @@ sound-first frames slots owners slot_owners sizes tables looks slot_table pins o
       slot_room = rw length-replicate slot_room;
       whole = subst (λ (os : List (Option UserPage)). IsWhole (frames ++ slots) os sizes) (sym (none_both n m)) (whole-none (frames ++ slots) sizes (n + m) both small);
       mapped = mapped-first sizes tables n few users long halves;
-      looked = tabled-none 65535 n sizes (omega arith) users;
-      slots_tabled = tabled-none 4294967295 m sizes (omega arith) users;
+      looked = tabled-none frame_entry 1 n sizes (λ _. refl) (omega arith) users;
+      slots_tabled = tabled-none slot_entry 4294967295 m sizes (λ _. refl) many users;
       ordered = record {
         frames = rw length-replicate few;
         marks = rw (length-replicate, length-replicate) refl;

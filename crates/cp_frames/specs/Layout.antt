@@ -1,5 +1,5 @@
 -- What frames, and the pages that stand in them, mean: the storage of each user.
-use Rattle.std.specs.Prelude.{◌≡◌, ℕ, ◌+◌, ◌*◌, ◌/◌, ◌%◌, ◌<◌, ◌≤◌, Bool, true, false, nat_lt, ◌&&◌, ◌==◌, if◌then◌else◌, List, [], ◌++◌, map, length, replicate, slice_index, slice_index_or, Option, Some, None, is_some, IsSome, slice_set, All, take, drop}
+use Rattle.std.specs.Prelude.{◌≡◌, ℕ, ◌+◌, ◌-◌, ◌*◌, ◌/◌, ◌%◌, ◌<◌, ◌≤◌, Bool, true, false, nat_lt, ◌&&◌, ◌==◌, if◌then◌else◌, List, [], ◌++◌, map, length, replicate, slice_index, slice_index_or, Option, Some, None, is_some, IsSome, slice_set, All, take, drop}
 use Rattle.std.specs.List.{position_from, range_with_len}
 use Rattle.std.specs.List.Sorted.{IsPermutation}
 use Rattle.cp_frames.specs.declared.numbers.UserPage.{UserPage}
@@ -78,21 +78,28 @@ pub record IsWhole (frames : List (List ℕ)) (owners : List (Option UserPage)) 
   pub once : (frame : ℕ) (page : UserPage) → Holds owners frame page → frame_of owners page.user page.page.0 ≡ Some frame
   pub inside : (frame : ℕ) (page : UserPage) → Holds owners frame page → page.page.0 < slice_index sizes page.user
 
--- the place that an entry of a table tells: one number says that there is none
-abbrev pub held : ℕ → ℕ → Option ℕ
-held nowhere entry = if entry == nowhere then None else Some entry
+-- the entry of a page in the list of frames: how far the places of its bytes, among those of all frames one after another, are
+-- beyond their addresses, in 32 bits; 1 where it stands in none
+abbrev pub frame_entry : Option ℕ → ℕ → ℕ
+frame_entry None page = 1
+frame_entry (Some frame) page = (frame * 4096 + (4294967296 - page * 4096 % 4294967296)) % 4294967296
 
--- the table where the entry of a page tells this place
-abbrev pub told : Option UserPage → ℕ → List ℕ → List ℕ
-told None place table = table
-told (Some there) place table = slice_set table (there.user * 1024 + there.page.0) place
+-- the entry of a page in the list of slots: its slot; the greatest number of 32 bits where it stands in none
+abbrev pub slot_entry : Option ℕ → ℕ → ℕ
+slot_entry None page = 4294967295
+slot_entry (Some slot) page = slot
+
+-- the list where the entry of a page tells this place, or that it stands in none
+abbrev pub told : (Option ℕ → ℕ → ℕ) → Option UserPage → Option ℕ → List ℕ → List ℕ
+told entry None place table = table
+told entry (Some there) place table = slice_set table (there.user * 1024 + there.page.0) (entry place there.page.0)
 
 -- the entry of each page tells the place among these in which the page stands
-pub record IsTabled (nowhere : ℕ) (owners : List (Option UserPage)) (sizes table : List ℕ) : Type 0 where
-  pub few : length owners ≤ nowhere
+pub record IsTabled (entry : Option ℕ → ℕ → ℕ) (owners : List (Option UserPage)) (sizes table : List ℕ) : Type 0 where
+  pub few : length owners ≤ 65536
   pub users : length sizes ≤ 64
   pub entries : length table ≡ 1024 * length sizes
-  pub agrees : (user page : ℕ) → user < length sizes → page < 1024 → held nowhere (slice_index table (user * 1024 + page)) ≡ frame_of owners user page
+  pub agrees : (user page : ℕ) → user < length sizes → page < 1024 → slice_index table (user * 1024 + page) ≡ entry (frame_of owners user page) page
 
 -- the tables are segment and page tables: of users with so many pages each, where an entry tells the frame of each page
 pub record IsMapped (owners : List (Option UserPage)) (sizes tables : List ℕ) : Type 0 where
@@ -134,8 +141,8 @@ pub record IsSound (frames slots : List (List ℕ)) (owners slot_owners : List (
   pub slot_room : length slots ≡ length slot_owners
   pub whole : IsWhole (frames ++ slots) (owners ++ slot_owners) sizes
   pub mapped : IsMapped owners sizes tables
-  pub looked : IsTabled 65535 owners sizes looks
-  pub slots_tabled : IsTabled 4294967295 slot_owners sizes slot_table
+  pub looked : IsTabled frame_entry owners sizes looks
+  pub slots_tabled : IsTabled slot_entry slot_owners sizes slot_table
   pub ordered : IsOrdered owners pins order
   pub unmarked : marked ≡ false → pins ≡ replicate (length pins) false
   pub sought : IsSought owners slot_owners order end low

@@ -8,19 +8,15 @@
 //! [`Frames`] is all of real storage, allotted once by [`Frames::new`]: no call after it takes memory. A contract sees it
 //! as the storage of each user, a list of bytes, and as its supply: the page in each frame and in each slot, which frames
 //! are pinned, the order in which their pages came, and how many have come. Where no frame is free for a page that is
-//! wanted, the page longest in its frame among those not pinned is given up for it. [`Dat`] lends one user's pages, with
-//! his keys, as a `Storage` over which a processor runs, as a `Supply`, which brings his absent pages and pins them, and as a
-//! `UnitSupply`, which takes the pins away when a unit ends.
+//! wanted, the page longest in its frame among those not pinned is given up for it.
 //!
 //! ```
 //! let mut frames = Frames::new(alloc, 64, 256, sizes)?;
 //! let frame = frames.bring(UserNo::new(0), Page(3))?;
-//! let mut storage = Dat::new(&mut frames, keys, UserNo::new(0));
-//! storage.store(0x3000, &[1, 2, 3]);
+//! frames.store(UserNo::new(0), 0x3000, &[1, 2, 3]);
 //! ```
 #![tactic(auto)]
 
-mod dat;
 mod frame;
 mod numbers;
 mod order;
@@ -29,6 +25,5 @@ mod paging;
 mod pool;
 mod table;
 
-pub use dat::Dat;
 pub use numbers::{FRAME_SIZE, FrameNo, UserPage};
 pub use pool::Frames;

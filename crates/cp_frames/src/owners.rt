@@ -1,10 +1,10 @@
 //! Which page stands in each frame, or in each slot.
 ghost use Rattle.std.specs.Prelude.{◌≡◌, ◌<◌, ℕ, List, Option, Some, None, false, length, slice_index, slice_index_or, slice_set, take, IsSome, IfOk, IfSome, IfNone, All, replicate};
 ghost use Rattle.cp_frames.specs.declared.numbers.UserPage.{UserPage};
-ghost use Rattle.cp_frames.specs.Layout.{without, cleared_of, ArePages, IsMapped, IsTabled};
+ghost use Rattle.cp_frames.specs.Layout.{without, cleared_of, frame_entry, slot_entry, ArePages, IsMapped, IsTabled};
 
 use crate::UserPage;
-use crate::table::{NO_FRAME, entry_of, forget, forget_slots};
+use crate::table::{ABSENT, entry_of, forget, forget_slots, frame_in};
 use cp_users::UserNo;
 use s370_store::Page;
 use std::alloc::{AllocError, Global};
@@ -61,21 +61,21 @@ pub fn low_after(low: usize, slot: usize, owner: Option<UserPage>) -> usize
 pub fn leave(
     owners: &mut Vec<Option<UserPage>>,
     tables: &mut Vec<u8>,
-    looks: &mut Vec<u16>,
+    looks: &mut Vec<u32>,
     sizes: &[u32],
     user: UserNo,
 )
     requires pages { ArePages owners.old.items sizes.now }
     requires mapped { IsMapped owners.old.items sizes.now tables.old.items }
-    requires looked { IsTabled 65535 owners.old.items sizes.now looks.old.items }
+    requires looked { IsTabled frame_entry owners.old.items sizes.now looks.old.items }
     ensures owners { owners.new.items ≡ cleared_of user owners.old.items }
     ensures mapped { IsMapped owners.new.items sizes.now tables.new.items }
-    ensures looked { IsTabled 65535 owners.new.items sizes.now looks.new.items }
+    ensures looked { IsTabled frame_entry owners.new.items sizes.now looks.new.items }
 {
     for page in 0..pages_of(sizes, user) {
-        let frame = looks[entry_of(user, page)];
-        if frame != NO_FRAME {
-            owners[usize::from(frame)] = None;
+        let entry = looks[entry_of(user, page)];
+        if entry != ABSENT {
+            owners[frame_in(entry, page)] = None;
             forget(
                 tables,
                 looks,
@@ -99,7 +99,7 @@ fn pages_of(sizes: &[u32], user: UserNo) -> u32
 /// Takes each page of a user out of its slot. Where there are no slots nothing is looked at.
 pub fn leave_slots(owners: &mut Vec<Option<UserPage>>, table: &mut Vec<u32>, user: UserNo)
     ensures owners { owners.new.items ≡ cleared_of user owners.old.items }
-    ensures tabled { (sizes : List ℕ) → IsTabled 4294967295 owners.old.items sizes table.old.items → IsTabled 4294967295 owners.new.items sizes table.new.items }
+    ensures tabled { (sizes : List ℕ) → IsTabled slot_entry owners.old.items sizes table.old.items → IsTabled slot_entry owners.new.items sizes table.new.items }
 {
     if owners.is_empty() {
         return;

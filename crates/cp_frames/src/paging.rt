@@ -6,7 +6,7 @@ ghost use Rattle.cp_frames.specs.Paging.{IsChosen, IsBrought, IsOpen, IsRefused,
 use crate::frame::clear;
 use crate::order::{count, free_turn, last, open_turn};
 use crate::owners::{first_free, low_after};
-use crate::table::{NO_SLOT, forget, note, tell_slot};
+use crate::table::{forget, forget_slot, note, tell_slot};
 use crate::{FrameNo, Frames, UserPage};
 use cp_users::UserNo;
 use s370_store::{FramesOut, Page};
@@ -153,7 +153,7 @@ impl Frames {
             self.slot_owners[slot],
             frame,
         );
-        tell_slot(&mut self.slot_table, self.slot_owners[slot], NO_SLOT);
+        forget_slot(&mut self.slot_table, self.slot_owners[slot]);
         tell_slot(&mut self.slot_table, self.owners[frame], slot as u32);
         self.low = low_after(self.low, slot, self.owners[frame]);
         self.end = self.order.len();

@@ -2,15 +2,15 @@
 ghost use Rattle.std.specs.Prelude.{reverse, ◌≡◌, ℕ, ◌+◌, ◌-◌, ◌*◌, ◌/◌, ◌%◌, ◌<◌, ◌≤◌, ◌↔◌, ◌++◌, Option, Some, None, true, false, map, length, slice_index_or, slice_set, slice_get, slice_range, IsSome, is_some, IfOk, IfSome, IfNone, All, replicate};
 ghost use Rattle.std.specs.List.{range_with_len};
 ghost use Rattle.s370_store.specs.Access.{put, IsGranted};
-ghost use Rattle.cp_frames.specs.Layout.{frame_of, number_of, held, is_there, IsZeroPage, cleared_of};
+ghost use Rattle.cp_frames.specs.Layout.{frame_of, number_of, is_there, IsZeroPage, cleared_of};
 ghost use Rattle.cp_frames.specs.Tables.{segment_entry, page_entry, walk};
 
-use crate::frame::{blank_frames, copy_in, copy_out, copy_out_at, copy_over};
+use crate::frame::{blank_frames, copy_in, copy_out_at, copy_over};
 use crate::order::all_frames;
 use crate::owners::{clear_pins, free_frames, leave, leave_slots, no_pins};
 use crate::table::{
-    INVALID, NO_SEGMENT, NO_SLOT, PAGES, empty_looks, empty_slot_table, entry_of, frame_in,
-    half_at, new_tables, page_place, segment_place, word_at,
+    ABSENT, INVALID, NO_SEGMENT, NO_SLOT, PAGES, empty_looks, empty_slot_table, entry_of, frame_in,
+    half_at, new_tables, page_place, place_in, segment_place, word_at,
 };
 use crate::{FRAME_SIZE, FrameNo, UserPage};
 use cp_users::UserNo;
@@ -40,7 +40,7 @@ pub struct Frames {
     pub(crate) page_ins: u64,
     pub(crate) sizes: Vec<u32>,
     pub(crate) tables: Vec<u8>,
-    pub(crate) looks: Vec<u16>,
+    pub(crate) looks: Vec<u32>,
     pub(crate) slot_table: Vec<u32>,
 }
 
@@ -157,26 +157,23 @@ impl Frames {
         ensures apart { IsSome result → frame_of self.now.supply.slots user page.0 ≡ None }
         ensures zero { IfNone result (frame_of self.now.supply.slots user page.0 ≡ None → IsZeroPage (bytes_of self.now user) page.0) }
     {
-        frame_in(self.looks[entry_of(user, page.0)])
+        let entry = self.looks[entry_of(user, page.0)];
+        if entry == ABSENT {
+            None
+        } else {
+            Some(FrameNo(frame_in(entry, page.0) as u16))
+        }
     }
 
-    /// What is looked up of a user's page: the number of the frame in which it stands, or that of no frame.
+    /// The place of a user's byte whose page stands in a frame, among the bytes of all frames.
     #[inline(always)]
-    fn look(&self, user: UserNo, page: u32) -> u16
-        requires { page * 4096 < length (bytes_of self.now user) }
-        ensures { held 65535 result ≡ frame_of self.now.supply.owners user page }
+    fn place_with(&self, user: UserNo, start: u32) -> usize
+        requires inside { start < length (bytes_of self.now user) }
+        requires present { IsSome (frame_of self.now.supply.owners user (start / 4096)) }
+        ensures there { frame_of self.now.supply.owners user (start / 4096) ≡ Some (result / 4096) }
+        ensures offset { result % 4096 ≡ start % 4096 }
     {
-        self.looks[entry_of(user, page)]
-    }
-
-    /// The frame in which a page stands that stands in one.
-    #[inline(always)]
-    fn frame_with(&self, user: UserNo, page: u32) -> usize
-        requires inside { page * 4096 < length (bytes_of self.now user) }
-        requires present { IsSome (frame_of self.now.supply.owners user page) }
-        ensures { frame_of self.now.supply.owners user page ≡ Some result }
-    {
-        usize::from(self.look(user, page))
+        place_in(self.looks[entry_of(user, start / PAGE_SIZE)], start)
     }
 
     /// The slot in which a page of a user stands. A page that stands in none, and in no frame, is all zero.
@@ -195,22 +192,32 @@ impl Frames {
         }
     }
 
-    /// The frame in which the page of an address of a user stands: the one look that each access makes.
+    /// The place of a user's byte among the bytes of all frames, one after another: the one look that each access makes. None
+    /// where its page stands in no frame.
     #[inline(always)]
-    pub(crate) fn frame_at(&self, user: UserNo, start: u32) -> Option<FrameNo>
+    pub fn place_at(&self, user: UserNo, start: u32) -> Option<usize>
         requires { start < length (bytes_of self.now user) }
-        ensures { number_of result ≡ frame_of self.now.supply.owners user (start / 4096) }
+        ensures there { IfSome result (λ place. frame_of self.now.supply.owners user (start / 4096) ≡ Some (place / 4096)) }
+        ensures offset { IfSome result (λ place. place % 4096 ≡ start % 4096) }
+        ensures within { IfSome result (λ place. place / 4096 < length self.now.supply.owners) }
+        ensures few { length self.now.supply.owners ≤ 4096 }
+        ensures none { IfNone result (frame_of self.now.supply.owners user (start / 4096) ≡ None) }
     {
-        frame_in(self.look(user, start / PAGE_SIZE))
+        let entry = self.looks[entry_of(user, start / PAGE_SIZE)];
+        if entry == ABSENT {
+            None
+        } else {
+            Some(place_in(entry, start))
+        }
     }
 
-    /// As `frame_at`, out of line.
+    /// Whether the page of a user's byte stands in a frame. It is out of line, for the second page of an access.
     #[inline(never)]
-    pub(crate) fn frame_apart(&self, user: UserNo, start: u32) -> Option<FrameNo>
+    pub fn is_there(&self, user: UserNo, start: u32) -> bool
         requires { start < length (bytes_of self.now user) }
-        ensures { number_of result ≡ frame_of self.now.supply.owners user (start / 4096) }
+        ensures { result ≡ is_there self.now.supply.owners user (start / 4096) }
     {
-        self.frame_at(user, start)
+        self.place_at(user, start).is_some()
     }
 
     /// The bytes of the segment and page tables of all users, one after another: 2304 for each.
@@ -385,32 +392,21 @@ impl Frames {
         ensures read { into.new ≡ slice_range (bytes_of self.now user) start (start + length into.old) }
         ensures fits { length (bytes_of self.now user) ≤ 4194304 }
     {
-        let frame = self.frame_with(user, start / PAGE_SIZE);
-        self.load_from(user, frame, start, into);
+        let place = self.place_with(user, start);
+        self.load_in(user, place, start, into);
     }
 
     /// Copies bytes of one page of a user out, of which the first has this place among the bytes of all frames.
     #[inline(always)]
-    pub(crate) fn load_in(&self, _user: UserNo, place: usize, start: u32, into: &mut [u8])
+    pub fn load_in(&self, _user: UserNo, place: usize, start: u32, into: &mut [u8])
         requires within { start + length into.old ≤ length (bytes_of self.now _user) }
         requires one_page { start % 4096 + length into.old ≤ 4096 }
         requires there { frame_of self.now.supply.owners _user (start / 4096) ≡ Some (place / 4096) }
         requires offset { place % 4096 ≡ start % 4096 }
-        ensures { into.new ≡ slice_range (bytes_of self.now _user) start (start + length into.old) }
-    {
-        copy_out_at(&self.frames, place, into);
-    }
-
-    /// Copies bytes of one page of a user out, which stands in this frame.
-    #[inline(always)]
-    fn load_from(&self, _user: UserNo, frame: usize, start: u32, into: &mut [u8])
-        requires within { start + length into.old ≤ length (bytes_of self.now _user) }
-        requires one_page { start % 4096 + length into.old ≤ 4096 }
-        requires there { frame_of self.now.supply.owners _user (start / 4096) ≡ Some frame }
         ensures read { into.new ≡ slice_range (bytes_of self.now _user) start (start + length into.old) }
         ensures fits { length (bytes_of self.now _user) ≤ 4194304 }
     {
-        copy_out(&self.frames[frame], (start % PAGE_SIZE) as usize, into);
+        copy_out_at(&self.frames, place, into);
     }
 
     /// Copies bytes out that may lie in two pages.
@@ -477,8 +473,12 @@ impl Frames {
         ensures supply { self.new.supply ≡ self.old.supply }
         ensures fits { length (bytes_of self.old user) ≤ 4194304 }
     {
-        let frame = self.frame_with(user, start / PAGE_SIZE);
-        copy_in(&mut self.frames[frame], (start % PAGE_SIZE) as usize, from);
+        let place = self.place_with(user, start);
+        copy_in(
+            &mut self.frames[place / FRAME_SIZE],
+            place % FRAME_SIZE,
+            from,
+        );
     }
 
     /// Copies bytes of one page into one page.
@@ -497,14 +497,14 @@ impl Frames {
         ensures others { self.new.storages ≡ slice_set self.old.storages user (bytes_of self.new user) }
         ensures supply { self.new.supply ≡ self.old.supply }
     {
-        let source = self.frame_with(user, from / PAGE_SIZE);
-        let target = self.frame_with(user, to / PAGE_SIZE);
+        let source = self.place_with(user, from);
+        let target = self.place_with(user, to);
         self.copy_placed(user, source, from, target, to, count);
     }
 
-    /// Copies bytes of one page of a user into one page, which stand in these frames.
+    /// Copies bytes of one page of a user into one page, of which the first have these places among the bytes of all frames.
     #[inline(always)]
-    pub(crate) fn copy_placed(
+    pub fn copy_placed(
         &mut self,
         _user: UserNo,
         source: usize,
@@ -519,8 +519,10 @@ impl Frames {
         requires short { count ≤ 256 }
         requires page_of_source { from % 4096 + count ≤ 4096 }
         requires page_of_target { to % 4096 + count ≤ 4096 }
-        requires source_there { frame_of self.old.supply.owners _user (from / 4096) ≡ Some source }
-        requires target_there { frame_of self.old.supply.owners _user (to / 4096) ≡ Some target }
+        requires source_there { frame_of self.old.supply.owners _user (from / 4096) ≡ Some (source / 4096) }
+        requires target_there { frame_of self.old.supply.owners _user (to / 4096) ≡ Some (target / 4096) }
+        requires source_offset { source % 4096 ≡ from % 4096 }
+        requires target_offset { target % 4096 ≡ to % 4096 }
         ensures bytes { bytes_of self.new _user ≡ put (bytes_of self.old _user) to (slice_range (bytes_of self.old _user) from (from + count)) }
         ensures size { length (bytes_of self.new _user) ≡ length (bytes_of self.old _user) }
         ensures others { self.new.storages ≡ slice_set self.old.storages _user (bytes_of self.new _user) }
@@ -528,10 +530,10 @@ impl Frames {
     {
         copy_over(
             &mut self.frames,
-            source,
-            (from % PAGE_SIZE) as usize,
-            target,
-            (to % PAGE_SIZE) as usize,
+            source / FRAME_SIZE,
+            source % FRAME_SIZE,
+            target / FRAME_SIZE,
+            target % FRAME_SIZE,
             count as usize,
         );
     }

@@ -3,14 +3,16 @@
 //! That of the frames is bytes: 2304 for each user, the segment table and 64 page tables of the architecture, with segments of
 //! 64K and pages of 4K (GA22-7000, "Dynamic Address Translation"). That of the slots is a list, 1024 entries for each user.
 //!
-//! Beside the bytes stands such a list of the frames too: what a unit looks up of a page it finds there in one load. No entry
-//! of the one is written without that of the other, by [`note`] and [`forget`].
-ghost use Rattle.std.specs.Prelude.{◌≡◌, ◌≢◌, ℕ, ◌+◌, ◌*◌, ◌/◌, ◌%◌, ◌<◌, ◌≤◌, length, slice_index, IfOk, IfSome, replicate};
-ghost use Rattle.cp_frames.specs.Layout.{number_of, held, told};
+//! Beside the bytes stands such a list of the frames too: of a page it tells how far the places of its bytes, among those of all
+//! frames, are beyond their addresses, so that an access finds the place of a byte by one load and one addition. No entry of
+//! the one is written without that of the other, by [`note`] and [`forget`].
+ghost use Rattle.std.specs.Prelude.{◌≡◌, ◌≢◌, ℕ, ◌+◌, ◌*◌, ◌/◌, ◌%◌, ◌<◌, ◌≤◌, length, slice_index, IfOk, IfSome, Some, None, replicate};
+ghost use Rattle.cp_frames.specs.Layout.{frame_entry, slot_entry, told};
 ghost use Rattle.cp_frames.specs.Tables.{half_at, word_at, page_place, segment_entry, segment_place, first_half, put_half, noted};
 
-use crate::{FrameNo, UserPage};
+use crate::{FRAME_SIZE, UserPage};
 use cp_users::UserNo;
+use s370_store::PAGE_SIZE;
 use std::alloc::{AllocError, Global};
 
 /// Entries of a user in a list: the pages of the largest storage.
@@ -28,8 +30,8 @@ pub const INVALID: u16 = 8;
 /// The entry of a segment past the storage: bit 31 is one.
 pub const NO_SEGMENT: u32 = 1;
 
-/// The entry in the list of a page that stands in no frame: the number of no frame.
-pub const NO_FRAME: u16 = 65535;
+/// The entry in the list of a page that stands in no frame. That of any other is a multiple of 4096.
+pub const ABSENT: u32 = 1;
 
 /// The entry of a page that stands in no slot.
 pub const NO_SLOT: u32 = 4294967295;
@@ -78,16 +80,28 @@ fn put_half(tables: &mut Vec<u8>, place: usize, half: u16)
     tables[place + 1] = (half % 256) as u8;
 }
 
-/// The frame that an entry of the list tells; None where the page stands in none.
+/// The place of an address among the bytes of all frames, by the entry of its page, which stands in one.
 #[inline(always)]
-pub fn frame_in(look: u16) -> Option<FrameNo>
-    ensures { number_of result ≡ held 65535 look }
+pub fn place_in(entry: u32, address: u32) -> usize
+    ensures { (frame : ℕ) → frame < 65536 → address < 4194304 → entry ≡ frame_entry (Some frame) (address / 4096) → result ≡ frame * 4096 + address % 4096 }
 {
-    if look == NO_FRAME {
-        None
-    } else {
-        Some(FrameNo(look))
-    }
+    entry.wrapping_add(address) as usize
+}
+
+/// The frame that the entry of a page tells, which stands in one.
+pub fn frame_in(entry: u32, page: u32) -> usize
+    requires { page < 1024 }
+    ensures { (frame : ℕ) → frame < 65536 → entry ≡ frame_entry (Some frame) page → result ≡ frame }
+{
+    place_in(entry, page * PAGE_SIZE) / FRAME_SIZE
+}
+
+/// The entry in the list of a page that stands in this frame.
+fn look_with(page: u32, frame: usize) -> u32
+    requires { frame < 4096 }
+    ensures { result ≡ frame_entry (Some frame) page }
+{
+    (frame as u32 * PAGE_SIZE).wrapping_sub(page.wrapping_mul(PAGE_SIZE))
 }
 
 /// The entry of a page that stands in this frame.
@@ -148,10 +162,10 @@ pub fn new_tables(alloc: Global, sizes: &[u32]) -> Result<Vec<u8>, AllocError>
 }
 
 /// A list in which no page stands in a frame.
-pub fn empty_looks(alloc: Global, count: usize) -> Result<Vec<u16>, AllocError>
-    ensures { IfOk result (λ looks. looks.items ≡ replicate count 65535) }
+pub fn empty_looks(alloc: Global, count: usize) -> Result<Vec<u32>, AllocError>
+    ensures { IfOk result (λ looks. looks.items ≡ replicate count 1) }
 {
-    Ok(vec![in alloc; NO_FRAME; count]?)
+    Ok(vec![in alloc; ABSENT; count]?)
 }
 
 /// A table in which no page stands in a slot.
@@ -170,12 +184,12 @@ pub fn entry_of(user: UserNo, page: u32) -> usize
 }
 
 /// Makes the entry of a page tell this frame, in the tables and in the list beside them.
-pub fn note(tables: &mut Vec<u8>, looks: &mut Vec<u16>, owner: Option<UserPage>, frame: usize)
+pub fn note(tables: &mut Vec<u8>, looks: &mut Vec<u32>, owner: Option<UserPage>, frame: usize)
     requires tables { IfSome owner (λ p. page_place p.user p.page.0 + 1 < length tables.old.items) }
     requires looks { IfSome owner (λ p. p.user * 1024 + p.page.0 < length looks.old.items) }
     requires frame { frame < 4096 }
     ensures tables { tables.new.items ≡ noted owner (frame * 16) tables.old.items }
-    ensures looks { looks.new.items ≡ told owner frame looks.old.items }
+    ensures looks { looks.new.items ≡ told frame_entry owner (Some frame) looks.old.items }
 {
     if let Some(there) = owner {
         put_half(
@@ -183,16 +197,16 @@ pub fn note(tables: &mut Vec<u8>, looks: &mut Vec<u16>, owner: Option<UserPage>,
             page_place(there.user.index(), there.page.0),
             entry_with(frame),
         );
-        looks[entry_of(there.user, there.page.0)] = frame as u16;
+        looks[entry_of(there.user, there.page.0)] = look_with(there.page.0, frame);
     }
 }
 
 /// Makes the entry of a page tell no frame, in the tables and in the list beside them.
-pub fn forget(tables: &mut Vec<u8>, looks: &mut Vec<u16>, owner: Option<UserPage>)
+pub fn forget(tables: &mut Vec<u8>, looks: &mut Vec<u32>, owner: Option<UserPage>)
     requires tables { IfSome owner (λ p. page_place p.user p.page.0 + 1 < length tables.old.items) }
     requires looks { IfSome owner (λ p. p.user * 1024 + p.page.0 < length looks.old.items) }
     ensures tables { tables.new.items ≡ noted owner 8 tables.old.items }
-    ensures looks { looks.new.items ≡ told owner 65535 looks.old.items }
+    ensures looks { looks.new.items ≡ told frame_entry owner None looks.old.items }
 {
     if let Some(there) = owner {
         put_half(
@@ -200,17 +214,27 @@ pub fn forget(tables: &mut Vec<u8>, looks: &mut Vec<u16>, owner: Option<UserPage
             page_place(there.user.index(), there.page.0),
             INVALID,
         );
-        looks[entry_of(there.user, there.page.0)] = NO_FRAME;
+        looks[entry_of(there.user, there.page.0)] = ABSENT;
     }
 }
 
 /// Makes the entry of a page tell this slot.
 pub fn tell_slot(table: &mut Vec<u32>, owner: Option<UserPage>, slot: u32)
     requires { IfSome owner (λ p. p.user * 1024 + p.page.0 < length table.old.items) }
-    ensures { table.new.items ≡ told owner slot table.old.items }
+    ensures { table.new.items ≡ told slot_entry owner (Some slot) table.old.items }
 {
     if let Some(there) = owner {
         table[entry_of(there.user, there.page.0)] = slot;
+    }
+}
+
+/// Makes the entry of a page tell no slot.
+pub fn forget_slot(table: &mut Vec<u32>, owner: Option<UserPage>)
+    requires { IfSome owner (λ p. p.user * 1024 + p.page.0 < length table.old.items) }
+    ensures { table.new.items ≡ told slot_entry owner None table.old.items }
+{
+    if let Some(there) = owner {
+        table[entry_of(there.user, there.page.0)] = NO_SLOT;
     }
 }
 

@@ -2,7 +2,8 @@
 ghost use Rattle.std.specs.Prelude.{◌≡◌, length};
 
 use crate::step::{Named, Sizes, Spot, Step};
-use cp_frames::{Dat, FRAME_SIZE, FrameNo, Frames};
+use cp_dat::Dat;
+use cp_frames::{FRAME_SIZE, FrameNo, Frames};
 use cp_users::UserNo;
 use s370_num::{AccessKey, StorageKey};
 use s370_store::{Access, Fault, FramesOut, Keyed, PAGE_SIZE, Page, Range, Storage, Supply};

@@ -1,8 +1,8 @@
 use Rattle.std.proofs.Common.{◌≡◌, ◌∙◌, ap, ℕ, length, subst, rules}
 use Rattle.cp_frames.specs.Layout.{Pool}
-use Rattle.cp_frames.specs.Lent.{KeepsFrames, lent_bytes, lent_keys, lent_pool, user_of}
+use Rattle.cp_dat.specs.Lent.{KeepsFrames, lent_bytes, lent_keys, lent_pool, user_of}
 use Rattle.cp_frames.specs.Paging.{IsRefused}
-use Rattle.cp_frames.specs.Supplied.{GivesBack}
+use Rattle.cp_dat.specs.Supplied.{GivesBack}
 use Rattle.cp_panel.specs.Machine.{machine_of as parts_with}
 use Rattle.cp_panel.specs.Panel.{switches}
 use Rattle.cp_core.specs.Supply.{IsGivenBack}

@@ -1,7 +1,7 @@
 use Rattle.std.proofs.Common.{rules, ◌≡◌, ◌∙◌, ℕ, List, subst}
 use Rattle.cp_frames.specs.Layout.{Pool, bytes_of}
-use Rattle.cp_frames.specs.Lent.{user_of, lent_pool, lent_keys}
-use Rattle.cp_frames.specs.Supplied.{HasNoRoom}
+use Rattle.cp_dat.specs.Lent.{user_of, lent_pool, lent_keys}
+use Rattle.cp_dat.specs.Supplied.{HasNoRoom}
 use Rattle.cp_panel.specs.Machine.{machine_of as parts_with}
 use Rattle.cp_panel.specs.Run.{TellsRun, notice_of}
 use Rattle.cp_core.proofs.user_machine.run_over.Goals as goal

@@ -2,24 +2,24 @@ use Rattle.std.proofs.Common.{◌≡◌, ◌<◌, ◌+◌, ◌∙◌, List, Opti
 use Rattle.std.proofs.Math.ListN.{set}
 use Rattle.std.proofs.lemmas.List.{get_or_read}
 use Rattle.cp_frames.specs.declared.numbers.UserPage.{UserPage}
-use Rattle.cp_frames.specs.Layout.{IsMapped, IsTabled}
+use Rattle.cp_frames.specs.Layout.{frame_entry, IsMapped, IsTabled}
 use Rattle.cp_frames.proofs.Layouts.{frame_found}
 use Rattle.cp_frames.proofs.Leaves.{left_all, left_by, left_more, left_none, left_same, looked_more, mapped_more, next_entry, next_none, next_there}
-use Rattle.cp_frames.proofs.owners.leave.Goals.{then-frame, else-frame}
+use Rattle.cp_frames.proofs.owners.leave.Goals.{then-entry-ne-ABSENT, else-entry-ne-ABSENT}
 use Rattle.cp_frames.proofs.owners.leave.Goals as goal
 
 pub loop-page-init : goal.loop-page-init
 loop-page-init c = record { owners = sym (left_none c.args.user c.args.owners.now.items); mapped = c.requires.mapped; looked = c.requires.looked }
 
-pub index-frame-requires : goal.index-frame-requires
-index-frame-requires c =
+pub index-entry-requires : goal.index-entry-requires
+index-entry-requires c =
     let user = c.args.user in
     let page = c.loop-page.page in
     let was = c.args.owners.now.items in
     let sizes = c.args.sizes.now in
     let looks = c.loop-page.looks.items in
     let lt : page < get_or sizes user 0 = omega (arith, c.pages_of-page-end.ensures, c.loop-page-test.true) in
-    let looked : IsTabled 65535 (left_by user page was) sizes looks = rw c.loop-page.invariant.owners at c.loop-page.invariant.looked in
+    let looked : IsTabled frame_entry (left_by user page was) sizes looks = rw c.loop-page.invariant.owners at c.loop-page.invariant.looked in
     let at = next_entry user page was (left_by user page was) sizes looks c.requires.pages looked lt in
     omega (arith, at.room, c.loop-page.looks.ok.0, c.entry_of.ensures)
 
@@ -31,13 +31,13 @@ index_mut-requires c =
     let sizes = c.args.sizes.now in
     let looks = c.loop-page.looks.items in
     let lt : page < get_or sizes user 0 = omega (arith, c.pages_of-page-end.ensures, c.loop-page-test.true) in
-    let looked : IsTabled 65535 (left_by user page was) sizes looks = rw c.loop-page.invariant.owners at c.loop-page.invariant.looked in
+    let looked : IsTabled frame_entry (left_by user page was) sizes looks = rw c.loop-page.invariant.owners at c.loop-page.invariant.looked in
     let at = next_entry user page was (left_by user page was) sizes looks c.requires.pages looked lt in
-    let read = get_or_read looks _ _ at.room (rw c.entry_of.ensures at c.index-frame.ensures) 0 in
-    let frame = c.index-frame.result.now in
-    let there = next_there user page frame (left_by user page was) sizes looks looked at read c.if-frame.true in
-    let within = (frame_found (left_by user page was) user page frame there).within in
-    omega (arith, within, ap length c.loop-page.invariant.owners, c.loop-page.owners.ok.0, c.from.ensures)
+    let read = get_or_read looks _ _ at.room (rw c.entry_of.ensures at c.index-entry.ensures) 0 in
+    let entry = c.index-entry.result.now in
+    let tells = next_there user page entry (left_by user page was) sizes looks looked at read c.if-entry-ne-ABSENT.true in
+    let within = (frame_found (left_by user page was) user page tells.frame tells.there).within in
+    omega (arith, within, ap length c.loop-page.invariant.owners, c.loop-page.owners.ok.0, c.frame_in.ensures tells.frame tells.low tells.told)
 
 pub forget-requires-clause-tables : goal.forget-requires-clause-tables
 forget-requires-clause-tables c =
@@ -47,7 +47,7 @@ forget-requires-clause-tables c =
     let sizes = c.args.sizes.now in
     let looks = c.loop-page.looks.items in
     let lt : page < get_or sizes user 0 = omega (arith, c.pages_of-page-end.ensures, c.loop-page-test.true) in
-    let looked : IsTabled 65535 (left_by user page was) sizes looks = rw c.loop-page.invariant.owners at c.loop-page.invariant.looked in
+    let looked : IsTabled frame_entry (left_by user page was) sizes looks = rw c.loop-page.invariant.owners at c.loop-page.invariant.looked in
     let at = next_entry user page was (left_by user page was) sizes looks c.requires.pages looked lt in
     omega (arith, at.of_user, at.of_page, c.loop-page.invariant.mapped.room)
 
@@ -59,7 +59,7 @@ forget-requires-clause-looks c =
     let sizes = c.args.sizes.now in
     let looks = c.loop-page.looks.items in
     let lt : page < get_or sizes user 0 = omega (arith, c.pages_of-page-end.ensures, c.loop-page-test.true) in
-    let looked : IsTabled 65535 (left_by user page was) sizes looks = rw c.loop-page.invariant.owners at c.loop-page.invariant.looked in
+    let looked : IsTabled frame_entry (left_by user page was) sizes looks = rw c.loop-page.invariant.owners at c.loop-page.invariant.looked in
     let at = next_entry user page was (left_by user page was) sizes looks c.requires.pages looked lt in
     at.room
 
@@ -71,22 +71,24 @@ loop-page-preserved c =
     let sizes = c.args.sizes.now in
     let looks = c.loop-page.looks.items in
     let lt : page < get_or sizes user 0 = omega (arith, c.pages_of-page-end.ensures, c.loop-page-test.true) in
-    let looked : IsTabled 65535 (left_by user page was) sizes looks = rw c.loop-page.invariant.owners at c.loop-page.invariant.looked in
+    let looked : IsTabled frame_entry (left_by user page was) sizes looks = rw c.loop-page.invariant.owners at c.loop-page.invariant.looked in
     let at = next_entry user page was (left_by user page was) sizes looks c.requires.pages looked lt in
-    let read = get_or_read looks _ _ at.room (rw c.entry_of.ensures at c.index-frame.ensures) 0 in
-    let frame = c.index-frame.result.now in
+    let read = get_or_read looks _ _ at.room (rw c.entry_of.ensures at c.index-entry.ensures) 0 in
+    let entry = c.index-entry.result.now in
     let mapped : IsMapped (left_by user page was) sizes c.loop-page.tables.items = rw c.loop-page.invariant.owners at c.loop-page.invariant.mapped in
-    elim c.if-frame.branch [
-      | then-frame w ↦ (let there = next_there user page frame (left_by user page was) sizes looks looked at read w.if-frame.true in
+    elim c.if-entry-ne-ABSENT.branch [
+      | then-entry-ne-ABSENT w ↦ (let tells = next_there user page entry (left_by user page was) sizes looks looked at read w.if-entry-ne-ABSENT.true in
+          let frame = tells.frame in
+          let there = tells.there in
           let owners : set c.loop-page.owners.items frame None ≡ left_by user (page + 1) was =
           ap (λ (os : List (Option UserPage)). set os frame None) c.loop-page.invariant.owners ∙ sym (left_more user page frame was c.requires.pages.once there) in
-          rw (w.owners-is, w.tables-is, w.looks-is, w.forget.ensures.tables, w.forget.ensures.looks, w.from.ensures)
+          rw (w.owners-is, w.tables-is, w.looks-is, w.forget.ensures.tables, w.forget.ensures.looks, w.frame_in.ensures tells.frame tells.low tells.told)
           (record {
             owners = owners;
             mapped = rw owners (mapped_more user page frame was sizes c.loop-page.tables.items c.requires.pages mapped there);
             looked = rw owners (looked_more user page frame was sizes looks c.requires.pages looked there);
           }))
-      | else-frame w ↦ (let nowhere = next_none user page frame (left_by user page was) sizes looks looked at read w.if-frame.false in
+      | else-entry-ne-ABSENT w ↦ (let nowhere = next_none user page entry (left_by user page was) sizes looks looked at read w.if-entry-ne-ABSENT.false in
           let owners : c.loop-page.owners.items ≡ left_by user (page + 1) was = c.loop-page.invariant.owners ∙ sym (left_same user page was nowhere) in
           rw (w.owners-is, w.tables-is, w.looks-is) (record { owners = owners; mapped = c.loop-page.invariant.mapped; looked = c.loop-page.invariant.looked }))
     ]

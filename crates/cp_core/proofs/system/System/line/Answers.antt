@@ -4,7 +4,7 @@ use Rattle.s370_store.specs.Access.{Touches}
 use Rattle.s370_intr.specs.Run.{AllNeeded, IsLacking}
 use Rattle.cp_panel.specs.Panel.{line, line_needs, switches}
 use Rattle.cp_panel.specs.declared.line.LineError.TheVariants as errors
-use Rattle.cp_frames.specs.Supplied.{IsBroughtFor}
+use Rattle.cp_dat.specs.Supplied.{IsBroughtFor}
 use Rattle.cp_core.specs.Supply.{IsGivenBack, IsShort}
 use Rattle.cp_core.specs.System.{SystemView}
 use Rattle.cp_core.proofs.Systems.{change, is_user, seat_fits, transported, same_if_refused}

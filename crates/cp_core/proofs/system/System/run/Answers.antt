@@ -2,7 +2,7 @@ use Rattle.std.proofs.Common.{◌≡◌, ◌*◌, ◌≤◌, ap, arith, length, 
 use Rattle.s370_intr.specs.Laws.{begun}
 use Rattle.s370_intr.specs.Run.{AllNeeded, RunNeeds}
 use Rattle.cp_panel.specs.Run.{TellsRun, notice_of}
-use Rattle.cp_frames.specs.Supplied.{HasNoRoom, IsBroughtFor}
+use Rattle.cp_dat.specs.Supplied.{HasNoRoom, IsBroughtFor}
 use Rattle.cp_core.specs.System.{SystemView}
 use Rattle.cp_core.proofs.Systems.{change, is_user, seat_fits, transported}
 use Rattle.cp_core.proofs.system.System.run.Goals as goal

@@ -2,7 +2,7 @@ use Rattle.std.proofs.Common.{◌≡◌, ◌≤◌, ap, arith, length, List, ℕ
 use Rattle.std.specs.Prelude.{OnErr, OnOk}
 use Rattle.s370_intr.specs.Run.{AllNeeded, IsLacking}
 use Rattle.cp_panel.specs.Tick.{TickNeeds, ticked}
-use Rattle.cp_frames.specs.Supplied.{HasNoRoom, IsBroughtFor}
+use Rattle.cp_dat.specs.Supplied.{HasNoRoom, IsBroughtFor}
 use Rattle.cp_core.specs.System.{SystemView}
 use Rattle.cp_core.proofs.Systems.{change, is_user, seat_fits, transported, same_if_refused}
 use Rattle.cp_core.proofs.system.System.tick.Goals as goal

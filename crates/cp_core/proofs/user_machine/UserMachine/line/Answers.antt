@@ -4,8 +4,8 @@ use Rattle.s370_intr.specs.Run.{AllNeeded, IsLacking}
 use Rattle.cp_frames.specs.Layout.{bytes_of}
 use Rattle.cp_panel.specs.Machine.{machine_of as parts_with}
 use Rattle.cp_panel.specs.Panel.{line_needs, switches}
-use Rattle.cp_frames.specs.Supplied.{IsBroughtFor}
-use Rattle.cp_frames.specs.Letting.{between_again, brought_for}
+use Rattle.cp_dat.specs.Supplied.{IsBroughtFor}
+use Rattle.cp_dat.specs.Letting.{between_again, brought_for}
 use Rattle.cp_core.specs.Supply.{IsGivenBack, IsShort}
 use Rattle.cp_core.proofs.Kept.{given_for, line_short}
 use Rattle.cp_core.proofs.user_machine.UserMachine.line.Goals as goal

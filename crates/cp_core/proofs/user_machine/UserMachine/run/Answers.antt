@@ -2,7 +2,7 @@ use Rattle.std.proofs.Common.{◌≡◌, ℕ, List, arith, rules, subst, sym}
 use Rattle.std.specs.Vec.{with_items}
 use Rattle.std.proofs.lemmas.List.{with_items_is}
 use Rattle.cp_frames.specs.Layout.{bytes_of}
-use Rattle.cp_frames.specs.Supplied.{HasNoRoom}
+use Rattle.cp_dat.specs.Supplied.{HasNoRoom}
 use Rattle.cp_panel.specs.Machine.{Machine}
 use Rattle.cp_panel.specs.Machine.{machine_of as parts_with}
 use Rattle.cp_panel.specs.Run.{TellsRun, notice_of}

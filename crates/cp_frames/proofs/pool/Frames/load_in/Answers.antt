@@ -1,6 +1,7 @@
-use Rattle.std.proofs.Common.{◌≡◌, ◌/◌, ◌≤◌, ◌+◌, ◌∙◌, length, get_or, [], sym, Some}
+use Rattle.std.proofs.Common.{◌≡◌, ◌/◌, ◌≤◌, ◌+◌, ◌∙◌, arith, length, get_or, [], sym, Some}
 use Rattle.std.proofs.lemmas.List.{get_or_append_left}
 use Rattle.cp_frames.specs.Layout.{frame_of}
+use Rattle.cp_frames.proofs.Layouts.{length-bytes_of}
 use Rattle.cp_frames.proofs.Inside.{bytes_in, slot_in, places_in, owners_in}
 use Rattle.cp_frames.proofs.PageParts.{part_read}
 use Rattle.cp_frames.proofs.pool.Frames.load_in.Goals as goal
@@ -12,8 +13,16 @@ copy_out_at-requires c =
     let slot = slot_in f c.args._user (c.args.start / 4096) (c.args.place / 4096) c.self.invariant there in
     record { within = rw c.requires.offset c.requires.one_page; inside = rw c.deref.ensures.value slot.room }
 
-pub returns : goal.returns
-returns c =
+pub returns-clause-fits : goal.returns-clause-fits
+returns-clause-fits c =
+    let f = c.self.inside in
+    let count = length-bytes_of (places_in f) (owners_in f) f.sizes.items c.args._user in
+    let small = c.self.invariant.whole.small c.args._user in
+    let most : length (bytes_in f c.args._user) ≤ 4194304 = omega arith in
+    rw (← c.self.view_is) most
+
+pub returns-clause-read : goal.returns-clause-read
+returns-clause-read c =
     let f = c.self.inside in
     let frame = c.args.place / 4096 in
     let n = length c.args.into.now in

@@ -1,6 +1,6 @@
 use Rattle.std.proofs.Common.{arith, ◌∙◌, ◌≡◌, ap, sym, length, replicate, false, Bool, List}
 use Rattle.std.proofs.lemmas.List.{length-replicate}
-use Rattle.cp_frames.specs.Layout.{Pool, FrameSupply, IsMapped, IsTabled, cleared_of}
+use Rattle.cp_frames.specs.Layout.{Pool, FrameSupply, IsMapped, IsTabled, cleared_of, frame_entry, slot_entry}
 use Rattle.cp_frames.proofs.Layouts.{frame_of-cleared, storages-cleared, length-bytes_of}
 use Rattle.cp_frames.proofs.Releases.{frame_pages, released-kept, released-storages}
 use Rattle.cp_frames.proofs.Inside.{places_in, owners_in}
@@ -15,8 +15,8 @@ invariant_of-self c =
     let pins = ap (λ (p : Pool). p.supply.pins) c.self.view_is ∙ ap (λ (s : FrameSupply). s.pins) c.unpin_all.ensures.supply in
     let blank : f.pins.items ≡ replicate (length f.pins.items) false = pins ∙ ap (λ n. replicate n false) (sym (ap (λ (ps : List Bool). length ps) pins ∙ length-replicate (length c.args.self.now.supply.pins) false)) in
     let mapped : IsMapped (cleared_of c.args.user f.owners.items) f.sizes.items c.leave.new.tables.items = rw (c.leave.ensures.owners, c.deref.ensures.value) at c.leave.ensures.mapped in
-    let looked : IsTabled 65535 (cleared_of c.args.user f.owners.items) f.sizes.items c.leave.new.looks.items = rw (c.leave.ensures.owners, c.deref.ensures.value) at c.leave.ensures.looked in
-    let slots_tabled : IsTabled 4294967295 (cleared_of c.args.user f.slot_owners.items) f.sizes.items c.leave_slots.new.table.items = rw c.leave_slots.ensures.owners at (c.leave_slots.ensures.tabled f.sizes.items c.self.invariant.slots_tabled) in
+    let looked : IsTabled frame_entry (cleared_of c.args.user f.owners.items) f.sizes.items c.leave.new.looks.items = rw (c.leave.ensures.owners, c.deref.ensures.value) at c.leave.ensures.looked in
+    let slots_tabled : IsTabled slot_entry (cleared_of c.args.user f.slot_owners.items) f.sizes.items c.leave_slots.new.table.items = rw c.leave_slots.ensures.owners at (c.leave_slots.ensures.tabled f.sizes.items c.self.invariant.slots_tabled) in
     rw (c.leave.ensures.owners, c.leave_slots.ensures.owners) (released-kept f c.args.user c.leave.new.tables.items c.leave.new.looks.items c.leave_slots.new.table.items c.len-self-inside.result c.self.invariant blank mapped looked slots_tabled (omega (arith, c.len-self-inside.ensures, f.order.ok.0)))
 
 pub returns-clause-storages : goal.returns-clause-storages

@@ -1,8 +1,8 @@
-use Rattle.std.proofs.Common.{◌≡◌, ◌*◌, ◌<◌, ◌+◌, Some, sym, ◌∙◌, ap, arith, length, get_or}
+use Rattle.std.proofs.Common.{◌≡◌, ◌*◌, ◌<◌, ◌+◌, Some, refl, sym, ◌∙◌, ap, arith, length, get_or}
 use Rattle.std.proofs.lemmas.List.{get_or_read}
 use Rattle.cp_frames.specs.Layout.{frame_of}
 use Rattle.cp_frames.proofs.Layouts.{absent-zero, frame_found}
-use Rattle.cp_frames.proofs.Tables.{held_none, held_other}
+use Rattle.cp_frames.proofs.Tables.{low_place, slot_none, slot_some}
 use Rattle.cp_frames.proofs.Halves.{from_none, slot_apart}
 use Rattle.cp_frames.proofs.Inside.{bytes_in, places_in, owners_in, slot_place_of_page}
 use Rattle.cp_frames.proofs.pool.Frames.slot_of.Goals as goal
@@ -23,7 +23,8 @@ returns-then-entry c =
     let at = slot_place_of_page f user page c.self.invariant inside in
     let read = get_or_read f.slot_table.items _ _ at.room (rw c.entry_of.ensures at c.index-entry.ensures) 0 in
     let tells = c.self.invariant.slots_tabled.agrees user page at.of_user at.of_page in
-    let nowhere = held_none 4294967295 (get_or f.slot_table.items (user * 1024 + page) 0) (frame_of f.slot_owners.items user page) (sym read ∙ c.if-entry.true) tells in
+    let few = low_place f.slot_owners.items user page (frame_of f.slot_owners.items user page) c.self.invariant.slots_tabled.few refl in
+    let nowhere = sym (slot_none (frame_of f.slot_owners.items user page) (get_or f.slot_table.items (user * 1024 + page) 0) page tells few (sym read ∙ c.if-entry.true)) in
     rw (← c.self.view_is) (record {
       slot = nowhere;
       within = tt;
@@ -41,7 +42,7 @@ returns-else-entry c =
     let read = get_or_read f.slot_table.items _ _ at.room (rw c.entry_of.ensures at c.index-entry.ensures) 0 in
     let tells = c.self.invariant.slots_tabled.agrees user page at.of_user at.of_page in
     let there : Some c.index-entry.result.now ≡ frame_of f.slot_owners.items user page =
-    ap Some read ∙ held_other 4294967295 (get_or f.slot_table.items (user * 1024 + page) 0) (frame_of f.slot_owners.items user page) (λ e. c.if-entry.false (read ∙ e)) tells in
+    ap Some read ∙ sym (slot_some (frame_of f.slot_owners.items user page) (get_or f.slot_table.items (user * 1024 + page) 0) page tells (λ e. c.if-entry.false (read ∙ e))) in
     rw (← c.self.view_is) (record {
       slot = there;
       within = (frame_found f.slot_owners.items user page c.index-entry.result.now (sym there)).within;

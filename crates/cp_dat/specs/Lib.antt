@@ -1,0 +1,5 @@
+pub mod Lent
+pub mod Blocks
+pub mod Supplied
+pub mod Bringing
+pub mod Letting

@@ -1,0 +1,17 @@
+//! One user's storage, lent from the frames.
+//!
+//! [`Dat`] lends one user's pages, with his keys, as a `Storage` over which a processor runs, as a `Supply`, which brings his
+//! absent pages and pins them, and as a `UnitSupply`, which takes the pins away when a unit ends.
+//!
+//! Its one theorem: what is done to a storage that is lent is done to its user's bytes and keys, and to nobody else's.
+//!
+//! ```
+//! let mut storage = Dat::new(&mut frames, keys, UserNo::new(0));
+//! let frame = storage.bring(Page(3))?;
+//! storage.store(0x3000, &[1, 2, 3]);
+//! ```
+#![tactic(auto)]
+
+mod dat;
+
+pub use dat::Dat;
