@@ -502,7 +502,8 @@ impl Frames {
         self.copy_placed(user, source, from, target, to, count);
     }
 
-    /// Copies bytes of one page of a user into one page, of which the first have these places among the bytes of all frames.
+    /// Copies at most 2048 bytes of one page of a user into one page, of which the first have these places among the bytes of all
+    /// frames.
     #[inline(always)]
     pub fn copy_placed(
         &mut self,
@@ -516,7 +517,7 @@ impl Frames {
         requires source { from + count ≤ length (bytes_of self.old _user) }
         requires target { to + count ≤ length (bytes_of self.old _user) }
         requires some { 0 < count }
-        requires short { count ≤ 256 }
+        requires short { count ≤ 2048 }
         requires page_of_source { from % 4096 + count ≤ 4096 }
         requires page_of_target { to % 4096 + count ≤ 4096 }
         requires source_there { frame_of self.old.supply.owners _user (from / 4096) ≡ Some (source / 4096) }

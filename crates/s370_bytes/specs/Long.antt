@@ -1,5 +1,5 @@
 -- MVCL and CLCL, a part of at most 256 bytes at a time: GA22-7000, "Move Long" and "Compare Logical Long".
-use Rattle.std.specs.Prelude.{◌≡◌, ◌≢◌, ℕ, ◌+◌, ◌-◌, ◌*◌, ◌/◌, ◌%◌, ◌^◌, ◌==◌, nat_lt, if◌then◌else◌, ◌&&◌, Bool, List, [], ◌∷◌, slice_index, slice_range, min, max, None}
+use Rattle.std.specs.Prelude.{◌≡◌, ◌≢◌, ℕ, zero, suc, ◌+◌, ◌-◌, ◌*◌, ◌/◌, ◌%◌, ◌^◌, ◌≤◌, ◌==◌, nat_lt, if◌then◌else◌, ◌&&◌, Bool, List, [], ◌∷◌, length, slice_index, slice_range, min, max, None, Ok}
 use Rattle.s370_psw.specs.declared.program.ProgramCode.TheVariants.{Specification}
 use Rattle.s370_rows.specs.declared.cpu.Cpu.{Cpu}
 use Rattle.s370_rows.specs.declared.instruction.Instruction.{Instruction}
@@ -8,7 +8,7 @@ use Rattle.s370_rows.specs.Arithmetic.{order_code}
 use Rattle.s370_rows.specs.Formats.{r1_of, r2_of}
 use Rattle.s370_rows.specs.Registers.{Ended, with_register, with_condition, done}
 use Rattle.s370_rows.specs.State.{State}
-use Rattle.s370_rows.specs.Rows.{Row, checked, unchecked, suppressed, over, fetch_test, store_test}
+use Rattle.s370_rows.specs.Rows.{Row, MeetsRow, checked, unchecked, suppressed, over, fetch_test, store_test}
 use Rattle.s370_bytes.specs.declared.long.Operand.{Operand}
 use Rattle.s370_bytes.specs.Strings.{padded}
 use Rattle.s370_bytes.specs.Compare.{equal_pairs}
@@ -76,6 +76,18 @@ long_moved m i =
     then unchecked (over (done (with_condition m.cpu (counts_code o1 o2))))
     else (if destroys o1 o2 then unchecked (over (done (with_condition m.cpu 3))) else part_moved m r1 r2))
     else suppressed Specification
+
+-- a part of an MVCL after which another follows, and which leaves the PSW and the two bytes at an address as they were
+pub record IsPart (start : ℕ) (present : ℕ → Bool) (i : Instruction) (m m' : State) : Type 0 where
+  pub row : MeetsRow (long_moved m i) present m (Ok Again) m'
+  pub kept : (k : ℕ) → k ≤ 1 → slice_index m'.bytes (start + k) ≡ slice_index m.bytes (start + k)
+  pub psw : m'.cpu.psw ≡ m.cpu.psw
+  pub size : length m'.bytes ≡ length m.bytes
+
+-- so many of them, one after another
+abbrev pub AreParts : ℕ → ℕ → (ℕ → Bool) → Instruction → State → State → Type 0
+AreParts zero start present i m m' = m' ≡ m
+AreParts (suc n) start present i m m' = (part : State) × IsPart start present i m part × AreParts n start present i part m'
 
 -- ---- CLCL
 

@@ -1,11 +1,11 @@
 //! The long move and the long comparison, a part of at most 256 bytes at a time.
-ghost use Rattle.std.specs.Prelude.{◌≡◌, ℕ, ◌+◌, ◌^◌, ◌<◌, ◌≤◌, ◌⊎◌, Ok, true, false, length, min, slice_index, slice_range, replicate};
-ghost use Rattle.s370_rows.specs.declared.ending.Ending.TheVariants as endings;
+ghost use Rattle.std.specs.Prelude.{◌≡◌, ℕ, ◌+◌, ◌*◌, ◌%◌, ◌^◌, ◌<◌, ◌≤◌, ◌⊎◌, true, false, length, min, slice_range, replicate};
 ghost use Rattle.s370_rows.specs.declared.instruction.Instruction.{Instruction};
 ghost use Rattle.s370_store.specs.Access.{IsGranted, put};
+ghost use Rattle.s370_rows.specs.Formats.{r1_of, r2_of};
 ghost use Rattle.s370_rows.specs.State.{state_of};
 ghost use Rattle.s370_rows.specs.Rows.{MeetsRow};
-ghost use Rattle.s370_bytes.specs.Long.{ArePairs, operand_of, with_operand, past, counts_code, destroys, part_moved, long_moved, longest, part_ordered, pairs_ordered, part_compared, long_compared};
+ghost use Rattle.s370_bytes.specs.Long.{ArePairs, AreParts, operand_of, with_operand, past, counts_code, destroys, part_moved, long_moved, longest, part_ordered, pairs_ordered, part_compared, long_compared};
 ghost use Rattle.s370_bytes.specs.Strings.{padded};
 
 use crate::compare::equal_front;
@@ -32,10 +32,12 @@ impl Operand {
         requires { register < 15 }
         ensures value { result ≡ operand_of cpu.now register }
         ensures count { result.count < 2 ^ 24 }
+        ensures registers { length cpu.now.general ≡ 16 }
     {
-        let second = cpu.general[register.index() + 1];
+        let general = &cpu.general;
+        let second = general[register.index() + 1];
         Operand {
-            address: Addr24::wrapping(cpu.general[register.index()]),
+            address: Addr24::wrapping(general[register.index()]),
             count: second % 0x100_0000,
             pad: (second >> 24) as u8,
         }
@@ -258,76 +260,108 @@ pub fn move_long_row<S: Storage>(
     move_part(cpu, storage, r1, r2)
 }
 
-/// Whether a part that is moved to an address has none of the two bytes at another.
+/// Whether so many bytes that are moved to an address have none of the two bytes at another.
 #[inline(always)]
-fn is_apart(to: u32, start: u32) -> bool
+fn is_apart(to: u32, count: u32, start: u32) -> bool
     requires to { to < 2 ^ 24 }
+    requires count { count ≤ 2048 }
     requires start { start < 2 ^ 24 }
-    ensures { result ≡ true → (start + 1 < to) ⊎ (to + 256 ≤ start) }
+    ensures { result ≡ true → (start + 1 < to) ⊎ (to + count ≤ start) }
 {
-    start + 1 < to || to + 256 <= start
+    start + 1 < to || to + count <= start
 }
 
-/// One part of the long move that has all its bytes, is not the last, and changes none of the two bytes at an address. Where
-/// they can't be moved, nothing changes.
+/// How many whole parts, at most so many and none of them the last, can be one copy: as many as lie in one block at each place,
+/// or one.
 #[inline(always)]
-fn move_whole_part<S: Storage>(
+fn parts_at_once(first: &Operand, second: &Operand, limit: u32) -> u32
+    ensures within { result ≤ limit }
+    ensures few { result ≤ 8 }
+    ensures more { 0 < result → 256 * result < first.now.count }
+    ensures whole { 256 * result ≤ second.now.count }
+    ensures block { 1 < result → first.now.address % 2048 + 256 * result ≤ 2048 }
+    ensures block_2 { 1 < result → second.now.address % 2048 + 256 * result ≤ 2048 }
+{
+    if first.count <= 256 {
+        return 0;
+    }
+    let whole = at_most((first.count - 1) / 256, second.count / 256);
+    let room = at_most(
+        2048 - first.address.get() % 2048,
+        2048 - second.address.get() % 2048,
+    );
+    let parts = at_most(whole, limit);
+    if parts <= 1 {
+        return parts;
+    }
+    if room < 512 {
+        return 1;
+    }
+    at_most(parts, room / 256)
+}
+
+/// Parts of the long move that have all their bytes, as one copy that changes none of the two bytes at an address: so many, or
+/// none where they can't be moved, and then nothing changes.
+#[inline(always)]
+fn move_whole_parts<S: Storage>(
     cpu: &mut Cpu,
     storage: &mut S,
     start: Addr24,
     r1: Register,
     r2: Register,
-) -> bool
+    parts: u32,
+) -> u32
     requires first { r1 < 15 }
     requires second { r2 < 15 }
     requires apart { ArePairs r1 r2 }
-    requires more { 256 < (operand_of cpu.old r1).count }
-    requires whole { 256 ≤ (operand_of cpu.old r2).count }
-    ensures done { let before = state_of cpu.old (S.bytes storage.old) (S.keys storage.old) in
+    requires some { 0 < parts }
+    requires few { parts ≤ 8 }
+    requires more { 256 * parts < (operand_of cpu.old r1).count }
+    requires whole { 256 * parts ≤ (operand_of cpu.old r2).count }
+    requires block { 1 < parts → (operand_of cpu.old r1).address % 2048 + 256 * parts ≤ 2048 }
+    requires block_2 { 1 < parts → (operand_of cpu.old r2).address % 2048 + 256 * parts ≤ 2048 }
+    requires intact { destroys (operand_of cpu.old r1) (operand_of cpu.old r2) ≡ false }
+    ensures parts { let before = state_of cpu.old (S.bytes storage.old) (S.keys storage.old) in
         let after = state_of cpu.new (S.bytes storage.new) (S.keys storage.new) in
-        result ≡ true → MeetsRow (part_moved before r1 r2) (S.present storage.old) before (Ok endings.Again) after }
-    ensures still { let before = state_of cpu.old (S.bytes storage.old) (S.keys storage.old) in
-        let after = state_of cpu.new (S.bytes storage.new) (S.keys storage.new) in
-        result ≡ false → after ≡ before }
-    ensures kept { (k : ℕ) → k ≤ 1 → slice_index (S.bytes storage.new) (start + k) ≡ slice_index (S.bytes storage.old) (start + k) }
-    ensures psw { cpu.new.psw ≡ cpu.old.psw }
+        (i : Instruction) → r1_of i ≡ r1 → r2_of i ≡ r2 → AreParts result start (S.present storage.old) i before after }
+    ensures within { result ≤ parts }
     ensures size { length (S.bytes storage.new) ≡ length (S.bytes storage.old) }
     ensures present { S.present storage.new ≡ S.present storage.old }
     ensures rest { S.Keeps storage.old storage.new }
 {
+    let count = 256 * parts;
     let first = Operand::of(cpu, r1);
     let second = Operand::of(cpu, r2);
     let to = first.address.get();
     let from = second.address.get();
-    if !is_apart(to, start.get()) {
-        return false;
+    if !is_apart(to, count, start.get()) {
+        return 0;
     }
-    if !copy_granted(cpu, storage, from, to, 256) {
-        return false;
+    if !copy_granted(cpu, storage, from, to, count) {
+        return 0;
     }
-    first.past(256).set_left(cpu, r1, 256);
-    second.past(256).set_left(cpu, r2, 256);
-    true
+    first.past(count).set_left(cpu, r1, count);
+    second.past(count).set_left(cpu, r2, count);
+    parts
 }
 
-/// 0E MVCL with this second byte, where a part of 256 bytes is moved that has none of the two bytes at an address, and more are
-/// left. Else nothing changes.
+/// 0E MVCL with this second byte: parts of 256 bytes that have none of the two bytes at an address, one after another and at
+/// most so many, after each of which more are left. How many there were; where there is none, nothing changes.
+///
+/// Those that lie in one block are one copy.
 #[inline(always)]
 pub fn move_long_quickly<S: Storage>(
     cpu: &mut Cpu,
     storage: &mut S,
     start: Addr24,
     second_byte: u8,
-) -> bool
-    ensures done { let i : Instruction = record { opcode = 0x0E; second_byte = second_byte; second_half = 0; third_half = 0 } in
+    limit: u32,
+) -> u32
+    ensures parts { let i : Instruction = record { opcode = 0x0E; second_byte = second_byte; second_half = 0; third_half = 0 } in
         let before = state_of cpu.old (S.bytes storage.old) (S.keys storage.old) in
         let after = state_of cpu.new (S.bytes storage.new) (S.keys storage.new) in
-        result ≡ true → MeetsRow (long_moved before i) (S.present storage.old) before (Ok endings.Again) after }
-    ensures still { let before = state_of cpu.old (S.bytes storage.old) (S.keys storage.old) in
-        let after = state_of cpu.new (S.bytes storage.new) (S.keys storage.new) in
-        result ≡ false → after ≡ before }
-    ensures kept { (k : ℕ) → k ≤ 1 → slice_index (S.bytes storage.new) (start + k) ≡ slice_index (S.bytes storage.old) (start + k) }
-    ensures psw { cpu.new.psw ≡ cpu.old.psw }
+        AreParts result start (S.present storage.old) i before after }
+    ensures within { result ≤ limit }
     ensures size { length (S.bytes storage.new) ≡ length (S.bytes storage.old) }
     ensures present { S.present storage.new ≡ S.present storage.old }
     ensures rest { S.Keeps storage.old storage.new }
@@ -335,26 +369,24 @@ pub fn move_long_quickly<S: Storage>(
     let r1 = Register::new(second_byte >> 4);
     let r2 = Register::new(second_byte & 0xF);
     if r1.number() % 2 != 0 {
-        return false;
+        return 0;
     }
     if r2.number() % 2 != 0 {
-        return false;
+        return 0;
     }
     if r1.number() == r2.number() {
-        return false;
+        return 0;
     }
     let first = Operand::of(cpu, r1);
     let second = Operand::of(cpu, r2);
-    if first.count <= 256 {
-        return false;
-    }
-    if second.count < 256 {
-        return false;
+    let parts = parts_at_once(&first, &second, limit);
+    if parts == 0 {
+        return 0;
     }
     if destroys(first, second) {
-        return false;
+        return 0;
     }
-    move_whole_part(cpu, storage, start, r1, r2)
+    move_whole_parts(cpu, storage, start, r1, r2, parts)
 }
 
 /// The lesser of two counts.

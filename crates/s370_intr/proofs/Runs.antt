@@ -17,6 +17,7 @@ use Rattle.s370_cpu.specs.declared.conclude.Stop.TheVariants.{Done}
 use Rattle.s370_cpu.specs.Laws.{Rights, rights_of}
 use Rattle.s370_cpu.specs.Table.{unit}
 use Rattle.s370_cpu.specs.Unit.{Ran}
+use Rattle.s370_quick.specs.Quick.{DoesUnits}
 use Rattle.s370_intr.specs.InputOutput.{configuration_of}
 use Rattle.s370_intr.specs.Units.{Core, core_of, followed, look, offered, unit_at, with_configuration, enabled_of, is_any, Needs, NeedsAt}
 use Rattle.s370_intr.specs.Run.{Run, run, looked, one_more, AllNeeded, RunNeeds, IsLacking, IsCut, TellsRun}
@@ -186,6 +187,17 @@ looks_same m m' pending list e =
 
 pub done_unit : (m m' : State) (pending : Pending) (list : List Subchannel) → (unit m).ran ≡ record { stop = Done; state = m' } → core_of m' pending list ≡ unit_at Instructs (core_of m pending list)
 done_unit m m' pending list e = sym (ap (λ (r : Ran). with_configuration (core_of m pending list) (followed r.stop (configuration_of r.state list))) e)
+
+-- units that are done one after another
+pub units_done : (n : ℕ) (present : ℕ → Bool) (m m' : State) (pending : Pending) (list : List Subchannel) → DoesUnits n present m m' → look (core_of m pending list) ≡ Instructs
+    → (run n (core_of m pending list) ≡ all_done n (core_of m' pending list)) × (look (core_of m' pending list) ≡ Instructs)
+units_done zero present m m' pending list same e =
+    (ap (λ (x : State). all_done 0 (core_of x pending list)) (sym same), ap (λ (x : State). look (core_of x pending list)) same ∙ e)
+units_done (suc n) present m m' pending list (next, done, rights, rest) e =
+    let c = core_of m pending list in
+    let step : core_of next pending list ≡ unit_at (look c) c = rw e (done_unit m next pending list done) in
+    let more = units_done n present next m' pending list rest (looks_same m next pending list rights ∙ e) in
+    (goes_on (look c) c (run n (unit_at (look c) c)) (subst Goes (sym e) tt) ∙ ap one_more (ap (run n) (sym step) ∙ more.0) ∙ ap (λ (k : ℕ). all_done k (core_of m' pending list)) (omega arith), more.1)
 
 -- what may be fetched from a block, may be as long as size, keys and pages are the same
 pub still_fetches : {size size' : ℕ} {keys keys' : List ℕ} {present present' : ℕ → Bool} (key first : ℕ) → size' ≡ size → keys' ≡ keys → present' ≡ present → MayFetch size keys present key first → MayFetch size' keys' present' key first

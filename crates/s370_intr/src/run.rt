@@ -16,7 +16,7 @@ use crate::pending::Pending;
 use crate::unit::{Processor, accept, accept_status, instruct_saving};
 use s370_num::{AccessKey, Addr24};
 use s370_psw::Psw;
-use s370_quick::{move_part_quickly, step_quickly};
+use s370_quick::{move_parts_quickly, step_quickly};
 use s370_rows::Cpu;
 use s370_store::{Block, FramesOut, Keyed, Page, Storage, load_byte_in};
 use s370_subchannels::Subchannels;
@@ -247,12 +247,15 @@ fn move_parts<S: Storage>(
     ensures size { length (S.bytes storage.new) ≡ length (S.bytes storage.old) }
     ensures rest { S.Keeps storage.old storage.new }
 {
-    for units in 0..limit {
-        if !move_part_quickly(cpu, storage, start, second_byte) {
+    let mut units = 0;
+    while units < limit {
+        let parts = move_parts_quickly(cpu, storage, start, second_byte, limit - units);
+        if parts == 0 {
             return units;
         }
+        units += parts;
     }
-    limit
+    units
 }
 
 /// The same, where an MVCL stands in a block that was found; else none.

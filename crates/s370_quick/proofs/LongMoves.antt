@@ -1,12 +1,13 @@
--- A part of an MVCL, after which the same MVCL is the next instruction.
-use Rattle.std.proofs.Common.{◌≡◌, ℕ, ◌+◌, ◌-◌, ◌<◌, ◌≤◌, Bool, true, false, List, Ok, get_or, drop, length, slice_index, slice_range, refl, sym, ◌∙◌, ap, arith, subst}
+-- Parts of an MVCL, after each of which the same MVCL is the next instruction.
+use Rattle.std.proofs.Common.{◌≡◌, ℕ, zero, suc, ◌+◌, ◌-◌, ◌<◌, ◌≤◌, Bool, List, Ok, get_or, drop, length, slice_index, slice_range, refl, sym, ◌∙◌, ap, arith, subst}
 use Rattle.std.proofs.lemmas.List.{get_or-take, get_or-drop}
 use Rattle.s370_store.proofs.Blocks.{block_passes}
+use Rattle.s370_psw.specs.Fields.{Fields}
 use Rattle.s370_rows.specs.declared.instruction.Instruction.{Instruction}
 use Rattle.s370_rows.specs.declared.ending.Ending.TheVariants.{Again}
 use Rattle.s370_rows.specs.State.{State}
 use Rattle.s370_rows.specs.Rows.{MeetsRow}
-use Rattle.s370_bytes.specs.Long.{long_moved}
+use Rattle.s370_bytes.specs.Long.{AreParts, long_moved}
 use Rattle.s370_cpu.specs.Fetch.{fetched, instruction_at}
 use Rattle.s370_cpu.specs.Laws.{Rights, rights_of}
 use Rattle.s370_cpu.specs.Opcodes.{opcode_at}
@@ -14,7 +15,7 @@ use Rattle.s370_cpu.specs.Table.{unit}
 use Rattle.s370_cpu.specs.Unit.{Carries, MeetsUnit}
 use Rattle.s370_cpu.specs.declared.conclude.Stop.TheVariants.{Done as DoneStop}
 use Rattle.s370_cpu.proofs.Fetched.{fetch_finds, first_of, made, six_hold}
-use Rattle.s370_quick.specs.Quick.{IsLongMoveAt}
+use Rattle.s370_quick.specs.Quick.{DoesUnits, IsLongMoveAt}
 use Rattle.s370_quick.proofs.Frequent.{long_quiet, quick_done, quick_unit}
 
 abbrev long_move : ℕ → Instruction
@@ -38,19 +39,18 @@ fetches m present start second_byte small h =
     fetch_finds m start h.even (block_passes _ _ _ _ h.block start 6 h.may_fetch h.begins (omega (arith, h.ends))) ∙ ap Ok (long_at m.bytes start second_byte h.opcode h.second small)
 
 -- the unit that a part is
-pub part_unit : (m m' : State) (present : ℕ → Bool) (start second_byte : ℕ) → start ≡ m.cpu.psw.address → second_byte < 256 → IsLongMoveAt m present start second_byte → MeetsRow (long_moved m (long_move second_byte)) present m (Ok Again) m' → MeetsUnit (unit m) present m DoneStop m'
+part_unit : (m m' : State) (present : ℕ → Bool) (start second_byte : ℕ) → start ≡ m.cpu.psw.address → second_byte < 256 → IsLongMoveAt m present start second_byte → MeetsRow (long_moved m (long_move second_byte)) present m (Ok Again) m' → MeetsUnit (unit m) present m DoneStop m'
 unfolding opcode_at
 part_unit m m' present start second_byte here small h row =
     let fetch : (fetched m m.cpu.psw.address).result ≡ Ok (long_move second_byte) = subst (λ (a : ℕ). (fetched m a).result ≡ Ok (long_move second_byte)) here (fetches m present start second_byte small h) in
     let carries : Carries m 1 (long_move second_byte) = record { first = long_move second_byte; fetch = fetch; length_code = refl; execute = refl } in
     quick_unit m 1 (long_move second_byte) Again m'.cpu present m' carries row refl
 
-pub part_rights : (m m' : State) (did : Bool) (present : ℕ → Bool) (i : Instruction) → (did ≡ true → MeetsRow (long_moved m i) present m (Ok Again) m') → (did ≡ false → m' ≡ m) → rights_of m' ≡ rights_of m
-part_rights m m' true present i done still = (quick_done (long_moved m i) present m Again m' (long_quiet m i) (done refl)).2
-part_rights m m' false present i done still = ap rights_of (still refl)
+part_rights : (m m' : State) (present : ℕ → Bool) (i : Instruction) → MeetsRow (long_moved m i) present m (Ok Again) m' → rights_of m' ≡ rights_of m
+part_rights m m' present i row = (quick_done (long_moved m i) present m Again m' (long_quiet m i) row).2
 
 -- it stands there as long as its bytes, the keys, the pages and the rights are the same
-pub still_stands : (m m' : State) (present present' : ℕ → Bool) (start second_byte : ℕ) → length m'.bytes ≡ length m.bytes → rights_of m' ≡ rights_of m → present' ≡ present → ((k : ℕ) → k ≤ 1 → slice_index m'.bytes (start + k) ≡ slice_index m.bytes (start + k)) → IsLongMoveAt m present start second_byte → IsLongMoveAt m' present' start second_byte
+still_stands : (m m' : State) (present present' : ℕ → Bool) (start second_byte : ℕ) → length m'.bytes ≡ length m.bytes → rights_of m' ≡ rights_of m → present' ≡ present → ((k : ℕ) → k ≤ 1 → slice_index m'.bytes (start + k) ≡ slice_index m.bytes (start + k)) → IsLongMoveAt m present start second_byte → IsLongMoveAt m' present' start second_byte
 still_stands m m' present present' start second_byte size rights same kept h =
     let keys : m'.keys ≡ m.keys = ap (λ (r : Rights). r.keys) rights in
     let key : m'.cpu.psw.key ≡ m.cpu.psw.key = ap (λ (r : Rights). r.key) rights in
@@ -64,3 +64,21 @@ still_stands m m' present present' start second_byte size rights same kept h =
       opcode = rw zero at (kept 0 (omega arith)) ∙ h.opcode;
       second = kept 1 (omega arith) ∙ h.second;
     }
+
+-- what so many parts leave: so many units, and the MVCL as it stood
+pub record AreDone (n start second_byte : ℕ) (present : ℕ → Bool) (m m' : State) : Type 0 where
+  pub units : DoesUnits n present m m'
+  pub here : start ≡ m'.cpu.psw.address
+  pub stands : IsLongMoveAt m' present start second_byte
+
+pub parts_done : (n start second_byte : ℕ) (present : ℕ → Bool) (m m' : State) → second_byte < 256 → start ≡ m.cpu.psw.address → IsLongMoveAt m present start second_byte → AreParts n start present (long_move second_byte) m m' → AreDone n start second_byte present m m'
+parts_done zero start second_byte present m m' small here stands same = record {
+  units = same;
+  here = subst (λ (x : State). start ≡ x.cpu.psw.address) (sym same) here;
+  stands = subst (λ (x : State). IsLongMoveAt x present start second_byte) (sym same) stands;
+}
+parts_done (suc n) start second_byte present m m' small here stands (part, first, parts) =
+    let unit_done = part_unit m part present start second_byte here small stands first.row in
+    let rights = part_rights m part present (long_move second_byte) first.row in
+    let rest = parts_done n start second_byte present part m' small (here ∙ sym (ap (λ (psw : Fields). psw.address) first.psw)) (still_stands m part present present start second_byte first.size rights refl first.kept stands) parts in
+    record { units = (part, unit_done, rights, rest.units); here = rest.here; stands = rest.stands }

@@ -1,11 +1,14 @@
 -- What an instruction may answer that is done only where nothing keeps it from being done.
-use Rattle.std.specs.Prelude.{◌≡◌, ℕ, ◌+◌, ◌%◌, ◌≤◌, Bool, true, false, length, slice_index, Option, Some, None, Ok}
+use Rattle.std.specs.Prelude.{◌≡◌, ℕ, zero, suc, ◌+◌, ◌%◌, ◌≤◌, Bool, true, false, length, slice_index, Option, Some, None, Ok}
 use Rattle.s370_store.specs.Blocks.{MayFetch}
 use Rattle.s370_rows.specs.declared.ending.Ending.{Ending}
 use Rattle.s370_rows.specs.declared.ending.Ending.TheVariants.{Done, Branch, Again, Interrupted, SupervisorCall, InputOutput}
 use Rattle.s370_rows.specs.State.{State}
 use Rattle.s370_rows.specs.Rows.{Row, MeetsRow}
 use Rattle.s370_cpu.specs.Laws.{rights_of}
+use Rattle.s370_cpu.specs.Table.{unit}
+use Rattle.s370_cpu.specs.Unit.{MeetsUnit}
+use Rattle.s370_cpu.specs.declared.conclude.Stop.TheVariants.{Done as DoneStop}
 
 -- the processor goes on after it, and nothing else follows
 abbrev pub GoesOn : Ending → Type 0
@@ -41,3 +44,9 @@ pub record IsLongMoveAt (m : State) (present : ℕ → Bool) (start second_byte 
   pub even : start % 2 ≡ 0
   pub opcode : slice_index m.bytes start ≡ 0x0E
   pub second : slice_index m.bytes (start + 1) ≡ second_byte
+
+-- so many units, one after another, each of which is done and changes nobody's rights
+abbrev pub DoesUnits : ℕ → (ℕ → Bool) → State → State → Type 0
+DoesUnits zero present m m' = m' ≡ m
+DoesUnits (suc n) present m m' =
+    (next : State) × MeetsUnit (unit m) present m DoneStop next × (rights_of next ≡ rights_of m) × DoesUnits n present next m'

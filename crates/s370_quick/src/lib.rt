@@ -8,4 +8,4 @@
 
 mod quick;
 
-pub use quick::{move_part_quickly, step_quickly};
+pub use quick::{move_parts_quickly, step_quickly};

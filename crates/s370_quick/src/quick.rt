@@ -12,7 +12,7 @@ ghost use Rattle.s370_rows.specs.Rows.{MeetsRow};
 ghost use Rattle.s370_rows.specs.declared.instruction.Instruction.{Instruction};
 ghost use Rattle.s370_rows.specs.declared.ending.Ending.TheVariants as endings;
 ghost use Rattle.s370_cpu.specs.Laws.{rights_of};
-ghost use Rattle.s370_quick.specs.Quick.{GoesOn, IsLongMoveAt, MeetsAtOnce, MeetsQuick, whole_of};
+ghost use Rattle.s370_quick.specs.Quick.{DoesUnits, GoesOn, IsLongMoveAt, MeetsAtOnce, MeetsQuick, whole_of};
 ghost use Rattle.s370_cpu.specs.Table.{row_of, unit};
 ghost use Rattle.s370_cpu.specs.Unit.{Carries, MeetsUnit, place_at, stopped};
 ghost use Rattle.s370_rows.specs.declared.arithmetic.Arithmetic.TheVariants as operations;
@@ -121,35 +121,32 @@ fn step_found_quickly<S: Storage>(
     }
 }
 
-/// One part of an MVCL that stands at the instruction address, where it has all its 256 bytes, changes nothing of the MVCL, and
-/// is not the last. Else nothing changes. Either way the same MVCL is the next instruction.
+/// Parts of an MVCL that stands at the instruction address, one after another and at most so many: those that can be moved as one,
+/// where each has all its 256 bytes, changes nothing of the MVCL, and is not the last. How many there were; where there is none,
+/// nothing changes. Either way the same MVCL is the next instruction.
 ///
 /// So a loop over parts need not fetch it again.
 #[inline(always)]
-pub fn move_part_quickly<S: Storage>(
+pub fn move_parts_quickly<S: Storage>(
     cpu: &mut Cpu,
     storage: &mut S,
     start: Addr24,
     second_byte: u8,
-) -> bool
+    limit: u32,
+) -> u32
     requires here { start ≡ cpu.old.psw.address }
     requires stands { IsLongMoveAt (state_of cpu.old (S.bytes storage.old) (S.keys storage.old)) (S.present storage.old) start second_byte }
     ensures done { let before = state_of cpu.old (S.bytes storage.old) (S.keys storage.old) in
         let after = state_of cpu.new (S.bytes storage.new) (S.keys storage.new) in
-        result ≡ true → MeetsUnit (unit before) (S.present storage.old) before stops.Done after }
-    ensures still { let before = state_of cpu.old (S.bytes storage.old) (S.keys storage.old) in
-        let after = state_of cpu.new (S.bytes storage.new) (S.keys storage.new) in
-        result ≡ false → after ≡ before }
+        DoesUnits result (S.present storage.old) before after }
+    ensures within { result ≤ limit }
     ensures here { start ≡ cpu.new.psw.address }
     ensures stands { IsLongMoveAt (state_of cpu.new (S.bytes storage.new) (S.keys storage.new)) (S.present storage.new) start second_byte }
-    ensures rights { let before = state_of cpu.old (S.bytes storage.old) (S.keys storage.old) in
-        let after = state_of cpu.new (S.bytes storage.new) (S.keys storage.new) in
-        rights_of after ≡ rights_of before }
     ensures size { length (S.bytes storage.new) ≡ length (S.bytes storage.old) }
     ensures present { S.present storage.new ≡ S.present storage.old }
     ensures rest { S.Keeps storage.old storage.new }
 {
-    move_long_quickly(cpu, storage, start, second_byte)
+    move_long_quickly(cpu, storage, start, second_byte, limit)
 }
 
 /// Goes on with the instruction of this operation code, which stands at the instruction address.

@@ -58,11 +58,11 @@ pub fn is_granted<S: Storage>(cpu: &Cpu, storage: &S, range: Range, access: Acce
     storage.grants_at_once(range, access, cpu.psw.key())
 }
 
-/// Copies at most 256 bytes from one place to another, as if all were read before any is written, where one look at each grants
+/// Copies at most 2048 bytes from one place to another, as if all were read before any is written, where one look at each grants
 /// leave with the key of the PSW; else nothing changes.
 #[inline(always)]
 pub fn copy_granted<S: Storage>(cpu: &Cpu, storage: &mut S, from: u32, to: u32, count: u32) -> bool
-    requires { count ≤ 256 }
+    requires { count ≤ 2048 }
     ensures granted { let m = state_of cpu.now (S.bytes storage.old) (S.keys storage.old) in
         result ≡ true → Grants m (S.present storage.old) (test_of Store to count ∷ test_of Fetch from count ∷ []) (Ok tt) }
     ensures moved { result ≡ true → S.bytes storage.new ≡ put (S.bytes storage.old) to (slice_range (S.bytes storage.old) from (from + count)) }

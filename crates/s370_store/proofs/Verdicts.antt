@@ -35,7 +35,7 @@ forbids keys key access start (suc n) k h f =
     ]
 
 -- a byte of a short range lies in the block of the first byte or in that of the last
-either_end : (start k n last : ℕ) → n ≤ 256 → last + 1 ≡ start + n → k < n → ((start + k) / 2048 ≡ start / 2048) ⊎ ((start + k) / 2048 ≡ last / 2048)
+either_end : (start k n last : ℕ) → n ≤ 2048 → last + 1 ≡ start + n → k < n → ((start + k) / 2048 ≡ start / 2048) ⊎ ((start + k) / 2048 ≡ last / 2048)
 either_end start k n last few e h = grind arith
 
 -- a byte of a short range lies in the page of the first byte or in that of the last
@@ -48,7 +48,7 @@ ends_here present start n last few e first_here last_here k h =
     elim (either_page start k n last few e h) [ inl f ↦ rw f first_here | inr f ↦ rw f last_here ]
 
 -- at most 2048 bytes lie in the block of the first and the block of the last
-pub ends_permit : (keys : List ℕ) (key : ℕ) (access : Access) (start n last : ℕ) → n ≤ 256 → last + 1 ≡ start + n → is_passed access key (get_or keys (start / 2048) 0) ≡ true → is_passed access key (get_or keys (last / 2048) 0) ≡ true → is_permitted_from keys key access start n ≡ true
+pub ends_permit : (keys : List ℕ) (key : ℕ) (access : Access) (start n last : ℕ) → n ≤ 2048 → last + 1 ≡ start + n → is_passed access key (get_or keys (start / 2048) 0) ≡ true → is_passed access key (get_or keys (last / 2048) 0) ≡ true → is_permitted_from keys key access start n ≡ true
 ends_permit keys key access start n last few e first_passes last_passes =
     permits keys key access start n (λ k h.
     elim (either_end start k n last few e h) [ inl f ↦ rw f first_passes | inr f ↦ rw f last_passes ])

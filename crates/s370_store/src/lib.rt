@@ -184,11 +184,11 @@ pub trait Storage {
         self.store(to, part);
     }
 
-    /// Copies at most 256 bytes from one place to another as if all were read before any is written, where one look at each
-    /// place grants it; else nothing changes.
+    /// Copies at most 2048 bytes, as many as a block has, from one place to another as if all were read before any is written,
+    /// where one look at each place grants it; else nothing changes.
     #[inline(always)]
     fn copy_at_once(&mut self, from: u32, to: u32, count: u32, key: AccessKey) -> bool
-        requires { count ≤ 256 }
+        requires { count ≤ 2048 }
         ensures granted { result ≡ true → IsVerdict (length (bytes self.old)) (keys self.old) (present self.old) key (test_of Store to count ∷ test_of Fetch from count ∷ []) (Ok tt) }
         ensures moved { result ≡ true → bytes self.new ≡ put (bytes self.old) to (slice_range (bytes self.old) from (from + count)) }
         ensures still { result ≡ false → bytes self.new ≡ bytes self.old }
@@ -197,7 +197,7 @@ pub trait Storage {
         ensures present { present self.new ≡ present self.old }
         ensures rest { Keeps self.old self.new }
     {
-        if count == 0 {
+        if count == 0 || count > 256 {
             return false;
         }
         if !self.grants_at_once(Range { start: to, count }, Access::Store, key) {

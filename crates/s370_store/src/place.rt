@@ -14,13 +14,13 @@ pub fn put_at(bytes: &mut [u8], start: usize, from: &[u8])
     bytes[start..end].copy_from_slice(from);
 }
 
-/// Copies at most 256 bytes from one place to another, as if all were read before any is written. Where the places lie
+/// Copies at most 2048 bytes from one place to another, as if all were read before any is written. Where the places lie
 /// apart, they need no buffer.
 #[inline]
 pub fn copy_at(bytes: &mut [u8], from: usize, to: usize, count: usize)
     requires source { from + count ≤ length bytes.old }
     requires target { to + count ≤ length bytes.old }
-    requires short { count ≤ 256 }
+    requires short { count ≤ 2048 }
     ensures bytes { bytes.new ≡ put bytes.old to (slice_range bytes.old from (from + count)) }
     ensures size { length bytes.new ≡ length bytes.old }
 {
@@ -30,8 +30,10 @@ pub fn copy_at(bytes: &mut [u8], from: usize, to: usize, count: usize)
     } else if to + count <= from {
         let (low, high) = bytes.split_at_mut(from);
         put_at(low, to, &high[..count]);
-    } else {
+    } else if count <= 256 {
         copy_near(bytes, from, to, count);
+    } else {
+        copy_long_near(bytes, from, to, count);
     }
 }
 
@@ -45,7 +47,30 @@ fn copy_near(bytes: &mut [u8], from: usize, to: usize, count: usize)
     ensures size { length bytes.new ≡ length bytes.old }
 {
     let mut buffer = [0u8; 256];
-    let part = &mut buffer[..count];
-    part.copy_from_slice(&bytes[from..from + count]);
-    put_at(bytes, to, part);
+    copy_through(bytes, from, to, &mut buffer[..count]);
+}
+
+/// Copies bytes through a longer buffer, which is made where it is needed alone.
+#[inline(never)]
+fn copy_long_near(bytes: &mut [u8], from: usize, to: usize, count: usize)
+    requires source { from + count ≤ length bytes.old }
+    requires target { to + count ≤ length bytes.old }
+    requires short { count ≤ 2048 }
+    ensures bytes { bytes.new ≡ put bytes.old to (slice_range bytes.old from (from + count)) }
+    ensures size { length bytes.new ≡ length bytes.old }
+{
+    let mut buffer = [0u8; 2048];
+    copy_through(bytes, from, to, &mut buffer[..count]);
+}
+
+/// Copies as many bytes as a buffer has, through it.
+#[inline(always)]
+fn copy_through(bytes: &mut [u8], from: usize, to: usize, buffer: &mut [u8])
+    requires source { from + length buffer.old ≤ length bytes.old }
+    requires target { to + length buffer.old ≤ length bytes.old }
+    ensures bytes { bytes.new ≡ put bytes.old to (slice_range bytes.old from (from + length buffer.old)) }
+    ensures size { length bytes.new ≡ length bytes.old }
+{
+    buffer.copy_from_slice(&bytes[from..from + buffer.len()]);
+    put_at(bytes, to, buffer);
 }

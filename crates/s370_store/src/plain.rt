@@ -2,7 +2,7 @@
 ghost use Rattle.std.specs.Prelude.{◌≡◌, ◌+◌, ◌*◌, ◌≤◌, true, length, replicate, IfOk};
 
 use crate::place::{copy_at, put_at};
-use crate::protection::{Listed, may_fetch_block, test_range};
+use crate::protection::{Listed, may_fetch_block, passes_range, test_range};
 use crate::{Access, Block, Fault, Keyed, Range, Storage};
 use s370_num::{AccessKey, StorageKey};
 use std::alloc::{AllocError, Global};
@@ -78,6 +78,23 @@ impl Storage for PlainStorage {
     fn check(&self, range: Range, access: Access, key: AccessKey) -> Result<(), Fault> {
         let keys = Listed { keys: &self.keys };
         test_range(self.bytes.len() as u32, &keys, range, access, key)
+    }
+
+    #[inline(always)]
+    fn copy_at_once(&mut self, from: u32, to: u32, count: u32, key: AccessKey) -> bool {
+        if count == 0 {
+            return false;
+        }
+        let size = self.bytes.len() as u32;
+        let keys = Listed { keys: &self.keys };
+        if !passes_range(size, &keys, Range { start: to, count }, Access::Store, key) {
+            return false;
+        }
+        if !passes_range(size, &keys, Range { start: from, count }, Access::Fetch, key) {
+            return false;
+        }
+        copy_at(&mut self.bytes, from as usize, to as usize, count as usize);
+        true
     }
 
     #[inline(always)]

@@ -1,5 +1,5 @@
 //! The test of an access by size and keys, the one that each storage makes (GA22-7000, "Protection").
-ghost use Rattle.std.specs.Prelude.{◌≡◌, ◌+◌, ◌*◌, ◌/◌, ◌%◌, ◌<◌, ◌≤◌, [], ◌∷◌, true, length, slice_index, ℕ, List, replicate};
+ghost use Rattle.std.specs.Prelude.{◌≡◌, ◌+◌, ◌*◌, ◌/◌, ◌%◌, ◌<◌, ◌≤◌, [], ◌∷◌, true, Ok, length, slice_index, ℕ, List, replicate};
 ghost use Rattle.s370_store.specs.Access.{IsVerdict, tested, is_passed, is_permitted};
 ghost use Rattle.s370_store.specs.declared.Access.TheVariants.{Fetch};
 
@@ -103,7 +103,7 @@ pub fn may_fetch_block<K: Keyring>(size: u32, keys: &K, start: u32, key: AccessK
 
 /// The test of an access to one range by size and keys, as if every page were present.
 ///
-/// A body's own `check` makes it first, and then looks for the pages. At most 256 bytes lie in one block or in two that
+/// A body's own `check` makes it first, and then looks for the pages. At most 2048 bytes lie in one block or in two that
 /// follow one another, so the key of the first byte decides, or those of the first and the last.
 #[inline(always)]
 pub fn test_range<K: Keyring>(
@@ -114,7 +114,7 @@ pub fn test_range<K: Keyring>(
     key: AccessKey,
 ) -> Result<(), Fault>
     requires keyed { size ≤ 2048 * length (K.of_blocks keys.now) }
-    requires short { range.count ≤ 256 }
+    requires short { range.count ≤ 2048 }
     ensures { IsVerdict size (K.of_blocks keys.now) (λ _. true) key (tested access range ∷ []) result }
 {
     let Range { start, count } = range;
@@ -137,4 +137,23 @@ pub fn test_range<K: Keyring>(
         return Err(Fault::Protection);
     }
     Ok(())
+}
+
+/// Whether size and keys let an access to one range pass, as if every page were present.
+#[inline(always)]
+pub(crate) fn passes_range<K: Keyring>(
+    size: u32,
+    keys: &K,
+    range: Range,
+    access: Access,
+    key: AccessKey,
+) -> bool
+    requires keyed { size ≤ 2048 * length (K.of_blocks keys.now) }
+    requires short { range.count ≤ 2048 }
+    ensures { result ≡ true → IsVerdict size (K.of_blocks keys.now) (λ _. true) key (tested access range ∷ []) (Ok tt) }
+{
+    match test_range(size, keys, range, access, key) {
+        Ok(()) => true,
+        Err(_) => false,
+    }
 }

@@ -1,4 +1,4 @@
-use Rattle.std.proofs.Common.{◌≡◌, length}
+use Rattle.std.proofs.Common.{◌≡◌, ◌-◌, ◌≤◌, length}
 use Rattle.s370_rows.specs.State.{state_of}
 use Rattle.s370_quick.specs.Quick.{IsLongMoveAt}
 use Rattle.s370_intr.specs.Run.{DoesInstructions}
@@ -9,9 +9,13 @@ invariant-loop-units g l =
     let m0 = state_of l.fn.cpu (g.S.Storage.bytes l.fn.storage) (g.S.Storage.keys l.fn.storage) in
     let m = state_of l.cpu (g.S.Storage.bytes l.storage) (g.S.Storage.keys l.storage) in
     record {
+      within : l.units ≤ l.limit;
       here : l.fn.start ≡ m.cpu.psw.address;
       stands : IsLongMoveAt m (g.S.Storage.present l.storage) l.fn.start l.fn.second_byte;
       done : DoesInstructions l.units m0 m;
       size : length (g.S.Storage.bytes l.storage) ≡ length (g.S.Storage.bytes l.fn.storage);
       rest : g.S.Storage.Keeps l.fn.storage l.storage;
     }
+
+abbrev pub decreases-loop-units : goal.decreases-loop-units
+decreases-loop-units g l = l.limit - l.units
