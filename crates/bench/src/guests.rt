@@ -19,10 +19,12 @@ pub enum Place {
     One,
     /// Eight users on frames, in turns.
     Eight,
+    /// Eight bare machines, in the same turns: what turns cost where nothing is shared.
+    Machines,
 }
 
 /// All of them, in the order of the table.
-pub static PLACES: [Place; 3] = [Place::Bare, Place::One, Place::Eight];
+pub static PLACES: [Place; 4] = [Place::Bare, Place::One, Place::Eight, Place::Machines];
 
 impl Place {
     /// The word that names it.
@@ -31,6 +33,7 @@ impl Place {
             Place::Bare => "bare",
             Place::One => "one",
             Place::Eight => "eight",
+            Place::Machines => "machines",
         }
     }
 }
@@ -60,6 +63,15 @@ fn bare_guest(alloc: Global, guest: Loop) -> Result<Bare> {
     }
     machine.line(b"BEGIN 200")?;
     Ok(machine)
+}
+
+/// So many machines as there are users, which run the loop.
+fn bare_guests(alloc: Global, guest: Loop) -> Result<Vec<Bare>> {
+    let mut machines = Vec::new(alloc);
+    for _ in 0..USERS {
+        machines.push(bare_guest(alloc, guest)?)?;
+    }
+    Ok(machines)
 }
 
 /// A system of this directory, of which so many users run the loop.
@@ -119,12 +131,24 @@ fn in_turns(system: &mut System, units: u32) -> Result<u64> {
     Ok(done)
 }
 
+/// Units of bare machines in turns: how many were done together.
+fn in_turns_apart(machines: &mut [Bare], units: u32) -> u64 {
+    let mut done = 0u64;
+    for _ in 0..units / (TURN * u32::from(USERS)) {
+        for machine in machines.iter_mut() {
+            done = done.wrapping_add(on_bare(machine, TURN));
+        }
+    }
+    done
+}
+
 /// Machines that run a guest program.
 #[derive(Drop)]
 pub enum Guests {
     Bare(Bare),
     One(System),
     Eight(System),
+    Machines(Vec<Bare>),
 }
 
 impl Guests {
@@ -134,6 +158,7 @@ impl Guests {
             Place::Bare => Guests::Bare(bare_guest(alloc, guest)?),
             Place::One => Guests::One(users_guest(alloc, ONE, 1, guest)?),
             Place::Eight => Guests::Eight(users_guest(alloc, EIGHT, USERS, guest)?),
+            Place::Machines => Guests::Machines(bare_guests(alloc, guest)?),
         })
     }
 
@@ -146,6 +171,7 @@ impl Guests {
                 None => bail!("the system is spent"),
             },
             Guests::Eight(system) => in_turns(system, units),
+            Guests::Machines(machines) => Ok(in_turns_apart(machines, units)),
         }
     }
 }
