@@ -8,15 +8,15 @@ pub loop-units-preserved : goal.loop-units-preserved
 loop-units-preserved g c =
     let m0 = state_of c.args.cpu.now (g.S.Storage.bytes c.args.storage.now) (g.S.Storage.keys c.args.storage.now) in
     let m = state_of c.loop-units.cpu (g.S.Storage.bytes c.loop-units.storage) (g.S.Storage.keys c.loop-units.storage) in
-    let m' = state_of c.move_parts_quickly.new.cpu (g.S.Storage.bytes c.move_parts_quickly.new.storage) (g.S.Storage.keys c.move_parts_quickly.new.storage) in
+    let m' = state_of c.move_parts_quickly-parts.new.cpu (g.S.Storage.bytes c.move_parts_quickly-parts.new.storage) (g.S.Storage.keys c.move_parts_quickly-parts.new.storage) in
     record {
-      within = omega (arith, c.move_parts_quickly.ensures.within);
-      here = c.move_parts_quickly.ensures.here;
-      stands = c.move_parts_quickly.ensures.stands;
+      within = omega (arith, c.move_parts_quickly-parts.ensures.within);
+      here = c.move_parts_quickly-parts.ensures.here;
+      stands = c.move_parts_quickly-parts.ensures.stands;
       done = λ pending list e.
           (let before = c.loop-units.invariant.done pending list e in
-          let parts = units_done c.move_parts_quickly.result (g.S.Storage.present c.loop-units.storage) m m' pending list c.move_parts_quickly.ensures.done before.1 in
-          (does_many c.loop-units.units c.move_parts_quickly.result (core_of m0 pending list) (core_of m pending list) (core_of m' pending list) before.0 parts.0, parts.1));
-      size = c.move_parts_quickly.ensures.size ∙ c.loop-units.invariant.size;
-      rest = g.met.S.Storage.keeps_on _ _ _ c.loop-units.invariant.rest c.move_parts_quickly.ensures.rest;
+          let parts = units_done c.move_parts_quickly-parts.result (g.S.Storage.present c.loop-units.storage) m m' pending list c.move_parts_quickly-parts.ensures.done before.1 in
+          (does_many c.loop-units.units c.move_parts_quickly-parts.result (core_of m0 pending list) (core_of m pending list) (core_of m' pending list) before.0 parts.0, parts.1));
+      size = c.move_parts_quickly-parts.ensures.size ∙ c.loop-units.invariant.size;
+      rest = g.met.S.Storage.keeps_on _ _ _ c.loop-units.invariant.rest c.move_parts_quickly-parts.ensures.rest;
     }
