@@ -329,6 +329,8 @@ parts_are (suc n) k start present i m r1 r2 is e f p l l2 full blocks w =
     let whole : AreWhole start m r1 r2 (256 + left) = subst (λ (x : ℕ). AreWhole start m r1 r2 x) sum w in
     let rest = rest_whole start m r1 r2 left p l l2 full (omega arith) low low2 whole in
     let full1 : length m1.cpu.general ≡ 16 = length-four m.cpu.general r1 r2 _ _ _ _ ∙ full in
-    let more = parts_are n left start present i m1 r1 r2 refl e f p l l2 full1 (λ _. (rw a1 (omega (arith, b.0)), rw a2 (omega (arith, b.1)))) rest in
-    (m1, first_part start present i m r1 r2 e f p (fewer start m r1 r2 k 256 (omega arith) (omega arith) w),
-    subst (λ (x : State). AreParts (suc n) start present i m1 x) (moved_on start m r1 r2 left p l l2 full low low2 whole ∙ ap (λ (x : ℕ). moved_by m r1 r2 x) (sym sum)) more)
+    let more = parts_are n left start present i m1 r1 r2 refl e f p l l2 full1 (λ _. (rw a1 (omega (arith, b.0)), rw a2 (omega (arith, b.1)))) rest in (
+      m1,
+      first_part start present i m r1 r2 e f p (fewer start m r1 r2 k 256 (omega arith) (omega arith) w),
+      subst (λ (x : State). AreParts (suc n) start present i m1 x) (moved_on start m r1 r2 left p l l2 full low low2 whole ∙ ap (λ (x : ℕ). moved_by m r1 r2 x) (sym sum)) more,
+    )

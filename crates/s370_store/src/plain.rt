@@ -90,7 +90,13 @@ impl Storage for PlainStorage {
         if !passes_range(size, &keys, Range { start: to, count }, Access::Store, key) {
             return false;
         }
-        if !passes_range(size, &keys, Range { start: from, count }, Access::Fetch, key) {
+        if !passes_range(
+            size,
+            &keys,
+            Range { start: from, count },
+            Access::Fetch,
+            key,
+        ) {
             return false;
         }
         copy_at(&mut self.bytes, from as usize, to as usize, count as usize);
