@@ -305,12 +305,14 @@ fn instruct_quickly<S: Storage>(cpu: &mut Cpu, storage: &mut S, limit: u32) -> u
         Some(found) => found,
         None => return 0,
     };
+    // The block from which operands are fetched: at first that of the instructions.
+    let mut held = block;
     for units in 0..limit {
         block = match block_of(storage, block, next, key) {
             Some(found) => found,
             None => return units,
         };
-        match step_quickly(cpu, storage, next, block) {
+        match step_quickly(cpu, storage, next, block, &mut held) {
             Some(address) => next = address,
             None => return units + move_parts_in(cpu, storage, next, block, limit - units),
         }

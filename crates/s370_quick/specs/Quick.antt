@@ -1,5 +1,5 @@
 -- What an instruction may answer that is done only where nothing keeps it from being done.
-use Rattle.std.specs.Prelude.{◌≡◌, ℕ, zero, suc, ◌+◌, ◌%◌, ◌≤◌, Bool, true, false, length, slice_index, Option, Some, None, Ok}
+use Rattle.std.specs.Prelude.{◌≡◌, ℕ, zero, suc, ◌+◌, ◌%◌, ◌<◌, ◌≤◌, Bool, true, false, List, length, slice_index, Option, Some, None, Ok}
 use Rattle.s370_store.specs.Blocks.{MayFetch}
 use Rattle.s370_rows.specs.declared.ending.Ending.{Ending}
 use Rattle.s370_rows.specs.declared.ending.Ending.TheVariants.{Done, Branch, Again, Interrupted, SupervisorCall, InputOutput}
@@ -50,3 +50,8 @@ abbrev pub DoesUnits : ℕ → (ℕ → Bool) → State → State → Type 0
 DoesUnits zero present m m' = m' ≡ m
 DoesUnits (suc n) present m m' =
     (next : State) × MeetsUnit (unit m) present m DoneStop next × (rights_of next ≡ rights_of m) × DoesUnits n present next m'
+
+-- the block that begins at this address may be held for operands: it lies where addresses reach, and all of it may be fetched
+pub record IsOperandBlock (size : ℕ) (keys : List ℕ) (present : ℕ → Bool) (key first : ℕ) : Type 0 where
+  pub low : first < 16777216
+  pub may_fetch : MayFetch size keys present key first

@@ -1,5 +1,5 @@
 //! The most frequent instructions, each done in one go where nothing keeps it from being done.
-ghost use Rattle.std.specs.Prelude.{◌≡◌, ℕ, ◌+◌, ◌%◌, ◌≤◌, Ok, IfSome, IfNone, true, false, length, slice_index};
+ghost use Rattle.std.specs.Prelude.{◌≡◌, ℕ, ◌+◌, ◌%◌, ◌<◌, ◌≤◌, [], ◌∷◌, Ok, IfSome, IfNone, true, false, length, slice_index};
 ghost use Rattle.s370_store.specs.Blocks.{MayFetch};
 ghost use Rattle.s370_rows.specs.State.{state_of};
 ghost use Rattle.s370_cpu.specs.declared.conclude.Stop.TheVariants as stops;
@@ -8,11 +8,11 @@ ghost use Rattle.s370_cpu.specs.FetchRows.{byte_tested, word_operation};
 ghost use Rattle.s370_cpu.specs.StoreRows.{word_stored};
 ghost use Rattle.s370_bytes.specs.Combine.{string_combined};
 ghost use Rattle.s370_bytes.specs.declared.combine.Combine.TheVariants as combines;
-ghost use Rattle.s370_rows.specs.Rows.{MeetsRow};
+ghost use Rattle.s370_rows.specs.Rows.{Grants, MeetsRow, fetch_test, word_at};
 ghost use Rattle.s370_rows.specs.declared.instruction.Instruction.{Instruction};
 ghost use Rattle.s370_rows.specs.declared.ending.Ending.TheVariants as endings;
 ghost use Rattle.s370_cpu.specs.Laws.{rights_of};
-ghost use Rattle.s370_quick.specs.Quick.{DoesUnits, GoesOn, IsLongMoveAt, MeetsAtOnce, MeetsQuick, whole_of};
+ghost use Rattle.s370_quick.specs.Quick.{DoesUnits, GoesOn, IsLongMoveAt, IsOperandBlock, MeetsAtOnce, MeetsQuick, whole_of};
 ghost use Rattle.s370_cpu.specs.Table.{row_of, unit};
 ghost use Rattle.s370_cpu.specs.Unit.{Carries, MeetsUnit, place_at, stopped};
 ghost use Rattle.s370_rows.specs.declared.arithmetic.Arithmetic.TheVariants as operations;
@@ -26,7 +26,7 @@ use s370_num::Addr24;
 use s370_rows::{
     Arithmetic, ByteTest, Cpu, Ending, Instruction, Place, arithmetic_row, is_granted, test_byte,
 };
-use s370_store::{Access, Block, Range, Storage, load_byte, load_byte_in, load_word, store_word};
+use s370_store::{Access, Block, Range, Storage, load_byte_in, store_word};
 
 /// Does one instruction of a running processor, if it is one of the most frequent, if it is done, and if the processor then
 /// goes on with the next one. Else nothing changes. It stands at an even address in a block that was found for fetches with the
@@ -35,12 +35,16 @@ use s370_store::{Access, Block, Range, Storage, load_byte, load_byte_in, load_wo
 /// The address of the next instruction says that it was done. So a loop over instructions has no stop to tell from others;
 /// what it has looked at before (all that only the supervisor state can change, the key among it) it need not look at again;
 /// and the address it holds itself, since what was just stored into the PSW would be waited for.
+///
+/// A word or a byte that is fetched is taken from the block that is held for operands, where it lies in it; else from the block of its own
+/// that is found, which is held from then on. So an operand near the last one is looked up no more.
 #[inline(always)]
 pub fn step_quickly<S: Storage>(
     cpu: &mut Cpu,
     storage: &mut S,
     start: Addr24,
     block: Block,
+    held: &mut Block,
 ) -> Option<Addr24>
     requires here { start ≡ cpu.old.psw.address }
     requires may_fetch { MayFetch (length (S.bytes storage.old)) (S.keys storage.old) (S.present storage.old) cpu.old.psw.key block.first }
@@ -48,6 +52,8 @@ pub fn step_quickly<S: Storage>(
     requires begins { block.first ≤ start }
     requires ends { start ≤ block.first + 2042 }
     requires even { start % 2 ≡ 0 }
+    requires operands { IsOperandBlock (length (S.bytes storage.old)) (S.keys storage.old) (S.present storage.old) cpu.old.psw.key held.old.first }
+    requires operands_placed { S.IsPlaced storage.old held.old }
     ensures done { let before = state_of cpu.old (S.bytes storage.old) (S.keys storage.old) in
         let after = state_of cpu.new (S.bytes storage.new) (S.keys storage.new) in
         IfSome result (λ _. MeetsUnit (unit before) (S.present storage.old) before stops.Done after) }
@@ -61,8 +67,10 @@ pub fn step_quickly<S: Storage>(
     ensures size { length (S.bytes storage.new) ≡ length (S.bytes storage.old) }
     ensures present { S.present storage.new ≡ S.present storage.old }
     ensures rest { S.Keeps storage.old storage.new }
+    ensures operands { IsOperandBlock (length (S.bytes storage.old)) (S.keys storage.old) (S.present storage.old) cpu.old.psw.key held.new.first }
+    ensures operands_placed { S.IsPlaced storage.old held.new }
 {
-    step_found_quickly(cpu, storage, start, block)
+    step_found_quickly(cpu, storage, start, block, held)
 }
 
 /// As [`step_quickly`], where the instruction may be fetched.
@@ -72,6 +80,7 @@ fn step_found_quickly<S: Storage>(
     storage: &mut S,
     start: Addr24,
     block: Block,
+    held: &mut Block,
 ) -> Option<Addr24>
     requires here { start ≡ cpu.old.psw.address }
     requires found { let m = state_of cpu.old (S.bytes storage.old) (S.keys storage.old) in
@@ -79,6 +88,8 @@ fn step_found_quickly<S: Storage>(
     requires placed { S.IsPlaced storage.old block }
     requires begins { block.first ≤ start }
     requires ends { start ≤ block.first + 2042 }
+    requires operands { IsOperandBlock (length (S.bytes storage.old)) (S.keys storage.old) (S.present storage.old) cpu.old.psw.key held.old.first }
+    requires operands_placed { S.IsPlaced storage.old held.old }
     ensures done { let before = state_of cpu.old (S.bytes storage.old) (S.keys storage.old) in
         let after = state_of cpu.new (S.bytes storage.new) (S.keys storage.new) in
         IfSome result (λ _. MeetsUnit (unit before) (S.present storage.old) before stops.Done after) }
@@ -92,31 +103,33 @@ fn step_found_quickly<S: Storage>(
     ensures size { length (S.bytes storage.new) ≡ length (S.bytes storage.old) }
     ensures present { S.present storage.new ≡ S.present storage.old }
     ensures rest { S.Keeps storage.old storage.new }
+    ensures operands { IsOperandBlock (length (S.bytes storage.old)) (S.keys storage.old) (S.present storage.old) cpu.old.psw.key held.new.first }
+    ensures operands_placed { S.IsPlaced storage.old held.new }
 {
     // One jump, behind which all is compiled for the one operation code.
     match load_byte_in(storage, block, start.get()) {
-        0x07 => carry_quickly::<S, 0x07>(cpu, storage, start, block),
-        0x12 => carry_quickly::<S, 0x12>(cpu, storage, start, block),
-        0x14 => carry_quickly::<S, 0x14>(cpu, storage, start, block),
-        0x15 => carry_quickly::<S, 0x15>(cpu, storage, start, block),
-        0x16 => carry_quickly::<S, 0x16>(cpu, storage, start, block),
-        0x17 => carry_quickly::<S, 0x17>(cpu, storage, start, block),
-        0x18 => carry_quickly::<S, 0x18>(cpu, storage, start, block),
-        0x19 => carry_quickly::<S, 0x19>(cpu, storage, start, block),
-        0x41 => carry_quickly::<S, 0x41>(cpu, storage, start, block),
-        0x46 => carry_quickly::<S, 0x46>(cpu, storage, start, block),
-        0x47 => carry_quickly::<S, 0x47>(cpu, storage, start, block),
-        0x50 => carry_quickly::<S, 0x50>(cpu, storage, start, block),
-        0x54 => carry_quickly::<S, 0x54>(cpu, storage, start, block),
-        0x55 => carry_quickly::<S, 0x55>(cpu, storage, start, block),
-        0x56 => carry_quickly::<S, 0x56>(cpu, storage, start, block),
-        0x57 => carry_quickly::<S, 0x57>(cpu, storage, start, block),
-        0x58 => carry_quickly::<S, 0x58>(cpu, storage, start, block),
-        0x59 => carry_quickly::<S, 0x59>(cpu, storage, start, block),
-        0x5A => carry_quickly::<S, 0x5A>(cpu, storage, start, block),
-        0x91 => carry_quickly::<S, 0x91>(cpu, storage, start, block),
-        0x95 => carry_quickly::<S, 0x95>(cpu, storage, start, block),
-        0xD2 => carry_quickly::<S, 0xD2>(cpu, storage, start, block),
+        0x07 => carry_quickly::<S, 0x07>(cpu, storage, start, block, held),
+        0x12 => carry_quickly::<S, 0x12>(cpu, storage, start, block, held),
+        0x14 => carry_quickly::<S, 0x14>(cpu, storage, start, block, held),
+        0x15 => carry_quickly::<S, 0x15>(cpu, storage, start, block, held),
+        0x16 => carry_quickly::<S, 0x16>(cpu, storage, start, block, held),
+        0x17 => carry_quickly::<S, 0x17>(cpu, storage, start, block, held),
+        0x18 => carry_quickly::<S, 0x18>(cpu, storage, start, block, held),
+        0x19 => carry_quickly::<S, 0x19>(cpu, storage, start, block, held),
+        0x41 => carry_quickly::<S, 0x41>(cpu, storage, start, block, held),
+        0x46 => carry_quickly::<S, 0x46>(cpu, storage, start, block, held),
+        0x47 => carry_quickly::<S, 0x47>(cpu, storage, start, block, held),
+        0x50 => carry_quickly::<S, 0x50>(cpu, storage, start, block, held),
+        0x54 => carry_quickly::<S, 0x54>(cpu, storage, start, block, held),
+        0x55 => carry_quickly::<S, 0x55>(cpu, storage, start, block, held),
+        0x56 => carry_quickly::<S, 0x56>(cpu, storage, start, block, held),
+        0x57 => carry_quickly::<S, 0x57>(cpu, storage, start, block, held),
+        0x58 => carry_quickly::<S, 0x58>(cpu, storage, start, block, held),
+        0x59 => carry_quickly::<S, 0x59>(cpu, storage, start, block, held),
+        0x5A => carry_quickly::<S, 0x5A>(cpu, storage, start, block, held),
+        0x91 => carry_quickly::<S, 0x91>(cpu, storage, start, block, held),
+        0x95 => carry_quickly::<S, 0x95>(cpu, storage, start, block, held),
+        0xD2 => carry_quickly::<S, 0xD2>(cpu, storage, start, block, held),
         _ => None,
     }
 }
@@ -156,6 +169,7 @@ fn carry_quickly<S: Storage, const CODE: u8>(
     storage: &mut S,
     start: Addr24,
     block: Block,
+    held: &mut Block,
 ) -> Option<Addr24>
     requires here { start ≡ cpu.old.psw.address }
     requires found { let m = state_of cpu.old (S.bytes storage.old) (S.keys storage.old) in
@@ -164,6 +178,8 @@ fn carry_quickly<S: Storage, const CODE: u8>(
     requires begins { block.first ≤ start }
     requires ends { start ≤ block.first + 2042 }
     requires known { CODE ≡ slice_index (S.bytes storage.old) start }
+    requires operands { IsOperandBlock (length (S.bytes storage.old)) (S.keys storage.old) (S.present storage.old) cpu.old.psw.key held.old.first }
+    requires operands_placed { S.IsPlaced storage.old held.old }
     ensures done { let before = state_of cpu.old (S.bytes storage.old) (S.keys storage.old) in
         let after = state_of cpu.new (S.bytes storage.new) (S.keys storage.new) in
         IfSome result (λ _. MeetsUnit (unit before) (S.present storage.old) before stops.Done after) }
@@ -177,6 +193,8 @@ fn carry_quickly<S: Storage, const CODE: u8>(
     ensures size { length (S.bytes storage.new) ≡ length (S.bytes storage.old) }
     ensures present { S.present storage.new ≡ S.present storage.old }
     ensures rest { S.Keeps storage.old storage.new }
+    ensures operands { IsOperandBlock (length (S.bytes storage.old)) (S.keys storage.old) (S.present storage.old) cpu.old.psw.key held.new.first }
+    ensures operands_placed { S.IsPlaced storage.old held.new }
 {
     if CODE == EXECUTE {
         return None;
@@ -184,7 +202,7 @@ fn carry_quickly<S: Storage, const CODE: u8>(
     let first = load_known_in(storage, block, start.get(), CODE);
     let ilc = length_of(CODE);
     let next = start.wrapping_add(2 * ilc.get() as u32);
-    finish_quickly::<S, CODE>(cpu, storage, Place { next, ilc }, first)
+    finish_quickly::<S, CODE>(cpu, storage, Place { next, ilc }, first, held)
 }
 
 /// Goes on with the instruction that is carried out, of this operation code.
@@ -194,11 +212,14 @@ fn finish_quickly<S: Storage, const CODE: u8>(
     storage: &mut S,
     place: Place,
     i: Instruction,
+    held: &mut Block,
 ) -> Option<Addr24>
     requires same { i.opcode ≡ CODE }
     requires carried { Carries (state_of cpu.old (S.bytes storage.old) (S.keys storage.old)) place.ilc i }
     requires next { let m = state_of cpu.old (S.bytes storage.old) (S.keys storage.old) in
         place ≡ place_at m place.ilc }
+    requires operands { IsOperandBlock (length (S.bytes storage.old)) (S.keys storage.old) (S.present storage.old) cpu.old.psw.key held.old.first }
+    requires operands_placed { S.IsPlaced storage.old held.old }
     ensures done { let before = state_of cpu.old (S.bytes storage.old) (S.keys storage.old) in
         let after = state_of cpu.new (S.bytes storage.new) (S.keys storage.new) in
         IfSome result (λ _. MeetsUnit (unit before) (S.present storage.old) before stops.Done after) }
@@ -212,9 +233,11 @@ fn finish_quickly<S: Storage, const CODE: u8>(
     ensures size { length (S.bytes storage.new) ≡ length (S.bytes storage.old) }
     ensures present { S.present storage.new ≡ S.present storage.old }
     ensures rest { S.Keeps storage.old storage.new }
+    ensures operands { IsOperandBlock (length (S.bytes storage.old)) (S.keys storage.old) (S.present storage.old) cpu.old.psw.key held.new.first }
+    ensures operands_placed { S.IsPlaced storage.old held.new }
 {
     let Place { next, ilc } = place;
-    match perform_quickly::<S, CODE>(cpu, storage, Place { next, ilc }, i) {
+    match perform_quickly::<S, CODE>(cpu, storage, Place { next, ilc }, i, held) {
         Some(ending) => Some(go_on(cpu, Place { next, ilc }, ending)),
         None => None,
     }
@@ -248,14 +271,19 @@ fn perform_quickly<S: Storage, const CODE: u8>(
     storage: &mut S,
     place: Place,
     i: Instruction,
+    held: &mut Block,
 ) -> Option<Ending>
     requires same { i.opcode ≡ CODE }
+    requires operands { IsOperandBlock (length (S.bytes storage.old)) (S.keys storage.old) (S.present storage.old) cpu.old.psw.key held.old.first }
+    requires operands_placed { S.IsPlaced storage.old held.old }
     ensures row { let before = state_of cpu.old (S.bytes storage.old) (S.keys storage.old) in
         let after = state_of cpu.new (S.bytes storage.new) (S.keys storage.new) in
         MeetsQuick (row_of before place i) (S.present storage.old) before result after }
     ensures size { length (S.bytes storage.new) ≡ length (S.bytes storage.old) }
     ensures present { S.present storage.new ≡ S.present storage.old }
     ensures rest { S.Keeps storage.old storage.new }
+    ensures operands { IsOperandBlock (length (S.bytes storage.old)) (S.keys storage.old) (S.present storage.old) cpu.old.psw.key held.new.first }
+    ensures operands_placed { S.IsPlaced storage.old held.new }
 {
     match CODE {
         0x07 => Some(branch_register(Branching::Condition, cpu, place, i)),
@@ -270,15 +298,15 @@ fn perform_quickly<S: Storage, const CODE: u8>(
         0x46 => Some(branch_to(Branching::Count, cpu, place, i)),
         0x47 => Some(branch_to(Branching::Condition, cpu, place, i)),
         0x50 => store_quickly(cpu, storage, i),
-        0x54 => word_quickly(Arithmetic::And, cpu, storage, i),
-        0x55 => word_quickly(Arithmetic::CompareLogical, cpu, storage, i),
-        0x56 => word_quickly(Arithmetic::Or, cpu, storage, i),
-        0x57 => word_quickly(Arithmetic::ExclusiveOr, cpu, storage, i),
-        0x58 => word_quickly(Arithmetic::Load, cpu, storage, i),
-        0x59 => word_quickly(Arithmetic::Compare, cpu, storage, i),
-        0x5A => add_quickly(cpu, storage, i),
-        0x91 => test_byte_quickly(ByteTest::UnderMask, cpu, storage, i),
-        0x95 => test_byte_quickly(ByteTest::CompareLogical, cpu, storage, i),
+        0x54 => word_quickly(Arithmetic::And, cpu, storage, i, held),
+        0x55 => word_quickly(Arithmetic::CompareLogical, cpu, storage, i, held),
+        0x56 => word_quickly(Arithmetic::Or, cpu, storage, i, held),
+        0x57 => word_quickly(Arithmetic::ExclusiveOr, cpu, storage, i, held),
+        0x58 => word_quickly(Arithmetic::Load, cpu, storage, i, held),
+        0x59 => word_quickly(Arithmetic::Compare, cpu, storage, i, held),
+        0x5A => add_quickly(cpu, storage, i, held),
+        0x91 => test_byte_quickly(ByteTest::UnderMask, cpu, storage, i, held),
+        0x95 => test_byte_quickly(ByteTest::CompareLogical, cpu, storage, i, held),
         0xD2 => whole_of(move_quickly(cpu, storage, i)),
         _ => None,
     }
@@ -310,56 +338,136 @@ fn store_quickly<S: Storage>(cpu: &Cpu, storage: &mut S, i: Instruction) -> Opti
     Some(Ending::Done)
 }
 
-/// An operation on a register and the word at the second operand's address, where one look grants it; else nothing changes.
+/// Whether a range lies in a block.
+#[inline(always)]
+fn holds(block: Block, start: u32, count: u32) -> bool
+    requires low { block.first < 16777216 }
+    requires short { count ≤ 256 }
+    ensures begins { result ≡ true → block.first ≤ start }
+    ensures ends { result ≡ true → start + count ≤ block.first + 2048 }
+{
+    // An address below wraps round to one that is far above.
+    start.wrapping_sub(block.first) <= 2048 - count
+}
+
+/// The block in which an operand that is fetched lies: the one that is held for operands, or another. None where it lies in two, or
+/// may not be fetched.
+#[inline(always)]
+fn operand_block<S: Storage>(
+    cpu: &Cpu,
+    storage: &S,
+    held: Block,
+    start: Addr24,
+    count: u32,
+) -> Option<Block>
+    requires short { count ≤ 256 }
+    requires operands { IsOperandBlock (length (S.bytes storage.now)) (S.keys storage.now) (S.present storage.now) cpu.now.psw.key held.first }
+    requires operands_placed { S.IsPlaced storage.now held }
+    ensures operands { IfSome result (λ found. IsOperandBlock (length (S.bytes storage.now)) (S.keys storage.now) (S.present storage.now) cpu.now.psw.key found.first) }
+    ensures operands_placed { IfSome result (λ found. S.IsPlaced storage.now found) }
+    ensures granted { IfSome result (λ _. Grants (state_of cpu.now (S.bytes storage.now) (S.keys storage.now)) (S.present storage.now) (fetch_test start count ∷ []) (Ok tt)) }
+    ensures begins { IfSome result (λ found. found.first ≤ start) }
+    ensures ends { IfSome result (λ found. start + count ≤ found.first + 2048) }
+{
+    if holds(held, start.get(), count) {
+        return Some(held);
+    }
+    match storage.find_block(start.get(), cpu.psw.key()) {
+        Some(found) => if holds(found, start.get(), count) {
+            Some(found)
+        } else {
+            None
+        },
+        None => None,
+    }
+}
+
+/// The word from an address on in a block that was found.
+#[inline(always)]
+fn load_word_in<S: Storage>(storage: &S, block: Block, start: u32) -> u32
+    requires placed { S.IsPlaced storage.now block }
+    requires begins { block.first ≤ start }
+    requires ends { start + 4 ≤ block.first + 2048 }
+    ensures { result ≡ word_at (S.bytes storage.now) start }
+{
+    let mut into = [0u8; 4];
+    storage.load_in(block, start, &mut into);
+    u32::from_be_bytes(into)
+}
+
+/// An operation on a register and the word at the second operand's address, where it lies in one block; else nothing changes.
 #[inline(always)]
 fn word_quickly<S: Storage>(
     operation: Arithmetic,
     cpu: &mut Cpu,
     storage: &S,
     i: Instruction,
+    held: &mut Block,
 ) -> Option<Ending>
-    ensures { let before = state_of cpu.old (S.bytes storage.now) (S.keys storage.now) in
+    requires operands { IsOperandBlock (length (S.bytes storage.now)) (S.keys storage.now) (S.present storage.now) cpu.old.psw.key held.old.first }
+    requires operands_placed { S.IsPlaced storage.now held.old }
+    ensures row { let before = state_of cpu.old (S.bytes storage.now) (S.keys storage.now) in
         let after = state_of cpu.new (S.bytes storage.now) (S.keys storage.now) in
         MeetsAtOnce (word_operation operation before i) (S.present storage.now) before result after }
+    ensures operands { IsOperandBlock (length (S.bytes storage.now)) (S.keys storage.now) (S.present storage.now) cpu.old.psw.key held.new.first }
+    ensures operands_placed { S.IsPlaced storage.now held.new }
 {
-    let start = cpu.indexed(i.r2(), i.second_half).get();
-    if !is_granted(cpu, storage, Range { start, count: 4 }, Access::Fetch) {
-        return None;
-    }
-    let b = load_word(storage, start);
+    let start = cpu.indexed(i.r2(), i.second_half);
+    let found = match operand_block(cpu, storage, *held, start, 4) {
+        Some(found) => found,
+        None => return None,
+    };
+    *held = found;
+    let b = load_word_in(storage, found, start.get());
     Some(arithmetic_row(operation, cpu, i.r1(), b))
 }
 
 /// 5A A, where no overflow interrupts.
 #[inline(always)]
-fn add_quickly<S: Storage>(cpu: &mut Cpu, storage: &S, i: Instruction) -> Option<Ending>
-    ensures { let before = state_of cpu.old (S.bytes storage.now) (S.keys storage.now) in
+fn add_quickly<S: Storage>(
+    cpu: &mut Cpu,
+    storage: &S,
+    i: Instruction,
+    held: &mut Block,
+) -> Option<Ending>
+    requires operands { IsOperandBlock (length (S.bytes storage.now)) (S.keys storage.now) (S.present storage.now) cpu.old.psw.key held.old.first }
+    requires operands_placed { S.IsPlaced storage.now held.old }
+    ensures row { let before = state_of cpu.old (S.bytes storage.now) (S.keys storage.now) in
         let after = state_of cpu.new (S.bytes storage.now) (S.keys storage.now) in
         MeetsQuick (word_operation operations.Add before i) (S.present storage.now) before result after }
+    ensures operands { IsOperandBlock (length (S.bytes storage.now)) (S.keys storage.now) (S.present storage.now) cpu.old.psw.key held.new.first }
+    ensures operands_placed { S.IsPlaced storage.now held.new }
 {
     if cpu.psw.program_mask() >= 8 {
         return None;
     }
-    word_quickly(Arithmetic::Add, cpu, storage, i)
+    word_quickly(Arithmetic::Add, cpu, storage, i, held)
 }
 
-/// A test of the byte at the first operand's address, where one look grants it; else nothing changes.
+/// A test of the byte at the first operand's address, where it may be fetched; else nothing changes.
 #[inline(always)]
 fn test_byte_quickly<S: Storage>(
     test: ByteTest,
     cpu: &mut Cpu,
     storage: &S,
     i: Instruction,
+    held: &mut Block,
 ) -> Option<Ending>
-    ensures { let before = state_of cpu.old (S.bytes storage.now) (S.keys storage.now) in
+    requires operands { IsOperandBlock (length (S.bytes storage.now)) (S.keys storage.now) (S.present storage.now) cpu.old.psw.key held.old.first }
+    requires operands_placed { S.IsPlaced storage.now held.old }
+    ensures row { let before = state_of cpu.old (S.bytes storage.now) (S.keys storage.now) in
         let after = state_of cpu.new (S.bytes storage.now) (S.keys storage.now) in
         MeetsAtOnce (byte_tested test before i) (S.present storage.now) before result after }
+    ensures operands { IsOperandBlock (length (S.bytes storage.now)) (S.keys storage.now) (S.present storage.now) cpu.old.psw.key held.new.first }
+    ensures operands_placed { S.IsPlaced storage.now held.new }
 {
-    let start = cpu.based(i.second_half).get();
-    if !is_granted(cpu, storage, Range { start, count: 1 }, Access::Fetch) {
-        return None;
-    }
-    let byte = load_byte(storage, start);
+    let start = cpu.based(i.second_half);
+    let found = match operand_block(cpu, storage, *held, start, 1) {
+        Some(found) => found,
+        None => return None,
+    };
+    *held = found;
+    let byte = load_byte_in(storage, found, start.get());
     cpu.psw.set_condition(test_byte(test, byte, i.second_byte));
     Some(Ending::Done)
 }

@@ -16,6 +16,11 @@ loop-units-preserved g c =
       low = c.in-Some-block_of.ensures.low;
       may_fetch = still_fetches c.key-key.result c.in-Some-block_of.found.first (c.step_quickly.ensures.size) (ap (λ (r : Rights). r.keys) c.step_quickly.ensures.rights) c.step_quickly.ensures.present c.in-Some-block_of.ensures.may_fetch;
       placed = g.met.S.Storage.placed_kept _ _ c.in-Some-block_of.found c.step_quickly.ensures.size c.step_quickly.ensures.rest c.in-Some-block_of.ensures.placed;
+      operands = record {
+        low = c.step_quickly.ensures.operands.low;
+        may_fetch = still_fetches c.key-key.result c.step_quickly.new.held.first (c.step_quickly.ensures.size) (ap (λ (r : Rights). r.keys) c.step_quickly.ensures.rights) c.step_quickly.ensures.present (rw (sym c.loop-units.invariant.key) at c.step_quickly.ensures.operands.may_fetch);
+      };
+      operands_placed = g.met.S.Storage.placed_kept _ _ c.step_quickly.new.held c.step_quickly.ensures.size c.step_quickly.ensures.rest c.step_quickly.ensures.operands_placed;
       done = λ pending list e.
           (let before = c.loop-units.invariant.done pending list e in
           let step : core_of m' pending list ≡ unit_at (look (core_of m pending list)) (core_of m pending list) = rw before.1 (done_unit m m' pending list (c.in-Some-step_quickly.ensures.done)) in

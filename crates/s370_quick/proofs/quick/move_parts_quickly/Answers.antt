@@ -1,7 +1,7 @@
-use Rattle.std.proofs.Common.{◌≡◌, ℕ, Bool, sym, subst, rules}
+use Rattle.std.proofs.Common.{ℕ, Bool, sym, subst, rules}
 use Rattle.s370_rows.specs.State.{state_of}
 use Rattle.s370_quick.specs.Quick.{IsLongMoveAt}
-use Rattle.s370_quick.proofs.LongMoves.{AreDone, parts_done}
+use Rattle.s370_quick.proofs.LongMoves.{parts_done}
 use Rattle.s370_quick.proofs.quick.move_parts_quickly.Goals as goal
 
 pub returns-clause-done : goal.returns-clause-done

@@ -133,7 +133,7 @@ returns-in-84-clause-row g c =
     let present = g.S.Storage.present c.args.storage.now in
     let after = state_of c.word_quickly.new.cpu (g.S.Storage.bytes c.args.storage.now) (g.S.Storage.keys c.args.storage.now) in
     subst (λ (code : ℕ). MeetsQuick (row_named (opcode_at code) m c.args.place c.args.i) present m c.word_quickly.result after) (sym (c.requires.same ∙ c.in-84.is))
-    (quick_of (row_named (opcode_at 84) m c.args.place c.args.i) present m c.word_quickly.result after (record { goes_on = tt; rights = refl }) c.word_quickly.ensures)
+    (quick_of (row_named (opcode_at 84) m c.args.place c.args.i) present m c.word_quickly.result after (record { goes_on = tt; rights = refl }) c.word_quickly.ensures.row)
 
 pub returns-in-85-clause-row : goal.returns-in-85-clause-row
 unfolding opcode_at
@@ -142,7 +142,7 @@ returns-in-85-clause-row g c =
     let present = g.S.Storage.present c.args.storage.now in
     let after = state_of c.word_quickly-in-85.new.cpu (g.S.Storage.bytes c.args.storage.now) (g.S.Storage.keys c.args.storage.now) in
     subst (λ (code : ℕ). MeetsQuick (row_named (opcode_at code) m c.args.place c.args.i) present m c.word_quickly-in-85.result after) (sym (c.requires.same ∙ c.in-85.is))
-    (quick_of (row_named (opcode_at 85) m c.args.place c.args.i) present m c.word_quickly-in-85.result after (record { goes_on = tt; rights = refl }) c.word_quickly-in-85.ensures)
+    (quick_of (row_named (opcode_at 85) m c.args.place c.args.i) present m c.word_quickly-in-85.result after (record { goes_on = tt; rights = refl }) c.word_quickly-in-85.ensures.row)
 
 pub returns-in-86-clause-row : goal.returns-in-86-clause-row
 unfolding opcode_at
@@ -151,7 +151,7 @@ returns-in-86-clause-row g c =
     let present = g.S.Storage.present c.args.storage.now in
     let after = state_of c.word_quickly-in-86.new.cpu (g.S.Storage.bytes c.args.storage.now) (g.S.Storage.keys c.args.storage.now) in
     subst (λ (code : ℕ). MeetsQuick (row_named (opcode_at code) m c.args.place c.args.i) present m c.word_quickly-in-86.result after) (sym (c.requires.same ∙ c.in-86.is))
-    (quick_of (row_named (opcode_at 86) m c.args.place c.args.i) present m c.word_quickly-in-86.result after (record { goes_on = tt; rights = refl }) c.word_quickly-in-86.ensures)
+    (quick_of (row_named (opcode_at 86) m c.args.place c.args.i) present m c.word_quickly-in-86.result after (record { goes_on = tt; rights = refl }) c.word_quickly-in-86.ensures.row)
 
 pub returns-in-87-clause-row : goal.returns-in-87-clause-row
 unfolding opcode_at
@@ -160,7 +160,7 @@ returns-in-87-clause-row g c =
     let present = g.S.Storage.present c.args.storage.now in
     let after = state_of c.word_quickly-in-87.new.cpu (g.S.Storage.bytes c.args.storage.now) (g.S.Storage.keys c.args.storage.now) in
     subst (λ (code : ℕ). MeetsQuick (row_named (opcode_at code) m c.args.place c.args.i) present m c.word_quickly-in-87.result after) (sym (c.requires.same ∙ c.in-87.is))
-    (quick_of (row_named (opcode_at 87) m c.args.place c.args.i) present m c.word_quickly-in-87.result after (record { goes_on = tt; rights = refl }) c.word_quickly-in-87.ensures)
+    (quick_of (row_named (opcode_at 87) m c.args.place c.args.i) present m c.word_quickly-in-87.result after (record { goes_on = tt; rights = refl }) c.word_quickly-in-87.ensures.row)
 
 pub returns-in-88-clause-row : goal.returns-in-88-clause-row
 unfolding opcode_at
@@ -169,7 +169,7 @@ returns-in-88-clause-row g c =
     let present = g.S.Storage.present c.args.storage.now in
     let after = state_of c.word_quickly-in-88.new.cpu (g.S.Storage.bytes c.args.storage.now) (g.S.Storage.keys c.args.storage.now) in
     subst (λ (code : ℕ). MeetsQuick (row_named (opcode_at code) m c.args.place c.args.i) present m c.word_quickly-in-88.result after) (sym (c.requires.same ∙ c.in-88.is))
-    (quick_of (row_named (opcode_at 88) m c.args.place c.args.i) present m c.word_quickly-in-88.result after (record { goes_on = tt; rights = refl }) c.word_quickly-in-88.ensures)
+    (quick_of (row_named (opcode_at 88) m c.args.place c.args.i) present m c.word_quickly-in-88.result after (record { goes_on = tt; rights = refl }) c.word_quickly-in-88.ensures.row)
 
 pub returns-in-89-clause-row : goal.returns-in-89-clause-row
 unfolding opcode_at
@@ -178,7 +178,7 @@ returns-in-89-clause-row g c =
     let present = g.S.Storage.present c.args.storage.now in
     let after = state_of c.word_quickly-in-89.new.cpu (g.S.Storage.bytes c.args.storage.now) (g.S.Storage.keys c.args.storage.now) in
     subst (λ (code : ℕ). MeetsQuick (row_named (opcode_at code) m c.args.place c.args.i) present m c.word_quickly-in-89.result after) (sym (c.requires.same ∙ c.in-89.is))
-    (quick_of (row_named (opcode_at 89) m c.args.place c.args.i) present m c.word_quickly-in-89.result after (record { goes_on = tt; rights = refl }) c.word_quickly-in-89.ensures)
+    (quick_of (row_named (opcode_at 89) m c.args.place c.args.i) present m c.word_quickly-in-89.result after (record { goes_on = tt; rights = refl }) c.word_quickly-in-89.ensures.row)
 
 pub returns-in-90-clause-row : goal.returns-in-90-clause-row
 unfolding opcode_at
@@ -186,7 +186,7 @@ returns-in-90-clause-row g c =
     let m = state_of c.args.cpu.now (g.S.Storage.bytes c.args.storage.now) (g.S.Storage.keys c.args.storage.now) in
     let present = g.S.Storage.present c.args.storage.now in
     let after = state_of c.add_quickly.new.cpu (g.S.Storage.bytes c.args.storage.now) (g.S.Storage.keys c.args.storage.now) in
-    subst (λ (code : ℕ). MeetsQuick (row_named (opcode_at code) m c.args.place c.args.i) present m c.add_quickly.result after) (sym (c.requires.same ∙ c.in-90.is)) c.add_quickly.ensures
+    subst (λ (code : ℕ). MeetsQuick (row_named (opcode_at code) m c.args.place c.args.i) present m c.add_quickly.result after) (sym (c.requires.same ∙ c.in-90.is)) c.add_quickly.ensures.row
 
 pub returns-in-145-clause-row : goal.returns-in-145-clause-row
 unfolding opcode_at
@@ -195,7 +195,7 @@ returns-in-145-clause-row g c =
     let present = g.S.Storage.present c.args.storage.now in
     let after = state_of c.test_byte_quickly.new.cpu (g.S.Storage.bytes c.args.storage.now) (g.S.Storage.keys c.args.storage.now) in
     subst (λ (code : ℕ). MeetsQuick (row_named (opcode_at code) m c.args.place c.args.i) present m c.test_byte_quickly.result after) (sym (c.requires.same ∙ c.in-145.is))
-    (quick_of (row_named (opcode_at 145) m c.args.place c.args.i) present m c.test_byte_quickly.result after (record { goes_on = tt; rights = refl }) c.test_byte_quickly.ensures)
+    (quick_of (row_named (opcode_at 145) m c.args.place c.args.i) present m c.test_byte_quickly.result after (record { goes_on = tt; rights = refl }) c.test_byte_quickly.ensures.row)
 
 pub returns-in-149-clause-row : goal.returns-in-149-clause-row
 unfolding opcode_at
@@ -204,7 +204,7 @@ returns-in-149-clause-row g c =
     let present = g.S.Storage.present c.args.storage.now in
     let after = state_of c.test_byte_quickly-in-149.new.cpu (g.S.Storage.bytes c.args.storage.now) (g.S.Storage.keys c.args.storage.now) in
     subst (λ (code : ℕ). MeetsQuick (row_named (opcode_at code) m c.args.place c.args.i) present m c.test_byte_quickly-in-149.result after) (sym (c.requires.same ∙ c.in-149.is))
-    (quick_of (row_named (opcode_at 149) m c.args.place c.args.i) present m c.test_byte_quickly-in-149.result after (record { goes_on = tt; rights = refl }) c.test_byte_quickly-in-149.ensures)
+    (quick_of (row_named (opcode_at 149) m c.args.place c.args.i) present m c.test_byte_quickly-in-149.result after (record { goes_on = tt; rights = refl }) c.test_byte_quickly-in-149.ensures.row)
 
 pub returns-in-210-clause-row : goal.returns-in-210-clause-row
 unfolding opcode_at
