@@ -1,2 +1,3 @@
 pub mod Pages
+mod Placed
 pub mod Brought

@@ -1,4 +1,4 @@
--- Where the block stands from which instructions are fetched.
+-- Where a block stands that was found.
 use Rattle.std.specs.Prelude.{◌≡◌, ℕ, ◌+◌, ◌/◌, ◌%◌, ◌^◌, ◌<◌, ◌≤◌, length, Some}
 use Rattle.std.proofs.Common.{◌∙◌, ap}
 use Rattle.s370_store.specs.declared.block.Block.{Block}

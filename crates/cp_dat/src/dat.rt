@@ -10,7 +10,7 @@ use cp_users::UserNo;
 use s370_num::{AccessKey, StorageKey};
 use s370_store::{
     Access, BLOCK_SIZE, Block, Fault, FramesOut, Keyed, Listed, PAGE_SIZE, Page, Range, Storage,
-    Supply, may_fetch_block, passes_in_block, test_range,
+    Supply, may_access_block, passes_in_block, test_range,
 };
 use s370_supply::UnitSupply;
 
@@ -239,8 +239,8 @@ impl<'a> Storage for Dat<'a> {
     }
 
     #[inline(always)]
-    fn find_block(&self, start: u32, key: AccessKey) -> Option<Block> {
-        if !may_fetch_block(self.size, &Listed { keys: self.keys }, start, key) {
+    fn find_block(&self, start: u32, access: Access, key: AccessKey) -> Option<Block> {
+        if !may_access_block(self.size, &Listed { keys: self.keys }, start, access, key) {
             return None;
         }
         let first = start / BLOCK_SIZE * BLOCK_SIZE;
@@ -258,6 +258,20 @@ impl<'a> Storage for Dat<'a> {
         // The place of an address is one addition, so that the next instruction waits for no more.
         let place = block.place.wrapping_add(start as usize);
         self.frames.load_in(self.user, place, start, into);
+    }
+
+    #[inline(always)]
+    fn store_in(&mut self, block: Block, start: u32, from: &[u8]) {
+        let place = block.place.wrapping_add(start as usize);
+        self.frames.store_placed(self.user, place, start, from);
+    }
+
+    #[inline(always)]
+    fn copy_in(&mut self, source: Block, from: u32, target: Block, to: u32, count: u32) {
+        let source_place = source.place.wrapping_add(from as usize);
+        let target_place = target.place.wrapping_add(to as usize);
+        self.frames
+            .copy_placed(self.user, source_place, from, target_place, to, count);
     }
 
     #[inline(always)]

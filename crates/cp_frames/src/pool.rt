@@ -474,6 +474,23 @@ impl Frames {
         ensures fits { length (bytes_of self.old user) ≤ 4194304 }
     {
         let place = self.place_with(user, start);
+        self.store_placed(user, place, start, from);
+    }
+
+    /// Copies bytes into one page of a user, of which the first has this place among the bytes of all frames.
+    #[inline(always)]
+    pub fn store_placed(&mut self, _user: UserNo, place: usize, start: u32, from: &[u8])
+        requires within { start + length from.now ≤ length (bytes_of self.old _user) }
+        requires some { 0 < length from.now }
+        requires one_page { start % 4096 + length from.now ≤ 4096 }
+        requires there { frame_of self.old.supply.owners _user (start / 4096) ≡ Some (place / 4096) }
+        requires offset { place % 4096 ≡ start % 4096 }
+        ensures bytes { bytes_of self.new _user ≡ put (bytes_of self.old _user) start from.now }
+        ensures size { length (bytes_of self.new _user) ≡ length (bytes_of self.old _user) }
+        ensures others { self.new.storages ≡ slice_set self.old.storages _user (bytes_of self.new _user) }
+        ensures supply { self.new.supply ≡ self.old.supply }
+        ensures fits { length (bytes_of self.old _user) ≤ 4194304 }
+    {
         copy_in(
             &mut self.frames[place / FRAME_SIZE],
             place % FRAME_SIZE,

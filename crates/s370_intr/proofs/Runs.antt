@@ -12,7 +12,11 @@ use Rattle.s370_subchannels.specs.Subchannels.{first_status}
 use Rattle.s370_rows.specs.declared.cpu.Cpu.{Cpu}
 use Rattle.s370_rows.specs.State.{State}
 use Rattle.s370_subchannels.specs.declared.subchannel.Subchannel.{Subchannel}
-use Rattle.s370_store.specs.Blocks.{MayFetch}
+use Rattle.s370_store.specs.Blocks.{MayAccess}
+use Rattle.s370_store.specs.declared.Access.{Access}
+use Rattle.s370_store.specs.declared.block.Block.{Block}
+use Rattle.s370_quick.specs.declared.held.Held.{Held}
+use Rattle.s370_quick.specs.Quick.{AreHeld, IsHeld}
 use Rattle.s370_cpu.specs.declared.conclude.Stop.TheVariants.{Done}
 use Rattle.s370_cpu.specs.Laws.{Rights, rights_of}
 use Rattle.s370_cpu.specs.Table.{unit}
@@ -199,11 +203,25 @@ units_done (suc n) present m m' pending list (next, done, rights, rest) e =
     let more = units_done n present next m' pending list rest (looks_same m next pending list rights ∙ e) in
     (goes_on (look c) c (run n (unit_at (look c) c)) (subst Goes (sym e) tt) ∙ ap one_more (ap (run n) (sym step) ∙ more.0) ∙ ap (λ (k : ℕ). all_done k (core_of m' pending list)) (omega arith), more.1)
 
--- what may be fetched from a block, may be as long as size, keys and pages are the same
-pub still_fetches : {size size' : ℕ} {keys keys' : List ℕ} {present present' : ℕ → Bool} (key first : ℕ) → size' ≡ size → keys' ≡ keys → present' ≡ present → MayFetch size keys present key first → MayFetch size' keys' present' key first
-still_fetches key first s k p h = record {
+-- what may be accessed in a block, may be as long as size, keys and pages are the same
+pub still_accesses : {access : Access} {size size' : ℕ} {keys keys' : List ℕ} {present present' : ℕ → Bool} (key first : ℕ) → size' ≡ size → keys' ≡ keys → present' ≡ present → MayAccess access size keys present key first → MayAccess access size' keys' present' key first
+still_accesses key first s k p h = record {
   aligned = h.aligned;
   inside = rw s h.inside;
   passed = rw k h.passed;
   here = rw p h.here;
+}
+
+held_still : {access : Access} {is_placed is_placed' : Block → Type 0} {size size' : ℕ} {keys keys' : List ℕ} {present present' : ℕ → Bool} (key : ℕ) (block : Block) → ((b : Block) → is_placed b → is_placed' b) → size' ≡ size → keys' ≡ keys → present' ≡ present → IsHeld access is_placed size keys present key block → IsHeld access is_placed' size' keys' present' key block
+held_still key block moves s k p h = record {
+  far = h.far;
+  may_access = λ low. still_accesses key block.first s k p (h.may_access low);
+  placed = λ low. moves block (h.placed low);
+}
+
+-- what is held for operands stays so, where no block moves and no key changes
+pub still_held : {is_placed is_placed' : Block → Type 0} {size size' : ℕ} {keys keys' : List ℕ} {present present' : ℕ → Bool} (key : ℕ) (held : Held) → ((b : Block) → is_placed b → is_placed' b) → size' ≡ size → keys' ≡ keys → present' ≡ present → AreHeld is_placed size keys present key held → AreHeld is_placed' size' keys' present' key held
+still_held key held moves s k p h = record {
+  fetched = held_still key held.fetched moves s k p h.fetched;
+  stored = held_still key held.stored moves s k p h.stored;
 }

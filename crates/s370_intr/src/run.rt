@@ -16,9 +16,9 @@ use crate::pending::Pending;
 use crate::unit::{Processor, accept, accept_status, instruct_saving};
 use s370_num::{AccessKey, Addr24};
 use s370_psw::Psw;
-use s370_quick::{move_parts_quickly, step_quickly};
+use s370_quick::{Held, move_parts_quickly, step_quickly};
 use s370_rows::Cpu;
-use s370_store::{Block, FramesOut, Keyed, Page, Storage, load_byte_in};
+use s370_store::{Access, Block, FramesOut, Keyed, Page, Storage, load_byte_in};
 use s370_subchannels::Subchannels;
 use s370_supply::UnitSupply;
 
@@ -198,7 +198,7 @@ fn find_again<S: Storage>(storage: &S, next: Addr24, key: AccessKey) -> Option<B
     ensures may_fetch { IfSome result (λ found. MayFetch (length (S.bytes storage.now)) (S.keys storage.now) (S.present storage.now) key found.first) }
     ensures placed { IfSome result (λ found. S.IsPlaced storage.now found) }
 {
-    storage.find_block(next.get(), key)
+    storage.find_block(next.get(), Access::Fetch, key)
 }
 
 /// The block in which the next instruction lies, at an even address and with room for the longest: the one that was found for the
@@ -301,12 +301,15 @@ fn instruct_quickly<S: Storage>(cpu: &mut Cpu, storage: &mut S, limit: u32) -> u
 {
     let mut next = cpu.psw.address();
     let key = cpu.psw.key();
-    let mut block = match storage.find_block(next.get(), key) {
+    let mut block = match storage.find_block(next.get(), Access::Fetch, key) {
         Some(found) => found,
         None => return 0,
     };
-    // The block from which operands are fetched: at first that of the instructions.
-    let mut held = block;
+    // The blocks of operands: at first they are fetched from that of the instructions, and there is none for stores.
+    let mut held = Held {
+        fetched: block,
+        stored: Block::NOWHERE,
+    };
     for units in 0..limit {
         block = match block_of(storage, block, next, key) {
             Some(found) => found,

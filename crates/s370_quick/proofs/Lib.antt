@@ -1,2 +1,3 @@
 pub mod Frequent
 pub mod LongMoves
+mod Holds

@@ -1,6 +1,9 @@
 -- What an instruction may answer that is done only where nothing keeps it from being done.
 use Rattle.std.specs.Prelude.{◌≡◌, ℕ, zero, suc, ◌+◌, ◌%◌, ◌<◌, ◌≤◌, Bool, true, false, List, length, slice_index, Option, Some, None, Ok}
-use Rattle.s370_store.specs.Blocks.{MayFetch}
+use Rattle.s370_store.specs.Blocks.{MayAccess, MayFetch}
+use Rattle.s370_store.specs.declared.Access.{Access}
+use Rattle.s370_store.specs.declared.Access.TheVariants.{Fetch, Store}
+use Rattle.s370_store.specs.declared.block.Block.{Block}
 use Rattle.s370_rows.specs.declared.ending.Ending.{Ending}
 use Rattle.s370_rows.specs.declared.ending.Ending.TheVariants.{Done, Branch, Again, Interrupted, SupervisorCall, InputOutput}
 use Rattle.s370_rows.specs.State.{State}
@@ -9,6 +12,7 @@ use Rattle.s370_cpu.specs.Laws.{rights_of}
 use Rattle.s370_cpu.specs.Table.{unit}
 use Rattle.s370_cpu.specs.Unit.{MeetsUnit}
 use Rattle.s370_cpu.specs.declared.conclude.Stop.TheVariants.{Done as DoneStop}
+use Rattle.s370_quick.specs.declared.held.Held.{Held}
 
 -- the processor goes on after it, and nothing else follows
 abbrev pub GoesOn : Ending → Type 0
@@ -51,7 +55,13 @@ DoesUnits zero present m m' = m' ≡ m
 DoesUnits (suc n) present m m' =
     (next : State) × MeetsUnit (unit m) present m DoneStop next × (rights_of next ≡ rights_of m) × DoesUnits n present next m'
 
--- the block that begins at this address may be held for operands: it lies where addresses reach, and all of it may be fetched
-pub record IsOperandBlock (size : ℕ) (keys : List ℕ) (present : ℕ → Bool) (key first : ℕ) : Type 0 where
-  pub low : first < 16777216
-  pub may_fetch : MayFetch size keys present key first
+-- a block that is held for such operands: where addresses reach it, all of it may be accessed so, and it stands where it says
+pub record IsHeld (access : Access) (is_placed : Block → Type 0) (size : ℕ) (keys : List ℕ) (present : ℕ → Bool) (key : ℕ) (block : Block) : Type 0 where
+  pub far : block.first ≤ 2147483648
+  pub may_access : block.first < 16777216 → MayAccess access size keys present key block.first
+  pub placed : block.first < 16777216 → is_placed block
+
+-- the blocks that are held for operands, one for those that are fetched, and one for those that are stored
+pub record AreHeld (is_placed : Block → Type 0) (size : ℕ) (keys : List ℕ) (present : ℕ → Bool) (key : ℕ) (held : Held) : Type 0 where
+  pub fetched : IsHeld Fetch is_placed size keys present key held.fetched
+  pub stored : IsHeld Store is_placed size keys present key held.stored

@@ -6,6 +6,8 @@
 //! that an instruction is done here makes a way faster, and no other.
 #![tactic(auto)]
 
+mod held;
 mod quick;
 
+pub use held::Held;
 pub use quick::{move_parts_quickly, step_quickly};

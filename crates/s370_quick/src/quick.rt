@@ -8,25 +8,24 @@ ghost use Rattle.s370_cpu.specs.FetchRows.{byte_tested, word_operation};
 ghost use Rattle.s370_cpu.specs.StoreRows.{word_stored};
 ghost use Rattle.s370_bytes.specs.Combine.{string_combined};
 ghost use Rattle.s370_bytes.specs.declared.combine.Combine.TheVariants as combines;
-ghost use Rattle.s370_rows.specs.Rows.{Grants, MeetsRow, fetch_test, word_at};
+ghost use Rattle.s370_rows.specs.Rows.{Grants, MeetsRow};
 ghost use Rattle.s370_rows.specs.declared.instruction.Instruction.{Instruction};
 ghost use Rattle.s370_rows.specs.declared.ending.Ending.TheVariants as endings;
 ghost use Rattle.s370_cpu.specs.Laws.{rights_of};
-ghost use Rattle.s370_quick.specs.Quick.{DoesUnits, GoesOn, IsLongMoveAt, IsOperandBlock, MeetsAtOnce, MeetsQuick, whole_of};
+ghost use Rattle.s370_quick.specs.Quick.{AreHeld, DoesUnits, GoesOn, IsHeld, IsLongMoveAt, MeetsAtOnce, MeetsQuick, whole_of};
 ghost use Rattle.s370_cpu.specs.Table.{row_of, unit};
 ghost use Rattle.s370_cpu.specs.Unit.{Carries, MeetsUnit, place_at, stopped};
 ghost use Rattle.s370_rows.specs.declared.arithmetic.Arithmetic.TheVariants as operations;
 
+use crate::held::{Held, operand_block};
 use s370_bytes::{move_long_quickly, move_row, move_straight};
 use s370_cpu::{
     Branching, EXECUTE, branch_register, branch_to, length_of, load_address, load_known_in,
     register_operation,
 };
 use s370_num::Addr24;
-use s370_rows::{
-    Arithmetic, ByteTest, Cpu, Ending, Instruction, Place, arithmetic_row, is_granted, test_byte,
-};
-use s370_store::{Access, Block, Range, Storage, load_byte_in, store_word};
+use s370_rows::{Arithmetic, ByteTest, Cpu, Ending, Instruction, Place, arithmetic_row, test_byte};
+use s370_store::{Access, Block, Storage, load_byte_in, load_word_in, store_word_in};
 
 /// Does one instruction of a running processor, if it is one of the most frequent, if it is done, and if the processor then
 /// goes on with the next one. Else nothing changes. It stands at an even address in a block that was found for fetches with the
@@ -36,15 +35,15 @@ use s370_store::{Access, Block, Range, Storage, load_byte_in, store_word};
 /// what it has looked at before (all that only the supervisor state can change, the key among it) it need not look at again;
 /// and the address it holds itself, since what was just stored into the PSW would be waited for.
 ///
-/// A word or a byte that is fetched is taken from the block that is held for operands, where it lies in it; else from the block of its own
-/// that is found, which is held from then on. So an operand near the last one is looked up no more.
+/// An operand is fetched from the block that is held for fetches, or stored into the one that is held for stores, where it lies in
+/// it; else in the block of its own that is found, which is held from then on. So an operand near the last one is looked up no more.
 #[inline(always)]
 pub fn step_quickly<S: Storage>(
     cpu: &mut Cpu,
     storage: &mut S,
     start: Addr24,
     block: Block,
-    held: &mut Block,
+    held: &mut Held,
 ) -> Option<Addr24>
     requires here { start ≡ cpu.old.psw.address }
     requires may_fetch { MayFetch (length (S.bytes storage.old)) (S.keys storage.old) (S.present storage.old) cpu.old.psw.key block.first }
@@ -52,8 +51,7 @@ pub fn step_quickly<S: Storage>(
     requires begins { block.first ≤ start }
     requires ends { start ≤ block.first + 2042 }
     requires even { start % 2 ≡ 0 }
-    requires operands { IsOperandBlock (length (S.bytes storage.old)) (S.keys storage.old) (S.present storage.old) cpu.old.psw.key held.old.first }
-    requires operands_placed { S.IsPlaced storage.old held.old }
+    requires operands { AreHeld (S.IsPlaced storage.old) (length (S.bytes storage.old)) (S.keys storage.old) (S.present storage.old) cpu.old.psw.key held.old }
     ensures done { let before = state_of cpu.old (S.bytes storage.old) (S.keys storage.old) in
         let after = state_of cpu.new (S.bytes storage.new) (S.keys storage.new) in
         IfSome result (λ _. MeetsUnit (unit before) (S.present storage.old) before stops.Done after) }
@@ -67,8 +65,7 @@ pub fn step_quickly<S: Storage>(
     ensures size { length (S.bytes storage.new) ≡ length (S.bytes storage.old) }
     ensures present { S.present storage.new ≡ S.present storage.old }
     ensures rest { S.Keeps storage.old storage.new }
-    ensures operands { IsOperandBlock (length (S.bytes storage.old)) (S.keys storage.old) (S.present storage.old) cpu.old.psw.key held.new.first }
-    ensures operands_placed { S.IsPlaced storage.old held.new }
+    ensures operands { AreHeld (S.IsPlaced storage.old) (length (S.bytes storage.old)) (S.keys storage.old) (S.present storage.old) cpu.old.psw.key held.new }
 {
     step_found_quickly(cpu, storage, start, block, held)
 }
@@ -80,7 +77,7 @@ fn step_found_quickly<S: Storage>(
     storage: &mut S,
     start: Addr24,
     block: Block,
-    held: &mut Block,
+    held: &mut Held,
 ) -> Option<Addr24>
     requires here { start ≡ cpu.old.psw.address }
     requires found { let m = state_of cpu.old (S.bytes storage.old) (S.keys storage.old) in
@@ -88,8 +85,7 @@ fn step_found_quickly<S: Storage>(
     requires placed { S.IsPlaced storage.old block }
     requires begins { block.first ≤ start }
     requires ends { start ≤ block.first + 2042 }
-    requires operands { IsOperandBlock (length (S.bytes storage.old)) (S.keys storage.old) (S.present storage.old) cpu.old.psw.key held.old.first }
-    requires operands_placed { S.IsPlaced storage.old held.old }
+    requires operands { AreHeld (S.IsPlaced storage.old) (length (S.bytes storage.old)) (S.keys storage.old) (S.present storage.old) cpu.old.psw.key held.old }
     ensures done { let before = state_of cpu.old (S.bytes storage.old) (S.keys storage.old) in
         let after = state_of cpu.new (S.bytes storage.new) (S.keys storage.new) in
         IfSome result (λ _. MeetsUnit (unit before) (S.present storage.old) before stops.Done after) }
@@ -103,8 +99,7 @@ fn step_found_quickly<S: Storage>(
     ensures size { length (S.bytes storage.new) ≡ length (S.bytes storage.old) }
     ensures present { S.present storage.new ≡ S.present storage.old }
     ensures rest { S.Keeps storage.old storage.new }
-    ensures operands { IsOperandBlock (length (S.bytes storage.old)) (S.keys storage.old) (S.present storage.old) cpu.old.psw.key held.new.first }
-    ensures operands_placed { S.IsPlaced storage.old held.new }
+    ensures operands { AreHeld (S.IsPlaced storage.old) (length (S.bytes storage.old)) (S.keys storage.old) (S.present storage.old) cpu.old.psw.key held.new }
 {
     // One jump, behind which all is compiled for the one operation code.
     match load_byte_in(storage, block, start.get()) {
@@ -169,7 +164,7 @@ fn carry_quickly<S: Storage, const CODE: u8>(
     storage: &mut S,
     start: Addr24,
     block: Block,
-    held: &mut Block,
+    held: &mut Held,
 ) -> Option<Addr24>
     requires here { start ≡ cpu.old.psw.address }
     requires found { let m = state_of cpu.old (S.bytes storage.old) (S.keys storage.old) in
@@ -178,8 +173,7 @@ fn carry_quickly<S: Storage, const CODE: u8>(
     requires begins { block.first ≤ start }
     requires ends { start ≤ block.first + 2042 }
     requires known { CODE ≡ slice_index (S.bytes storage.old) start }
-    requires operands { IsOperandBlock (length (S.bytes storage.old)) (S.keys storage.old) (S.present storage.old) cpu.old.psw.key held.old.first }
-    requires operands_placed { S.IsPlaced storage.old held.old }
+    requires operands { AreHeld (S.IsPlaced storage.old) (length (S.bytes storage.old)) (S.keys storage.old) (S.present storage.old) cpu.old.psw.key held.old }
     ensures done { let before = state_of cpu.old (S.bytes storage.old) (S.keys storage.old) in
         let after = state_of cpu.new (S.bytes storage.new) (S.keys storage.new) in
         IfSome result (λ _. MeetsUnit (unit before) (S.present storage.old) before stops.Done after) }
@@ -193,8 +187,7 @@ fn carry_quickly<S: Storage, const CODE: u8>(
     ensures size { length (S.bytes storage.new) ≡ length (S.bytes storage.old) }
     ensures present { S.present storage.new ≡ S.present storage.old }
     ensures rest { S.Keeps storage.old storage.new }
-    ensures operands { IsOperandBlock (length (S.bytes storage.old)) (S.keys storage.old) (S.present storage.old) cpu.old.psw.key held.new.first }
-    ensures operands_placed { S.IsPlaced storage.old held.new }
+    ensures operands { AreHeld (S.IsPlaced storage.old) (length (S.bytes storage.old)) (S.keys storage.old) (S.present storage.old) cpu.old.psw.key held.new }
 {
     if CODE == EXECUTE {
         return None;
@@ -212,14 +205,13 @@ fn finish_quickly<S: Storage, const CODE: u8>(
     storage: &mut S,
     place: Place,
     i: Instruction,
-    held: &mut Block,
+    held: &mut Held,
 ) -> Option<Addr24>
     requires same { i.opcode ≡ CODE }
     requires carried { Carries (state_of cpu.old (S.bytes storage.old) (S.keys storage.old)) place.ilc i }
     requires next { let m = state_of cpu.old (S.bytes storage.old) (S.keys storage.old) in
         place ≡ place_at m place.ilc }
-    requires operands { IsOperandBlock (length (S.bytes storage.old)) (S.keys storage.old) (S.present storage.old) cpu.old.psw.key held.old.first }
-    requires operands_placed { S.IsPlaced storage.old held.old }
+    requires operands { AreHeld (S.IsPlaced storage.old) (length (S.bytes storage.old)) (S.keys storage.old) (S.present storage.old) cpu.old.psw.key held.old }
     ensures done { let before = state_of cpu.old (S.bytes storage.old) (S.keys storage.old) in
         let after = state_of cpu.new (S.bytes storage.new) (S.keys storage.new) in
         IfSome result (λ _. MeetsUnit (unit before) (S.present storage.old) before stops.Done after) }
@@ -233,8 +225,7 @@ fn finish_quickly<S: Storage, const CODE: u8>(
     ensures size { length (S.bytes storage.new) ≡ length (S.bytes storage.old) }
     ensures present { S.present storage.new ≡ S.present storage.old }
     ensures rest { S.Keeps storage.old storage.new }
-    ensures operands { IsOperandBlock (length (S.bytes storage.old)) (S.keys storage.old) (S.present storage.old) cpu.old.psw.key held.new.first }
-    ensures operands_placed { S.IsPlaced storage.old held.new }
+    ensures operands { AreHeld (S.IsPlaced storage.old) (length (S.bytes storage.old)) (S.keys storage.old) (S.present storage.old) cpu.old.psw.key held.new }
 {
     let Place { next, ilc } = place;
     match perform_quickly::<S, CODE>(cpu, storage, Place { next, ilc }, i, held) {
@@ -271,19 +262,17 @@ fn perform_quickly<S: Storage, const CODE: u8>(
     storage: &mut S,
     place: Place,
     i: Instruction,
-    held: &mut Block,
+    held: &mut Held,
 ) -> Option<Ending>
     requires same { i.opcode ≡ CODE }
-    requires operands { IsOperandBlock (length (S.bytes storage.old)) (S.keys storage.old) (S.present storage.old) cpu.old.psw.key held.old.first }
-    requires operands_placed { S.IsPlaced storage.old held.old }
+    requires operands { AreHeld (S.IsPlaced storage.old) (length (S.bytes storage.old)) (S.keys storage.old) (S.present storage.old) cpu.old.psw.key held.old }
     ensures row { let before = state_of cpu.old (S.bytes storage.old) (S.keys storage.old) in
         let after = state_of cpu.new (S.bytes storage.new) (S.keys storage.new) in
         MeetsQuick (row_of before place i) (S.present storage.old) before result after }
     ensures size { length (S.bytes storage.new) ≡ length (S.bytes storage.old) }
     ensures present { S.present storage.new ≡ S.present storage.old }
     ensures rest { S.Keeps storage.old storage.new }
-    ensures operands { IsOperandBlock (length (S.bytes storage.old)) (S.keys storage.old) (S.present storage.old) cpu.old.psw.key held.new.first }
-    ensures operands_placed { S.IsPlaced storage.old held.new }
+    ensures operands { AreHeld (S.IsPlaced storage.old) (length (S.bytes storage.old)) (S.keys storage.old) (S.present storage.old) cpu.old.psw.key held.new }
 {
     match CODE {
         0x07 => Some(branch_register(Branching::Condition, cpu, place, i)),
@@ -297,7 +286,7 @@ fn perform_quickly<S: Storage, const CODE: u8>(
         0x41 => Some(load_address(cpu, i)),
         0x46 => Some(branch_to(Branching::Count, cpu, place, i)),
         0x47 => Some(branch_to(Branching::Condition, cpu, place, i)),
-        0x50 => store_quickly(cpu, storage, i),
+        0x50 => store_quickly(cpu, storage, i, held),
         0x54 => word_quickly(Arithmetic::And, cpu, storage, i, held),
         0x55 => word_quickly(Arithmetic::CompareLogical, cpu, storage, i, held),
         0x56 => word_quickly(Arithmetic::Or, cpu, storage, i, held),
@@ -307,7 +296,7 @@ fn perform_quickly<S: Storage, const CODE: u8>(
         0x5A => add_quickly(cpu, storage, i, held),
         0x91 => test_byte_quickly(ByteTest::UnderMask, cpu, storage, i, held),
         0x95 => test_byte_quickly(ByteTest::CompareLogical, cpu, storage, i, held),
-        0xD2 => whole_of(move_quickly(cpu, storage, i)),
+        0xD2 => whole_of(move_quickly(cpu, storage, i, held)),
         _ => None,
     }
 }
@@ -320,79 +309,31 @@ fn whole_of(did: bool) -> Option<Ending>
     if did { Some(Ending::Done) } else { None }
 }
 
-/// The word at the second operand's address is stored, where one look grants it; else nothing changes.
+/// The word at the second operand's address is stored, where it lies in one block; else nothing changes.
 #[inline(always)]
-fn store_quickly<S: Storage>(cpu: &Cpu, storage: &mut S, i: Instruction) -> Option<Ending>
+fn store_quickly<S: Storage>(
+    cpu: &Cpu,
+    storage: &mut S,
+    i: Instruction,
+    held: &mut Held,
+) -> Option<Ending>
+    requires operands { AreHeld (S.IsPlaced storage.old) (length (S.bytes storage.old)) (S.keys storage.old) (S.present storage.old) cpu.now.psw.key held.old }
     ensures row { let before = state_of cpu.now (S.bytes storage.old) (S.keys storage.old) in
         let after = state_of cpu.now (S.bytes storage.new) (S.keys storage.new) in
         MeetsQuick (word_stored before i) (S.present storage.old) before result after }
     ensures size { length (S.bytes storage.new) ≡ length (S.bytes storage.old) }
     ensures present { S.present storage.new ≡ S.present storage.old }
     ensures rest { S.Keeps storage.old storage.new }
+    ensures operands { AreHeld (S.IsPlaced storage.old) (length (S.bytes storage.old)) (S.keys storage.old) (S.present storage.old) cpu.now.psw.key held.new }
 {
-    let start = cpu.indexed(i.r2(), i.second_half).get();
-    if !is_granted(cpu, storage, Range { start, count: 4 }, Access::Store) {
-        return None;
-    }
-    store_word(storage, start, cpu.general[i.r1().index()]);
+    let start = cpu.indexed(i.r2(), i.second_half);
+    let found = match operand_block(Access::Store, cpu, storage, held.stored, start, 4) {
+        Some(found) => found,
+        None => return None,
+    };
+    held.stored = found;
+    store_word_in(storage, found, start.get(), cpu.general[i.r1().index()]);
     Some(Ending::Done)
-}
-
-/// Whether a range lies in a block.
-#[inline(always)]
-fn holds(block: Block, start: u32, count: u32) -> bool
-    requires low { block.first < 16777216 }
-    requires short { count ≤ 256 }
-    ensures begins { result ≡ true → block.first ≤ start }
-    ensures ends { result ≡ true → start + count ≤ block.first + 2048 }
-{
-    // An address below wraps round to one that is far above.
-    start.wrapping_sub(block.first) <= 2048 - count
-}
-
-/// The block in which an operand that is fetched lies: the one that is held for operands, or another. None where it lies in two, or
-/// may not be fetched.
-#[inline(always)]
-fn operand_block<S: Storage>(
-    cpu: &Cpu,
-    storage: &S,
-    held: Block,
-    start: Addr24,
-    count: u32,
-) -> Option<Block>
-    requires short { count ≤ 256 }
-    requires operands { IsOperandBlock (length (S.bytes storage.now)) (S.keys storage.now) (S.present storage.now) cpu.now.psw.key held.first }
-    requires operands_placed { S.IsPlaced storage.now held }
-    ensures operands { IfSome result (λ found. IsOperandBlock (length (S.bytes storage.now)) (S.keys storage.now) (S.present storage.now) cpu.now.psw.key found.first) }
-    ensures operands_placed { IfSome result (λ found. S.IsPlaced storage.now found) }
-    ensures granted { IfSome result (λ _. Grants (state_of cpu.now (S.bytes storage.now) (S.keys storage.now)) (S.present storage.now) (fetch_test start count ∷ []) (Ok tt)) }
-    ensures begins { IfSome result (λ found. found.first ≤ start) }
-    ensures ends { IfSome result (λ found. start + count ≤ found.first + 2048) }
-{
-    if holds(held, start.get(), count) {
-        return Some(held);
-    }
-    match storage.find_block(start.get(), cpu.psw.key()) {
-        Some(found) => if holds(found, start.get(), count) {
-            Some(found)
-        } else {
-            None
-        },
-        None => None,
-    }
-}
-
-/// The word from an address on in a block that was found.
-#[inline(always)]
-fn load_word_in<S: Storage>(storage: &S, block: Block, start: u32) -> u32
-    requires placed { S.IsPlaced storage.now block }
-    requires begins { block.first ≤ start }
-    requires ends { start + 4 ≤ block.first + 2048 }
-    ensures { result ≡ word_at (S.bytes storage.now) start }
-{
-    let mut into = [0u8; 4];
-    storage.load_in(block, start, &mut into);
-    u32::from_be_bytes(into)
 }
 
 /// An operation on a register and the word at the second operand's address, where it lies in one block; else nothing changes.
@@ -402,22 +343,20 @@ fn word_quickly<S: Storage>(
     cpu: &mut Cpu,
     storage: &S,
     i: Instruction,
-    held: &mut Block,
+    held: &mut Held,
 ) -> Option<Ending>
-    requires operands { IsOperandBlock (length (S.bytes storage.now)) (S.keys storage.now) (S.present storage.now) cpu.old.psw.key held.old.first }
-    requires operands_placed { S.IsPlaced storage.now held.old }
+    requires operands { AreHeld (S.IsPlaced storage.now) (length (S.bytes storage.now)) (S.keys storage.now) (S.present storage.now) cpu.old.psw.key held.old }
     ensures row { let before = state_of cpu.old (S.bytes storage.now) (S.keys storage.now) in
         let after = state_of cpu.new (S.bytes storage.now) (S.keys storage.now) in
         MeetsAtOnce (word_operation operation before i) (S.present storage.now) before result after }
-    ensures operands { IsOperandBlock (length (S.bytes storage.now)) (S.keys storage.now) (S.present storage.now) cpu.old.psw.key held.new.first }
-    ensures operands_placed { S.IsPlaced storage.now held.new }
+    ensures operands { AreHeld (S.IsPlaced storage.now) (length (S.bytes storage.now)) (S.keys storage.now) (S.present storage.now) cpu.old.psw.key held.new }
 {
     let start = cpu.indexed(i.r2(), i.second_half);
-    let found = match operand_block(cpu, storage, *held, start, 4) {
+    let found = match operand_block(Access::Fetch, cpu, storage, held.fetched, start, 4) {
         Some(found) => found,
         None => return None,
     };
-    *held = found;
+    held.fetched = found;
     let b = load_word_in(storage, found, start.get());
     Some(arithmetic_row(operation, cpu, i.r1(), b))
 }
@@ -428,15 +367,13 @@ fn add_quickly<S: Storage>(
     cpu: &mut Cpu,
     storage: &S,
     i: Instruction,
-    held: &mut Block,
+    held: &mut Held,
 ) -> Option<Ending>
-    requires operands { IsOperandBlock (length (S.bytes storage.now)) (S.keys storage.now) (S.present storage.now) cpu.old.psw.key held.old.first }
-    requires operands_placed { S.IsPlaced storage.now held.old }
+    requires operands { AreHeld (S.IsPlaced storage.now) (length (S.bytes storage.now)) (S.keys storage.now) (S.present storage.now) cpu.old.psw.key held.old }
     ensures row { let before = state_of cpu.old (S.bytes storage.now) (S.keys storage.now) in
         let after = state_of cpu.new (S.bytes storage.now) (S.keys storage.now) in
         MeetsQuick (word_operation operations.Add before i) (S.present storage.now) before result after }
-    ensures operands { IsOperandBlock (length (S.bytes storage.now)) (S.keys storage.now) (S.present storage.now) cpu.old.psw.key held.new.first }
-    ensures operands_placed { S.IsPlaced storage.now held.new }
+    ensures operands { AreHeld (S.IsPlaced storage.now) (length (S.bytes storage.now)) (S.keys storage.now) (S.present storage.now) cpu.old.psw.key held.new }
 {
     if cpu.psw.program_mask() >= 8 {
         return None;
@@ -451,31 +388,61 @@ fn test_byte_quickly<S: Storage>(
     cpu: &mut Cpu,
     storage: &S,
     i: Instruction,
-    held: &mut Block,
+    held: &mut Held,
 ) -> Option<Ending>
-    requires operands { IsOperandBlock (length (S.bytes storage.now)) (S.keys storage.now) (S.present storage.now) cpu.old.psw.key held.old.first }
-    requires operands_placed { S.IsPlaced storage.now held.old }
+    requires operands { AreHeld (S.IsPlaced storage.now) (length (S.bytes storage.now)) (S.keys storage.now) (S.present storage.now) cpu.old.psw.key held.old }
     ensures row { let before = state_of cpu.old (S.bytes storage.now) (S.keys storage.now) in
         let after = state_of cpu.new (S.bytes storage.now) (S.keys storage.now) in
         MeetsAtOnce (byte_tested test before i) (S.present storage.now) before result after }
-    ensures operands { IsOperandBlock (length (S.bytes storage.now)) (S.keys storage.now) (S.present storage.now) cpu.old.psw.key held.new.first }
-    ensures operands_placed { S.IsPlaced storage.now held.new }
+    ensures operands { AreHeld (S.IsPlaced storage.now) (length (S.bytes storage.now)) (S.keys storage.now) (S.present storage.now) cpu.old.psw.key held.new }
 {
     let start = cpu.based(i.second_half);
-    let found = match operand_block(cpu, storage, *held, start, 1) {
+    let found = match operand_block(Access::Fetch, cpu, storage, held.fetched, start, 1) {
         Some(found) => found,
         None => return None,
     };
-    *held = found;
+    held.fetched = found;
     let byte = load_byte_in(storage, found, start.get());
     cpu.psw.set_condition(test_byte(test, byte, i.second_byte));
     Some(Ending::Done)
 }
 
+/// D2 MVC between two blocks, where it is one copy. Else nothing changes.
+#[inline(always)]
+fn move_held<S: Storage>(cpu: &Cpu, storage: &mut S, i: Instruction, held: &mut Held) -> bool
+    requires operands { AreHeld (S.IsPlaced storage.old) (length (S.bytes storage.old)) (S.keys storage.old) (S.present storage.old) cpu.now.psw.key held.old }
+    ensures done { let before = state_of cpu.now (S.bytes storage.old) (S.keys storage.old) in
+        let after = state_of cpu.now (S.bytes storage.new) (S.keys storage.new) in
+        result ≡ true → MeetsRow (string_combined combines.Move before i) (S.present storage.old) before (Ok endings.Done) after }
+    ensures still { let before = state_of cpu.now (S.bytes storage.old) (S.keys storage.old) in
+        let after = state_of cpu.now (S.bytes storage.new) (S.keys storage.new) in
+        result ≡ false → after ≡ before }
+    ensures size { length (S.bytes storage.new) ≡ length (S.bytes storage.old) }
+    ensures present { S.present storage.new ≡ S.present storage.old }
+    ensures rest { S.Keeps storage.old storage.new }
+    ensures operands { AreHeld (S.IsPlaced storage.old) (length (S.bytes storage.old)) (S.keys storage.old) (S.present storage.old) cpu.now.psw.key held.new }
+{
+    let to = cpu.based(i.second_half);
+    let from = cpu.based(i.third_half);
+    let count = i.second_byte as u32 + 1;
+    let target = match operand_block(Access::Store, cpu, storage, held.stored, to, count) {
+        Some(found) => found,
+        None => return false,
+    };
+    held.stored = target;
+    let source = match operand_block(Access::Fetch, cpu, storage, held.fetched, from, count) {
+        Some(found) => found,
+        None => return false,
+    };
+    held.fetched = source;
+    move_straight(storage, source, from.get(), target, to.get(), count)
+}
+
 /// D2 MVC: as one copy, where it is one.
 #[inline(always)]
-fn move_quickly<S: Storage>(cpu: &mut Cpu, storage: &mut S, i: Instruction) -> bool
-    requires { i.opcode ≡ 0xD2 }
+fn move_quickly<S: Storage>(cpu: &mut Cpu, storage: &mut S, i: Instruction, held: &mut Held) -> bool
+    requires opcode { i.opcode ≡ 0xD2 }
+    requires operands { AreHeld (S.IsPlaced storage.old) (length (S.bytes storage.old)) (S.keys storage.old) (S.present storage.old) cpu.old.psw.key held.old }
     ensures done { let before = state_of cpu.old (S.bytes storage.old) (S.keys storage.old) in
         let after = state_of cpu.new (S.bytes storage.new) (S.keys storage.new) in
         result ≡ true → MeetsRow (string_combined combines.Move before i) (S.present storage.old) before (Ok endings.Done) after }
@@ -485,8 +452,9 @@ fn move_quickly<S: Storage>(cpu: &mut Cpu, storage: &mut S, i: Instruction) -> b
     ensures size { length (S.bytes storage.new) ≡ length (S.bytes storage.old) }
     ensures present { S.present storage.new ≡ S.present storage.old }
     ensures rest { S.Keeps storage.old storage.new }
+    ensures operands { AreHeld (S.IsPlaced storage.old) (length (S.bytes storage.old)) (S.keys storage.old) (S.present storage.old) cpu.old.psw.key held.new }
 {
-    if move_straight(cpu, storage, i) {
+    if move_held(cpu, storage, i, held) {
         return true;
     }
     move_apart(cpu, storage, i.second_byte, i.second_half, i.third_half)

@@ -1,20 +1,20 @@
--- What lies in a block from which instructions may be fetched, passes.
+-- What lies in a block that may be accessed, passes.
 use Rattle.std.proofs.Common.{◌≡◌, ℕ, ◌+◌, ◌*◌, ◌/◌, ◌%◌, ◌<◌, ◌≤◌, Bool, true, List, [], ◌∷◌, get_or, None, arith}
 use Rattle.std.specs.Int.Bits.{bit_or}
 use Rattle.std.proofs.lemmas.Nat.{le_or_l, le_or_r}
 use Rattle.s370_store.specs.Access.{first_fault, is_passed, IsGranted}
-use Rattle.s370_store.specs.declared.Access.TheVariants.{Fetch}
-use Rattle.s370_store.specs.Blocks.{MayFetch}
+use Rattle.s370_store.specs.declared.Access.{Access}
+use Rattle.s370_store.specs.Blocks.{MayAccess}
 use Rattle.s370_store.proofs.Verdicts.{inside, one_fine, permits, permitted_is}
 
-pub block_passes : (size : ℕ) (keys : List ℕ) (present : ℕ → Bool) (key first start n : ℕ) → MayFetch size keys present key first → first ≤ start → start + n ≤ first + 2048 → first_fault size keys key (record { access = Fetch; start = start; count = n } ∷ []) ≡ None
-block_passes size keys present key first start n m low high =
+pub block_passes : {access : Access} (size : ℕ) (keys : List ℕ) (present : ℕ → Bool) (key first start n : ℕ) → MayAccess access size keys present key first → first ≤ start → start + n ≤ first + 2048 → first_fault size keys key (record { access = access; start = start; count = n } ∷ []) ≡ None
+block_passes {access} size keys present key first start n m low high =
     let room : start + n ≤ size = omega (arith, low, high, m.inside) in
-    let passed : (k : ℕ) → k < n → is_passed Fetch key (get_or keys ((start + k) / 2048) 0) ≡ true =
+    let passed : (k : ℕ) → k < n → is_passed access key (get_or keys ((start + k) / 2048) 0) ≡ true =
     λ k h. (let at : (start + k) / 2048 ≡ first / 2048 = omega (arith, low, high, m.aligned) in rw at m.passed) in
-    one_fine size keys key _ (inside size Fetch start n room) (permitted_is keys key Fetch start n true (permits keys key Fetch start n passed))
+    one_fine size keys key _ (inside size access start n room) (permitted_is keys key access start n true (permits keys key access start n passed))
 
-pub block_granted : (size : ℕ) (keys : List ℕ) (present : ℕ → Bool) (key first start n : ℕ) → MayFetch size keys present key first → first ≤ start → start + n ≤ first + 2048 → IsGranted size present start n
+pub block_granted : {access : Access} (size : ℕ) (keys : List ℕ) (present : ℕ → Bool) (key first start n : ℕ) → MayAccess access size keys present key first → first ≤ start → start + n ≤ first + 2048 → IsGranted size present start n
 block_granted size keys present key first start n m low high = record {
   inside = omega (arith, low, high, m.inside);
   here = λ k h. (let at : (start + k) / 4096 ≡ first / 4096 = omega (arith, low, high, m.aligned) in rw at m.here);

@@ -1,10 +1,10 @@
-//! A block of storage from which instructions are fetched.
+//! A block of storage that is accessed again and again.
 ghost use Rattle.std.specs.Prelude.{◌≡◌, ◌+◌, ◌%◌, ◌<◌, ◌≤◌, true};
 
-/// A block of 2048 bytes that a storage has found for fetches.
+/// A block of 2048 bytes that a storage has found, for fetches or for stores.
 ///
-/// What its place is, only the storage knows that found it: whoever fetches one instruction after another from a block passes
-/// it back with each, and nothing is looked up twice.
+/// What its place is, only the storage knows that found it: whoever fetches one instruction after another from a block, or has
+/// operands near one another in it, passes it back with each, and nothing is looked up twice.
 #[derive(Clone, Copy, Debug, PartialEq, Eq)]
 pub struct Block {
     /// The address of its first byte.
@@ -14,6 +14,12 @@ pub struct Block {
 }
 
 impl Block {
+    /// A block in which no address of 24 bits lies, for where none was found yet.
+    pub const NOWHERE: Block = Block {
+        first: 0x8000_0000,
+        place: 0,
+    };
+
     /// Whether this is an even address from which on the longest instruction, which has six bytes, would lie in it.
     ///
     /// Both are one comparison: turned right by a bit an odd number is greater than any even one.

@@ -21,20 +21,20 @@ mod words;
 ghost use Rattle.std.specs.Prelude.{◌≡◌, ℕ, ◌+◌, ◌*◌, ◌/◌, ◌<◌, ◌≤◌, List, [], ◌∷◌, Bool, true, false, Ok, IfSome, length, slice_index, slice_range, slice_set};
 ghost use Rattle.s370_store.specs.Access.{tested, test_of, IsVerdict, IsGranted, put};
 ghost use Rattle.s370_store.specs.declared.Access.TheVariants.{Fetch, Store};
-ghost use Rattle.s370_store.specs.Blocks.{MayFetch};
+ghost use Rattle.s370_store.specs.Blocks.{MayAccess};
 ghost use Rattle.s370_store.specs.declared.block.Block.{Block};
 
 pub use block::Block;
 pub use paged::PagedStorage;
 pub use place::{copy_at, put_at};
 pub use plain::PlainStorage;
-pub use protection::{Keyring, Listed, Open, may_fetch_block, passes_in_block, test_range};
+pub use protection::{Keyring, Listed, Open, may_access_block, passes_in_block, test_range};
 use s370_num::{AccessKey, StorageKey};
 pub use supply::{FramesOut, Supply};
 use thiserror::Error;
 pub use words::{
-    check_two, load_byte, load_byte_in, load_doubleword, load_halfword, load_word, store_byte,
-    store_doubleword, store_halfword, store_word,
+    check_two, load_byte, load_byte_in, load_doubleword, load_halfword, load_word, load_word_in,
+    store_byte, store_doubleword, store_halfword, store_word, store_word_in,
 };
 
 /// How many bytes a page has.
@@ -122,11 +122,10 @@ pub trait Storage {
     /// A block stands where it says.
     ghost IsPlaced: { Self → Block → Type 0 };
 
-    /// Finds the block of an address, if instructions may be fetched from the whole of it with this protection key, and its
-    /// page is present.
-    fn find_block(&self, start: u32, key: AccessKey) -> Option<Block>
+    /// Finds the block of an address, if the whole of it may be accessed so with this protection key, and its page is present.
+    fn find_block(&self, start: u32, access: Access, key: AccessKey) -> Option<Block>
         ensures first { IfSome result (λ block. block.first ≡ start / 2048 * 2048) }
-        ensures may_fetch { IfSome result (λ block. MayFetch (length (bytes self.now)) (keys self.now) (present self.now) key block.first) }
+        ensures may_access { IfSome result (λ block. MayAccess access (length (bytes self.now)) (keys self.now) (present self.now) key block.first) }
         ensures placed { IfSome result (λ block. IsPlaced self.now block) };
 
     /// Copies bytes out of a block that was found, one at least.
@@ -136,6 +135,42 @@ pub trait Storage {
         requires begins { block.first ≤ start }
         requires ends { start + length into.old ≤ block.first + 2048 }
         ensures { into.new ≡ slice_range (bytes self.now) start (start + length into.old) };
+
+    /// Copies bytes into a block that was found, one at least.
+    fn store_in(&mut self, block: Block, start: u32, from: &[u8])
+        requires placed { IsPlaced self.old block }
+        requires some { 0 < length from.now }
+        requires begins { block.first ≤ start }
+        requires ends { start + length from.now ≤ block.first + 2048 }
+        ensures bytes { bytes self.new ≡ put (bytes self.old) start from.now }
+        ensures size { length (bytes self.new) ≡ length (bytes self.old) }
+        ensures keys { keys self.new ≡ keys self.old }
+        ensures present { present self.new ≡ present self.old }
+        ensures rest { Keeps self.old self.new };
+
+    /// Copies at most 256 bytes, one at least, from one block that was found into another or the same, as if all were read before
+    /// any is written.
+    #[inline(always)]
+    fn copy_in(&mut self, source: Block, from: u32, target: Block, to: u32, count: u32)
+        requires source_placed { IsPlaced self.old source }
+        requires target_placed { IsPlaced self.old target }
+        requires some { 0 < count }
+        requires short { count ≤ 256 }
+        requires source_begins { source.first ≤ from }
+        requires source_ends { from + count ≤ source.first + 2048 }
+        requires target_begins { target.first ≤ to }
+        requires target_ends { to + count ≤ target.first + 2048 }
+        ensures bytes { bytes self.new ≡ put (bytes self.old) to (slice_range (bytes self.old) from (from + count)) }
+        ensures size { length (bytes self.new) ≡ length (bytes self.old) }
+        ensures keys { keys self.new ≡ keys self.old }
+        ensures present { present self.new ≡ present self.old }
+        ensures rest { Keeps self.old self.new }
+    {
+        let mut buffer = [0u8; 256];
+        let part = &mut buffer[..count as usize];
+        self.load_in(source, from, part);
+        self.store_in(target, to, part);
+    }
 
     /// Whether one look grants an access to at most 256 bytes. Where it does not, `check` may grant it still: so this is for
     /// code that has another way then.

@@ -2,7 +2,7 @@
 ghost use Rattle.std.specs.Prelude.{◌≡◌, ◌+◌, ◌*◌, ◌<◌, ◌≤◌, false, length, replicate, slice_index_or, slice_set, IfOk};
 
 use crate::place::put_at;
-use crate::protection::{Listed, may_fetch_block, test_range};
+use crate::protection::{Listed, may_access_block, test_range};
 use crate::{Access, Block, Fault, Keyed, Page, Range, Storage};
 use s370_num::{AccessKey, StorageKey};
 use std::alloc::{AllocError, Global};
@@ -87,9 +87,9 @@ impl Storage for PagedStorage {
         Ok(())
     }
 
-    fn find_block(&self, start: u32, key: AccessKey) -> Option<Block> {
+    fn find_block(&self, start: u32, access: Access, key: AccessKey) -> Option<Block> {
         let keys = Listed { keys: &self.keys };
-        if !may_fetch_block(self.bytes.len() as u32, &keys, start, key) {
+        if !may_access_block(self.bytes.len() as u32, &keys, start, access, key) {
             return None;
         }
         if !flag_at(&self.present, start / 4096) {
@@ -106,6 +106,10 @@ impl Storage for PagedStorage {
         let first = start as usize;
         let end = first + into.len();
         into.copy_from_slice(&self.bytes[first..end]);
+    }
+
+    fn store_in(&mut self, _block: Block, start: u32, from: &[u8]) {
+        put_at(&mut self.bytes, start as usize, from);
     }
 
     fn load(&self, start: u32, into: &mut [u8]) {

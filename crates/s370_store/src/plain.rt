@@ -2,7 +2,7 @@
 ghost use Rattle.std.specs.Prelude.{◌≡◌, ◌+◌, ◌*◌, ◌≤◌, true, length, replicate, IfOk};
 
 use crate::place::{copy_at, put_at};
-use crate::protection::{Listed, may_fetch_block, passes_range, test_range};
+use crate::protection::{Listed, may_access_block, passes_range, test_range};
 use crate::{Access, Block, Fault, Keyed, Range, Storage};
 use s370_num::{AccessKey, StorageKey};
 use std::alloc::{AllocError, Global};
@@ -104,9 +104,9 @@ impl Storage for PlainStorage {
     }
 
     #[inline(always)]
-    fn find_block(&self, start: u32, key: AccessKey) -> Option<Block> {
+    fn find_block(&self, start: u32, access: Access, key: AccessKey) -> Option<Block> {
         let keys = Listed { keys: &self.keys };
-        if may_fetch_block(self.bytes.len() as u32, &keys, start, key) {
+        if may_access_block(self.bytes.len() as u32, &keys, start, access, key) {
             let first = start / 2048 * 2048;
             Some(Block {
                 first,
@@ -122,6 +122,16 @@ impl Storage for PlainStorage {
         let first = start as usize;
         let end = first + into.len();
         into.copy_from_slice(&self.bytes[first..end]);
+    }
+
+    #[inline(always)]
+    fn store_in(&mut self, _block: Block, start: u32, from: &[u8]) {
+        put_at(&mut self.bytes, start as usize, from);
+    }
+
+    #[inline(always)]
+    fn copy_in(&mut self, _source: Block, from: u32, _target: Block, to: u32, count: u32) {
+        copy_at(&mut self.bytes, from as usize, to as usize, count as usize);
     }
 
     #[inline(always)]

@@ -1,7 +1,6 @@
 //! The test of an access by size and keys, the one that each storage makes (GA22-7000, "Protection").
 ghost use Rattle.std.specs.Prelude.{◌≡◌, ◌+◌, ◌*◌, ◌/◌, ◌%◌, ◌<◌, ◌≤◌, [], ◌∷◌, true, Ok, length, slice_index, ℕ, List, replicate};
 ghost use Rattle.s370_store.specs.Access.{IsVerdict, tested, is_passed, is_permitted};
-ghost use Rattle.s370_store.specs.declared.Access.TheVariants.{Fetch};
 
 use crate::{Access, Fault, Range};
 use s370_num::{AccessKey, StorageKey};
@@ -88,17 +87,23 @@ pub fn passes_in_block<K: Keyring>(keys: &K, range: Range, access: Access, key: 
     block_passes(keys, range.start / 2048, access, key)
 }
 
-/// Whether size and keys let each byte of the block of an address be fetched with this protection key.
-pub fn may_fetch_block<K: Keyring>(size: u32, keys: &K, start: u32, key: AccessKey) -> bool
+/// Whether size and keys let each byte of the block of an address be accessed so with this protection key.
+pub fn may_access_block<K: Keyring>(
+    size: u32,
+    keys: &K,
+    start: u32,
+    access: Access,
+    key: AccessKey,
+) -> bool
     requires keyed { size ≤ 2048 * length (K.of_blocks keys.now) }
     ensures inside { result ≡ true → start / 2048 * 2048 + 2048 ≤ size }
-    ensures passed { result ≡ true → is_passed Fetch key (slice_index (K.of_blocks keys.now) (start / 2048)) ≡ true }
+    ensures passed { result ≡ true → is_passed access key (slice_index (K.of_blocks keys.now) (start / 2048)) ≡ true }
 {
     let block = start / 2048;
     if size / 2048 <= block {
         return false;
     }
-    block_passes(keys, block, Access::Fetch, key)
+    block_passes(keys, block, access, key)
 }
 
 /// The test of an access to one range by size and keys, as if every page were present.

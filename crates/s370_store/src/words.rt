@@ -55,6 +55,19 @@ pub fn load_word<S: Storage>(storage: &S, start: u32) -> u32
     u32::from_be_bytes(into)
 }
 
+/// The word from an address on in a block that was found.
+#[inline(always)]
+pub fn load_word_in<S: Storage>(storage: &S, block: Block, start: u32) -> u32
+    requires placed { S.IsPlaced storage.now block }
+    requires begins { block.first ≤ start }
+    requires ends { start + 4 ≤ block.first + 2048 }
+    ensures { result ≡ from_be_bytes w32 (slice_range (S.bytes storage.now) start (start + 4)) }
+{
+    let mut into = [0u8; 4];
+    storage.load_in(block, start, &mut into);
+    u32::from_be_bytes(into)
+}
+
 /// The doubleword from an address on.
 #[inline(always)]
 pub fn load_doubleword<S: Storage>(storage: &S, start: u32) -> u64
@@ -103,6 +116,21 @@ pub fn store_word<S: Storage>(storage: &mut S, start: u32, word: u32)
     ensures rest { S.Keeps storage.old storage.new }
 {
     storage.store(start, &word.to_be_bytes());
+}
+
+/// Stores a word from an address on in a block that was found.
+#[inline(always)]
+pub fn store_word_in<S: Storage>(storage: &mut S, block: Block, start: u32, word: u32)
+    requires placed { S.IsPlaced storage.old block }
+    requires begins { block.first ≤ start }
+    requires ends { start + 4 ≤ block.first + 2048 }
+    ensures bytes { S.bytes storage.new ≡ put (S.bytes storage.old) start (to_be_bytes w32 word) }
+    ensures size { length (S.bytes storage.new) ≡ length (S.bytes storage.old) }
+    ensures keys { S.keys storage.new ≡ S.keys storage.old }
+    ensures present { S.present storage.new ≡ S.present storage.old }
+    ensures rest { S.Keeps storage.old storage.new }
+{
+    storage.store_in(block, start, &word.to_be_bytes());
 }
 
 /// Stores a doubleword from an address on.

@@ -5,7 +5,7 @@ ghost use Rattle.s370_store.specs.Access.{put};
 
 use s370_num::{AccessKey, StorageKey};
 use s370_store::{
-    Access, Block, Fault, Keyed, Listed, Range, Storage, may_fetch_block, put_at, store_byte,
+    Access, Block, Fault, Keyed, Listed, Range, Storage, may_access_block, put_at, store_byte,
     store_doubleword, test_range,
 };
 
@@ -109,11 +109,11 @@ impl<'a> Storage for Lent<'a> {
         test_range(4096, &keys, range, access, key)
     }
 
-    fn find_block(&self, start: u32, key: AccessKey) -> Option<Block> {
+    fn find_block(&self, start: u32, access: Access, key: AccessKey) -> Option<Block> {
         let keys = Listed {
             keys: self.shared.keys_of(self.user),
         };
-        if may_fetch_block(4096, &keys, start, key) {
+        if may_access_block(4096, &keys, start, access, key) {
             let first = start / 2048 * 2048;
             Some(Block {
                 first,
@@ -128,6 +128,10 @@ impl<'a> Storage for Lent<'a> {
         let first = start as usize;
         let end = first + into.len();
         into.copy_from_slice(&self.shared.bytes_of(self.user)[first..end]);
+    }
+
+    fn store_in(&mut self, _block: Block, start: u32, from: &[u8]) {
+        self.shared.put(self.user, start, from);
     }
 
     fn load(&self, start: u32, into: &mut [u8]) {

@@ -1,11 +1,13 @@
 //! What comes of each step.
+ghost use Rattle.std.specs.Prelude.{IfSome, ◌+◌, ◌≤◌};
+
 use crate::lender::{Shared, stamp_for};
 use crate::step::Step;
 use s370_num::{AccessKey, StorageKey};
 use s370_store::{
-    Access, Fault, Keyed, Page, PagedStorage, PlainStorage, Range, Storage, check_two, load_byte,
-    load_doubleword, load_halfword, load_word, store_byte, store_doubleword, store_halfword,
-    store_word,
+    Access, Block, Fault, Keyed, Page, PagedStorage, PlainStorage, Range, Storage, check_two,
+    load_byte, load_byte_in, load_doubleword, load_halfword, load_word, load_word_in, store_byte,
+    store_doubleword, store_halfword, store_word, store_word_in,
 };
 use std::alloc::{AllocError, Global};
 
@@ -16,6 +18,8 @@ pub fn told(alloc: Global, step: &Step<'_>) -> Result<String, AllocError> {
         b"access" => access(alloc, step),
         b"both" => both(alloc, step),
         b"paged" => paged(alloc, step),
+        b"find" => find(alloc, step),
+        b"move" => moves(alloc, step),
         b"bytes" => bytes(alloc),
         b"stamp" => stamp(alloc, step),
         _ => String::from_str(alloc, "no such step"),
@@ -79,6 +83,65 @@ fn paged(alloc: Global, step: &Step<'_>) -> Result<String, AllocError> {
     storage.set_key(2, StorageKey::new(7));
     let outcome = storage.check(step.range(1, 2), Access::Fetch, step.key(3));
     verdict(alloc, outcome)
+}
+
+/// `find 900 fetch 5`: the first address of the block that is found for accesses of a kind.
+fn find(alloc: Global, step: &Step<'_>) -> Result<String, AllocError> {
+    let storage = four_blocks(alloc)?;
+    match storage.find_block(step.number(1), step.access(2), step.key(3)) {
+        Some(block) => format!(in alloc; "{:X}", block.first),
+        None => String::from_str(alloc, "none"),
+    }
+}
+
+/// `move 808 1010`: a word that is stored into its block, the one to which it is copied, and the first byte of that; in a storage
+/// that is all there, and in one of which page 1 alone is present.
+fn moves(alloc: Global, step: &Step<'_>) -> Result<String, AllocError> {
+    let mut whole = PlainStorage::new(alloc, 4)?;
+    let mut paged = PagedStorage::new(alloc, 2)?;
+    paged.set_present(Page(1), true);
+    let (from, to) = (step.number(1), step.number(2));
+    let first = moved(alloc, &mut whole, from, to)?;
+    let second = moved(alloc, &mut paged, from, to)?;
+    format!(in alloc; "{first}, {second}")
+}
+
+/// What is moved between two blocks that were found for stores.
+fn moved<S: Storage>(
+    alloc: Global,
+    storage: &mut S,
+    from: u32,
+    to: u32,
+) -> Result<String, AllocError> {
+    match find_room(storage, from) {
+        Some(source) => match find_room(storage, to) {
+            Some(target) => {
+                store_word_in(storage, source, from, 0x0102_0304);
+                storage.copy_in(source, from, target, to, 4);
+                let word = load_word_in(storage, target, to);
+                let byte = load_byte_in(storage, target, to);
+                format!(in alloc; "{word:08X} {byte:02X}")
+            }
+            None => String::from_str(alloc, "none"),
+        },
+        None => String::from_str(alloc, "none"),
+    }
+}
+
+/// The block of a word, if it lies in one.
+fn find_room<S: Storage>(storage: &S, start: u32) -> Option<Block>
+    ensures placed { IfSome result (λ block. S.IsPlaced storage.now block) }
+    ensures begins { IfSome result (λ block. block.first ≤ start) }
+    ensures ends { IfSome result (λ block. start + 4 ≤ block.first + 2048) }
+{
+    match storage.find_block(start, Access::Store, AccessKey::ZERO) {
+        Some(block) => if start % 2048 <= 2044 {
+            Some(block)
+        } else {
+            None
+        },
+        None => None,
+    }
 }
 
 /// `bytes`: what is loaded after each store, from the left.

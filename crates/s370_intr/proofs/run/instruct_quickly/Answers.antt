@@ -2,7 +2,7 @@ use Rattle.std.proofs.Common.{◌≡◌, ◌∙◌, ap, sym, subst}
 use Rattle.s370_rows.specs.State.{State, state_of}
 use Rattle.s370_cpu.specs.Laws.{Rights}
 use Rattle.s370_intr.specs.Units.{Core, core_of, look, unit_at}
-use Rattle.s370_intr.proofs.Runs.{all_done, does_many, does_more, done_unit, looks_same, still_fetches, Goes}
+use Rattle.s370_intr.proofs.Runs.{all_done, does_many, does_more, done_unit, looks_same, still_accesses, still_held, Goes}
 use Rattle.s370_intr.proofs.run.instruct_quickly.Goals as goal
 
 pub loop-units-preserved : goal.loop-units-preserved
@@ -14,13 +14,9 @@ loop-units-preserved g c =
       here = c.in-Some-step_quickly.ensures.next;
       key = c.loop-units.invariant.key ∙ sym (ap (λ (r : Rights). r.key) c.step_quickly.ensures.rights);
       low = c.in-Some-block_of.ensures.low;
-      may_fetch = still_fetches c.key-key.result c.in-Some-block_of.found.first (c.step_quickly.ensures.size) (ap (λ (r : Rights). r.keys) c.step_quickly.ensures.rights) c.step_quickly.ensures.present c.in-Some-block_of.ensures.may_fetch;
+      may_fetch = still_accesses c.key-key.result c.in-Some-block_of.found.first (c.step_quickly.ensures.size) (ap (λ (r : Rights). r.keys) c.step_quickly.ensures.rights) c.step_quickly.ensures.present c.in-Some-block_of.ensures.may_fetch;
       placed = g.met.S.Storage.placed_kept _ _ c.in-Some-block_of.found c.step_quickly.ensures.size c.step_quickly.ensures.rest c.in-Some-block_of.ensures.placed;
-      operands = record {
-        low = c.step_quickly.ensures.operands.low;
-        may_fetch = still_fetches c.key-key.result c.step_quickly.new.held.first (c.step_quickly.ensures.size) (ap (λ (r : Rights). r.keys) c.step_quickly.ensures.rights) c.step_quickly.ensures.present (rw (sym c.loop-units.invariant.key) at c.step_quickly.ensures.operands.may_fetch);
-      };
-      operands_placed = g.met.S.Storage.placed_kept _ _ c.step_quickly.new.held c.step_quickly.ensures.size c.step_quickly.ensures.rest c.step_quickly.ensures.operands_placed;
+      operands = still_held c.key-key.result c.step_quickly.new.held (λ block kept. g.met.S.Storage.placed_kept _ _ block c.step_quickly.ensures.size c.step_quickly.ensures.rest kept) (c.step_quickly.ensures.size) (ap (λ (r : Rights). r.keys) c.step_quickly.ensures.rights) c.step_quickly.ensures.present (rw (sym c.loop-units.invariant.key) at c.step_quickly.ensures.operands);
       done = λ pending list e.
           (let before = c.loop-units.invariant.done pending list e in
           let step : core_of m' pending list ≡ unit_at (look (core_of m pending list)) (core_of m pending list) = rw before.1 (done_unit m m' pending list (c.in-Some-step_quickly.ensures.done)) in

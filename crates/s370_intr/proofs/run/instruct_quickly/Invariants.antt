@@ -1,7 +1,7 @@
 use Rattle.std.proofs.Common.{◌≡◌, ◌<◌, length}
 use Rattle.s370_store.specs.Blocks.{MayFetch}
 use Rattle.s370_rows.specs.State.{state_of}
-use Rattle.s370_quick.specs.Quick.{IsOperandBlock}
+use Rattle.s370_quick.specs.Quick.{AreHeld}
 use Rattle.s370_intr.specs.Run.{DoesInstructions}
 use Rattle.s370_intr.proofs.run.instruct_quickly.Given as goal
 
@@ -15,8 +15,7 @@ invariant-loop-units g l =
       low : l.block.first < 16777216;
       may_fetch : MayFetch (length (g.S.Storage.bytes l.storage)) (g.S.Storage.keys l.storage) (g.S.Storage.present l.storage) l.key l.block.first;
       placed : g.S.Storage.IsPlaced l.storage l.block;
-      operands : IsOperandBlock (length (g.S.Storage.bytes l.storage)) (g.S.Storage.keys l.storage) (g.S.Storage.present l.storage) l.key l.held.first;
-      operands_placed : g.S.Storage.IsPlaced l.storage l.held;
+      operands : AreHeld (g.S.Storage.IsPlaced l.storage) (length (g.S.Storage.bytes l.storage)) (g.S.Storage.keys l.storage) (g.S.Storage.present l.storage) l.key l.held;
       done : DoesInstructions l.units m0 m;
       size : length (g.S.Storage.bytes l.storage) ≡ length (g.S.Storage.bytes l.fn.storage);
       rest : g.S.Storage.Keeps l.fn.storage l.storage;

@@ -3,7 +3,7 @@ use Rattle.s370_store.specs.Access.{put}
 use Rattle.s370_bytes.specs.declared.combine.Combine.TheVariants.{Move}
 use Rattle.s370_bytes.proofs.Places.{length-range}
 use Rattle.s370_bytes.proofs.Changes.{made_is, lagged_source}
-use Rattle.s370_bytes.proofs.straight.copy_straight.Goals as goal
+use Rattle.s370_bytes.proofs.straight.move_straight.Goals as goal
 
 pub returns-clause-moved : goal.returns-clause-moved
 returns-clause-moved g c yes_it_is =
@@ -11,8 +11,7 @@ returns-clause-moved g c yes_it_is =
     let n = c.args.count in
     let source : List ℕ = slice_range before c.args.from (c.args.from + n) in
     let all : n ≡ c.lag_of.result = omega (arith, c.lag_of.ensures.within, c.if-lag_of-count.false) in
-    let granted = (c.copy_granted.ensures.granted yes_it_is).1 in
-    c.copy_granted.ensures.moved yes_it_is ∙ ap (λ (xs : List ℕ). put before c.args.to xs)
+    c.copy_in.ensures.bytes ∙ ap (λ (xs : List ℕ). put before c.args.to xs)
     (made_is Move before (slice_range before c.args.to (c.args.to + n)) source source c.args.to c.args.from n n
-    (granted.0 c.requires.some).inside (length-range before c.args.from n (granted.1.0 c.requires.some).inside) refl refl (all ∙ c.lag_of.ensures.value)
+    c.requires.target_inside (length-range before c.args.from n c.requires.source_inside) refl refl (all ∙ c.lag_of.ensures.value)
     (λ j s. sym (lagged_source source source n j s)))

@@ -1,0 +1,64 @@
+//! The blocks in which the last operands lay.
+ghost use Rattle.std.specs.Prelude.{◌≡◌, ◌+◌, ◌<◌, ◌≤◌, [], ◌∷◌, Ok, IfSome, true, length};
+ghost use Rattle.s370_store.specs.Access.{test_of};
+ghost use Rattle.s370_rows.specs.State.{state_of};
+ghost use Rattle.s370_rows.specs.Rows.{Grants};
+ghost use Rattle.s370_quick.specs.Quick.{IsHeld};
+
+use s370_num::Addr24;
+use s370_rows::Cpu;
+use s370_store::{Access, Block, Storage};
+
+/// The blocks in which the last operands lay, one for each kind of access: what may be fetched from may not be stored into.
+#[derive(Clone, Copy, Debug, PartialEq, Eq)]
+pub struct Held {
+    /// The block from which operands are fetched.
+    pub fetched: Block,
+    /// The block into which operands are stored.
+    pub stored: Block,
+}
+
+/// Whether a range lies in a block.
+#[inline(always)]
+fn holds(block: Block, start: Addr24, count: u32) -> bool
+    requires far { block.first ≤ 2147483648 }
+    requires short { count ≤ 256 }
+    ensures low { result ≡ true → block.first < 16777216 }
+    ensures begins { result ≡ true → block.first ≤ start }
+    ensures ends { result ≡ true → start + count ≤ block.first + 2048 }
+{
+    // An address below wraps round to one that is far above.
+    start.get().wrapping_sub(block.first) <= 2048 - count
+}
+
+/// The block in which an operand lies: the one that is held for such operands, or another. None where it lies in two, or may not
+/// be accessed so.
+#[inline(always)]
+pub fn operand_block<S: Storage>(
+    access: Access,
+    cpu: &Cpu,
+    storage: &S,
+    held: Block,
+    start: Addr24,
+    count: u32,
+) -> Option<Block>
+    requires short { count ≤ 256 }
+    requires operands { IsHeld access (S.IsPlaced storage.now) (length (S.bytes storage.now)) (S.keys storage.now) (S.present storage.now) cpu.now.psw.key held }
+    ensures operands { IfSome result (λ found. IsHeld access (S.IsPlaced storage.now) (length (S.bytes storage.now)) (S.keys storage.now) (S.present storage.now) cpu.now.psw.key found) }
+    ensures placed { IfSome result (λ found. S.IsPlaced storage.now found) }
+    ensures granted { IfSome result (λ _. Grants (state_of cpu.now (S.bytes storage.now) (S.keys storage.now)) (S.present storage.now) (test_of access start count ∷ []) (Ok tt)) }
+    ensures begins { IfSome result (λ found. found.first ≤ start) }
+    ensures ends { IfSome result (λ found. start + count ≤ found.first + 2048) }
+{
+    if holds(held, start, count) {
+        return Some(held);
+    }
+    match storage.find_block(start.get(), access, cpu.psw.key()) {
+        Some(found) => if holds(found, start, count) {
+            Some(found)
+        } else {
+            None
+        },
+        None => None,
+    }
+}
