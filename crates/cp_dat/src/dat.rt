@@ -200,21 +200,6 @@ impl<'a> Storage for Dat<'a> {
     }
 
     #[inline(always)]
-    fn grants_at_once(&self, range: Range, access: Access, key: AccessKey) -> bool {
-        let Range { start, count } = range;
-        if count == 0 {
-            return false;
-        }
-        if start % BLOCK_SIZE + count > BLOCK_SIZE {
-            return false;
-        }
-        match self.open_place(range, access, key) {
-            Some(_) => true,
-            None => false,
-        }
-    }
-
-    #[inline(always)]
     fn copy_at_once(&mut self, from: u32, to: u32, count: u32, key: AccessKey) -> bool {
         if count == 0 {
             return false;

@@ -1,12 +1,11 @@
 //! The blocks in which the last operands lay.
 ghost use Rattle.std.specs.Prelude.{◌≡◌, ◌+◌, ◌<◌, ◌≤◌, [], ◌∷◌, Ok, IfSome, true, length};
 ghost use Rattle.s370_store.specs.Access.{test_of};
-ghost use Rattle.s370_store.specs.Blocks.{MayAccess};
 ghost use Rattle.s370_rows.specs.State.{state_of};
 ghost use Rattle.s370_rows.specs.Rows.{Grants};
 ghost use Rattle.s370_quick.specs.Quick.{IsHeld};
 
-use s370_num::{AccessKey, Addr24};
+use s370_num::Addr24;
 use s370_rows::Cpu;
 use s370_store::{Access, Block, Storage};
 
@@ -32,34 +31,6 @@ fn holds(block: Block, start: Addr24, count: u32) -> bool
     start.get().wrapping_sub(block.first) <= 2048 - count
 }
 
-/// The block of an operand that does not lie in the one that is held. None where it lies in two, or may not be accessed so. It is out
-/// of line, and told to be rare, so that the loop over instructions has no more in it than a call.
-#[cold]
-#[inline(never)]
-fn find_operand<S: Storage>(
-    access: Access,
-    storage: &S,
-    start: Addr24,
-    count: u32,
-    key: AccessKey,
-) -> Option<Block>
-    requires { count ≤ 256 }
-    ensures may_access { IfSome result (λ found. MayAccess access (length (S.bytes storage.now)) (S.keys storage.now) (S.present storage.now) key found.first) }
-    ensures placed { IfSome result (λ found. S.IsPlaced storage.now found) }
-    ensures low { IfSome result (λ found. found.first < 16777216) }
-    ensures begins { IfSome result (λ found. found.first ≤ start) }
-    ensures ends { IfSome result (λ found. start + count ≤ found.first + 2048) }
-{
-    match storage.find_block(start.get(), access, key) {
-        Some(found) => if holds(found, start, count) {
-            Some(found)
-        } else {
-            None
-        },
-        None => None,
-    }
-}
-
 /// The block in which an operand lies: the one that is held for such operands, or another. None where it lies in two, or may not
 /// be accessed so.
 #[inline(always)]
@@ -82,5 +53,12 @@ pub fn operand_block<S: Storage>(
     if holds(held, start, count) {
         return Some(held);
     }
-    find_operand(access, storage, start, count, cpu.psw.key())
+    match storage.find_block(start.get(), access, cpu.psw.key()) {
+        Some(found) => if holds(found, start, count) {
+            Some(found)
+        } else {
+            None
+        },
+        None => None,
+    }
 }

@@ -49,15 +49,6 @@ pub fn grant_two<S: Storage>(
     leave_of(answer)
 }
 
-/// Whether one look grants leave to access a range of at most 256 bytes with the key of the PSW.
-#[inline(always)]
-pub fn is_granted<S: Storage>(cpu: &Cpu, storage: &S, range: Range, access: Access) -> bool
-    requires { range.count ≤ 256 }
-    ensures { result ≡ true → Grants (state_of cpu.now (S.bytes storage.now) (S.keys storage.now)) (S.present storage.now) (tested access range ∷ []) (Ok tt) }
-{
-    storage.grants_at_once(range, access, cpu.psw.key())
-}
-
 /// Copies at most 2048 bytes from one place to another, as if all were read before any is written, where one look at each grants
 /// leave with the key of the PSW; else nothing changes.
 #[inline(always)]

@@ -6,7 +6,7 @@
 //!
 //! A row of the instruction table has three parts: what refuses it before any test, the ranges of storage that it tests
 //! in order, and what it then leaves or is refused by. `specs/Rows.antt` has that form, and judges every row by one
-//! definition; [`grant`] and [`grant_two`] give leave to access the ranges, [`is_granted`] and [`copy_granted`] where one look is enough.
+//! definition; [`grant`] and [`grant_two`] give leave to access the ranges, [`copy_granted`] where one look is enough.
 #![tactic(auto)]
 
 mod access;
@@ -26,7 +26,7 @@ mod rows;
 mod shift;
 mod swap;
 
-pub use access::{copy_granted, grant, grant_two, is_granted};
+pub use access::{copy_granted, grant, grant_two};
 pub use arithmetic::{Arithmetic, Computed, compute, kept, order_of, sign_of, zero_of};
 pub use branches::{
     IndexBranch, branch_and_link, branch_on_condition, branch_on_count, branch_on_index,

@@ -172,19 +172,6 @@ pub trait Storage {
         self.store_in(target, to, part);
     }
 
-    /// Whether one look grants an access to at most 256 bytes. Where it does not, `check` may grant it still: so this is for
-    /// code that has another way then.
-    #[inline(always)]
-    fn grants_at_once(&self, range: Range, access: Access, key: AccessKey) -> bool
-        requires { range.count ≤ 256 }
-        ensures { result ≡ true → IsVerdict (length (bytes self.now)) (keys self.now) (present self.now) key (tested access range ∷ []) (Ok tt) }
-    {
-        match self.check(range, access, key) {
-            Ok(()) => true,
-            Err(_) => false,
-        }
-    }
-
     /// Copies at most 256 bytes out, which `check` has granted.
     fn load(&self, start: u32, into: &mut [u8])
         requires granted { IsGranted (length (bytes self.now)) (present self.now) start (length into.old) }
@@ -235,10 +222,16 @@ pub trait Storage {
         if count == 0 || count > 256 {
             return false;
         }
-        if !self.grants_at_once(Range { start: to, count }, Access::Store, key) {
+        if self
+            .check(Range { start: to, count }, Access::Store, key)
+            .is_err()
+        {
             return false;
         }
-        if !self.grants_at_once(Range { start: from, count }, Access::Fetch, key) {
+        if self
+            .check(Range { start: from, count }, Access::Fetch, key)
+            .is_err()
+        {
             return false;
         }
         self.copy(from, to, count);

@@ -1,6 +1,6 @@
 use Rattle.std.proofs.Common.{refl}
 use Rattle.s370_rows.specs.State.{state_of}
-use Rattle.s370_quick.proofs.Holds.{found_grants, found_held, grants_in}
+use Rattle.s370_quick.proofs.Holds.{grants_in}
 use Rattle.s370_quick.proofs.held.operand_block.Goals as goal
 
 pub returns-then-holds-clause-placed : goal.returns-then-holds-clause-placed
@@ -11,11 +11,7 @@ returns-then-holds-clause-granted g c =
     let m = state_of c.args.cpu.now (g.S.Storage.bytes c.args.storage.now) (g.S.Storage.keys c.args.storage.now) in
     grants_in m (g.S.Storage.present c.args.storage.now) c.args.held.first c.args.start c.args.count (c.requires.operands.may_access (c.if-holds.ensures.low refl)) (c.if-holds.ensures.begins refl) (c.if-holds.ensures.ends refl)
 
-pub returns-clause-operands : goal.returns-clause-operands
-returns-clause-operands g c =
-    found_held c.args.access (g.S.Storage.IsPlaced c.args.storage.now) _ _ _ _ c.find_operand.result (rw c.key.ensures at c.find_operand.ensures.may_access) c.find_operand.ensures.placed c.find_operand.ensures.low
-
-pub returns-clause-granted : goal.returns-clause-granted
-returns-clause-granted g c =
+pub returns-then-holds-2-clause-granted : goal.returns-then-holds-2-clause-granted
+returns-then-holds-2-clause-granted g c =
     let m = state_of c.args.cpu.now (g.S.Storage.bytes c.args.storage.now) (g.S.Storage.keys c.args.storage.now) in
-    found_grants c.args.access m (g.S.Storage.present c.args.storage.now) c.args.start c.args.count c.find_operand.result (rw c.key.ensures at c.find_operand.ensures.may_access) c.find_operand.ensures.begins c.find_operand.ensures.ends
+    grants_in m (g.S.Storage.present c.args.storage.now) c.in-Some.found.first c.args.start c.args.count (rw c.key.ensures at c.in-Some.ensures.may_access) (c.if-holds-2.ensures.begins refl) (c.if-holds-2.ensures.ends refl)
