@@ -3,12 +3,14 @@ ghost use Rattle.std.specs.Prelude.{◌≡◌, ◌<◌, ◌≤◌, IfOk, OnErr, 
 ghost use Rattle.std.specs.Option.{option_map};
 ghost use Rattle.s370_store.specs.Plain.{plain_bytes, plain_keys};
 ghost use Rattle.cp_console.specs.Responses.{text_of};
+ghost use Rattle.channel_runs.specs.Reading.{as_reached};
 ghost use Rattle.cp_panel.specs.Machine.{unused};
 ghost use Rattle.cp_panel.specs.Panel.{line, line_room};
 ghost use Rattle.cp_panel.specs.Run.{run};
 ghost use Rattle.cp_panel.specs.Serve.{Serves};
 ghost use Rattle.cp_panel.specs.Tick.{ticked};
 
+use channel_runs::Live;
 use cp_console::responses::Response;
 use cp_panel::{LineError, Machine, MachineRan, Mode};
 use s370_channel::ChannelError;
@@ -95,9 +97,10 @@ impl Bare {
     /// Serves the device of this address, whose part is lent: the channel program that was started runs as a whole, and its
     /// status is pending. Tells whether there was one; else nothing has happened.
     pub fn serve<D: Device>(&mut self, device: DevAddr, part: &mut D) -> Result<bool, ChannelError>
-        ensures { IfOk result (λ done. Serves D.machine device self.old part.old done self.new part.new) }
+        ensures { IfOk result (λ done. Serves as_reached D.machine device self.old part.old done self.new part.new) }
     {
-        self.machine.serve(&mut self.storage, device, part)
+        self.machine
+            .serve(&mut self.storage, &mut Live, device, part)
     }
 
     /// The general registers.

@@ -2,11 +2,14 @@
 use Rattle.std.proofs.Common.{◌≡◌, ◌<◌, ◌≤◌, ◌+◌, ℕ, List, [], ◌∷◌, ◌++◌, length, take, get_or, sym, ap, ◌∙◌, suc, arith}
 use Rattle.std.proofs.Math.Seq.{take-suc}
 use Rattle.std.proofs.lemmas.List.{append_assoc, take_all}
-use Rattle.std.specs.Prelude.{if◌then◌else◌, Bool, true, false}
-use Rattle.s370_subchannels.specs.Subchannels.{attended}
+use Rattle.std.specs.Prelude.{Bool}
+use Rattle.s370_walk.specs.declared.parts.Ending.{Ending}
+use Rattle.s370_subchannels.specs.declared.subchannel.Subchannel.{Subchannel}
+use Rattle.s370_subchannels.specs.Serving.{program_ended}
+use Rattle.s370_subchannels.specs.Subchannels.{with_attention}
+use Rattle.unit_record.specs.Console.{ConsoleState, wants_attention}
+use Rattle.cp_devices.specs.Serve.{console_over}
 use Rattle.cp_panel.specs.Machine.{Parts, machine_of}
-use Rattle.cp_devices.specs.Equipped.{with_lines}
-use Rattle.cp_devices.specs.Serve.{attended_where}
 
 -- one line more of these was printed, which has at most 132 characters
 pub one_printed : (output lines : List (List ℕ)) (k : ℕ) (text said : List ℕ) → k < length lines → text ≡ get_or lines k text → length text ≤ 132 → said ≡ take 144 text → (output ++ take k lines) ++ said ∷ [] ≡ output ++ take (k + 1) lines
@@ -33,9 +36,16 @@ printed_on old m room_made new before after text r s t was made prints e =
     ∙ ap (λ (p : Parts). with_output (record p { room = s }) (p.output ++ text ∷ []) t) was
     ∙ ap (λ (xs : List (List ℕ)). with_output old xs t) e
 
--- a machine whose console gave attention, where it wanted to, and that has printed the lines that were written
-pub served_on : (p q r : Parts) (device : ℕ) (wants wanted : Bool) (lines : List (List ℕ)) (room : ℕ) (bytes keys : List ℕ) → wants ≡ wanted → q ≡ (if wants then record p { subchannels = attended device p.subchannels } else p) → r ≡ record q { output = q.output ++ lines; room = room } → machine_of r bytes keys ≡ with_lines (attended_where wanted device (machine_of p bytes keys)) lines
-served_on p q r device wants true lines room bytes keys e a b =
-    ap (λ (m : Parts). machine_of m bytes keys) (b ∙ ap (λ (x : Parts). with_output x (x.output ++ lines) room) (rw e at a))
-served_on p q r device wants false lines room bytes keys e a b =
-    ap (λ (m : Parts). machine_of m bytes keys) (b ∙ ap (λ (x : Parts). with_output x (x.output ++ lines) room) (rw e at a))
+abbrev with_list : Parts → List Subchannel → Parts
+with_list p list = record p { subchannels = list }
+
+-- a machine whose console has attention to give or not, whose program has ended, and that has printed the lines that were written
+pub console_on : (p q r s : Parts) (device key : ℕ) (ending : Ending) (gives : Bool) (console : ConsoleState) (room : ℕ) (bytes bytes' keys keys' : List ℕ) → gives ≡ wants_attention console → q ≡ record p { subchannels = with_attention device gives p.subchannels } → r ≡ record q { subchannels = program_ended device key ending q.subchannels } → s ≡ record r { output = r.output ++ console.lines; room = room } → keys' ≡ keys → machine_of s bytes' keys' ≡ console_over device key ending console (machine_of p bytes keys) bytes'
+console_on p q r s device key ending gives console room bytes bytes' keys keys' is one two three same =
+    ap (λ (m : Parts). machine_of m bytes' keys')
+    (three
+    ∙ ap (λ (x : Parts). with_output x (x.output ++ console.lines) room)
+    (two
+    ∙ ap (λ (x : Parts). with_list x (program_ended device key ending x.subchannels))
+    (one ∙ ap (λ (g : Bool). with_list p (with_attention device g p.subchannels)) is)))
+    ∙ ap (λ (k : List ℕ). console_over device key ending console (machine_of p bytes k) bytes') same

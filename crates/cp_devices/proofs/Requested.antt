@@ -1,6 +1,6 @@
 -- What a line was judged as.
 use Rattle.std.proofs.Common.{◌≡◌, ℕ, Bool, List, sym, subst, Result, Ok, Err, refl}
-use Rattle.std.specs.Prelude.{IfOk, OnErr, is_some}
+use Rattle.std.specs.Prelude.{IfOk, is_some}
 use Rattle.cp_console.specs.Lines.{cleaned}
 use Rattle.cp_console.specs.declared.device_commands.DeviceCommand.TheVariants.{Message}
 use Rattle.cp_users.specs.Users.{user_of}
@@ -16,11 +16,6 @@ use Rattle.cp_devices.specs.World.{World}
 -- the code's judgement is the definition's
 pub requested_is : (q : Request) (e : Equipped) (typed text : List ℕ) (mode : Mode) (has : Bool) → q ≡ request_in mode has text → mode ≡ e.machine.mode → has ≡ is_some e.devices.places.console → text ≡ cleaned typed → requested typed e ≡ q
 requested_is q e typed text mode has judged m h t = rw (← m, ← h, ← t) (sym judged)
-
--- what holds of an error holds of it under any condition
-pub under : {T E : Type 0} (r : Result T E) (P Q : Type 0) → OnErr r P → OnErr r (Q → P)
-under (Ok x) P Q h = tt
-under (Err x) P Q h = λ q. h
 
 -- a message changes nothing of its sender's machine
 pub sent_from : (r : Result Told LineError) (w : World) (name text : List ℕ) (e : Equipped) → IfOk r (λ told. SendsTo (user_of w.names name) w text told) → IfOk r (λ told. IsObeyed w (Message name text) e told e)

@@ -5,6 +5,7 @@ pub mod Equipped
 pub mod Serve
 pub mod Loading
 pub mod World
+pub mod Among
 pub mod Requests
 pub mod Lines
 pub mod Life

@@ -1,5 +1,5 @@
 -- What a line does to a machine and its devices, and what is told (docs/COMMANDS.md).
-use Rattle.std.specs.Prelude.{ℕ, ◌≡◌, ◌⊎◌, ◌+◌, Bool, true, false, if◌then◌else◌, List, [], ◌∷◌, codes, is_some, set, slice_get, take, Option, Some, None}
+use Rattle.std.specs.Prelude.{ℕ, ◌≡◌, ◌⊎◌, Bool, true, false, if◌then◌else◌, List, [], ◌∷◌, codes, is_some, map, slice_get, take, Option, Some, None}
 use Rattle.std.specs.Str.{bytes_eq}
 use Rattle.cp_users.specs.Users.{user_of}
 use Rattle.cp_console.specs.ConsoleLine.{characters_of}
@@ -16,22 +16,22 @@ use Rattle.unit_record.specs.Console.{has_room, with_typed}
 use Rattle.unit_record.specs.Reader.{DeckValue, queued_at, reader_machine}
 use Rattle.ckd_volume.specs.Unit.{Disk, disk_machine}
 use Rattle.s370_intr.specs.Run.{IsLacking}
-use Rattle.cp_panel.specs.Machine.{Machine, cleared, printed, reset, switched_off}
+use Rattle.cp_panel.specs.Machine.{cleared, printed, reset, switched_off}
 use Rattle.cp_panel.specs.Panel.{line}
 use Rattle.cp_devices.specs.declared.line.Told.{Told}
-use Rattle.cp_devices.specs.declared.line.Told.TheVariants.{Silent, Said, Files, Sent}
-use Rattle.cp_devices.specs.declared.places.Kind.{Kind}
-use Rattle.cp_devices.specs.declared.places.Kind.TheVariants as kinds
+use Rattle.cp_devices.specs.declared.line.Told.TheVariants.{Silent, Said, Files, Sent, Loads, Closed}
+use Rattle.cp_channels.specs.declared.parts.Kind.{Kind}
+use Rattle.cp_channels.specs.declared.parts.Kind.TheVariants as kinds
 use Rattle.cp_devices.specs.declared.request.Request.{Request}
 use Rattle.cp_devices.specs.declared.request.Request.TheVariants.{LogsOn, LogsOff, Resets, Types, Asks, Elsewhere}
-use Rattle.cp_devices.specs.Devices.{DevicesValue, DiskAt, kind_at}
+use Rattle.cp_channels.specs.Disks.{DiskAt, cleared_disk, reset_disk, with_unit}
+use Rattle.cp_devices.specs.Devices.{DevicesValue, kind_at, part_at}
 use Rattle.cp_devices.specs.Equipped.{Equipped, with_attended}
 use Rattle.cp_devices.specs.Loading.{IsLoaded}
 use Rattle.cp_devices.specs.Requests.{request_in}
-use Rattle.cp_devices.specs.Resets.{devices_cleared, devices_reset}
-use Rattle.cp_devices.specs.Serve.{with_unit}
+use Rattle.cp_devices.specs.Resets.{devices_reset}
 use Rattle.cp_devices.specs.Spooling.{devices_logged_off, is_punch, output_of, spooled, with_deck_purged, with_printer_closed, with_punch_closed}
-use Rattle.cp_devices.specs.World.{World}
+use Rattle.cp_devices.specs.World.{World, is_on, users_on}
 
 -- the machine and its devices after a line, and what is told
 pub record Outcome : Type 0 where
@@ -48,16 +48,16 @@ said (Some response) = Said response
 -- ---- LOGON, LOGOFF, SYSTEM RESET, and lines that the machine alone answers
 
 abbrev pub logged_on : Equipped → Outcome
-logged_on e = outcome (record { machine = cleared e.machine; devices = devices_cleared e.devices }) (Said responses.LogonOk)
+logged_on e = outcome (record { machine = cleared e.machine; devices = devices_reset e.devices; disks = map cleared_disk e.disks }) (Said responses.LogonOk)
 
 -- LOGOFF closes the open files of punch and printer first
 abbrev pub logged_off : Equipped → Outcome
 logged_off e =
-    outcome (record { machine = switched_off e.machine; devices = devices_cleared (devices_logged_off e.devices) }) (Said responses.LogoffOk)
+    outcome (record { machine = switched_off e.machine; devices = devices_reset (devices_logged_off e.devices); disks = map cleared_disk e.disks }) (Said responses.LogoffOk)
 
 abbrev pub was_reset : Equipped → Outcome
 was_reset e =
-    outcome (record { machine = printed (reset e.machine) (text_of responses.SystemReset); devices = devices_reset e.devices }) (Said responses.SystemReset)
+    outcome (record { machine = printed (reset e.machine) (text_of responses.SystemReset); devices = devices_reset e.devices; disks = map reset_disk e.disks }) (Said responses.SystemReset)
 
 abbrev pub answered_alone : List ℕ → Equipped → Outcome
 answered_alone typed e = let a = line typed e.machine in outcome (record e { machine = a.machine }) (said a.reply)
@@ -67,7 +67,7 @@ answered_alone typed e = let a = line typed e.machine in outcome (record e { mac
 -- it waits to be read, and gives attention; where too many wait it is lost, and a notice says so
 abbrev pub typed_where : Bool → ℕ → List ℕ → Equipped → Outcome
 typed_where true device text e =
-    outcome (record { machine = with_attended device e.machine; devices = record e.devices { console = with_typed e.devices.console text } }) Silent
+    outcome (record e { machine = with_attended device e.machine; devices = record e.devices { console = with_typed e.devices.console text } }) Silent
 typed_where false device text e =
     outcome (record e { machine = printed e.machine (text_of responses.LineLost) }) (Said responses.LineLost)
 
@@ -91,11 +91,11 @@ spooled_to (Some target) device e = outcome (record e { devices = spooled e.devi
 
 abbrev pub spool_answered : World → ℕ → List ℕ → Equipped → Outcome
 spool_answered w device name e =
-    if is_punch (kind_at e.devices device)
+    if is_punch (part_at e.devices device)
     then spooled_to (target_of w name) device e
     else outcome e (Said responses.DeviceNotFound)
 
--- ---- CLOSE
+-- ---- CLOSE: the owner of all files has a number for the one that is closed
 
 abbrev pub with_closed : Option Kind → DevicesValue → DevicesValue
 with_closed (Some kinds.Punch) d = with_punch_closed d
@@ -105,14 +105,14 @@ with_closed (Some kinds.Reader) d = d
 with_closed (Some (kinds.Disk index)) d = d
 with_closed None d = d
 
-abbrev pub closed_where : Option Bool → Option Kind → World → Equipped → Outcome
-closed_where None kind w e = outcome e (Said responses.DeviceNotFound)
-closed_where (Some false) kind w e = outcome e (Said responses.NoFile)
-closed_where (Some true) kind w e =
-    outcome (record e { devices = with_closed kind e.devices }) (Said (responses.FileClosed (w.files + 1)))
+abbrev pub closed_where : Option Bool → Option Kind → Equipped → Outcome
+closed_where None kind e = outcome e (Said responses.DeviceNotFound)
+closed_where (Some false) kind e = outcome e (Said responses.NoFile)
+closed_where (Some true) kind e =
+    outcome (record e { devices = with_closed kind e.devices }) Closed
 
-abbrev pub close_answered : World → ℕ → Equipped → Outcome
-close_answered w device e = let kind = kind_at e.devices device in closed_where (output_of e.devices kind) kind w e
+abbrev pub close_answered : ℕ → Equipped → Outcome
+close_answered device e = let kind = part_at e.devices device in closed_where (output_of e.devices kind) kind e
 
 -- ---- PURGE and QUERY
 
@@ -133,7 +133,7 @@ SendsWhere false user w text told = told ≡ Said responses.UserNotLoggedOn
 
 abbrev pub SendsTo : Option ℕ → World → List ℕ → Told → Type 0
 SendsTo None w text told = told ≡ Said responses.UserNotFound
-SendsTo (Some user) w text told = SendsWhere (w.is_on user) user w text told
+SendsTo (Some user) w text told = SendsWhere (is_on w user) user w text told
 
 -- ---- IPL
 
@@ -145,13 +145,15 @@ pub record LoadsReader (device : ℕ) (old : Equipped) (told : Told) (new : Equi
   pub well : Bool
   pub loaded : IsLoaded reader_machine device old.machine (devices_reset old.devices).reader well new.machine new.devices.reader
   pub rest : new.devices ≡ record (devices_reset old.devices) { reader = new.devices.reader }
+  pub disks : new.disks ≡ map reset_disk old.disks
   pub says : told ≡ ipl_told well
 
 pub record LoadsUnit (index : ℕ) (disk : DiskAt) (device : ℕ) (old : Equipped) (told : Told) (new : Equipped) : Type 0 where
   pub well : Bool
   pub unit : Disk
   pub loaded : IsLoaded disk_machine device old.machine disk.unit well new.machine unit
-  pub rest : new.devices ≡ with_unit (devices_reset old.devices) index disk unit
+  pub rest : new.devices ≡ devices_reset old.devices
+  pub disks : new.disks ≡ with_unit (map reset_disk old.disks) index disk unit
   pub says : told ≡ ipl_told well
 
 abbrev pub IsNotFound : Equipped → Told → Equipped → Type 0
@@ -165,20 +167,24 @@ LoadsDisk index None device old told new = IsNotFound old told new
 -- a reader or a disk is loaded from
 abbrev pub LoadsKind : Option Kind → ℕ → Equipped → Told → Equipped → Type 0
 LoadsKind (Some kinds.Reader) device old told new = LoadsReader device old told new
-LoadsKind (Some (kinds.Disk index)) device old told new = LoadsDisk index (slice_get (devices_reset old.devices).disks index) device old told new
+LoadsKind (Some (kinds.Disk index)) device old told new = LoadsDisk index (slice_get (map reset_disk old.disks) index) device old told new
 LoadsKind (Some kinds.Console) device old told new = IsNotFound old told new
 LoadsKind (Some kinds.Punch) device old told new = IsNotFound old told new
 LoadsKind (Some kinds.Printer) device old told new = IsNotFound old told new
 LoadsKind None device old told new = IsNotFound old told new
 
+-- an IPL from the device of this address, which the owner of the machine does
+abbrev pub IsIpl : ℕ → Equipped → Told → Equipped → Type 0
+IsIpl device old told new = LoadsKind (kind_at old.devices old.disks device) device old told new
+
 -- ---- a command that concerns devices, their files or other users
 
 abbrev pub IsObeyed : World → DeviceCommand → Equipped → Told → Equipped → Type 0
-IsObeyed w (commands.Ipl device) old told new = LoadsKind (kind_at old.devices device) device old told new
+IsObeyed w (commands.Ipl device) old told new = outcome new told ≡ outcome old (Loads device)
 IsObeyed w commands.QueryFiles old told new = outcome new told ≡ outcome old (files_told old.devices.reader.decks)
-IsObeyed w commands.QueryUsers old told new = outcome new told ≡ outcome old (Said (responses.Users w.users_on))
+IsObeyed w commands.QueryUsers old told new = outcome new told ≡ outcome old (Said (responses.Users (users_on w)))
 IsObeyed w (commands.Spool device name) old told new = outcome new told ≡ spool_answered w device name old
-IsObeyed w (commands.Close device) old told new = outcome new told ≡ close_answered w device old
+IsObeyed w (commands.Close device) old told new = outcome new told ≡ close_answered device old
 IsObeyed w (commands.Purge file) old told new = outcome new told ≡ purge_answered file old
 IsObeyed w (commands.Message name text) old told new = (new ≡ old) × SendsTo (user_of w.names name) w text told
 
@@ -199,15 +205,6 @@ requested typed e = request_in e.machine.mode (is_some e.devices.places.console)
 -- a line, what it leaves, and what is told
 abbrev pub IsLine : World → List ℕ → Equipped → Told → Equipped → Type 0
 IsLine w typed old told new = IsAnswered (requested typed old) w typed old told new
-
--- whether a line is an IPL: what that leaves is not undone where it fails for want of memory
-abbrev pub is_loading : DeviceCommand → Bool
-is_loading (commands.Ipl device) = true
-is_loading other = false
-
-abbrev pub is_ipl : Request → Bool
-is_ipl (Asks command) = is_loading command
-is_ipl other = false
 
 -- ---- where there is no room for a page
 

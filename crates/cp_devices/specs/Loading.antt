@@ -12,13 +12,11 @@ use Rattle.s370_channel.specs.Progress.{setting}
 use Rattle.cp_console.specs.Responses.{text_of}
 use Rattle.cp_console.specs.declared.responses.Response.TheVariants.{IplFailed}
 use Rattle.cp_panel.specs.Machine.{Machine, printed, reset, started}
+use Rattle.cp_devices.specs.Equipped.{with_bytes}
 
 -- channel end and device end alone: nothing went wrong
 abbrev pub is_good : Ending → Bool
 is_good ending = ending.unit.bits == 0x0C && ending.channel.bits == 0x00
-
-abbrev pub with_bytes : Machine → List ℕ → Machine
-with_bytes m bytes = record m { core = record m.core { processor = record m.core.processor { bytes = bytes } } }
 
 -- the address of the device stands at location 2
 abbrev pub with_address : ℕ → List ℕ → List ℕ

@@ -1,5 +1,5 @@
 -- What of a line concerns the devices of a machine (docs/COMMANDS.md).
-use Rattle.std.specs.Prelude.{ℕ, if◌then◌else◌, Bool, List, Result, Ok, Err}
+use Rattle.std.specs.Prelude.{ℕ, if◌then◌else◌, Bool, List, Result, Ok}
 use Rattle.cp_console.specs.Asked.{Asked, Stop, Command as ToControlProgram, Plain, asked_of}
 use Rattle.cp_console.specs.Commands.{command_of}
 use Rattle.cp_console.specs.declared.commands.Command.{Command}

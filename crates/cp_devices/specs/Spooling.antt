@@ -7,9 +7,9 @@ use Rattle.unit_record.specs.Output.{EntryValue, FileValue, has_entries}
 use Rattle.unit_record.specs.Reader.{DeckValue, with_deck, with_deck_back, queued_at, purged}
 use Rattle.unit_record.specs.Punch.{punch_closed}
 use Rattle.unit_record.specs.Printer.{printer_closed}
-use Rattle.cp_devices.specs.declared.places.Kind.{Kind}
-use Rattle.cp_devices.specs.declared.places.Kind.TheVariants as kinds
-use Rattle.cp_devices.specs.Devices.{DevicesValue, kind_at}
+use Rattle.cp_channels.specs.declared.parts.Kind.{Kind}
+use Rattle.cp_channels.specs.declared.parts.Kind.TheVariants as kinds
+use Rattle.cp_devices.specs.Devices.{DevicesValue, part_at}
 
 -- ---- SPOOL
 
@@ -23,7 +23,7 @@ is_punch None = false
 
 -- Where a punch has this address, its next file is for this target.
 abbrev pub spooled : DevicesValue → ℕ → Target → DevicesValue
-spooled d device to = if is_punch (kind_at d device) then record d { target = to } else d
+spooled d device to = if is_punch (part_at d device) then record d { target = to } else d
 
 -- ---- CLOSE and LOGOFF
 

@@ -1,12 +1,17 @@
 -- What the control program knows beside one machine.
-use Rattle.std.specs.Prelude.{ℕ, Bool, List}
+use Rattle.std.specs.Prelude.{ℕ, Bool, false, List, count_by, slice_index_or}
 
 pub record World : Type 0 where
   -- the names of all users, in their order, and that of the machine's own one
   pub names : List (List ℕ)
   pub own : List ℕ
-  -- who is logged on, and how many are
-  pub is_on : ℕ → Bool
-  pub users_on : ℕ
-  -- how many files there were: each closed file and each deck of the operator has the number after the last
-  pub files : ℕ
+  -- of each user, whether it is logged on
+  pub on : List Bool
+
+-- whether the user of this number is logged on
+abbrev pub is_on : World → ℕ → Bool
+is_on w user = slice_index_or w.on user false
+
+-- how many users are logged on
+abbrev pub users_on : World → ℕ
+users_on w = count_by (λ is. is) w.on

@@ -1,18 +1,19 @@
-//! The parts of the devices of one machine: a console, a card reader, a card punch, a line printer and disks.
+//! The parts of the devices of one machine: a console, a card reader, a card punch and a line printer, over channels that run
+//! their programs and have the disks.
 //!
 //! Their one theorem: each call makes of all the parts what a definition of `specs/` says, and a part that it does not name
 //! stays as it was. Where memory is refused all stay.
 //!
 //! ```
 //! let mut devices = Devices::new(alloc, places);
-//! devices.attach_disk(DevAddr::new(0x191), unit)?;
+//! devices.serve(&mut machine, &mut storage, &mut channels, DevAddr::new(0x00C))?;
 //! devices.spool(0x00D, Target::User(3));
 //! let closed = devices.log_off(alloc)?;
 //! ```
 #![tactic(auto)]
 
+mod among;
 mod devices;
-mod disks;
 mod line;
 mod loading;
 mod obey;
@@ -22,8 +23,9 @@ mod serve;
 mod spooling;
 mod world;
 
+pub use among::Among;
 pub use devices::Devices;
-pub use disks::AttachedDisk;
 pub use line::Told;
-pub use places::{Kind, Places};
+pub use loading::load;
+pub use places::Places;
 pub use world::World;

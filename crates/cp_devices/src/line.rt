@@ -1,18 +1,21 @@
 //! Lines that are typed to a machine with devices.
-ghost use Rattle.std.specs.Prelude.{◌≡◌, ◌≤◌, ℕ, List, false, IfOk, OnErr, Err, length};
+ghost use Rattle.std.specs.Prelude.{◌≡◌, ◌≤◌, ℕ, List, IfOk, OnErr, Err, length};
 ghost use Rattle.s370_store.specs.Access.{Touches};
+ghost use Rattle.cp_channels.specs.Disks.{DiskAt};
 ghost use Rattle.cp_panel.specs.Panel.{line_needs};
 ghost use Rattle.cp_devices.specs.Equipped.{equipped};
-ghost use Rattle.cp_devices.specs.Lines.{IsLine, LacksPage, is_ipl, logged_off, outcome, requested, said, typed_at, was_reset};
+ghost use Rattle.cp_devices.specs.Lines.{IsLine, LacksPage, logged_off, outcome, said, typed_at, was_reset};
 
 use crate::devices::Devices;
 use crate::request::{Request, request_of};
 use crate::world::World;
+use cp_channels::Channels;
 use cp_console::console_line::ConsoleLine;
 use cp_console::lines::ConsoleText;
 use cp_console::responses::Response;
 use cp_panel::{LineError, Machine};
-use s370_store::Supply;
+use s370_num::DevAddr;
+use s370_store::{Storage, Supply};
 use std::alloc::Global;
 use unit_record::Arrival;
 
@@ -27,6 +30,10 @@ pub enum Told {
     Files,
     /// That the line was sent to the user of this number, whose console is to print it.
     Sent(u8, ConsoleLine),
+    /// That the machine is to be loaded from the device of this address: its owner does it.
+    Loads(DevAddr),
+    /// That a file was closed, the last of its device: its owner gives it a number.
+    Closed,
 }
 
 /// What the machine alone answers.
@@ -40,24 +47,24 @@ fn told_of(response: Option<Response>) -> Told
 }
 
 impl Devices {
-    /// A line that is typed to a machine with these devices, and what is told. Where it is not obeyed, nothing has happened,
-    /// but to a machine that an IPL had reset.
-    pub fn line<S: Supply, W: World>(
+    /// A line that is typed to a machine with these devices, and what is told. Where it is not obeyed, nothing has happened.
+    pub fn line<S: Supply, C: Channels<S>, W: World>(
         &mut self,
         alloc: Global,
         machine: &mut Machine,
         storage: &mut S,
+        channels: &mut C,
         world: &W,
         typed: &[u8],
     ) -> Result<Told, LineError>
         requires size { 8192 ≤ length (S.Storage.bytes storage.old) }
-        ensures ok { let before = equipped machine.old self.old (S.Storage.bytes storage.old) (S.Storage.keys storage.old) in
-            let after = equipped machine.new self.new (S.Storage.bytes storage.new) (S.Storage.keys storage.new) in
+        ensures ok { let before = equipped machine.old self.old (C.disks channels.old) (S.Storage.bytes storage.old) (S.Storage.keys storage.old) in
+            let after = equipped machine.new self.new (C.disks channels.new) (S.Storage.bytes storage.new) (S.Storage.keys storage.new) in
             IfOk result (λ told. IsLine (W.known world.now) typed.now before told after) }
-        ensures err { let before = equipped machine.old self.old (S.Storage.bytes storage.old) (S.Storage.keys storage.old) in
-            let after = equipped machine.new self.new (S.Storage.bytes storage.new) (S.Storage.keys storage.new) in
-            OnErr result (is_ipl (requested typed.now before) ≡ false → after ≡ before) }
-        ensures frames { let before = equipped machine.old self.old (S.Storage.bytes storage.old) (S.Storage.keys storage.old) in
+        ensures err { let before = equipped machine.old self.old (C.disks channels.old) (S.Storage.bytes storage.old) (S.Storage.keys storage.old) in
+            let after = equipped machine.new self.new (C.disks channels.new) (S.Storage.bytes storage.new) (S.Storage.keys storage.new) in
+            OnErr result (after ≡ before) }
+        ensures frames { let before = equipped machine.old self.old (C.disks channels.old) (S.Storage.bytes storage.old) (S.Storage.keys storage.old) in
             result ≡ Err LineError.FramesOut → LacksPage (Touches (line_needs typed.now before.machine)) (length (S.Storage.bytes storage.old)) (S.IsShort storage.new) (S.Storage.present storage.old) }
         ensures size { length (S.Storage.bytes storage.new) ≡ length (S.Storage.bytes storage.old) }
     {
@@ -66,13 +73,14 @@ impl Devices {
         match request_of(machine.mode(), has_console, text.as_slice()) {
             Request::LogsOn => {
                 machine.clear(storage);
-                self.clear();
+                self.reset();
+                channels.clear_disks();
                 Ok(Told::Said(Response::LogonOk))
             }
-            Request::LogsOff => self.leave(alloc, machine, storage),
-            Request::Resets => self.reset_machine(machine),
+            Request::LogsOff => self.leave(alloc, machine, storage, channels),
+            Request::Resets => self.reset_machine::<S, C>(machine, channels),
             Request::Types => self.type_line(machine, text.as_slice()),
-            Request::Asks(command) => self.obey(alloc, machine, storage, world, &command),
+            Request::Asks(command) => self.obey(alloc, world, &command),
             Request::Elsewhere => match machine.line(storage, typed) {
                 Ok(response) => Ok(told_of(response)),
                 Err(error) => Err(error),
@@ -81,17 +89,18 @@ impl Devices {
     }
 
     /// LOGOFF.
-    fn leave<S: Supply>(
+    fn leave<S: Supply, C: Channels<S>>(
         &mut self,
         alloc: Global,
         machine: &mut Machine,
         storage: &mut S,
+        channels: &mut C,
     ) -> Result<Told, LineError>
-        ensures ok { let before = equipped machine.old self.old (S.Storage.bytes storage.old) (S.Storage.keys storage.old) in
-            let after = equipped machine.new self.new (S.Storage.bytes storage.new) (S.Storage.keys storage.new) in
+        ensures ok { let before = equipped machine.old self.old (C.disks channels.old) (S.Storage.bytes storage.old) (S.Storage.keys storage.old) in
+            let after = equipped machine.new self.new (C.disks channels.new) (S.Storage.bytes storage.new) (S.Storage.keys storage.new) in
             IfOk result (λ told. outcome after told ≡ logged_off before) }
-        ensures err { let before = equipped machine.old self.old (S.Storage.bytes storage.old) (S.Storage.keys storage.old) in
-            let after = equipped machine.new self.new (S.Storage.bytes storage.new) (S.Storage.keys storage.new) in
+        ensures err { let before = equipped machine.old self.old (C.disks channels.old) (S.Storage.bytes storage.old) (S.Storage.keys storage.old) in
+            let after = equipped machine.new self.new (C.disks channels.new) (S.Storage.bytes storage.new) (S.Storage.keys storage.new) in
             OnErr result (after ≡ before) }
         ensures memory { result ≡ Err LineError.FramesOut → ⊥ }
         ensures size { length (S.Storage.bytes storage.new) ≡ length (S.Storage.bytes storage.old) }
@@ -101,14 +110,19 @@ impl Devices {
             Err(_) => return Err(LineError::Memory),
         }
         machine.switch_off(storage);
-        self.clear();
+        self.reset();
+        channels.clear_disks();
         Ok(Told::Said(Response::LogoffOk))
     }
 
     /// SYSTEM RESET.
-    fn reset_machine(&mut self, machine: &mut Machine) -> Result<Told, LineError>
-        ensures ok { (bytes keys : List ℕ) → IfOk result (λ told. outcome (equipped machine.new self.new bytes keys) told ≡ was_reset (equipped machine.old self.old bytes keys)) }
-        ensures err { (bytes keys : List ℕ) → OnErr result (equipped machine.new self.new bytes keys ≡ equipped machine.old self.old bytes keys) }
+    fn reset_machine<S: Storage, C: Channels<S>>(
+        &mut self,
+        machine: &mut Machine,
+        channels: &mut C,
+    ) -> Result<Told, LineError>
+        ensures ok { (bytes keys : List ℕ) → IfOk result (λ told. outcome (equipped machine.new self.new (C.disks channels.new) bytes keys) told ≡ was_reset (equipped machine.old self.old (C.disks channels.old) bytes keys)) }
+        ensures err { (bytes keys : List ℕ) → OnErr result (equipped machine.new self.new (C.disks channels.new) bytes keys ≡ equipped machine.old self.old (C.disks channels.old) bytes keys) }
         ensures memory { result ≡ Err LineError.FramesOut → ⊥ }
     {
         match machine.system_reset() {
@@ -116,14 +130,15 @@ impl Devices {
             Err(_) => return Err(LineError::Memory),
         }
         self.reset();
+        channels.reset_disks();
         Ok(Told::Said(Response::SystemReset))
     }
 
     /// A line for the console.
     fn type_line(&mut self, machine: &mut Machine, text: &[u8]) -> Result<Told, LineError>
         requires { length text.now ≤ 132 }
-        ensures ok { (bytes keys : List ℕ) → IfOk result (λ told. outcome (equipped machine.new self.new bytes keys) told ≡ typed_at self.old.places.console text.now (equipped machine.old self.old bytes keys)) }
-        ensures err { (bytes keys : List ℕ) → OnErr result (equipped machine.new self.new bytes keys ≡ equipped machine.old self.old bytes keys) }
+        ensures ok { (disks : List DiskAt) (bytes keys : List ℕ) → IfOk result (λ told. outcome (equipped machine.new self.new disks bytes keys) told ≡ typed_at self.old.places.console text.now (equipped machine.old self.old disks bytes keys)) }
+        ensures err { (disks : List DiskAt) (bytes keys : List ℕ) → OnErr result (equipped machine.new self.new disks bytes keys ≡ equipped machine.old self.old disks bytes keys) }
         ensures memory { result ≡ Err LineError.FramesOut → ⊥ }
     {
         let Some(device) = self.places.console else {

@@ -1,6 +1,6 @@
 //! The initial program loading of a machine.
 ghost use Rattle.std.specs.Prelude.{◌≡◌, ◌<◌, ◌≤◌, IfErr, IfOk, length};
-ghost use Rattle.s370_subchannels.specs.Serving.{TellsAway};
+ghost use Rattle.channel_runs.specs.Runs.{TellsAway};
 ghost use Rattle.cp_panel.specs.Machine.{machine_of};
 ghost use Rattle.cp_devices.specs.Loading.{IsLoaded, is_good};
 
@@ -18,7 +18,7 @@ const IPL_PSW: Range = Range { start: 0, count: 8 };
 /// Resets the machine, runs the program that the device loads, and lets the machine run where that ended well; tells whether
 /// it did. An error is told only where memory was refused, or a page is not present that the program names; nothing is said
 /// of the machine then. There is room for a line and for the notice of the machine's stop.
-pub(crate) fn load<S: Storage, D: Device>(
+pub fn load<S: Storage, D: Device>(
     machine: &mut Machine,
     storage: &mut S,
     device: DevAddr,

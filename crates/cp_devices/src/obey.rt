@@ -1,41 +1,26 @@
 //! The commands that concern the devices of a machine, their files and other users.
-ghost use Rattle.std.specs.Prelude.{◌≡◌, ◌<◌, ◌≤◌, ℕ, false, is_some, if◌then◌else◌, IfOk, OnErr, OnOk, Err, length, slice_get};
+ghost use Rattle.std.specs.Prelude.{◌≡◌, List, is_some, if◌then◌else◌, IfOk, OnErr, OnOk, Err};
 ghost use Rattle.cp_users.specs.Users.{user_of};
 ghost use Rattle.cp_console.specs.declared.responses.Response.TheVariants as responses;
 ghost use Rattle.cp_panel.specs.Machine.{Machine as WholeMachine};
 ghost use Rattle.unit_record.specs.Reader.{queued_at};
-ghost use Rattle.cp_devices.specs.Devices.{kind_at};
-ghost use Rattle.cp_devices.specs.Equipped.{equipped};
-ghost use Rattle.cp_devices.specs.Lines.{IsObeyed, LoadsDisk, LoadsKind, LoadsReader, SendsTo, close_answered, files_told, ipl_told, is_loading, outcome, spool_answered, target_of, with_closed};
-ghost use Rattle.cp_devices.specs.Resets.{devices_reset};
+ghost use Rattle.cp_channels.specs.Disks.{DiskAt};
+ghost use Rattle.cp_devices.specs.Devices.{part_at};
+ghost use Rattle.cp_devices.specs.Lines.{IsObeyed, SendsTo, close_answered, files_told, outcome, spool_answered, target_of, with_closed};
 ghost use Rattle.cp_devices.specs.Spooling.{with_deck_purged};
 
 use crate::devices::Devices;
 use crate::line::Told;
-use crate::loading::load;
-use crate::places::Kind;
 use crate::world::World;
+use cp_channels::Kind;
 use cp_console::console_line::ConsoleLine;
 use cp_console::device_commands::DeviceCommand;
 use cp_console::printing::message_line;
 use cp_console::responses::Response;
-use cp_panel::{LineError, Machine};
-use s370_channel::ChannelError;
+use cp_panel::LineError;
 use s370_num::DevAddr;
-use s370_store::Storage;
 use std::alloc::{AllocError, Global};
 use unit_record::Target;
-
-/// What an IPL tells.
-fn loaded(well: bool) -> Told
-    ensures { result ≡ ipl_told well }
-{
-    if well {
-        Told::Silent
-    } else {
-        Told::Said(Response::IplFailed)
-    }
-}
 
 /// The target that a name says: `SYSTEM` is the operator, another name is a user's.
 fn target_of<W: World>(world: &W, name: &[u8]) -> Option<Target>
@@ -68,34 +53,25 @@ fn send<W: World>(alloc: Global, world: &W, name: &[u8], text: &[u8]) -> Result<
 }
 
 impl Devices {
-    /// A command to a machine with these devices. Where it is not obeyed, nothing has happened, but to a machine that an IPL
-    /// had reset.
-    pub(crate) fn obey<S: Storage, W: World>(
+    /// A command to a machine with these devices. Where it is not obeyed, nothing has happened.
+    pub(crate) fn obey<W: World>(
         &mut self,
         alloc: Global,
-        machine: &mut Machine,
-        storage: &mut S,
         world: &W,
         command: &DeviceCommand<'_>,
     ) -> Result<Told, LineError>
-        requires size { 8192 ≤ length (S.bytes storage.old) }
-        ensures ok { let before = equipped machine.old self.old (S.bytes storage.old) (S.keys storage.old) in
-            let after = equipped machine.new self.new (S.bytes storage.new) (S.keys storage.new) in
-            IfOk result (λ told. IsObeyed (W.known world.now) command.now before told after) }
-        ensures err { let before = equipped machine.old self.old (S.bytes storage.old) (S.keys storage.old) in
-            let after = equipped machine.new self.new (S.bytes storage.new) (S.keys storage.new) in
-            OnErr result (is_loading command.now ≡ false → after ≡ before) }
-        ensures frames { result ≡ Err LineError.FramesOut → ((page : ℕ) × (S.present storage.old page ≡ false)) }
-        ensures size { length (S.bytes storage.new) ≡ length (S.bytes storage.old) }
+        ensures ok { (m : WholeMachine) (disks : List DiskAt) → IfOk result (λ told. IsObeyed (W.known world.now) command.now (record { machine = m; devices = self.old; disks = disks }) told (record { machine = m; devices = self.new; disks = disks })) }
+        ensures err { OnErr result (self.new ≡ self.old) }
+        ensures memory { result ≡ Err LineError.FramesOut → ⊥ }
     {
         match command {
-            DeviceCommand::Ipl(device) => self.ipl(machine, storage, *device),
+            DeviceCommand::Ipl(device) => Ok(Told::Loads(*device)),
             DeviceCommand::QueryFiles => Ok(self.tell_files()),
             DeviceCommand::QueryUsers => Ok(Told::Said(Response::Users(world.users_on()))),
             DeviceCommand::Spool(device, name) => {
                 Ok(self.answer_spool(world, *device, name.as_slice()))
             }
-            DeviceCommand::Close(device) => self.answer_close(alloc, world, *device),
+            DeviceCommand::Close(device) => self.answer_close(alloc, *device),
             DeviceCommand::Purge(file) => Ok(self.answer_purge(*file)),
             DeviceCommand::Message(name, text) => {
                 send(alloc, world, name.as_slice(), text.as_slice())
@@ -128,9 +104,9 @@ impl Devices {
 
     /// SPOOL.
     fn answer_spool<W: World>(&mut self, world: &W, device: DevAddr, name: &[u8]) -> Told
-        ensures { (m : WholeMachine) → outcome (record { machine = m; devices = self.new }) result ≡ spool_answered (W.known world.now) device name.now (record { machine = m; devices = self.old }) }
+        ensures { (m : WholeMachine) (disks : List DiskAt) → outcome (record { machine = m; devices = self.new; disks = disks }) result ≡ spool_answered (W.known world.now) device name.now (record { machine = m; devices = self.old; disks = disks }) }
     {
-        match self.kind_at(device.get()) {
+        match self.part_at(device.get()) {
             Some(Kind::Punch) => match target_of(world, name) {
                 Some(target) => {
                     let _found = self.spool(device.get(), target);
@@ -143,13 +119,8 @@ impl Devices {
     }
 
     /// CLOSE.
-    fn answer_close<W: World>(
-        &mut self,
-        alloc: Global,
-        world: &W,
-        device: DevAddr,
-    ) -> Result<Told, LineError>
-        ensures ok { (m : WholeMachine) → IfOk result (λ told. outcome (record { machine = m; devices = self.new }) told ≡ close_answered (W.known world.now) device (record { machine = m; devices = self.old })) }
+    fn answer_close(&mut self, alloc: Global, device: DevAddr) -> Result<Told, LineError>
+        ensures ok { (m : WholeMachine) (disks : List DiskAt) → IfOk result (λ told. outcome (record { machine = m; devices = self.new; disks = disks }) told ≡ close_answered device (record { machine = m; devices = self.old; disks = disks })) }
         ensures err { OnErr result (self.new ≡ self.old) }
         ensures memory { result ≡ Err LineError.FramesOut → ⊥ }
     {
@@ -159,17 +130,17 @@ impl Devices {
             Some(true) => {}
         }
         match self.close_at(alloc, device) {
-            Ok(()) => Ok(Told::Said(Response::FileClosed(world.next_file()))),
+            Ok(()) => Ok(Told::Closed),
             Err(_) => Err(LineError::Memory),
         }
     }
 
     /// Closes the open file of the punch or printer at this address.
     fn close_at(&mut self, alloc: Global, device: DevAddr) -> Result<(), AllocError>
-        ensures ok { OnOk result (self.new ≡ with_closed (kind_at self.old device) self.old) }
+        ensures ok { OnOk result (self.new ≡ with_closed (part_at self.old device) self.old) }
         ensures err { OnErr result (self.new ≡ self.old) }
     {
-        match self.kind_at(device.get()) {
+        match self.part_at(device.get()) {
             Some(Kind::Punch) => {
                 self.close_punch(alloc)?;
                 Ok(())
@@ -179,84 +150,6 @@ impl Devices {
                 Ok(())
             }
             _ => Ok(()),
-        }
-    }
-
-    /// IPL.
-    fn ipl<S: Storage>(
-        &mut self,
-        machine: &mut Machine,
-        storage: &mut S,
-        device: DevAddr,
-    ) -> Result<Told, LineError>
-        requires size { 8192 ≤ length (S.bytes storage.old) }
-        ensures ok { let before = equipped machine.old self.old (S.bytes storage.old) (S.keys storage.old) in
-            let after = equipped machine.new self.new (S.bytes storage.new) (S.keys storage.new) in
-            IfOk result (λ told. LoadsKind (kind_at self.old device) device before told after) }
-        ensures frames { result ≡ Err LineError.FramesOut → ((page : ℕ) × (S.present storage.old page ≡ false)) }
-        ensures size { length (S.bytes storage.new) ≡ length (S.bytes storage.old) }
-    {
-        match self.kind_at(device.get()) {
-            Some(Kind::Reader) => self.load_reader(machine, storage, device),
-            Some(Kind::Disk(index)) => self.load_disk(machine, storage, device, index),
-            _ => Ok(Told::Said(Response::DeviceNotFound)),
-        }
-    }
-
-    /// The machine is loaded from the reader.
-    fn load_reader<S: Storage>(
-        &mut self,
-        machine: &mut Machine,
-        storage: &mut S,
-        device: DevAddr,
-    ) -> Result<Told, LineError>
-        requires size { 8192 ≤ length (S.bytes storage.old) }
-        ensures ok { let before = equipped machine.old self.old (S.bytes storage.old) (S.keys storage.old) in
-            let after = equipped machine.new self.new (S.bytes storage.new) (S.keys storage.new) in
-            IfOk result (λ told. LoadsReader device before told after) }
-        ensures frames { result ≡ Err LineError.FramesOut → ((page : ℕ) × (S.present storage.old page ≡ false)) }
-        ensures size { length (S.bytes storage.new) ≡ length (S.bytes storage.old) }
-    {
-        match machine.make_room(1) {
-            Ok(()) => {}
-            Err(_) => return Err(LineError::Memory),
-        }
-        self.reset();
-        match load(machine, storage, device, &mut self.reader) {
-            Ok(well) => Ok(loaded(well)),
-            Err(ChannelError::Memory) => Err(LineError::Memory),
-            Err(ChannelError::Absent(_)) => Err(LineError::FramesOut),
-        }
-    }
-
-    /// The machine is loaded from the disk of this index.
-    fn load_disk<S: Storage>(
-        &mut self,
-        machine: &mut Machine,
-        storage: &mut S,
-        device: DevAddr,
-        index: usize,
-    ) -> Result<Told, LineError>
-        requires size { 8192 ≤ length (S.bytes storage.old) }
-        requires inside { index < length self.old.disks }
-        ensures ok { let before = equipped machine.old self.old (S.bytes storage.old) (S.keys storage.old) in
-            let after = equipped machine.new self.new (S.bytes storage.new) (S.keys storage.new) in
-            IfOk result (λ told. LoadsDisk index (slice_get (devices_reset self.old).disks index) device before told after) }
-        ensures frames { result ≡ Err LineError.FramesOut → ((page : ℕ) × (S.present storage.old page ≡ false)) }
-        ensures size { length (S.bytes storage.new) ≡ length (S.bytes storage.old) }
-    {
-        match machine.make_room(1) {
-            Ok(()) => {}
-            Err(_) => return Err(LineError::Memory),
-        }
-        self.reset();
-        let Some(disk) = self.disks.get_mut(index) else {
-            return Ok(Told::Said(Response::DeviceNotFound));
-        };
-        match load(machine, storage, device, &mut disk.unit) {
-            Ok(well) => Ok(loaded(well)),
-            Err(ChannelError::Memory) => Err(LineError::Memory),
-            Err(ChannelError::Absent(_)) => Err(LineError::FramesOut),
         }
     }
 }

@@ -13,17 +13,6 @@ pub struct Places {
     pub printer: Option<DevAddr>,
 }
 
-/// What has an address.
-#[derive(Clone, Copy, Debug, PartialEq, Eq)]
-pub enum Kind {
-    Console,
-    Reader,
-    Punch,
-    Printer,
-    /// The disk of this index.
-    Disk(usize),
-}
-
 /// Whether this is the address of the device.
 pub(crate) fn is_there(place: Option<DevAddr>, device: u16) -> bool
     ensures { result ≡ is_there place device }

@@ -1,130 +1,131 @@
 //! The devices of a machine are served.
-ghost use Rattle.std.specs.Prelude.{◌≡◌, ◌++◌, if◌then◌else◌, IfErr, IfOk, OnOk, length, slice_get};
-ghost use Rattle.s370_subchannels.specs.Serving.{TellsAway, is_started};
-ghost use Rattle.s370_subchannels.specs.Subchannels.{attended, found};
+ghost use Rattle.std.specs.Prelude.{◌≡◌, ◌++◌, true, IfErr, IfOk, OnOk, length};
+ghost use Rattle.channel_runs.specs.Runs.{TellsAway};
+ghost use Rattle.cp_channels.specs.Channels.{WhereAbsent};
+ghost use Rattle.cp_devices.specs.Devices.{IsAttached};
 ghost use Rattle.cp_devices.specs.Equipped.{equipped};
-ghost use Rattle.cp_devices.specs.Serve.{IsServedAt, RunsConsole, ServesConsole, ServesDisk, ServesPrinter, ServesPunch, ServesReader};
+ghost use Rattle.cp_devices.specs.Serve.{IsServedAt, RunsConsole, RunsKind};
 
 use crate::devices::Devices;
-use crate::places::Kind;
+use cp_channels::{Channels, Kind};
 use cp_console::console_line::ConsoleLine;
 use cp_console::responses::Response;
 use cp_panel::Machine;
-use s370_channel::ChannelError;
+use s370_channel::{Caw, ChannelError};
 use s370_num::DevAddr;
 use s370_store::Storage;
 use std::alloc::AllocError;
 use unit_record::Console;
 
 impl Devices {
-    /// Serves the device of this address: the channel program that was started runs as a whole, and its status is pending.
-    /// Tells whether there was one; else nothing has happened. An error is told only where memory was refused, or a page
-    /// is not present that the program names; nothing is said of the machine then.
-    pub fn serve<S: Storage>(
+    /// Serves the device of this address: the channel program that was started runs as a whole on these channels, and its
+    /// status is pending. Tells whether there was one; else nothing has happened. An error is told only where memory was
+    /// refused, or a page is not present that the program names. Where the channels are whole, nothing has happened in the latter case.
+    pub fn serve<S: Storage, C: Channels<S>>(
         &mut self,
         machine: &mut Machine,
         storage: &mut S,
+        channels: &mut C,
         device: DevAddr,
     ) -> Result<bool, ChannelError>
-        ensures served { let before = equipped machine.old self.old (S.bytes storage.old) (S.keys storage.old) in
-            let after = equipped machine.new self.new (S.bytes storage.new) (S.keys storage.new) in
-            IfOk result (λ done. IsServedAt device before done after) }
+        ensures served { let before = equipped machine.old self.old (C.disks channels.old) (S.bytes storage.old) (S.keys storage.old) in
+            let after = equipped machine.new self.new (C.disks channels.new) (S.bytes storage.new) (S.keys storage.new) in
+            IfOk result (λ done. IsServedAt C.reads device before done after) }
+        ensures whole { let before = equipped machine.old self.old (C.disks channels.old) (S.bytes storage.old) (S.keys storage.old) in
+            let after = equipped machine.new self.new (C.disks channels.new) (S.bytes storage.new) (S.keys storage.new) in
+            C.is_whole ≡ true → IfErr result (WhereAbsent (after ≡ before)) }
         ensures away { IfErr result (TellsAway (S.present storage.old)) }
         ensures size { length (S.bytes storage.new) ≡ length (S.bytes storage.old) }
         ensures keys { S.keys storage.new ≡ S.keys storage.old }
         ensures present { S.present storage.new ≡ S.present storage.old }
         ensures rest { S.Keeps storage.old storage.new }
     {
-        match self.kind_at(device.get()) {
-            Some(Kind::Console) => self.serve_console(machine, storage, device),
-            Some(Kind::Reader) => machine.serve(storage, device, &mut self.reader),
-            Some(Kind::Punch) => machine.serve(storage, device, &mut self.punch),
-            Some(Kind::Printer) => machine.serve(storage, device, &mut self.printer),
-            Some(Kind::Disk(index)) => self.serve_disk(machine, storage, device, index),
-            None => Ok(false),
+        let Some(kind) = self.kind_at::<S, C>(channels, device.get()) else {
+            return Ok(false);
+        };
+        let Some(start) = machine.program(device) else {
+            return Ok(false);
+        };
+        match self.run_kind(machine, storage, channels, kind, device, start) {
+            Ok(()) => Ok(true),
+            Err(error) => Err(error),
         }
     }
 
-    /// Serves the disk of this index, at this address.
-    fn serve_disk<S: Storage>(
+    /// The program of the device of this kind, at this address, runs.
+    fn run_kind<S: Storage, C: Channels<S>>(
         &mut self,
         machine: &mut Machine,
         storage: &mut S,
+        channels: &mut C,
+        kind: Kind,
         device: DevAddr,
-        index: usize,
-    ) -> Result<bool, ChannelError>
-        ensures served { let before = equipped machine.old self.old (S.bytes storage.old) (S.keys storage.old) in
-            let after = equipped machine.new self.new (S.bytes storage.new) (S.keys storage.new) in
-            IfOk result (λ done. ServesDisk index (slice_get self.old.disks index) device before done after) }
+        start: Caw,
+    ) -> Result<(), ChannelError>
+        requires attached { IsAttached (C.disks channels.old) kind }
+        ensures runs { let before = equipped machine.old self.old (C.disks channels.old) (S.bytes storage.old) (S.keys storage.old) in
+            let after = equipped machine.new self.new (C.disks channels.new) (S.bytes storage.new) (S.keys storage.new) in
+            OnOk result (RunsKind C.reads kind device start before after) }
+        ensures whole { let before = equipped machine.old self.old (C.disks channels.old) (S.bytes storage.old) (S.keys storage.old) in
+            let after = equipped machine.new self.new (C.disks channels.new) (S.bytes storage.new) (S.keys storage.new) in
+            C.is_whole ≡ true → IfErr result (WhereAbsent (after ≡ before)) }
         ensures away { IfErr result (TellsAway (S.present storage.old)) }
         ensures size { length (S.bytes storage.new) ≡ length (S.bytes storage.old) }
         ensures keys { S.keys storage.new ≡ S.keys storage.old }
         ensures present { S.present storage.new ≡ S.present storage.old }
         ensures rest { S.Keeps storage.old storage.new }
     {
-        match self.disks.get_mut(index) {
-            Some(disk) => machine.serve(storage, device, &mut disk.unit),
-            None => Ok(false),
-        }
-    }
-
-    /// Serves the console, at this address.
-    fn serve_console<S: Storage>(
-        &mut self,
-        machine: &mut Machine,
-        storage: &mut S,
-        device: DevAddr,
-    ) -> Result<bool, ChannelError>
-        ensures served { let before = equipped machine.old self.old (S.bytes storage.old) (S.keys storage.old) in
-            let after = equipped machine.new self.new (S.bytes storage.new) (S.keys storage.new) in
-            IfOk result (λ done. ServesConsole (is_started (found device machine.old.subchannels)) device before done after) }
-        ensures away { IfErr result (TellsAway (S.present storage.old)) }
-        ensures size { length (S.bytes storage.new) ≡ length (S.bytes storage.old) }
-        ensures keys { S.keys storage.new ≡ S.keys storage.old }
-        ensures present { S.present storage.new ≡ S.present storage.old }
-        ensures rest { S.Keeps storage.old storage.new }
-    {
-        if machine.is_started(device) {
-            self.run_console(machine, storage, device)
-        } else {
-            Ok(false)
+        let key = start.key;
+        let ended = match kind {
+            Kind::Console => return self.run_console(machine, storage, channels, device, start),
+            Kind::Reader => channels.run(storage, start, &mut self.reader),
+            Kind::Punch => channels.run(storage, start, &mut self.punch),
+            Kind::Printer => channels.run(storage, start, &mut self.printer),
+            Kind::Disk(index) => channels.run_disk(storage, start, index),
+        };
+        match ended {
+            Ok(ending) => {
+                machine.end_program(device, key, ending);
+                Ok(())
+            }
+            Err(error) => Err(error),
         }
     }
 
     /// The program of the console runs.
-    fn run_console<S: Storage>(
+    fn run_console<S: Storage, C: Channels<S>>(
         &mut self,
         machine: &mut Machine,
         storage: &mut S,
+        channels: &mut C,
         device: DevAddr,
-    ) -> Result<bool, ChannelError>
-        ensures runs { let before = equipped machine.old self.old (S.bytes storage.old) (S.keys storage.old) in
-            let after = equipped machine.new self.new (S.bytes storage.new) (S.keys storage.new) in
-            IfOk result (λ done. RunsConsole device before done after) }
+        start: Caw,
+    ) -> Result<(), ChannelError>
+        ensures runs { let before = equipped machine.old self.old (C.disks channels.old) (S.bytes storage.old) (S.keys storage.old) in
+            let after = equipped machine.new self.new (C.disks channels.new) (S.bytes storage.new) (S.keys storage.new) in
+            OnOk result (RunsConsole C.reads device start before after) }
+        ensures whole { let before = equipped machine.old self.old (C.disks channels.old) (S.bytes storage.old) (S.keys storage.old) in
+            let after = equipped machine.new self.new (C.disks channels.new) (S.bytes storage.new) (S.keys storage.new) in
+            C.is_whole ≡ true → IfErr result (WhereAbsent (after ≡ before)) }
         ensures away { IfErr result (TellsAway (S.present storage.old)) }
         ensures size { length (S.bytes storage.new) ≡ length (S.bytes storage.old) }
         ensures keys { S.keys storage.new ≡ S.keys storage.old }
         ensures present { S.present storage.new ≡ S.present storage.old }
         ensures rest { S.Keeps storage.old storage.new }
     {
-        machine.set_attention(device, false);
-        let done = machine.serve(storage, device, &mut self.console)?;
-        attend_where(machine, device, self.console.attention());
+        let key = start.key;
+        let ending = match channels.run(storage, start, &mut self.console) {
+            Ok(ending) => ending,
+            Err(error) => return Err(error),
+        };
+        machine.set_attention(device, self.console.attention());
+        machine.end_program(device, key, ending);
         match print_written(machine, &self.console) {
             Ok(()) => {}
             Err(_) => return Err(ChannelError::Memory),
         }
         self.console.forget_lines();
-        Ok(done)
-    }
-}
-
-/// The device has attention to give, where it wants to.
-fn attend_where(machine: &mut Machine, device: DevAddr, wants: bool)
-    ensures { machine.new ≡ (if wants then record machine.old { subchannels = attended device machine.old.subchannels } else machine.old) }
-{
-    if wants {
-        machine.attend(device);
+        Ok(())
     }
 }
 

@@ -2,11 +2,11 @@
 ghost use Rattle.std.specs.Prelude.{◌≡◌, is_some, map, IfOk, OnOk, OnErr};
 ghost use Rattle.unit_record.specs.Output.{has_entries};
 ghost use Rattle.unit_record.specs.Reader.{queued_at};
-ghost use Rattle.cp_devices.specs.Devices.{kind_at};
+ghost use Rattle.cp_devices.specs.Devices.{part_at};
 ghost use Rattle.cp_devices.specs.Spooling.{is_punch, spooled, output_of, with_punch_closed, with_printer_closed, devices_logged_off, with_deck_queued, with_deck_purged, with_deck_put_back, card_of, card_of_entry, deck_punched};
 
 use crate::devices::Devices;
-use crate::places::Kind;
+use cp_channels::Kind;
 use std::alloc::{AllocError, Global};
 use unit_record::{Card, Closed, Deck, Entry, Sender, Target, close_both};
 
@@ -18,10 +18,10 @@ const BLANK: u8 = 0x40;
 impl Devices {
     /// From now on what the punch with this address punches is for this target. Tells whether there is such a punch.
     pub fn spool(&mut self, device: u16, to: Target) -> bool
-        ensures found { result ≡ is_punch (kind_at self.old device) }
+        ensures found { result ≡ is_punch (part_at self.old device) }
         ensures after { self.new ≡ spooled self.old device to }
     {
-        match self.kind_at(device) {
+        match self.part_at(device) {
             Some(Kind::Punch) => {
                 self.target = to;
                 true
@@ -32,9 +32,9 @@ impl Devices {
 
     /// Whether the open file of the punch or printer with this address has an entry; None where neither has this address.
     pub fn has_output(&self, device: u16) -> Option<bool>
-        ensures { result ≡ output_of self.now (kind_at self.now device) }
+        ensures { result ≡ output_of self.now (part_at self.now device) }
     {
-        match self.kind_at(device) {
+        match self.part_at(device) {
             Some(Kind::Punch) => Some(!self.punch.entries().is_empty()),
             Some(Kind::Printer) => Some(!self.printer.entries().is_empty()),
             _ => None,

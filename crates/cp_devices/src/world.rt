@@ -1,9 +1,9 @@
 //! What a line of one machine may ask of the others.
-ghost use Rattle.std.specs.Prelude.{◌≡◌, ◌+◌};
+ghost use Rattle.std.specs.Prelude.{◌≡◌};
 ghost use Rattle.cp_users.specs.Users.{user_of};
-ghost use Rattle.cp_devices.specs.World.{World as Known};
+ghost use Rattle.cp_devices.specs.World.{World as Known, is_on, users_on};
 
-/// What the control program knows beside one machine: its users, who of them is logged on, and the files so far.
+/// What the control program knows beside one machine: its users, and who of them is logged on.
 pub trait World {
     /// What is known.
     ghost known: { Self → Known };
@@ -18,13 +18,9 @@ pub trait World {
 
     /// Whether the user of this number is logged on.
     fn is_on(&self, user: u8) -> bool
-        ensures { result ≡ (known self.now).is_on user };
+        ensures { result ≡ is_on (known self.now) user };
 
     /// How many users are logged on.
     fn users_on(&self) -> u64
-        ensures { result ≡ (known self.now).users_on };
-
-    /// The number that the next file has.
-    fn next_file(&self) -> u64
-        ensures { result ≡ (known self.now).files + 1 };
+        ensures { result ≡ users_on (known self.now) };
 }

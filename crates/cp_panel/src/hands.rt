@@ -1,24 +1,33 @@
 //! What the devices of a machine, and the operator, change of it beside its units and its lines.
 ghost use Rattle.std.specs.Prelude.{◌≡◌, ◌+◌, ◌<◌, ◌≤◌, ◌++◌, ◌∷◌, [], ℕ, List, OnErr, OnOk};
 ghost use Rattle.cp_console.specs.Responses.{text_of};
-ghost use Rattle.s370_subchannels.specs.Serving.{is_started};
-ghost use Rattle.s370_subchannels.specs.Subchannels.{attended, found, reset as reset_devices, with_attention};
+ghost use Rattle.s370_subchannels.specs.Serving.{program_ended, program_of};
+ghost use Rattle.s370_subchannels.specs.Subchannels.{attended, reset as reset_devices, with_attention};
 ghost use Rattle.cp_panel.specs.Machine.{nothing_pending, reset_cpu};
 ghost use Rattle.cp_panel.specs.declared.machine.Mode.TheVariants.{Running, Stopped};
 
 use crate::machine::{Machine, Mode, reset_cpu};
 use cp_console::responses::Response;
+use s370_channel::Caw;
 use s370_intr::Pending;
-use s370_num::DevAddr;
+use s370_num::{AccessKey, DevAddr};
 use s370_psw::Psw;
+use s370_walk::Ending;
 use std::alloc::AllocError;
 
 impl Machine {
-    /// Whether a channel program of the device was started and is not served yet.
-    pub fn is_started(&self, device: DevAddr) -> bool
-        ensures { result ≡ is_started (found device self.now.subchannels) }
+    /// The start of the channel program on which the device works, if it works.
+    pub fn program(&self, device: DevAddr) -> Option<Caw>
+        ensures { result ≡ program_of device self.now.subchannels }
     {
-        self.subchannels.is_started(device.get())
+        self.subchannels.program(device.get())
+    }
+
+    /// The program of the device, which had this key, has ended so: its status is pending.
+    pub fn end_program(&mut self, device: DevAddr, key: AccessKey, ending: Ending)
+        ensures { self.new ≡ record self.old { subchannels = program_ended device key ending self.old.subchannels } }
+    {
+        self.subchannels.end_program(device.get(), key, ending);
     }
 
     /// The device has attention to give when its program ends, or has none any more.

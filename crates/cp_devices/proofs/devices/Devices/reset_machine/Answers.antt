@@ -1,7 +1,8 @@
-use Rattle.std.proofs.Common.{sym, ap}
+use Rattle.std.proofs.Common.{List, map, sym, ap}
 use Rattle.cp_console.specs.declared.responses.Response.TheVariants.{SystemReset}
 use Rattle.cp_panel.specs.Machine.{Machine}
 use Rattle.cp_panel.specs.Panel.{Answer}
+use Rattle.cp_channels.specs.Disks.{DiskAt, reset_disk}
 use Rattle.cp_devices.specs.declared.line.Told.TheVariants.{Said}
 use Rattle.cp_devices.specs.Lines.{outcome}
 use Rattle.cp_devices.specs.Equipped.{Equipped}
@@ -9,11 +10,11 @@ use Rattle.cp_devices.specs.Devices.{DevicesValue}
 use Rattle.cp_devices.specs.Resets.{devices_reset}
 use Rattle.cp_devices.proofs.devices.Devices.reset_machine.Goals as goal
 
-abbrev with : DevicesValue → Machine → Equipped
-with d m = record { machine = m; devices = d }
+abbrev with : DevicesValue → List DiskAt → Machine → Equipped
+with d disks m = record { machine = m; devices = d; disks = disks }
 
 pub returns-in-Err-clause-err : goal.returns-in-Err-clause-err
-returns-in-Err-clause-err c = λ bytes keys. ap (λ (m : Machine). with c.args.self.now m) (c.in-Err.ensures.err bytes keys)
+returns-in-Err-clause-err g c = λ bytes keys. ap (λ (m : Machine). with c.args.self.now (g.C.Channels.disks c.args.channels.now) m) (c.in-Err.ensures.err bytes keys)
 
 pub returns-clause-ok : goal.returns-clause-ok
-returns-clause-ok c = λ bytes keys. rw c.reset.ensures (ap (λ (a : Answer). outcome (with (devices_reset c.args.self.now) a.machine) (Said SystemReset)) (sym (c.in-Ok.ensures.ok bytes keys)))
+returns-clause-ok g c = λ bytes keys. rw (c.reset.ensures, c.reset_disks.ensures) (ap (λ (a : Answer). outcome (with (devices_reset c.args.self.now) (map reset_disk (g.C.Channels.disks c.args.channels.now)) a.machine) (Said SystemReset)) (sym (c.in-Ok.ensures.ok bytes keys)))

@@ -1,13 +1,13 @@
 use Rattle.std.proofs.Common.{arith, ◌<◌, length, get_or}
 use Rattle.std.proofs.lemmas.List.{get_or_default}
 use Rattle.std.proofs.lemmas.List.Edits.{map_over_more}
-use Rattle.cp_devices.specs.Resets.{reset_disk}
-use Rattle.cp_devices.proofs.disks.reset_each.Goals as goal
+use Rattle.cp_channels.specs.Disks.{reset_disk}
+use Rattle.cp_channels.proofs.disks.reset_each.Goals as goal
 
 pub loop-disk-preserved : goal.loop-disk-preserved
 loop-disk-preserved c =
-    let xs = c.deref_mut-disk-items.result.now in
-    let items = c.loop-disk.disk-items in
+    let xs = c.args.disks.now in
+    let items = c.loop-disk.disks in
     let k = c.loop-disk.disk-index in
     let x = get_or items k c.disk-item.result in
     let lt : k < length items = omega arith in

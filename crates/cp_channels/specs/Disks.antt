@@ -1,0 +1,23 @@
+-- The disks of a machine, each at its address.
+use Rattle.std.specs.Prelude.{ℕ, ◌==◌, Bool, List, set}
+use Rattle.ckd_volume.specs.Unit.{Disk, disk_reset, disk_cleared}
+
+-- A disk unit, and its address.
+pub record DiskAt : Type 0 where
+  pub address : ℕ
+  pub unit : Disk
+
+abbrev pub is_disk_at : ℕ → DiskAt → Bool
+is_disk_at device disk = disk.address == device
+
+-- the disks with this unit as that of one of them
+abbrev pub with_unit : List DiskAt → ℕ → DiskAt → Disk → List DiskAt
+with_unit disks index disk unit = set disks index (record disk { unit = unit })
+
+-- a system reset: the arm stays
+abbrev pub reset_disk : DiskAt → DiskAt
+reset_disk disk = record disk { unit = disk_reset disk.unit }
+
+-- as for a LOGON: the arm stands at the first track
+abbrev pub cleared_disk : DiskAt → DiskAt
+cleared_disk disk = record disk { unit = disk_cleared disk.unit }

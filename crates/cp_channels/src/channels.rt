@@ -1,0 +1,74 @@
+//! Who runs the programs of a machine's devices, and has its disks.
+ghost use Rattle.std.specs.Prelude.{◌≡◌, ◌<◌, ℕ, Bool, true, List, length, map, IfErr, IfOk, IfSome};
+ghost use Rattle.std.specs.List.{position};
+ghost use Rattle.s370_walk.specs.Hardware.{Memory, memory_of};
+ghost use Rattle.s370_walk.specs.Walk.{Form};
+ghost use Rattle.channel_runs.specs.Runs.{TellsAway};
+ghost use Rattle.cp_channels.specs.Channels.{Walks, WalksDisk, WhereAbsent};
+ghost use Rattle.cp_channels.specs.Disks.{DiskAt, cleared_disk, is_disk_at, reset_disk};
+
+use s370_channel::{Caw, ChannelError};
+use s370_store::Storage;
+use s370_walk::{Device, Ending};
+
+/// The channels of a machine with this storage.
+pub trait Channels<S: Storage> {
+    /// How a program is read that begins with this storage.
+    ghost reads: { Memory → Form };
+
+    /// The disks, in the order in which they were attached.
+    ghost disks: { Self → List DiskAt };
+
+    /// Whether a program that names a page that is not present has done nothing.
+    ghost is_whole: { Bool };
+
+    /// How many disks there are.
+    fn count(&self) -> usize
+        ensures { result ≡ length (disks self.now) };
+
+    /// The index of the first disk with this address.
+    fn disk_at(&self, device: u16) -> Option<usize>
+        ensures index { result ≡ position (is_disk_at device) (disks self.now) }
+        ensures inside { IfSome result (λ index. index < length (disks self.now)) };
+
+    /// Runs the program with this start, for a device that is no disk. An error is told only where memory was refused, or a
+    /// page is not present that the program names.
+    fn run<D: Device>(
+        &mut self,
+        storage: &mut S,
+        start: Caw,
+        device: &mut D,
+    ) -> Result<Ending, ChannelError>
+        ensures walk { IfOk result (λ ending. Walks reads D.machine start (memory_of (S.bytes storage.old) (S.keys storage.old)) device.old ending (memory_of (S.bytes storage.new) (S.keys storage.new)) device.new) }
+        ensures disks { disks self.new ≡ disks self.old }
+        ensures away { IfErr result (TellsAway (S.present storage.old)) }
+        ensures whole { is_whole ≡ true → IfErr result (WhereAbsent ((S.bytes storage.new ≡ S.bytes storage.old) × (device.new ≡ device.old) × (disks self.new ≡ disks self.old))) }
+        ensures present { S.present storage.new ≡ S.present storage.old }
+        ensures keys { S.keys storage.new ≡ S.keys storage.old }
+        ensures size { length (S.bytes storage.new) ≡ length (S.bytes storage.old) }
+        ensures rest { S.Keeps storage.old storage.new };
+
+    /// The same for the disk of this index.
+    fn run_disk(
+        &mut self,
+        storage: &mut S,
+        start: Caw,
+        index: usize,
+    ) -> Result<Ending, ChannelError>
+        requires { index < length (disks self.old) }
+        ensures walk { IfOk result (λ ending. WalksDisk reads start (memory_of (S.bytes storage.old) (S.keys storage.old)) (disks self.old) index ending (memory_of (S.bytes storage.new) (S.keys storage.new)) (disks self.new)) }
+        ensures away { IfErr result (TellsAway (S.present storage.old)) }
+        ensures whole { is_whole ≡ true → IfErr result (WhereAbsent ((S.bytes storage.new ≡ S.bytes storage.old) × (disks self.new ≡ disks self.old))) }
+        ensures present { S.present storage.new ≡ S.present storage.old }
+        ensures keys { S.keys storage.new ≡ S.keys storage.old }
+        ensures size { length (S.bytes storage.new) ≡ length (S.bytes storage.old) }
+        ensures rest { S.Keeps storage.old storage.new };
+
+    /// A system reset of the disks: the arms stay.
+    fn reset_disks(&mut self)
+        ensures { disks self.new ≡ map reset_disk (disks self.old) };
+
+    /// As for a LOGON: the arms stand over cylinder 0, with head 0 chosen.
+    fn clear_disks(&mut self)
+        ensures { disks self.new ≡ map cleared_disk (disks self.old) };
+}

@@ -1,0 +1,119 @@
+//! Disks at their addresses.
+ghost use Rattle.std.specs.Prelude.{◌≡◌, IfErr, IfOk, length, map};
+ghost use Rattle.s370_walk.specs.Hardware.{memory_of};
+ghost use Rattle.s370_walk.specs.Walk.{Over, Reaches, live};
+ghost use Rattle.s370_channel.specs.Guest.{guest_written};
+ghost use Rattle.s370_channel.specs.Loading.{loading, loading_limits};
+ghost use Rattle.s370_channel.specs.Progress.{setting};
+ghost use Rattle.channel_runs.specs.Reading.{as_reached};
+ghost use Rattle.channel_runs.specs.Runs.{TellsAway};
+ghost use Rattle.ckd_volume.specs.Unit.{disk_machine};
+ghost use Rattle.cp_channels.specs.Channels.{Walks};
+ghost use Rattle.cp_channels.specs.Disks.{reset_disk, cleared_disk};
+
+use channel_runs::{Channel, Live};
+use ckd_volume::Unit;
+use s370_channel::{Caw, ChannelError, Guest, run_ipl};
+use s370_num::DevAddr;
+use s370_store::Storage;
+use s370_walk::Ending;
+use std::marker::Model;
+
+/// A disk unit, and its address.
+#[derive(Drop)]
+pub struct AttachedDisk {
+    pub(crate) address: DevAddr,
+    pub(crate) unit: Unit,
+}
+
+impl Model for AttachedDisk {
+    ghost use Rattle.cp_channels.specs.Disks.{DiskAt};
+
+    ghost Value = { DiskAt };
+
+    ghost view = { λ d. record { address = d.address; unit = d.unit } };
+}
+
+impl AttachedDisk {
+    /// This unit at this address.
+    pub fn new(address: DevAddr, unit: Unit) -> AttachedDisk
+        ensures { result ≡ record { address = address; unit = unit } }
+    {
+        AttachedDisk { address, unit }
+    }
+
+    /// Its address.
+    pub fn address(&self) -> DevAddr
+        ensures { result ≡ self.now.address }
+    {
+        self.address
+    }
+
+    /// The unit.
+    pub fn unit(&self) -> &Unit
+        ensures { result.now ≡ self.now.unit }
+    {
+        &self.unit
+    }
+
+    /// The program with this start runs on the unit, each word read when it is reached.
+    pub(crate) fn run<S: Storage>(
+        &mut self,
+        storage: &mut S,
+        start: Caw,
+    ) -> Result<Ending, ChannelError>
+        ensures walk { IfOk result (λ ending. Walks as_reached disk_machine start (memory_of (S.bytes storage.old) (S.keys storage.old)) self.old.unit ending (memory_of (S.bytes storage.new) (S.keys storage.new)) self.new.unit) }
+        ensures address { self.new ≡ record self.old { unit = self.new.unit } }
+        ensures away { IfErr result (TellsAway (S.present storage.old)) }
+        ensures present { S.present storage.new ≡ S.present storage.old }
+        ensures keys { S.keys storage.new ≡ S.keys storage.old }
+        ensures size { length (S.bytes storage.new) ≡ length (S.bytes storage.old) }
+        ensures rest { S.Keeps storage.old storage.new }
+    {
+        Live.run(storage, start, &mut self.unit)
+    }
+
+    /// The program of an initial program loading runs on the unit. It has gone well where its ending says so.
+    pub fn load<S: Storage>(&mut self, storage: &mut S) -> Result<Ending, ChannelError>
+        ensures walk { IfOk result (λ ending. Reaches (live guest_written) (setting disk_machine loading_limits) (loading disk_machine (memory_of (S.bytes storage.old) (S.keys storage.old)) self.old.unit) (Over ending (memory_of (S.bytes storage.new) (S.keys storage.new)) self.new.unit)) }
+        ensures address { self.new ≡ record self.old { unit = self.new.unit } }
+        ensures present { S.present storage.new ≡ S.present storage.old }
+        ensures keys { S.keys storage.new ≡ S.keys storage.old }
+        ensures size { length (S.bytes storage.new) ≡ length (S.bytes storage.old) }
+        ensures rest { S.Keeps storage.old storage.new }
+    {
+        run_ipl(&Guest, storage, &mut self.unit)
+    }
+
+    /// A system reset.
+    pub(crate) fn reset(&mut self)
+        ensures { self.new ≡ reset_disk self.old }
+    {
+        self.unit.reset();
+    }
+
+    /// As for a LOGON.
+    pub(crate) fn clear(&mut self)
+        ensures { self.new ≡ cleared_disk self.old }
+    {
+        self.unit.clear();
+    }
+}
+
+/// Resets each of these disks.
+pub(crate) fn reset_each(disks: &mut [AttachedDisk])
+    ensures { disks.new ≡ map reset_disk disks.old }
+{
+    for disk in disks.iter_mut() {
+        disk.reset();
+    }
+}
+
+/// Clears each of these disks.
+pub(crate) fn clear_each(disks: &mut [AttachedDisk])
+    ensures { disks.new ≡ map cleared_disk disks.old }
+{
+    for disk in disks.iter_mut() {
+        disk.clear();
+    }
+}
