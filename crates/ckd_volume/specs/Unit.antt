@@ -11,7 +11,7 @@ use Rattle.ckd_volume.specs.declared.parts.Right.TheVariants as rights
 use Rattle.ckd_volume.specs.declared.unit.Arm.{Arm}
 use Rattle.ckd_volume.specs.Front.{Front, Cylinder}
 use Rattle.ckd_volume.specs.Volume.{VolumeFormat}
-use Rattle.ckd_volume.specs.Begin.{Begun, starting, no_status, sense_of, unit_check}
+use Rattle.ckd_volume.specs.Begin.{Begun, starting, right_found, no_status, sense_of, unit_check}
 use Rattle.ckd_volume.specs.End.{Ended, resting, fails, stands}
 use Rattle.ckd_volume.specs.declared.control.Seek.{Seek}
 use Rattle.ckd_volume.specs.Control.{sought}
@@ -42,7 +42,7 @@ aimed d false = d
 
 -- A command begins over the cylinder under the arm.
 abbrev pub begins : Disk → Order → Begun
-begins d order = begun (starting d.front order.first) d.front.right (under d) order
+begins d order = begun (starting d.front order.first) (right_found d.front order.first) (under d) order
 
 abbrev pub keeps : Disk → Front → Disk
 keeps d front = record { volser = d.volser; cylinders = d.cylinders; cylinder = d.cylinder; home = d.home; front = front }
