@@ -57,7 +57,7 @@ fn read_records<'a>(track: &mut Track, count: u8, bytes: &'a [u8]) -> Option<(bo
 }
 
 /// What is wrong with a track.
-#[derive(Clone, Copy, Debug, PartialEq, Eq)]
+#[derive(Clone, Copy, PartialEq, Eq)]
 pub enum TrackFault {
     /// The bytes end before it is whole.
     Cut,

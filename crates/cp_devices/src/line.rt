@@ -17,7 +17,7 @@ use std::alloc::Global;
 use unit_record::Arrival;
 
 /// What is told to a line.
-#[derive(Clone, Copy, Debug, PartialEq, Eq)]
+#[derive(Clone, Copy, PartialEq, Eq)]
 pub enum Told {
     /// Nothing.
     Silent,

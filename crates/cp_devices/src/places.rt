@@ -5,7 +5,7 @@ ghost use Rattle.cp_devices.specs.Devices.{is_there};
 use s370_num::DevAddr;
 
 /// The addresses of console, reader, punch and printer; None where the machine has no such device.
-#[derive(Clone, Copy, Debug, PartialEq, Eq)]
+#[derive(Clone, Copy, PartialEq, Eq)]
 pub struct Places {
     pub console: Option<DevAddr>,
     pub reader: Option<DevAddr>,
@@ -14,7 +14,7 @@ pub struct Places {
 }
 
 /// What has an address.
-#[derive(Clone, Copy, Debug, PartialEq, Eq)]
+#[derive(Clone, Copy, PartialEq, Eq)]
 pub enum Kind {
     Console,
     Reader,

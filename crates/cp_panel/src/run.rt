@@ -12,7 +12,7 @@ use s370_supply::UnitSupply;
 
 /// What a run of a machine tells: how many units it did, why it did no more, and the notice that it printed, if it
 /// stopped.
-#[derive(Clone, Copy, Debug, PartialEq, Eq)]
+#[derive(Clone, Copy, PartialEq, Eq)]
 pub struct MachineRan {
     pub ran: Ran,
     pub notice: Option<Response>,

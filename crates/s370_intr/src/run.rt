@@ -26,7 +26,7 @@ use s370_supply::UnitSupply;
 const LONG_MOVE: u8 = 0x0E;
 
 /// How many units a run did, and why it did no more.
-#[derive(Clone, Copy, Debug, PartialEq, Eq)]
+#[derive(Clone, Copy, PartialEq, Eq)]
 pub struct Ran {
     pub units: u32,
     pub reason: Reason,
