@@ -1,5 +1,5 @@
 //! The unit: a volume under an arm, as a device of a channel.
-ghost use Rattle.std.specs.Prelude.{◌≡◌, ◌≤◌, ◌<◌, [], length, ◌+◌, ◌*◌, ◌==◌, Some, None, slice_index, slice_index_or, IfOk};
+ghost use Rattle.std.specs.Prelude.{◌≡◌, ◌≤◌, ◌<◌, [], length, ◌+◌, ◌*◌, ◌==◌, Some, None, slice_index, slice_index_or, IsOk, IfOk, OnOk};
 ghost use Rattle.ckd_volume.specs.Front as front;
 ghost use Rattle.ckd_volume.specs.Control.{halfword, sought};
 ghost use Rattle.ckd_volume.specs.declared.parts.Place.TheVariants as places;
@@ -157,11 +157,19 @@ impl Unit {
 }
 
 impl Device for Unit {
+    ghost use Rattle.s370_walk.specs.Short.{nothing_needed};
     ghost use Rattle.ckd_volume.specs.Unit.{disk_machine};
 
     ghost machine = { disk_machine };
 
-    fn command(&mut self, order: Order) -> Result<Answer, AllocError> {
+    ghost needs_memory = { nothing_needed };
+
+    /// A command of a disk is never refused memory.
+    fn command(&mut self, order: Order) -> Result<Answer, AllocError>
+        ensures ready { IsOk result }
+        ensures answer { IfOk result (λ answer. answer ≡ disk_machine.answer self.old order) }
+        ensures after { OnOk result (self.new ≡ disk_machine.started self.old order) }
+    {
         Ok(self.begin(order))
     }
 
