@@ -5,7 +5,7 @@ use Rattle.std.proofs.Math.ListN.{set, length-set}
 use Rattle.cp_frames.specs.declared.numbers.UserPage.{UserPage}
 use Rattle.cp_frames.specs.Layout.{FrameSupply, owned, is_page, is_there, frame_of, Holds}
 use Rattle.cp_frames.specs.Paging.{IsBrought, IsGivenUp, IsPagedIn, IsOpen, IsPinned, counted, unpinned_count}
-use Rattle.cp_dat.specs.Supplied.{HasSuch, IsPagedFor, StaysPinned, Stands}
+use Rattle.cp_dat.specs.Supplied.{HasSuch, IsPagedFor, IsPageIn, StaysPinned, Stands}
 use Rattle.cp_dat.specs.Bringing.{found_from, passing}
 use Rattle.cp_frames.proofs.Layouts.{dec_eq, is_this_page, frame_found}
 use Rattle.cp_frames.proofs.Tables.{page_is, page_is_at}
@@ -143,8 +143,9 @@ fewer_open (false ∷ pins) (suc frame) lt e = let rest = fewer_open pins frame 
 one_fewer : (user page frame : ℕ) (old new : FrameSupply) → IsOne user page frame old new → unpinned_count old.pins ≡ unpinned_count new.pins + 1
 one_fewer user page frame old new one = rw one.pins (fewer_open old.pins frame one.marked one.unpinned)
 
-paged_one : (user page frame : ℕ) (old new : FrameSupply) → IsOne user page frame old new → IsPagedFor user (page ∷ []) old new
-paged_one user page frame old new one = record {
+paged_one : (user page frame : ℕ) (old new : FrameSupply) → IsPageIn user old page new → IsOne user page frame old new → IsPagedFor user (page ∷ []) old new
+paged_one user page frame old new step one = record {
+  page_ins_are = (new, step, refl);
   same_frames = ap length one.owners ∙ length-set old.owners frame (Some (owned user page));
   same_slots = one_same user page frame old new one;
   same_marks = ap length one.pins ∙ length-set old.pins frame true;
@@ -178,13 +179,27 @@ is_one user page frame old middle new nowhere paged spare there is =
       page_ins = ap (λ (s : FrameSupply). s.page_ins) is ∙ paged.page_ins;
     }
 
+-- the mark of the frame in which a page stands is set
+marked_is : (user page frame : ℕ) (middle new : FrameSupply) → frame_of middle.owners user page ≡ Some frame → new ≡ record middle { pins = set middle.pins frame (is_some (get_or middle.owners frame None)) } →
+    new ≡ record middle { pins = set middle.pins frame true }
+marked_is user page frame middle new there is =
+    is ∙ ap (λ (o : Option UserPage). record middle { pins = set middle.pins frame (is_some o) }) (page_is middle.owners user page frame there)
+
 -- a page that stood in no frame was brought and pinned
 pub brought_one : (user page frame : ℕ) (old middle new : FrameSupply) → is_there old.owners user page ≡ false → IsBrought old middle user page frame → IsOpen old.pins frame → frame_of middle.owners user page ≡ Some frame →
     new ≡ record middle { pins = set middle.pins frame (is_some (get_or middle.owners frame None)) } → IsPagedFor user (page ∷ []) old new
 brought_one user page frame old middle new away brought spare there is =
     let nowhere : frame_of old.owners user page ≡ None = stands_nowhere (frame_of old.owners user page) away in
     let paged : IsPagedIn old middle user page frame = rw nowhere at brought in
-    paged_one user page frame old new (is_one user page frame old middle new nowhere paged spare there is)
+    let step : IsPageIn user old page new = record {
+      frame = frame;
+      between = middle;
+      absent = nowhere;
+      unpinned = spare;
+      paged = paged;
+      pinned = marked_is user page frame middle new there is;
+    } in
+    paged_one user page frame old new step (is_one user page frame old middle new nowhere paged spare there is)
 
 pub fewer_left : (user page frame : ℕ) (old middle new : FrameSupply) → is_there old.owners user page ≡ false → IsBrought old middle user page frame → IsOpen old.pins frame → frame_of middle.owners user page ≡ Some frame →
     new ≡ record middle { pins = set middle.pins frame (is_some (get_or middle.owners frame None)) } → unpinned_count new.pins < unpinned_count old.pins

@@ -5,4 +5,4 @@ use Rattle.cp_core.proofs.system.System.apply.Goals as goal
 pub returns-in_ok-place-in-Run-clause-supplied : goal.returns-in_ok-place-in-Run-clause-supplied
 returns-in_ok-place-in-Run-clause-supplied c =
     let e : c.in_ok-place-in-Run.place ≡ c.in-Run.user = c.in_ok-place-in-Run.ensures.place in
-    rw c.in-Run.is (record { between_before = c.run-ran.ensures.between_before; between = c.run-ran.ensures.between; given_back = λ on. absurd (false≢true on); brought = λ off. rw e at c.run-ran.ensures.supply })
+    rw c.in-Run.is (record { between_before = c.run-ran.ensures.between_before; between = c.run-ran.ensures.between; given_back = λ on. absurd (false≢true on); brought = λ off. (let s = rw e at c.run-ran.ensures.supply in (s.0, s.1, (s.2, s.3))) })
