@@ -146,7 +146,8 @@ gives_back old (Line user typed) = switches typed.now (machine_at old user)
 gives_back old (Tick user) = false
 
 abbrev pub RunBrings : Machine → Ended → List (List ℕ) → Type 0
-RunBrings m (Ran ran) units = EachBrings m.core 0 units × (length units ≤ begun ran.units ran.reason)
+RunBrings m (Ran ran) units =
+    EachBrings m.core 0 units × (length units ≤ begun ran.units ran.reason) × (length (concat units) ≤ 9 * begun ran.units ran.reason)
 RunBrings m Done units = ⊥
 RunBrings m FramesOut units = ⊥
 

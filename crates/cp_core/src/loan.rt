@@ -1,5 +1,5 @@
 //! Where a user's page stands, and the loan of frames: the bytes of one.
-ghost use Rattle.std.specs.Prelude.{◌≡◌, ℕ, ◌*◌, ◌<◌, ◌↔◌, nat_lt, Some, None, IfNone, IfSome, IsSome, length};
+ghost use Rattle.std.specs.Prelude.{◌≡◌, ℕ, ◌*◌, ◌<◌, ◌↔◌, nat_lt, true, Some, None, IfNone, IfSome, IsSome, length};
 ghost use Rattle.cp_frames.specs.Layout.{IsZeroPage, number_of};
 ghost use Rattle.cp_core.specs.Loan.{frame_at, slot_at};
 ghost use Rattle.cp_core.specs.System.{machine_at};
@@ -15,7 +15,8 @@ impl System {
 
     /// Whether a user's storage has this page.
     fn has_page(&self, user: UserNo, page: Page) -> bool
-        ensures { result ≡ nat_lt (page.0 * 4096) (length (machine_at self.now user).core.processor.bytes) }
+        ensures inside { result ≡ nat_lt (page.0 * 4096) (length (machine_at self.now user).core.processor.bytes) }
+        ensures user { result ≡ true → user < length self.now.machines }
     {
         if user.index() >= self.users() {
             return false;

@@ -1,5 +1,5 @@
 -- What bringing pages of a user leaves of the frames from which his storage is lent.
-use Rattle.std.specs.Prelude.{◌≡◌, ℕ, ◌+◌, ◌≤◌, All, IsSome, List, [], ◌∷◌, true, false, ◌⊎◌, length, replicate, slice_index_or, slice_set, Contains, Option, None}
+use Rattle.std.specs.Prelude.{◌≡◌, ℕ, ◌+◌, ◌≤◌, All, IsSome, List, [], ◌∷◌, true, false, ◌⊎◌, length, replicate, slice_index_or, slice_set, Contains, Option, Some, None}
 use Rattle.std.specs.List.{concat}
 use Rattle.cp_frames.specs.declared.numbers.UserPage.{UserPage}
 use Rattle.cp_dat.specs.declared.dat.Dat.{Dat}
@@ -36,6 +36,7 @@ pub record IsPageIn (user : ℕ) (old : FrameSupply) (page : ℕ) (new : FrameSu
   pub unpinned : IsOpen old.pins frame
   pub paged : IsPagedIn old between user page frame
   pub pinned : new ≡ record between { pins = slice_set between.pins frame true }
+  pub there : frame_of new.owners user page ≡ Some frame
 
 -- these pages have come so, one after another, and nothing else has happened
 abbrev pub ArePageIns : ℕ → FrameSupply → List ℕ → FrameSupply → Type 0

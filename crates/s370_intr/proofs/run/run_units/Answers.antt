@@ -1,4 +1,4 @@
-use Rattle.std.proofs.Common.{◌≡◌, ℕ, [], ◌∷◌, ◌++◌, ◌∙◌, ◌+◌, ◌-◌, ◌<◌, ◌≤◌, length-append, replicate, subst, sym, arith}
+use Rattle.std.proofs.Common.{◌≡◌, ℕ, List, [], ◌∷◌, ◌++◌, ◌∙◌, ◌+◌, ◌-◌, ◌<◌, ◌≤◌, length, length-append, replicate, subst, sym, arith}
 use Rattle.std.proofs.lemmas.List.{length-replicate}
 use Rattle.s370_rows.specs.State.{state_of}
 use Rattle.s370_intr.specs.declared.next.Next.{Next}
@@ -18,6 +18,14 @@ returns-then-units-count-clause-told g c =
     let quick = c.go_quickly-units.ensures.done c.args.pending.now c.args.subchannels.now plain in
     let told : Run = record { core = now; units = n; reason = Count } in
     subst (λ (k : ℕ). run k first ≡ told) c.if-units-count.true quick.0
+
+pub returns-then-units-count-clause-supply : goal.returns-then-units-count-clause-supply
+returns-then-units-count-clause-supply g c =
+    let n = c.go_quickly-units.result in
+    let first = core_of (state_of c.args.cpu.now (g.S.Storage.bytes c.args.storage.now) (g.S.Storage.keys c.args.storage.now)) c.args.pending.now c.args.subchannels.now in
+    let quiet : List (List ℕ) = replicate n [] in
+    let many : length quiet ≡ n = length-replicate n [] in
+    (quiet, g.met.S.UnitSupply.came_none _ _ n c.requires.between c.go_quickly-units.ensures.rest, each_none first 0 n, omega (arith, many))
 
 pub loop-units-init : goal.loop-units-init
 loop-units-init g c =
@@ -88,15 +96,17 @@ loop-units-preserved g c =
     let quick = c.go_quickly-units-in-loop-units.ensures.done c.supplied.new.pending c.supplied.new.subchannels plain in
     let within : n ≤ c.args.count - (k + 1) = c.go_quickly-units-in-loop-units.ensures.within in
     let less : k < c.args.count = c.loop-units-test.true in
+    let quiet : List (List ℕ) = replicate n [] in
+    let many : length quiet ≡ n = length-replicate n [] in
     let quietly = g.met.S.UnitSupply.came_none _ _ n c.in-Ok.ensures.between c.go_quickly-units-in-loop-units.ensures.rest in
     record {
       within = omega (arith, within, less);
       ran = does_many (k + 1) n first new end one quick.0;
       supply = (
-        (s.0 ++ t.0 ∷ []) ++ replicate n [],
-        g.met.S.UnitSupply.came_on _ _ _ (s.0 ++ t.0 ∷ []) (replicate n []) (g.met.S.UnitSupply.came_on _ _ _ s.0 (t.0 ∷ []) s.1 t.1) quietly,
-        each_on first 0 (s.0 ++ t.0 ∷ []) (replicate n []) (each_more first now k s.0 t.0 c.loop-units.invariant.ran s.2 s.3 needed t.3) (each_none first _ n),
-        omega (arith, s.3, length-append s.0 (t.0 ∷ []), length-append (s.0 ++ t.0 ∷ []) (replicate n []), length-replicate n []),
+        (s.0 ++ t.0 ∷ []) ++ quiet,
+        g.met.S.UnitSupply.came_on _ _ _ (s.0 ++ t.0 ∷ []) quiet (g.met.S.UnitSupply.came_on _ _ _ s.0 (t.0 ∷ []) s.1 t.1) quietly,
+        each_on first 0 (s.0 ++ t.0 ∷ []) quiet (each_more first now k s.0 t.0 c.loop-units.invariant.ran s.2 s.3 needed t.3) (each_none first _ n),
+        omega (arith, s.3, length-append s.0 (t.0 ∷ []), length-append (s.0 ++ t.0 ∷ []) quiet, many),
       );
       between = g.met.S.UnitSupply.between_kept _ _ c.go_quickly-units-in-loop-units.ensures.rest c.in-Ok.ensures.between;
       plain = λ bytes keys is_it. quick.1 is_it;
