@@ -1,5 +1,5 @@
 //! The system: its users, their machines and the frames that they share.
-ghost use Rattle.std.specs.Prelude.{◌≡◌, ◌*◌, ◌<◌, ◌≤◌, ◌↔◌, ℕ, List, [], ◌∷◌, Err, true, false, IsOk, IfOk, OnErr, OnOk, length, slice_set};
+ghost use Rattle.std.specs.Prelude.{◌≡◌, ◌<◌, ◌≤◌, ◌↔◌, ℕ, List, [], ◌∷◌, Err, true, false, IsOk, IfOk, OnErr, OnOk, length, slice_set};
 ghost use Rattle.s370_store.specs.Access.{Touches};
 ghost use Rattle.s370_intr.specs.Laws.{begun};
 ghost use Rattle.s370_intr.specs.Run.{AllNeeded, EachBrings, IsLacking};
@@ -7,6 +7,7 @@ ghost use Rattle.cp_panel.specs.declared.line.LineError.TheVariants as errors;
 ghost use Rattle.cp_panel.specs.Run.{TellsRun, notice_of};
 ghost use Rattle.cp_panel.specs.Panel.{line, line_needs, line_room, switches};
 ghost use Rattle.cp_panel.specs.Tick.{TickNeeds, ticked};
+ghost use Rattle.cp_core.specs.declared.events.Reply.{Reply};
 ghost use Rattle.cp_core.specs.Events.{IsNoRun, user_of};
 ghost use Rattle.cp_core.specs.Supply.{IsGivenBack, IsShort};
 ghost use Rattle.cp_dat.specs.Supplied.{HasNoRoom, IsBetweenUnits, IsBroughtInUnits};
@@ -167,6 +168,7 @@ impl System {
         ensures views { IfOk result (λ reply. IsApplied self.old event.entry reply self.new) }
         ensures told { IfOk result (λ reply. IsTold self.old event.entry reply self.new) }
         ensures supplied { IfOk result (λ reply. IsSupplied self.old event.entry reply self.new) }
+        ensures supplied_without_memory { result ≡ Err CpError.Memory → (reply : Reply) → IsSupplied self.old event.entry reply self.new }
         ensures user { IsOk result → user_of event.entry < length self.old.machines }
         ensures users { self.new.users ≡ self.old.users }
         ensures alive { IsOk result → self.new.is_spent ≡ false }
@@ -199,6 +201,7 @@ impl System {
         ensures views { IfOk result (λ reply. IsApplied self.old event.entry reply self.new) }
         ensures told { IfOk result (λ reply. IsTold self.old event.entry reply self.new) }
         ensures supplied { IfOk result (λ reply. IsSupplied self.old event.entry reply self.new) }
+        ensures supplied_without_memory { result ≡ Err CpError.Memory → (reply : Reply) → IsSupplied self.old event.entry reply self.new }
         ensures user { IsOk result → user_of event.entry < length self.old.machines }
         ensures users { self.new.users ≡ self.old.users }
         ensures alive { IsOk result → self.new.is_spent ≡ false }

@@ -1,7 +1,7 @@
 -- A page that has come for a unit is held until the unit ends, and so doesn't come again.
-use Rattle.std.proofs.Common.{◌≡◌, ℕ, zero, suc, ◌∙◌, List, [], ◌∷◌, Option, Bool, true, refl, sym, ap, subst, arith}
+use Rattle.std.proofs.Common.{◌≡◌, ℕ, zero, suc, ◌∙◌, List, [], ◌∷◌, Option, true, refl, sym, ap, subst, arith}
 use Rattle.std.specs.Prelude.{Contains, is_some}
-use Rattle.cp_frames.specs.Layout.{FrameSupply, frame_of, is_there}
+use Rattle.cp_frames.specs.Layout.{FrameSupply, is_there}
 use Rattle.cp_dat.specs.Supplied.{ArePageIns, IsHeld, IsPageIn}
 use Rattle.cp_dat.specs.Bringing.{differ}
 use Rattle.cp_dat.specs.Laws.{AreDistinct}

@@ -2,7 +2,7 @@ use Rattle.std.proofs.Common.{◌≡◌, ℕ, List, [], ◌∷◌, ◌++◌, ◌
 use Rattle.std.proofs.lemmas.List.{length-replicate}
 use Rattle.s370_rows.specs.State.{state_of}
 use Rattle.s370_intr.specs.declared.next.Next.{Next}
-use Rattle.s370_intr.specs.declared.next.Reason.TheVariants.{Count, FramesOut}
+use Rattle.s370_intr.specs.declared.next.Reason.TheVariants.{Count}
 use Rattle.s370_intr.specs.Units.{NeedsAt, core_of, look, unit_at}
 use Rattle.s370_intr.specs.Run.{AllNeeded, Run, run}
 use Rattle.s370_intr.proofs.Runs.{all_done, does_many, does_more, each_more, each_none, each_on, not_stopped, tells_cut, tells_stop, Goes}

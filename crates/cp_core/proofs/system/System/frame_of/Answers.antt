@@ -1,8 +1,6 @@
-use Rattle.std.proofs.Common.{◌≡◌, ◌*◌, ◌∙◌, ap, sym, subst, length, List, ℕ, Option, None, nat_lt, true, false}
-use Rattle.std.specs.Prelude.{IsSome}
-use Rattle.cp_frames.specs.Layout.{IsZeroPage, frame_of, number_of}
+use Rattle.std.proofs.Common.{◌≡◌, ◌*◌, ◌∙◌, ap, sym, subst, length, List, ℕ, nat_lt, true, false}
+use Rattle.cp_frames.specs.Layout.{IsZeroPage, frame_of}
 use Rattle.cp_core.specs.System.{SystemView, machine_at}
-use Rattle.cp_core.specs.Loan.{frame_at, slot_at}
 use Rattle.cp_core.proofs.Loans.{frame_once, none_so, past_zero, told_inside, told_past}
 use Rattle.cp_core.proofs.Systems.{bytes_are}
 use Rattle.cp_core.proofs.system.System.frame_of.Goals as goal

@@ -1,4 +1,4 @@
-use Rattle.std.proofs.Common.{◌≡◌, ◌*◌, ◌<◌, ◌∙◌, ap, sym, arith, length, List, ℕ, nat_lt, Bool}
+use Rattle.std.proofs.Common.{◌≡◌, ◌∙◌, ap, arith, length, List, ℕ}
 use Rattle.std.proofs.lemmas.Bool.Decides.{nat_tests}
 use Rattle.cp_core.specs.System.{SystemView, machine_at}
 use Rattle.cp_core.proofs.Systems.{bytes_are}
