@@ -2,7 +2,7 @@
 ghost use Rattle.std.specs.Prelude.{◌≡◌, IfErr, IfOk, length};
 ghost use Rattle.cp_panel.specs.Machine.{machine_of};
 ghost use Rattle.s370_subchannels.specs.Serving.{TellsAway};
-ghost use Rattle.cp_panel.specs.Serve.{Serves};
+ghost use Rattle.cp_panel.specs.Serve.{Serves, Stops};
 
 use crate::machine::Machine;
 use s370_channel::ChannelError;
@@ -14,7 +14,8 @@ use s370_walk::Device;
 impl Machine {
     /// Serves the device of this address, whose part is lent: the channel program that was started runs as a whole, and
     /// its status is pending. Tells whether there was one; else nothing has happened. An error is told only where the
-    /// part was refused memory, or a page is not present that the program names; the processor is then as it was.
+    /// program comes to a command that needs memory, or to a step that needs a page which is not present; the processor
+    /// is then as it was.
     pub fn serve<S: Storage, D: Device>(
         &mut self,
         storage: &mut S,
@@ -25,6 +26,8 @@ impl Machine {
             let after = machine_of self.new (S.bytes storage.new) (S.keys storage.new) in
             IfOk result (λ done. Serves D.machine device before part.old done after part.new) }
         ensures away { IfErr result (TellsAway (S.present storage.old)) }
+        ensures stopped { let before = machine_of self.old (S.bytes storage.old) (S.keys storage.old) in
+            IfErr result (Stops D.machine D.needs_memory device (S.present storage.old) before part.old) }
         ensures kept { IfErr result (λ error. self.new ≡ self.old) }
         ensures size { length (S.bytes storage.new) ≡ length (S.bytes storage.old) }
         ensures keys { S.keys storage.new ≡ S.keys storage.old }
