@@ -8,3 +8,5 @@ pub mod World
 pub mod Requests
 pub mod Lines
 pub mod Life
+pub mod Attention
+pub mod Files

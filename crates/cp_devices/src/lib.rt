@@ -13,6 +13,8 @@
 
 mod devices;
 mod disks;
+mod files;
+mod laws;
 mod line;
 mod loading;
 mod obey;
@@ -24,6 +26,8 @@ mod world;
 
 pub use devices::Devices;
 pub use disks::AttachedDisk;
+pub use files::deck_line;
+pub use laws::attention_agrees;
 pub use line::Told;
 pub use places::{Kind, Places};
 pub use world::World;

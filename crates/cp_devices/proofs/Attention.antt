@@ -1,0 +1,372 @@
+-- Attention agrees with the lines that wait, event by event.
+use Rattle.std.proofs.Common.{◌≡◌, ℕ, ◌+◌, Bool, true, false, List, [], ◌∷◌, ◌++◌, length, Option, Some, None, Result, Ok, Err, refl, sym, ap, subst, ◌∙◌, arith, eq-eqb, length-append, ne_eqb}
+use Rattle.std.proofs.lemmas.Bool.{lt-ltb}
+use Rattle.std.specs.Prelude.{if◌then◌else◌, ◌==◌, ◌&&◌, is_some, map, nat_lt, slice_get}
+use Rattle.std.specs.List.{position}
+use Rattle.std.specs.Option.{option_map}
+use Rattle.unit_record.specs.Console.{ConsoleState, console_machine, console_reset, has_room, typed_byte, wants_attention, with_typed, without_lines}
+use Rattle.unit_record.specs.Reader.{reader_machine}
+use Rattle.unit_record.specs.Punch.{punch_machine}
+use Rattle.unit_record.specs.Printer.{printer_machine}
+use Rattle.unit_record.specs.declared.output.Target.{Target}
+use Rattle.ckd_volume.specs.Unit.{disk_machine}
+use Rattle.cp_console.specs.Asked.{Asked, Stop, Command as ToControlProgram, Plain, asked_of}
+use Rattle.cp_console.specs.Commands.{command_of}
+use Rattle.cp_console.specs.Lines.{cleaned}
+use Rattle.cp_console.specs.Responses.{text_of, is_panel}
+use Rattle.cp_console.specs.declared.commands.Command.{Command}
+use Rattle.cp_console.specs.declared.commands.Command.TheVariants.{Nothing, Logon, Logoff, Begin, SystemReset, External, Display, Store, Device}
+use Rattle.cp_console.specs.declared.commands.CommandError.{CommandError}
+use Rattle.cp_console.specs.declared.commands.CommandError.TheVariants.{Memory, Unknown, Operand}
+use Rattle.cp_console.specs.declared.device_commands.DeviceCommand.{DeviceCommand}
+use Rattle.cp_console.specs.declared.device_commands.DeviceCommand.TheVariants as commands
+use Rattle.cp_console.specs.declared.responses.Response.{Response}
+use Rattle.cp_console.specs.declared.responses.Response.TheVariants as responses
+use Rattle.s370_subchannels.specs.declared.subchannel.Subchannel.{Subchannel}
+use Rattle.s370_subchannels.specs.Serving.{is_started}
+use Rattle.s370_subchannels.specs.Subchannels.{found, reset as reset_list, with_attention}
+use Rattle.s370_intr.specs.Run.{run as run_core}
+use Rattle.cp_panel.specs.DisplayStore.{changed, displayed, stored}
+use Rattle.cp_panel.specs.declared.machine.Mode.{Mode}
+use Rattle.cp_panel.specs.declared.machine.Mode.TheVariants.{Off, Stopped, Running}
+use Rattle.cp_panel.specs.Machine.{Machine, printed, reset, with_subchannels}
+use Rattle.cp_panel.specs.Panel.{answered, commanded, line, line_in, off_line, on_line}
+use Rattle.cp_panel.specs.Run.{halted, run, run_in}
+use Rattle.cp_panel.specs.Serve.{devices_in}
+use Rattle.cp_panel.specs.Tick.{ticked_in}
+use Rattle.cp_devices.specs.declared.line.Told.{Told}
+use Rattle.cp_devices.specs.declared.line.Told.TheVariants.{Said}
+use Rattle.cp_devices.specs.declared.places.Kind.{Kind}
+use Rattle.cp_devices.specs.declared.places.Kind.TheVariants as kinds
+use Rattle.cp_devices.specs.declared.places.Places.{Places}
+use Rattle.cp_devices.specs.declared.request.Request.{Request}
+use Rattle.cp_devices.specs.declared.request.Request.TheVariants.{LogsOn, LogsOff, Resets, Types, Asks, Elsewhere}
+use Rattle.cp_devices.specs.Attention.{AttentionAgrees, AttentionAgreesAtFirst, AttentionGoesOnAgreeing, waits_at}
+use Rattle.cp_devices.specs.Devices.{DevicesValue, DiskAt, is_disk_at, is_there, kind_at}
+use Rattle.cp_devices.specs.Equipped.{Equipped}
+use Rattle.cp_devices.specs.Life.{Event, Units, Serve, Line, Tick, Deck, Message, Leaves}
+use Rattle.cp_devices.specs.Lines.{IsAnswered, IsObeyed, LoadsDisk, LoadsKind, LoadsReader, LoadsUnit, Outcome, close_answered, closed_where, logged_off, logged_on, outcome, requested, spool_answered, spooled_to, target_of, typed_at, typed_where, was_reset, with_closed}
+use Rattle.cp_devices.specs.Loading.{is_good, left_by}
+use Rattle.cp_devices.specs.Requests.{asked_request, command_request, off_request, request_in}
+use Rattle.cp_devices.specs.Resets.{devices_reset}
+use Rattle.cp_devices.specs.Serve.{IsServedAt, RunsConsole, ServesConsole, ServesDisk, ServesKind, ServesUnit, attended_where}
+use Rattle.cp_devices.specs.Spooling.{is_punch, output_of}
+use Rattle.cp_devices.specs.World.{World}
+use Rattle.cp_devices.proofs.Marks.{AgreeElse, Keeps, Marks, marked, reset_marks, run_keeps, same_number, served_keeps, unmarked}
+
+-- ---- a machine whose parts are known
+
+agrees_as : (e : Equipped) (places : Places) (console : ConsoleState) (list : List Subchannel) → e.devices.places ≡ places → e.devices.console ≡ console → e.machine.core.subchannels ≡ list → Marks (waits_at places.console console) list → AttentionAgrees e
+agrees_as e places console list p c l h =
+    subst (λ (x : Places). Marks (waits_at x.console e.devices.console) e.machine.core.subchannels) (sym p) (subst (λ (x : ConsoleState). Marks (waits_at places.console x) e.machine.core.subchannels) (sym c) (subst (Marks (waits_at places.console console)) (sym l) h))
+
+-- its marks are kept, and its console waits as before
+alike : (old new : Equipped) → new.devices.places ≡ old.devices.places → new.devices.console ≡ old.devices.console → Keeps old.machine.core.subchannels new.machine.core.subchannels → AttentionAgrees old → AttentionAgrees new
+alike old new p c k h =
+    agrees_as new old.devices.places old.devices.console new.machine.core.subchannels p c refl (k (waits_at old.devices.places.console old.devices.console) h)
+
+-- nothing changes but what has no part in it
+same : (old new : Equipped) → new.devices.places ≡ old.devices.places → new.devices.console ≡ old.devices.console → new.machine.core.subchannels ≡ old.machine.core.subchannels → AttentionAgrees old → AttentionAgrees new
+same old new p c l h = agrees_as new old.devices.places old.devices.console old.machine.core.subchannels p c l h
+
+-- no line waits
+nobody : (there : Bool) → there && false ≡ false
+nobody true = refl
+nobody false = refl
+
+none_waits : (place : Option ℕ) (console : ConsoleState) → wants_attention console ≡ false → (device : ℕ) → waits_at place console device ≡ false
+none_waits place console quiet device = rw quiet (nobody (is_there place device))
+
+-- after a reset
+afresh : (old new : Equipped) → new.devices.places ≡ old.devices.places → new.devices.console ≡ console_reset old.devices.console → new.machine.core.subchannels ≡ reset_list old.machine.core.subchannels → AttentionAgrees new
+afresh old new p c l =
+    agrees_as new old.devices.places (console_reset old.devices.console) (reset_list old.machine.core.subchannels) p c l (reset_marks (waits_at old.devices.places.console (console_reset old.devices.console)) old.machine.core.subchannels (none_waits old.devices.places.console (console_reset old.devices.console) refl))
+
+quiet_of : (console : ConsoleState) → console.waiting ≡ [] → wants_attention console ≡ false
+quiet_of console e = rw e refl
+
+pub agrees_at_first : AttentionAgreesAtFirst
+agrees_at_first bytes keys list d e =
+    reset_marks (waits_at d.places.console d.console) list (none_waits d.places.console d.console (quiet_of d.console e))
+
+-- ---- a run and a tick
+
+halted_same : (notice : Option Response) (m : Machine) → (halted notice m).core.subchannels ≡ m.core.subchannels
+halted_same None m = refl
+halted_same (Some response) m = refl
+
+runs_in : (mode : Mode) (n : ℕ) (m : Machine) → Keeps m.core.subchannels (run_in mode n m).machine.core.subchannels
+runs_in Running n m f h =
+    let r = run_in Running n m in subst (Marks f) (sym (halted_same r.notice (record m { core = (run_core n m.core).core }))) (run_keeps n m.core f h)
+runs_in Stopped n m f h = h
+runs_in Off n m f h = h
+
+ticked_same : (mode : Mode) (m : Machine) → (ticked_in mode m).core.subchannels ≡ m.core.subchannels
+ticked_same Running m = refl
+ticked_same Stopped m = refl
+ticked_same Off m = refl
+
+-- ---- a device that is served
+
+-- whatever is no console
+abbrev IsOther : Option Kind → Type 0
+IsOther (Some kinds.Console) = ⊥
+IsOther (Some kinds.Reader) = Unit {0}
+IsOther (Some kinds.Punch) = Unit {0}
+IsOther (Some kinds.Printer) = Unit {0}
+IsOther (Some (kinds.Disk index)) = Unit {0}
+IsOther None = Unit {0}
+
+disk_is_other : (o : Option ℕ) → IsOther (option_map kinds.Disk o)
+disk_is_other None = tt
+disk_is_other (Some index) = tt
+
+rest_is_other : (r p q : Bool) (o : Option ℕ) → IsOther (if r then Some kinds.Reader else if p then Some kinds.Punch else if q then Some kinds.Printer else option_map kinds.Disk o)
+rest_is_other true p q o = tt
+rest_is_other false true q o = tt
+rest_is_other false false true o = tt
+rest_is_other false false false o = disk_is_other o
+
+unit_served : (index : ℕ) (disk : DiskAt) (device : ℕ) (old : Equipped) (done : Bool) (new : Equipped) → ServesUnit index disk device old done new → AttentionAgrees old → AttentionAgrees new
+unit_served index disk device old done new s h =
+    alike old new (ap (λ (d : DevicesValue). d.places) s.rest) (ap (λ (d : DevicesValue). d.console) s.rest) (served_keeps disk_machine device (devices_in old.machine) disk.unit done (devices_in new.machine) s.unit s.served.served) h
+
+disk_served : (index : ℕ) (o : Option DiskAt) (device : ℕ) (old : Equipped) (done : Bool) (new : Equipped) → ServesDisk index o device old done new → AttentionAgrees old → AttentionAgrees new
+disk_served index (Some disk) device old done new s h = unit_served index disk device old done new s h
+disk_served index None device old done new s h = subst AttentionAgrees (sym s.1) h
+
+other_served : (k : Option Kind) (device : ℕ) (old : Equipped) (done : Bool) (new : Equipped) → IsOther k → ServesKind k device old done new → AttentionAgrees old → AttentionAgrees new
+other_served (Some kinds.Console) device old done new o s h = absurd o
+other_served (Some kinds.Reader) device old done new o s h =
+    alike old new (ap (λ (d : DevicesValue). d.places) s.1) (ap (λ (d : DevicesValue). d.console) s.1) (served_keeps reader_machine device (devices_in old.machine) old.devices.reader done (devices_in new.machine) new.devices.reader s.0.served) h
+other_served (Some kinds.Punch) device old done new o s h =
+    alike old new (ap (λ (d : DevicesValue). d.places) s.1) (ap (λ (d : DevicesValue). d.console) s.1) (served_keeps punch_machine device (devices_in old.machine) old.devices.punch done (devices_in new.machine) new.devices.punch s.0.served) h
+other_served (Some kinds.Printer) device old done new o s h =
+    alike old new (ap (λ (d : DevicesValue). d.places) s.1) (ap (λ (d : DevicesValue). d.console) s.1) (served_keeps printer_machine device (devices_in old.machine) old.devices.printer done (devices_in new.machine) new.devices.printer s.0.served) h
+other_served (Some (kinds.Disk index)) device old done new o s h =
+    disk_served index (slice_get old.devices.disks index) device old done new s h
+other_served None device old done new o s h = subst AttentionAgrees (sym s.1) h
+
+-- consoles at one place wait alike at every other
+same_place : (place : Option ℕ) (device : ℕ) (c c' : ConsoleState) → is_there place device ≡ true → AgreeElse device (waits_at place c) (waits_at place c')
+same_place None device c c' is other n = refl
+same_place (Some a) device c c' is other n =
+    let apart : (a == other) ≡ false = ne_eqb a other (λ e. n (sym (same_number a device is) ∙ e)) in rw apart refl
+
+waits_there : (there wants : Bool) → there ≡ true → wants ≡ true → there && wants ≡ true
+waits_there there wants e w = rw (e, w) refl
+
+attends : (wants : Bool) (place : Option ℕ) (device : ℕ) (quiet console : ConsoleState) (m : Machine) → is_there place device ≡ true → wants_attention quiet ≡ false → wants_attention console ≡ wants → Marks (waits_at place quiet) m.core.subchannels → Marks (waits_at place console) (attended_where wants device m).core.subchannels
+attends true place device quiet console m is off on h =
+    marked device (waits_at place quiet) (waits_at place console) m.core.subchannels (waits_there (is_there place device) (wants_attention console) is on) (same_place place device quiet console is) h
+attends false place device quiet console m is off on h =
+    let both : wants_attention quiet ≡ wants_attention console = off ∙ sym on in
+    subst (λ (b : Bool). Marks (λ (d : ℕ). is_there place d && b) m.core.subchannels) both h
+
+console_runs : (device : ℕ) (old : Equipped) (done : Bool) (new : Equipped) → is_there old.devices.places.console device ≡ true → RunsConsole device old done new → AttentionAgrees old → AttentionAgrees new
+console_runs device old done new is r h =
+    let place : Option ℕ = old.devices.places.console in
+    let quiet : ConsoleState = console_reset old.devices.console in
+    let off : Marks (waits_at place quiet) (with_attention device false old.machine.core.subchannels) =
+    unmarked device (waits_at place old.devices.console) (waits_at place quiet) old.machine.core.subchannels (none_waits place quiet refl device) (same_place place device old.devices.console quiet is) h in
+    let walked : Marks (waits_at place quiet) r.walked.core.subchannels =
+    served_keeps console_machine device (devices_in (with_subchannels old.machine (with_attention device false old.machine.core.subchannels))) old.devices.console done (devices_in r.walked) r.console r.served.served (waits_at place quiet) off in
+    let given : Marks (waits_at place r.console) (attended_where (wants_attention r.console) device r.walked).core.subchannels =
+    attends (wants_attention r.console) place device quiet r.console r.walked is refl refl walked in
+    agrees_as new old.devices.places (without_lines r.console) (attended_where (wants_attention r.console) device r.walked).core.subchannels (ap (λ (d : DevicesValue). d.places) r.devices) (ap (λ (d : DevicesValue). d.console) r.devices) (ap (λ (m : Machine). m.core.subchannels) r.machine) given
+
+console_served : (starts : Bool) (device : ℕ) (old : Equipped) (done : Bool) (new : Equipped) → is_there old.devices.places.console device ≡ true → ServesConsole starts device old done new → AttentionAgrees old → AttentionAgrees new
+console_served true device old done new is s h = console_runs device old done new is s h
+console_served false device old done new is s h = subst AttentionAgrees (sym s.1) h
+
+served_at : (b : Bool) (rest : Option Kind) (device : ℕ) (old : Equipped) (done : Bool) (new : Equipped) → is_there old.devices.places.console device ≡ b → IsOther rest → ServesKind (if b then Some kinds.Console else rest) device old done new → AttentionAgrees old → AttentionAgrees new
+served_at true rest device old done new is o s h =
+    console_served (is_started (found device old.machine.core.subchannels)) device old done new is s h
+served_at false rest device old done new is o s h = other_served rest device old done new o s h
+
+serve_agrees : (device : ℕ) (old : Equipped) (done : Bool) (new : Equipped) → IsServedAt device old done new → AttentionAgrees old → AttentionAgrees new
+serve_agrees device old done new s h =
+    let p : Places = old.devices.places in
+    let disk : Option ℕ = position (is_disk_at device) old.devices.disks in
+    served_at (is_there p.console device) (if is_there p.reader device then Some kinds.Reader else if is_there p.punch device then Some kinds.Punch else if is_there p.printer device then Some kinds.Printer else option_map kinds.Disk disk) device old done new refl (rest_is_other (is_there p.reader device) (is_there p.punch device) (is_there p.printer device) disk) s h
+
+-- ---- a line that the machine alone answers
+
+answered_same : (shown : Bool) (m : Machine) (text : List ℕ) → (if shown then printed m text else m).core.subchannels ≡ m.core.subchannels
+answered_same true m text = refl
+answered_same false m text = refl
+
+says_same : (reply : Response) (m : Machine) → (answered reply m).machine.core.subchannels ≡ m.core.subchannels
+says_same reply m = answered_same (is_panel reply) m (text_of reply)
+
+-- no request but the last
+abbrev IsElsewhere : Request → Type 0
+IsElsewhere LogsOn = ⊥
+IsElsewhere LogsOff = ⊥
+IsElsewhere Resets = ⊥
+IsElsewhere Types = ⊥
+IsElsewhere (Asks command) = ⊥
+IsElsewhere Elsewhere = Unit {0}
+
+command_same : (r : Result Command CommandError) (m : Machine) → IsElsewhere (command_request r) → (commanded r m).machine.core.subchannels ≡ m.core.subchannels
+command_same (Ok Nothing) m e = refl
+command_same (Ok Logon) m e = refl
+command_same (Ok Logoff) m e = absurd e
+command_same (Ok (Begin address)) m e = refl
+command_same (Ok SystemReset) m e = absurd e
+command_same (Ok External) m e = refl
+command_same (Ok (Display place)) m e = says_same (displayed place m.core.processor) m
+command_same (Ok (Store change)) m e =
+    says_same (stored change m.core.processor) (record m { core = record m.core { processor = changed change m.core.processor } })
+command_same (Ok (Device command)) m e = absurd e
+command_same (Err Memory) m e = refl
+command_same (Err Unknown) m e = refl
+command_same (Err (Operand place)) m e = refl
+
+off_same : (r : Result Command CommandError) (m : Machine) → IsElsewhere (off_request r) → (off_line r m).machine.core.subchannels ≡ m.core.subchannels
+off_same (Ok Nothing) m e = refl
+off_same (Ok Logon) m e = absurd e
+off_same (Ok Logoff) m e = refl
+off_same (Ok (Begin address)) m e = refl
+off_same (Ok SystemReset) m e = refl
+off_same (Ok External) m e = refl
+off_same (Ok (Display place)) m e = refl
+off_same (Ok (Store change)) m e = refl
+off_same (Ok (Device command)) m e = refl
+off_same (Err fault) m e = refl
+
+asked_same : (mode : Mode) (has : Bool) (asked : Asked) (m : Machine) → IsElsewhere (asked_request mode has asked) → (on_line mode asked m).machine.core.subchannels ≡ m.core.subchannels
+asked_same mode has Stop m e = refl
+asked_same mode has (ToControlProgram text) m e = command_same (command_of text) m e
+asked_same Running has (Plain text) m e = refl
+asked_same Stopped has (Plain text) m e = command_same (command_of text) m e
+asked_same Off has (Plain text) m e = refl
+
+line_same : (mode : Mode) (has : Bool) (text : List ℕ) (m : Machine) → IsElsewhere (request_in mode has text) → (line_in mode text m).machine.core.subchannels ≡ m.core.subchannels
+line_same Off has text m e = off_same (command_of text) m e
+line_same Stopped has text m e = asked_same Stopped has (asked_of text) m e
+line_same Running has text m e = asked_same Running has (asked_of text) m e
+
+-- ---- a line for the console
+
+one_waits : (lines : List (List ℕ)) (line : List ℕ) → nat_lt 0 (length (lines ++ line ∷ [])) ≡ true
+one_waits lines line =
+    let more : length (lines ++ line ∷ []) ≡ length lines + 1 = length-append lines (line ∷ []) in
+    lt-ltb 0 (length (lines ++ line ∷ [])) (omega (arith, more))
+
+typed_waits : (console : ConsoleState) (text : List ℕ) → has_room console ≡ true → wants_attention (with_typed console text) ≡ true
+typed_waits console text room = rw room (one_waits console.waiting (map typed_byte text))
+
+is_itself : (device : ℕ) → (device == device) ≡ true
+is_itself device = eq-eqb device device refl
+
+typed_in : (b : Bool) (device : ℕ) (text : List ℕ) (old : Equipped) → has_room old.devices.console ≡ b → old.devices.places.console ≡ Some device → AttentionAgrees old → AttentionAgrees (typed_where b device text old).equipped
+typed_in true device text old room is h =
+    let place : Option ℕ = old.devices.places.console in
+    let there : is_there place device ≡ true = subst (λ (o : Option ℕ). is_there o device ≡ true) (sym is) (is_itself device) in
+    marked device (waits_at place old.devices.console) (waits_at place (with_typed old.devices.console text)) old.machine.core.subchannels (waits_there (is_there place device) (wants_attention (with_typed old.devices.console text)) there (typed_waits old.devices.console text room)) (same_place place device old.devices.console (with_typed old.devices.console text) there) h
+typed_in false device text old room is h = h
+
+types : (place : Option ℕ) (text : List ℕ) (old : Equipped) → old.devices.places.console ≡ place → AttentionAgrees old → AttentionAgrees (typed_at place text old).equipped
+types None text old is h = h
+types (Some device) text old is h = typed_in (has_room old.devices.console) device text old refl is h
+
+-- ---- a command that concerns devices
+
+left_same : (well : Bool) (device : ℕ) (m : Machine) (bytes : List ℕ) → (left_by well device m bytes).core.subchannels ≡ m.core.subchannels
+left_same true device m bytes = refl
+left_same false device m bytes = refl
+
+reader_loaded : (device : ℕ) (old : Equipped) (told : Told) (new : Equipped) → LoadsReader device old told new → AttentionAgrees new
+reader_loaded device old told new l =
+    afresh old new (ap (λ (d : DevicesValue). d.places) l.rest) (ap (λ (d : DevicesValue). d.console) l.rest) (ap (λ (m : Machine). m.core.subchannels) l.loaded.left ∙ left_same (is_good l.loaded.ending) device (reset old.machine) l.loaded.bytes)
+
+unit_loaded : (index : ℕ) (disk : DiskAt) (device : ℕ) (old : Equipped) (told : Told) (new : Equipped) → LoadsUnit index disk device old told new → AttentionAgrees new
+unit_loaded index disk device old told new l =
+    afresh old new (ap (λ (d : DevicesValue). d.places) l.rest) (ap (λ (d : DevicesValue). d.console) l.rest) (ap (λ (m : Machine). m.core.subchannels) l.loaded.left ∙ left_same (is_good l.loaded.ending) device (reset old.machine) l.loaded.bytes)
+
+left_alone : (old new : Equipped) (told : Told) (o : Outcome) → outcome new told ≡ o → AttentionAgrees o.equipped → AttentionAgrees new
+left_alone old new told o e h = subst AttentionAgrees (sym (ap (λ (x : Outcome). x.equipped) e)) h
+
+disk_loaded : (index : ℕ) (o : Option DiskAt) (device : ℕ) (old : Equipped) (told : Told) (new : Equipped) → LoadsDisk index o device old told new → AttentionAgrees old → AttentionAgrees new
+disk_loaded index (Some disk) device old told new l h = unit_loaded index disk device old told new l
+disk_loaded index None device old told new l h = left_alone old new told _ l h
+
+loaded : (k : Option Kind) (device : ℕ) (old : Equipped) (told : Told) (new : Equipped) → LoadsKind k device old told new → AttentionAgrees old → AttentionAgrees new
+loaded (Some kinds.Reader) device old told new l h = reader_loaded device old told new l
+loaded (Some (kinds.Disk index)) device old told new l h =
+    disk_loaded index (slice_get (devices_reset old.devices).disks index) device old told new l h
+loaded (Some kinds.Console) device old told new l h = left_alone old new told _ l h
+loaded (Some kinds.Punch) device old told new l h = left_alone old new told _ l h
+loaded (Some kinds.Printer) device old told new l h = left_alone old new told _ l h
+loaded None device old told new l h = left_alone old new told _ l h
+
+spooled_in : (b : Bool) (to : Target) (e : Equipped) → AttentionAgrees e → AttentionAgrees (record e { devices = if b then record e.devices { target = to } else e.devices })
+spooled_in true to e h = h
+spooled_in false to e h = h
+
+spooled_for : (o : Option Target) (device : ℕ) (e : Equipped) → AttentionAgrees e → AttentionAgrees (spooled_to o device e).equipped
+spooled_for None device e h = h
+spooled_for (Some target) device e h = spooled_in (is_punch (kind_at e.devices device)) target e h
+
+spools_where : (b : Bool) (w : World) (device : ℕ) (name : List ℕ) (e : Equipped) (other : Told) → AttentionAgrees e → AttentionAgrees (if b then spooled_to (target_of w name) device e else outcome e other).equipped
+spools_where true w device name e other h = spooled_for (target_of w name) device e h
+spools_where false w device name e other h = h
+
+closed_at : (kind : Option Kind) (e : Equipped) → AttentionAgrees e → AttentionAgrees (record e { devices = with_closed kind e.devices })
+closed_at (Some kinds.Console) e h = h
+closed_at (Some kinds.Reader) e h = h
+closed_at (Some kinds.Punch) e h = h
+closed_at (Some kinds.Printer) e h = h
+closed_at (Some (kinds.Disk index)) e h = h
+closed_at None e h = h
+
+closes : (o : Option Bool) (kind : Option Kind) (w : World) (e : Equipped) → AttentionAgrees e → AttentionAgrees (closed_where o kind w e).equipped
+closes None kind w e h = h
+closes (Some false) kind w e h = h
+closes (Some true) kind w e h = closed_at kind e h
+
+obeys : (w : World) (command : DeviceCommand) (old : Equipped) (told : Told) (new : Equipped) → IsObeyed w command old told new → AttentionAgrees old → AttentionAgrees new
+obeys w (commands.Ipl device) old told new o h = loaded (kind_at old.devices device) device old told new o h
+obeys w commands.QueryFiles old told new o h = left_alone old new told _ o h
+obeys w commands.QueryUsers old told new o h = left_alone old new told _ o h
+obeys w (commands.Spool device name) old told new o h =
+    left_alone old new told (spool_answered w device name old) o (spools_where (is_punch (kind_at old.devices device)) w device name old (Said responses.DeviceNotFound) h)
+obeys w (commands.Close device) old told new o h =
+    left_alone old new told (close_answered w device old) o (closes (output_of old.devices (kind_at old.devices device)) (kind_at old.devices device) w old h)
+obeys w (commands.Purge file) old told new o h = left_alone old new told _ o h
+obeys w (commands.Message name text) old told new o h = subst AttentionAgrees (sym o.0) h
+
+-- ---- a line
+
+elsewhere : (r : Request) → r ≡ Elsewhere → IsElsewhere r
+elsewhere r e = subst IsElsewhere (sym e) tt
+
+answers : (r : Request) (w : World) (typed : List ℕ) (old : Equipped) (told : Told) (new : Equipped) → requested typed old ≡ r → IsAnswered r w typed old told new → AttentionAgrees old → AttentionAgrees new
+answers LogsOn w typed old told new is a h = left_alone old new told (logged_on old) a (afresh old (logged_on old).equipped refl refl refl)
+answers LogsOff w typed old told new is a h = left_alone old new told (logged_off old) a (afresh old (logged_off old).equipped refl refl refl)
+answers Resets w typed old told new is a h = left_alone old new told (was_reset old) a (afresh old (was_reset old).equipped refl refl refl)
+answers Types w typed old told new is a h =
+    left_alone old new told (typed_at old.devices.places.console (cleaned typed) old) a (types old.devices.places.console (cleaned typed) old refl h)
+answers (Asks command) w typed old told new is a h = obeys w command old told new a h
+answers Elsewhere w typed old told new is a h =
+    left_alone old new told _ a (same old (record old { machine = (line typed old.machine).machine }) refl refl (line_same old.machine.mode (is_some old.devices.places.console) (cleaned typed) old.machine (elsewhere (requested typed old) is)) h)
+
+-- ---- events
+
+leaves : (event : Event) (old new : Equipped) → Leaves event old new → AttentionAgrees old → AttentionAgrees new
+leaves (Units count) old new l h =
+    let kept : Marks (waits_at old.devices.places.console old.devices.console) (run count old.machine).machine.core.subchannels =
+    runs_in old.machine.mode count old.machine (waits_at old.devices.places.console old.devices.console) h in
+    agrees_as new old.devices.places old.devices.console (run count old.machine).machine.core.subchannels (ap (λ (d : DevicesValue). d.places) l.1) (ap (λ (d : DevicesValue). d.console) l.1) (ap (λ (m : Machine). m.core.subchannels) l.0) kept
+leaves (Serve device) old new l h = serve_agrees device old l.0 new l.1 h
+leaves (Line world typed) old new l h = answers (requested typed old) world typed old l.0 new refl l.1 h
+leaves Tick old new l h =
+    same old new (ap (λ (d : DevicesValue). d.places) l.1) (ap (λ (d : DevicesValue). d.console) l.1) (ap (λ (m : Machine). m.core.subchannels) l.0 ∙ ticked_same old.machine.mode old.machine) h
+leaves (Deck deck) old new l h = subst AttentionAgrees (sym l) h
+leaves (Message text) old new l h = subst AttentionAgrees (sym l) h
+
+pub goes_on_agreeing : AttentionGoesOnAgreeing
+goes_on_agreeing [] first last h l = subst AttentionAgrees (sym l) h
+goes_on_agreeing (event ∷ events) first last h l =
+    goes_on_agreeing events l.0 last (leaves event first l.0 l.1 h) l.2
