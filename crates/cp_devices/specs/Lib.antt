@@ -3,6 +3,7 @@ pub mod Resets
 pub mod Spooling
 pub mod Equipped
 pub mod Serve
+pub mod Stopped
 pub mod Loading
 pub mod World
 pub mod Requests

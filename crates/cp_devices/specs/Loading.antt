@@ -1,13 +1,17 @@
 -- IPL: the initial program loading of a machine (GA22-7000, "Initial Program Loading"; docs/COMMANDS.md).
-use Rattle.std.specs.Prelude.{ℕ, ◌≡◌, ◌==◌, ◌&&◌, Bool, true, false, List, slice_range}
+use Rattle.std.specs.Prelude.{ℕ, ◌≡◌, ◌==◌, ◌&&◌, ◌⊎◌, Bool, true, false, List, [], ◌∷◌, slice_range}
 use Rattle.std.specs.Int.{w16, to_be_bytes}
 use Rattle.s370_psw.specs.Fields.{loaded as loaded_psw}
-use Rattle.s370_store.specs.Access.{put}
+use Rattle.s370_store.specs.Access.{Touches, put}
+use Rattle.s370_store.specs.declared.Access.TheVariants.{Store}
 use Rattle.s370_walk.specs.declared.parts.Ending.{Ending}
-use Rattle.s370_walk.specs.Hardware.{Machine as Device, memory_of}
+use Rattle.s370_walk.specs.declared.parts.Order.{Order}
+use Rattle.s370_walk.specs.Hardware.{Machine as Device, area, memory_of}
 use Rattle.s370_walk.specs.Walk.{Over, Reaches, live}
+use Rattle.s370_channel.specs.declared.running.ChannelError.{ChannelError}
+use Rattle.s370_channel.specs.declared.running.ChannelError.TheVariants as errors
 use Rattle.s370_channel.specs.Guest.{guest_written}
-use Rattle.s370_channel.specs.Loading.{loading, loading_limits}
+use Rattle.s370_channel.specs.Loading.{MatchLoading, loading, loading_limits}
 use Rattle.s370_channel.specs.Progress.{setting}
 use Rattle.cp_console.specs.Responses.{text_of}
 use Rattle.cp_console.specs.declared.responses.Response.TheVariants.{IplFailed}
@@ -40,3 +44,11 @@ pub record IsLoaded {D : Type 0} (machine : Device D) (device : ℕ) (old : Mach
   pub walk : Reaches (live guest_written) (setting machine loading_limits) (loading machine (memory_of old.core.processor.bytes old.core.processor.keys) part) (Over ending (memory_of bytes old.core.processor.keys) part')
   pub told : well ≡ is_good ending
   pub left : new ≡ left_by (is_good ending) device (reset old) bytes
+
+-- why a machine is not loaded: the program of the loading stops, or has run and the page of its PSW is not present
+abbrev pub StopsLoading : {D : Type 0} → Device D → (D → Order → Bool) → (ℕ → Bool) → Machine → D → ChannelError → Type 0
+StopsLoading machine needs present old part errors.Memory =
+    MatchLoading guest_written machine needs present (memory_of old.core.processor.bytes old.core.processor.keys) part errors.Memory
+StopsLoading machine needs present old part (errors.Absent page) =
+    MatchLoading guest_written machine needs present (memory_of old.core.processor.bytes old.core.processor.keys) part (errors.Absent page)
+    ⊎ ((present page.0 ≡ false) × Touches (area Store 0 8 ∷ []) page.0)

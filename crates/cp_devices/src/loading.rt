@@ -2,7 +2,7 @@
 ghost use Rattle.std.specs.Prelude.{◌≡◌, ◌<◌, ◌≤◌, IfErr, IfOk, length};
 ghost use Rattle.s370_subchannels.specs.Serving.{TellsAway};
 ghost use Rattle.cp_panel.specs.Machine.{machine_of};
-ghost use Rattle.cp_devices.specs.Loading.{IsLoaded, is_good};
+ghost use Rattle.cp_devices.specs.Loading.{IsLoaded, StopsLoading, is_good};
 
 use cp_console::responses::Response;
 use cp_panel::Machine;
@@ -16,8 +16,8 @@ use s370_walk::{ChannelStatus, Device, Ending, UnitStatus};
 const IPL_PSW: Range = Range { start: 0, count: 8 };
 
 /// Resets the machine, runs the program that the device loads, and lets the machine run where that ended well; tells whether
-/// it did. An error is told only where memory was refused, or a page is not present that the program names; nothing is said
-/// of the machine then. There is room for a line and for the notice of the machine's stop.
+/// it did. An error is told only where the program comes to a command that needs memory, or to a step that needs a page
+/// which is not present, or where the page of the PSW is not; nothing is said of the machine then. There is room for a line and for the notice of the machine's stop.
 pub(crate) fn load<S: Storage, D: Device>(
     machine: &mut Machine,
     storage: &mut S,
@@ -30,6 +30,8 @@ pub(crate) fn load<S: Storage, D: Device>(
         let after = machine_of machine.new (S.bytes storage.new) (S.keys storage.new) in
         IfOk result (λ well. IsLoaded D.machine device before part.old well after part.new) }
     ensures away { IfErr result (TellsAway (S.present storage.old)) }
+    ensures stopped { let before = machine_of machine.old (S.bytes storage.old) (S.keys storage.old) in
+        IfErr result (StopsLoading D.machine D.needs_memory (S.present storage.old) before part.old) }
     ensures size { length (S.bytes storage.new) ≡ length (S.bytes storage.old) }
     ensures keys { S.keys storage.new ≡ S.keys storage.old }
     ensures present { S.present storage.new ≡ S.present storage.old }

@@ -224,7 +224,8 @@ impl Devices {
         self.reset();
         match load(machine, storage, device, &mut self.reader) {
             Ok(well) => Ok(loaded(well)),
-            Err(ChannelError::Memory) => Err(LineError::Memory),
+            // A command of a reader is never refused memory.
+            Err(ChannelError::Memory) => unreachable!(),
             Err(ChannelError::Absent(_)) => Err(LineError::FramesOut),
         }
     }
@@ -255,7 +256,8 @@ impl Devices {
         };
         match load(machine, storage, device, &mut disk.unit) {
             Ok(well) => Ok(loaded(well)),
-            Err(ChannelError::Memory) => Err(LineError::Memory),
+            // A command of a disk is never refused memory.
+            Err(ChannelError::Memory) => unreachable!(),
             Err(ChannelError::Absent(_)) => Err(LineError::FramesOut),
         }
     }

@@ -1,9 +1,10 @@
 //! The devices of a machine are served.
-ghost use Rattle.std.specs.Prelude.{◌≡◌, ◌++◌, if◌then◌else◌, IfErr, IfOk, OnOk, length, slice_get};
+ghost use Rattle.std.specs.Prelude.{◌≡◌, ◌<◌, ◌++◌, if◌then◌else◌, IfErr, IfOk, OnErr, OnOk, length, slice_get};
 ghost use Rattle.s370_subchannels.specs.Serving.{TellsAway, is_started};
 ghost use Rattle.s370_subchannels.specs.Subchannels.{attended, found};
 ghost use Rattle.cp_devices.specs.Equipped.{equipped};
 ghost use Rattle.cp_devices.specs.Serve.{IsServedAt, RunsConsole, ServesConsole, ServesDisk, ServesPrinter, ServesPunch, ServesReader};
+ghost use Rattle.cp_devices.specs.Stopped.{StopsAt, StopsConsole, StopsDisk};
 
 use crate::devices::Devices;
 use crate::places::Kind;
@@ -18,8 +19,9 @@ use unit_record::Console;
 
 impl Devices {
     /// Serves the device of this address: the channel program that was started runs as a whole, and its status is pending.
-    /// Tells whether there was one; else nothing has happened. An error is told only where memory was refused, or a page
-    /// is not present that the program names; nothing is said of the machine then.
+    /// Tells whether there was one; else nothing has happened. An error is told only where the program comes to a step that
+    /// needs a page which is not present, or where console, punch or printer were refused memory for what they keep;
+    /// nothing is said of the machine then.
     pub fn serve<S: Storage>(
         &mut self,
         machine: &mut Machine,
@@ -30,6 +32,8 @@ impl Devices {
             let after = equipped machine.new self.new (S.bytes storage.new) (S.keys storage.new) in
             IfOk result (λ done. IsServedAt device before done after) }
         ensures away { IfErr result (TellsAway (S.present storage.old)) }
+        ensures stopped { let before = equipped machine.old self.old (S.bytes storage.old) (S.keys storage.old) in
+            IfErr result (StopsAt device (S.present storage.old) before) }
         ensures size { length (S.bytes storage.new) ≡ length (S.bytes storage.old) }
         ensures keys { S.keys storage.new ≡ S.keys storage.old }
         ensures present { S.present storage.new ≡ S.present storage.old }
@@ -57,6 +61,8 @@ impl Devices {
             let after = equipped machine.new self.new (S.bytes storage.new) (S.keys storage.new) in
             IfOk result (λ done. ServesDisk index (slice_get self.old.disks index) device before done after) }
         ensures away { IfErr result (TellsAway (S.present storage.old)) }
+        ensures stopped { let before = equipped machine.old self.old (S.bytes storage.old) (S.keys storage.old) in
+            IfErr result (StopsDisk (slice_get self.old.disks index) device (S.present storage.old) before) }
         ensures size { length (S.bytes storage.new) ≡ length (S.bytes storage.old) }
         ensures keys { S.keys storage.new ≡ S.keys storage.old }
         ensures present { S.present storage.new ≡ S.present storage.old }
@@ -79,6 +85,8 @@ impl Devices {
             let after = equipped machine.new self.new (S.bytes storage.new) (S.keys storage.new) in
             IfOk result (λ done. ServesConsole (is_started (found device machine.old.subchannels)) device before done after) }
         ensures away { IfErr result (TellsAway (S.present storage.old)) }
+        ensures stopped { let before = equipped machine.old self.old (S.bytes storage.old) (S.keys storage.old) in
+            IfErr result (StopsConsole device (S.present storage.old) before) }
         ensures size { length (S.bytes storage.new) ≡ length (S.bytes storage.old) }
         ensures keys { S.keys storage.new ≡ S.keys storage.old }
         ensures present { S.present storage.new ≡ S.present storage.old }
@@ -102,6 +110,8 @@ impl Devices {
             let after = equipped machine.new self.new (S.bytes storage.new) (S.keys storage.new) in
             IfOk result (λ done. RunsConsole device before done after) }
         ensures away { IfErr result (TellsAway (S.present storage.old)) }
+        ensures stopped { let before = equipped machine.old self.old (S.bytes storage.old) (S.keys storage.old) in
+            IfErr result (StopsConsole device (S.present storage.old) before) }
         ensures size { length (S.bytes storage.new) ≡ length (S.bytes storage.old) }
         ensures keys { S.keys storage.new ≡ S.keys storage.old }
         ensures present { S.present storage.new ≡ S.present storage.old }
@@ -130,7 +140,8 @@ fn attend_where(machine: &mut Machine, device: DevAddr, wants: bool)
 
 /// Prints the lines that a console has finished.
 fn print_written(machine: &mut Machine, console: &Console) -> Result<(), AllocError>
-    ensures { OnOk result (machine.new ≡ record machine.old { output = machine.old.output ++ console.now.lines; room = machine.new.room }) }
+    ensures printed { OnOk result (machine.new ≡ record machine.old { output = machine.old.output ++ console.now.lines; room = machine.new.room }) }
+    ensures some { OnErr result (0 < length console.now.lines) }
 {
     for line in console.lines() {
         machine.make_room(1)?;

@@ -25,6 +25,6 @@ returns-clause-runs g c =
       walked = machine_of c.serve.new.self bytes_left keys_left;
       console = c.serve.new.part;
       served = subst (λ (m : Parts). Serves console_machine c.args.device (machine_of m bytes keys) c.self.inside.console c.in_ok-done.done (machine_of c.serve.new.self bytes_left keys_left) c.serve.new.part) c.set_attention.ensures c.in_ok-done.ensures.served;
-      machine = served_on c.serve.new.self c.attend_where.new.machine c.print_written.new.machine c.args.device c.attention.result _ _ _ bytes_left keys_left c.attention.ensures c.attend_where.ensures c.in-Ok.ensures;
+      machine = served_on c.serve.new.self c.attend_where.new.machine c.print_written.new.machine c.args.device c.attention.result _ _ _ bytes_left keys_left c.attention.ensures c.attend_where.ensures c.in-Ok.ensures.printed;
       devices = ap (λ (console : ConsoleState). with_console old console) c.forget_lines.ensures;
     })
