@@ -4,8 +4,13 @@
 //! The guest has the channel address word of the printer at 48 and that of the reader at 4C. It starts the printer, moves the
 //! second word over the first, starts the reader, and waits with channel 0 enabled; each interruption leads to 300, where it
 //! goes on waiting.
+//!
+//! Before that it is told what a machine has at its beginning.
 #![tactic(auto)]
 
+mod beginning;
+
+use crate::beginning::begin;
 use anyhow::{Result, bail};
 use bare_machine::Bare;
 use cp_console::printing::reply;
@@ -40,6 +45,7 @@ const TYPED: [&str; 12] = [
 
 fn main(rt: HostRuntime) -> Result<()> {
     let alloc = rt.alloc();
+    begin(&rt)?;
     let mut machine = machine(alloc)?;
     let mut reader = Reader::new(alloc);
     let mut card = [0x40; 80];
