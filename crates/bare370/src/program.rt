@@ -2,10 +2,11 @@
 //!
 //! The transcript goes to standard output. A failure is one line on standard error, and its kind is the
 //! exit status.
-use crate::arguments::bare_arguments;
+use crate::arguments::{BareOptions, bare_arguments};
 use crate::ended::{BareFailure, Ended, finish};
 use crate::images::{read_volumes, save_volumes};
 use crate::session::{bare_session, machine_of};
+use bare_installation::Installation;
 use s370_num::host::Counted;
 use std::io;
 use std::rt::{Env, Files};
@@ -44,16 +45,32 @@ fn run<R: AllocGlobal + Files + Env + Print + Eprint>(rt: &R) -> Result<(), Bare
         Ok(options) => options,
         Err(error) => return Err(wrong_use(rt, &error, USAGE_NOTE).into()),
     };
-    let volumes = read_volumes(rt, options.volumes.as_slice())?;
-    let mut machine = machine_of(alloc, options.storage.blocks(), volumes)?;
-    let mut script = open(rt, options.script)?;
-    let Ok(output) = io::BufWriter::new(alloc, io::writer(rt)) else {
-        return Err(BareFailure::Session(Failure::Memory));
-    };
-    let mut transcript = Counted::new(output);
-    bare_session(alloc, &mut machine, &mut script, &mut transcript)?;
+    let mut machine = machine_with(rt, &options)?;
+    play(rt, &mut machine, options.script)?;
     if options.save {
         save_volumes(rt, &machine, options.volumes.as_slice())?;
     }
     Ok(())
+}
+
+/// The machine that the words ask for, with the volumes whose images they name.
+fn machine_with<R: AllocGlobal + Files>(
+    rt: &R,
+    options: &BareOptions<'_>,
+) -> Result<Installation, BareFailure> {
+    let volumes = read_volumes(rt, options.volumes.as_slice())?;
+    Ok(machine_of(rt.alloc(), options.storage.blocks(), volumes)?)
+}
+
+/// Plays the script at a path, and writes its transcript to standard output.
+fn play<R: AllocGlobal + Files + Print>(
+    rt: &R,
+    machine: &mut Installation,
+    path: &str,
+) -> Result<(), BareFailure> {
+    let mut script = open(rt, path)?;
+    let Ok(output) = io::BufWriter::new(rt.alloc(), io::writer(rt)) else {
+        return Err(BareFailure::Session(Failure::Memory));
+    };
+    Ok(bare_session(rt.alloc(), machine, &mut script, &mut Counted::new(output))?)
 }

@@ -60,20 +60,41 @@ pub fn machine_of(
             printer: Some(DevAddr::new(PRINTER)),
         },
     );
+    let mut subchannels = unit_record_subchannels(alloc)?;
+    add_disks(alloc, &mut devices, &mut subchannels, volumes)?;
+    Ok(Installation::new(alloc, storage, subchannels, devices))
+}
+
+/// The subchannels of console, reader, punch and printer.
+fn unit_record_subchannels(alloc: Global) -> Result<Subchannels, AllocError> {
     let mut subchannels = Subchannels::new(alloc);
     for address in [CONSOLE, READER, PUNCH, PRINTER] {
         add(&mut subchannels, address)?;
     }
+    Ok(subchannels)
+}
+
+/// Adds a disk with a subchannel for each of these volumes.
+fn add_disks(
+    alloc: Global,
+    devices: &mut Devices,
+    subchannels: &mut Subchannels,
+    volumes: Vec<Volume>,
+) -> Result<(), AllocError> {
     let mut address = FIRST_DISK;
     for volume in volumes {
-        // A volume has a first cylinder.
-        let _cylinders = volume.count();
-        let unit = Unit::new(alloc, volume, FIRST_CYLINDER)?;
-        devices.attach_disk(DevAddr::new(address), unit)?;
-        add(&mut subchannels, address)?;
+        devices.attach_disk(DevAddr::new(address), disk(alloc, volume)?)?;
+        add(subchannels, address)?;
         address = address.saturating_add(1);
     }
-    Ok(Installation::new(alloc, storage, subchannels, devices))
+    Ok(())
+}
+
+/// A disk over a volume.
+fn disk(alloc: Global, volume: Volume) -> Result<Unit, AllocError> {
+    // A volume has a first cylinder.
+    let _cylinders = volume.count();
+    Unit::new(alloc, volume, FIRST_CYLINDER)
 }
 
 /// A device more, where there is room for it.
