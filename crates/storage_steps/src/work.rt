@@ -23,7 +23,12 @@ pub fn told(alloc: Global, step: &str) -> Result<String> {
             access(alloc, range(start, count)?, access_of(kind)?, key_of(key)?)
         }
         ["both", start, count, other, others, key] => {
-            both(alloc, range(start, count)?, range(other, others)?, key_of(key)?)
+            both(
+                alloc,
+                range(start, count)?,
+                range(other, others)?,
+                key_of(key)?,
+            )
         }
         ["paged", start, count, key] => paged(alloc, range(start, count)?, key_of(key)?),
         ["find", start, kind, key] => find(alloc, address(start)?, access_of(kind)?, key_of(key)?),
@@ -139,12 +144,7 @@ fn moves(alloc: Global, from: u32, to: u32) -> Told {
 }
 
 /// What is moved between two blocks that were found for stores.
-fn moved<S: Storage>(
-    alloc: Global,
-    storage: &mut S,
-    from: u32,
-    to: u32,
-) -> Told {
+fn moved<S: Storage>(alloc: Global, storage: &mut S, from: u32, to: u32) -> Told {
     match find_room(storage, from) {
         Some(source) => match find_room(storage, to) {
             Some(target) => {
