@@ -1,6 +1,7 @@
 -- What an event does to a machine with its devices, and how its life is made of what happens to it alone.
 use Rattle.std.specs.Prelude.{ℕ, ◌≡◌, ◌+◌, Bool, true, false, nat_lt, List, [], ◌∷◌, ◌++◌, length, slice_get, Option, Some, None}
 use Rattle.cp_console.specs.ConsoleLine.{characters_of}
+use Rattle.s370_channel.specs.declared.running.ChannelError.TheVariants as errors
 use Rattle.unit_record.specs.declared.output.Target.{Target}
 use Rattle.unit_record.specs.declared.output.Target.TheVariants as targets
 use Rattle.unit_record.specs.declared.reader.Sender.TheVariants as senders
@@ -14,6 +15,7 @@ use Rattle.cp_devices.specs.Life.{Event as Local, Units, Serve as Serves, Line a
 use Rattle.cp_devices.specs.Lines.{IsLine}
 use Rattle.cp_devices.specs.Serve.{IsServedAt}
 use Rattle.cp_devices.specs.Spooling.{deck_punched}
+use Rattle.cp_devices.specs.Stopped.{StopsAt}
 use Rattle.bare_installation.specs.declared.events.Event.{Event}
 use Rattle.bare_installation.specs.declared.events.Event.TheVariants as events
 use Rattle.bare_installation.specs.declared.events.Reply.{Reply}
@@ -53,6 +55,20 @@ IsApplied old (events.Line typed) reply new = IsAnswer typed.now old reply new
 IsApplied old (events.Serve device) reply new = IsService device old reply new
 IsApplied old events.Tick reply new = IsTicked old reply new
 IsApplied old (events.Deck cards) reply new = IsGiven cards.now old reply new
+
+-- ---- where memory may be refused
+
+-- the device of this address has a program that comes to a command that needs memory, or a console's finishes lines to be printed
+abbrev pub LacksMemory : ℕ → Installation → Type 0
+LacksMemory device old = StopsAt device (λ page. true) old.equipped errors.Memory
+
+-- a run and a tick take no memory; a line and a deck take some of their own
+abbrev pub MayLackMemory : Installation → Event → Type 0
+MayLackMemory old (events.Run count) = ⊥
+MayLackMemory old (events.Line typed) = Unit {0}
+MayLackMemory old (events.Serve device) = LacksMemory device old
+MayLackMemory old events.Tick = ⊥
+MayLackMemory old (events.Deck cards) = Unit {0}
 
 -- ---- one event after another
 

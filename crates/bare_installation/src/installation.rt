@@ -1,5 +1,5 @@
 //! A machine with its devices, and nobody else.
-ghost use Rattle.std.specs.Prelude.{◌≡◌, ◌≤◌, [], true, IfOk, OnOk, length, slice_get};
+ghost use Rattle.std.specs.Prelude.{◌≡◌, ◌≤◌, [], true, IfOk, OnErr, OnOk, length, slice_get};
 ghost use Rattle.s370_store.specs.Plain.{plain_bytes, plain_keys};
 ghost use Rattle.cp_panel.specs.Machine.{unused};
 ghost use Rattle.cp_panel.specs.Run.{run};
@@ -7,7 +7,7 @@ ghost use Rattle.cp_panel.specs.Tick.{ticked};
 ghost use Rattle.cp_devices.specs.Lines.{IsLine};
 ghost use Rattle.cp_devices.specs.Serve.{IsServedAt};
 ghost use Rattle.bare_installation.specs.Installation.{IsTyped, is_logged_on, noted, printed_file, punched, received, with_deck, world_of};
-ghost use Rattle.bare_installation.specs.Life.{EachIsLife, IsApplied};
+ghost use Rattle.bare_installation.specs.Life.{EachIsLife, IsApplied, LacksMemory, MayLackMemory};
 
 use crate::alone::Alone;
 use crate::events::{Event, Reply};
@@ -71,7 +71,8 @@ impl Installation {
 
     /// What an event does to the machine, and what is told. Where memory is refused, nothing is said of the machine.
     pub fn apply(&mut self, alloc: Global, event: Event<'_>) -> Result<Reply, AllocError>
-        ensures { IfOk result (λ reply. IsApplied self.old event.entry reply self.new) }
+        ensures applied { IfOk result (λ reply. IsApplied self.old event.entry reply self.new) }
+        ensures memory { OnErr result (MayLackMemory self.old event.entry) }
     {
         match event {
             Event::Run(count) => Ok(Reply::Ran(self.units(count))),
@@ -124,6 +125,7 @@ impl Installation {
     pub fn serve(&mut self, device: DevAddr) -> Result<bool, AllocError>
         ensures served { IfOk result (λ done. IsServedAt device self.old.equipped done self.new.equipped) }
         ensures files { self.new.files ≡ self.old.files }
+        ensures memory { OnErr result (LacksMemory device self.old) }
     {
         match self
             .devices

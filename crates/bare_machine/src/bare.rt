@@ -1,12 +1,12 @@
 //! A machine of its own.
-ghost use Rattle.std.specs.Prelude.{◌≡◌, ◌<◌, ◌≤◌, IfOk, OnErr, Option, length, slice_get};
+ghost use Rattle.std.specs.Prelude.{◌≡◌, ◌<◌, ◌≤◌, true, IfErr, IfOk, OnErr, Option, length, slice_get};
 ghost use Rattle.std.specs.Option.{option_map};
 ghost use Rattle.s370_store.specs.Plain.{plain_bytes, plain_keys};
 ghost use Rattle.cp_console.specs.Responses.{text_of};
 ghost use Rattle.cp_panel.specs.Machine.{unused};
 ghost use Rattle.cp_panel.specs.Panel.{line, line_room};
 ghost use Rattle.cp_panel.specs.Run.{run};
-ghost use Rattle.cp_panel.specs.Serve.{Serves};
+ghost use Rattle.cp_panel.specs.Serve.{Serves, Stops};
 ghost use Rattle.cp_panel.specs.Tick.{ticked};
 
 use cp_console::responses::Response;
@@ -93,9 +93,11 @@ impl Bare {
     }
 
     /// Serves the device of this address, whose part is lent: the channel program that was started runs as a whole, and its
-    /// status is pending. Tells whether there was one; else nothing has happened.
+    /// status is pending. Tells whether there was one; else nothing has happened. An error is told only where the program
+    /// comes to a command that needs memory: each page is present.
     pub fn serve<D: Device>(&mut self, device: DevAddr, part: &mut D) -> Result<bool, ChannelError>
-        ensures { IfOk result (λ done. Serves D.machine device self.old part.old done self.new part.new) }
+        ensures served { IfOk result (λ done. Serves D.machine device self.old part.old done self.new part.new) }
+        ensures stopped { IfErr result (Stops D.machine D.needs_memory device (λ page. true) self.old part.old) }
     {
         self.machine.serve(&mut self.storage, device, part)
     }
