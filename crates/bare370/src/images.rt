@@ -3,7 +3,7 @@ use crate::ended::BareFailure;
 use bare_installation::Installation;
 use ckd_image::{read_image, write_image};
 use ckd_volume::Volume;
-use s370_num::host::{Counted, HostWriter};
+use s370_num::host::Counted;
 use std::alloc::AllocError;
 use std::rt::Files;
 use std::{fs, io};
@@ -44,7 +44,6 @@ pub(crate) fn save_volumes<R: AllocGlobal + Files>(
         };
         let mut image = Counted::new(output);
         write_image(alloc, unit.volume(), &mut image)?;
-        image.flush()?;
     }
     Ok(())
 }

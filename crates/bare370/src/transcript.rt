@@ -1,14 +1,20 @@
 //! The transcript of a machine of its own: the lines of an event and of a turn, and the files at the end.
+ghost use Rattle.std.specs.Prelude.{◌≡◌, ◌++◌, ◌∷◌, [], OnOk};
+ghost use Rattle.cp_console.specs.Responses.{text_of};
+ghost use Rattle.bare_installation.specs.Installation.{bare};
+ghost use Rattle.vm370.specs.Transcript.{ended, told_line};
+ghost use Rattle.bare370.specs.Transcript.{queue_line, queue_lines, said_lines, told_lines};
+
 use crate::dealer::{Dealer, SLICE_UNITS};
 use crate::script::Happening;
 use bare_installation::{BARE, FileKind, Installation, Reply};
 use cp_console::printing;
 use cp_console::responses::Response;
-use cp_devices::Told;
+use cp_devices::{Told, deck_line};
 use s370_num::DevAddr;
 use s370_num::ebcdic::printable;
 use std::alloc::{AllocError, Global};
-use unit_record::{Deck, File, Sender, Target};
+use unit_record::{Deck, File, Reader, Target};
 use vm370::transcript::{idle_line, print_line, print_ran};
 
 /// Lets what a script says happen to the machine. The transcript's lines for it, each ended by LF: the answer to a line where
@@ -24,7 +30,7 @@ pub(crate) fn print_happening(
     let before = machine.machine().printed();
     match happening.happen(alloc, machine) {
         Ok(Reply::Told(told)) => {
-            print_told(alloc, &mut text, machine, told)?;
+            print_told(alloc, &mut text, machine.devices().reader(), told)?;
             print_console(alloc, &mut text, machine, before)?;
         }
         Ok(Reply::Served(done)) => {
@@ -118,42 +124,46 @@ fn print_served(
 fn print_told(
     alloc: Global,
     out: &mut Vec<u8>,
-    machine: &Installation,
+    reader: &Reader,
     told: Told,
-) -> Result<(), AllocError> {
+) -> Result<(), AllocError>
+    ensures { OnOk result (out.new.items ≡ out.old.items ++ ended (told_lines reader.now.decks told)) }
+{
     match told {
         Told::Said(response) => print_said(alloc, out, response),
-        Told::Files => print_queue(alloc, out, machine),
+        Told::Files => print_queue(alloc, out, reader),
         Told::Silent | Told::Sent(_, _) => Ok(()),
     }
 }
 
 /// Adds a response that the console has not printed.
-fn print_said(alloc: Global, out: &mut Vec<u8>, response: Response) -> Result<(), AllocError> {
+fn print_said(alloc: Global, out: &mut Vec<u8>, response: Response) -> Result<(), AllocError>
+    ensures { OnOk result (out.new.items ≡ out.old.items ++ ended (said_lines response)) }
+{
     if response.is_panel() {
         return Ok(());
     }
     print_response(alloc, out, &response)
 }
 
-/// Adds a line for each deck of the reader.
-fn print_queue(alloc: Global, out: &mut Vec<u8>, machine: &Installation) -> Result<(), AllocError> {
-    let reader = machine.devices().reader();
+/// Adds a line for each deck of the reader, in their order.
+fn print_queue(alloc: Global, out: &mut Vec<u8>, reader: &Reader) -> Result<(), AllocError>
+    ensures { OnOk result (out.new.items ≡ out.old.items ++ ended (queue_lines reader.now.decks)) }
+{
     for index in 0..reader.len() {
-        if let Some(deck) = reader.get(index) {
-            print_deck(alloc, out, deck)?;
+        match reader.get(index) {
+            Some(deck) => print_deck(alloc, out, deck)?,
+            None => unreachable!(),
         }
     }
     Ok(())
 }
 
 /// Adds the line of a deck.
-fn print_deck(alloc: Global, out: &mut Vec<u8>, deck: &Deck) -> Result<(), AllocError> {
-    let sender = match deck.sender() {
-        Sender::System => b"SYSTEM".as_slice(),
-        Sender::User(_) => BARE,
-    };
-    let line = printing::file_line(alloc, deck.label(), sender, deck.cards().len())?;
+fn print_deck(alloc: Global, out: &mut Vec<u8>, deck: &Deck) -> Result<(), AllocError>
+    ensures { OnOk result (out.new.items ≡ out.old.items ++ ended (queue_line deck.now ∷ [])) }
+{
+    let line = deck_line(alloc, &[BARE], deck)?;
     print_line(out, BARE, &line)
 }
 
@@ -173,7 +183,9 @@ fn print_console(
 }
 
 /// Adds a response as a line of the user.
-fn print_response(alloc: Global, out: &mut Vec<u8>, response: &Response) -> Result<(), AllocError> {
+fn print_response(alloc: Global, out: &mut Vec<u8>, response: &Response) -> Result<(), AllocError>
+    ensures { OnOk result (out.new.items ≡ out.old.items ++ ended (told_line bare (text_of response.now) ∷ [])) }
+{
     let text = printing::reply(alloc, response)?;
     print_line(out, BARE, &text)
 }

@@ -14,7 +14,8 @@ use Rattle.bare_installation.specs.declared.events.Event.TheVariants as events
 use Rattle.bare_installation.specs.declared.events.Reply.{Reply}
 use Rattle.bare_installation.specs.declared.events.Reply.TheVariants as replies
 use Rattle.bare_installation.specs.Installation.{Installation, IsTyped, world_of, delivered, delivered_to, printed_file, punched, received, with_deck}
-use Rattle.bare_installation.specs.Life.{EachIsLife, IsApplied, IsLife, IsOwn, IsOwnLine, deck_for, deck_of, got, gotten, heard}
+use Rattle.bare_installation.specs.Life.{AttentionAgreesThroughout, EachIsLife, IsApplied, IsLife, IsOwn, IsOwnLine, deck_for, deck_of, got, gotten, heard}
+use Rattle.cp_devices.proofs.Attention.{goes_on_agreeing}
 
 -- events and then more events
 lives_on : (es fs : List Local) (a b c : Equipped) → Lives es a b → Lives fs b c → Lives (es ++ fs) a c
@@ -112,3 +113,9 @@ each first last (step ∷ steps) h =
       are_own = record { now = now.0; later = later.own; is_now = now.1; are_later = later.are_own; together = refl };
       lives = lives_on now.0 later.own first.equipped step.left.equipped last.equipped now.2 later.lives;
     }
+
+-- and so attention agrees
+pub throughout : AttentionAgreesThroughout
+throughout first last steps agrees h =
+    let life : IsLife first steps last = each first last steps h in
+    goes_on_agreeing life.own first.equipped last.equipped agrees life.lives

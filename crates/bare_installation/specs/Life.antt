@@ -8,6 +8,7 @@ use Rattle.unit_record.specs.declared.reader.Sender.TheVariants as senders
 use Rattle.unit_record.specs.Output.{FileValue}
 use Rattle.cp_panel.specs.Run.{run}
 use Rattle.cp_panel.specs.Tick.{ticked}
+use Rattle.cp_devices.specs.Attention.{AttentionAgrees}
 use Rattle.cp_devices.specs.declared.line.Told.{Told}
 use Rattle.cp_devices.specs.declared.line.Told.TheVariants.{Silent, Said, Files, Sent}
 use Rattle.cp_devices.specs.Equipped.{Equipped}
@@ -143,3 +144,10 @@ pub record IsLife (first : Installation) (steps : List Step) (last : Installatio
 
 abbrev pub EachIsLife : Type 0
 EachIsLife = (first last : Installation) (steps : List Step) → IsHistory first steps last → IsLife first steps last
+
+-- ---- attention
+
+-- whatever happened to a machine in which attention agreed with the lines that wait: it agrees
+abbrev pub AttentionAgreesThroughout : Type 0
+AttentionAgreesThroughout = (first last : Installation) (steps : List Step) →
+    AttentionAgrees first.equipped → IsHistory first steps last → AttentionAgrees last.equipped

@@ -7,7 +7,7 @@ ghost use Rattle.cp_panel.specs.Tick.{ticked};
 ghost use Rattle.cp_devices.specs.Lines.{IsLine};
 ghost use Rattle.cp_devices.specs.Serve.{IsServedAt};
 ghost use Rattle.bare_installation.specs.Installation.{IsTyped, is_logged_on, noted, printed_file, punched, received, with_deck, world_of};
-ghost use Rattle.bare_installation.specs.Life.{EachIsLife, IsApplied, LacksMemory, MayLackMemory};
+ghost use Rattle.bare_installation.specs.Life.{AttentionAgreesThroughout, EachIsLife, IsApplied, LacksMemory, MayLackMemory};
 
 use crate::alone::Alone;
 use crate::events::{Event, Reply};
@@ -284,6 +284,12 @@ impl Installation {
 /// for its own user right after the line that sent or closed it.
 pub fn each_is_life()
     ensures { EachIsLife }
+{}
+
+/// Whatever happens to a machine with its devices, attention goes on agreeing with the lines that wait
+/// ([`cp_devices::attention_agrees`]).
+pub fn attention_agrees_throughout()
+    ensures { AttentionAgreesThroughout }
 {}
 
 /// The same cards once more.

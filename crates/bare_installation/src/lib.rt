@@ -22,4 +22,4 @@ mod installation;
 pub use alone::BARE;
 pub use events::{Event, Reply};
 pub use files::FileKind;
-pub use installation::{Installation, each_is_life};
+pub use installation::{Installation, attention_agrees_throughout, each_is_life};
