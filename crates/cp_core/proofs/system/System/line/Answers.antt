@@ -10,6 +10,9 @@ use Rattle.cp_core.specs.System.{SystemView}
 use Rattle.cp_core.proofs.Systems.{change, is_user, seat_fits, transported, same_if_refused}
 use Rattle.cp_core.proofs.system.System.line.Goals as goal
 
+some_room : (room wanted : ℕ) → room < wanted → 0 < wanted
+some_room room wanted less = omega (arith, less)
+
 pub index_mut-machine-requires : goal.index_mut-machine-requires
 index_mut-machine-requires c =
     let inside = is_user c.self.inside.machines.items c.self.inside.frames.storages c.self.inside.directory c.args.self.now.machines c.args.user c.self.invariant.whole (ap (λ (s : SystemView). s.machines) c.self.view_is) c.requires in
@@ -43,7 +46,7 @@ returns-clause-err c =
 pub returns-clause-memory : goal.returns-clause-memory
 returns-clause-memory c =
     let changed = change c.self.inside.machines.items c.self.inside.frames.storages c.line.new.frames.storages c.self.inside.directory c.args.self.now.machines c.args.user c.index_mut-machine.result.now c.line.new.self c.self.invariant.whole (ap (λ (s : SystemView). s.machines) c.self.view_is) c.requires (c.index_mut-machine.ensures.value) (rw c.new.ensures at c.line.ensures.others) in
-    transported (λ old new. c.line.result ≡ Err errors.Memory → 0 < line_room c.args.typed.now old) _ _ _ _ changed.old changed.new (λ refused. (let less = (rw c.new.ensures at c.line.ensures.memory) refused in omega (arith, less)))
+    transported (λ old new. c.line.result ≡ Err errors.Memory → 0 < line_room c.args.typed.now old) _ _ _ _ changed.old changed.new (λ refused. some_room _ _ (c.line.ensures.memory refused))
 
 pub returns-clause-frames : goal.returns-clause-frames
 returns-clause-frames c =

@@ -1,4 +1,4 @@
-use Rattle.std.proofs.Common.{◌≡◌, ◌*◌, ◌∙◌, ap, sym, subst, length, List, ℕ, nat_lt, true, false}
+use Rattle.std.proofs.Common.{◌≡◌, ◌*◌, ◌<◌, ◌∙◌, ap, arith, sym, subst, length, List, ℕ, nat_lt, true, false}
 use Rattle.cp_frames.specs.Layout.{IsZeroPage, frame_of}
 use Rattle.cp_core.specs.System.{SystemView, machine_at}
 use Rattle.cp_core.proofs.Loans.{slot_once, none_so, past_zero, told_inside, told_past}
@@ -15,6 +15,14 @@ pub returns-then-not-has_page-clause-zero : goal.returns-then-not-has_page-claus
 returns-then-not-has_page-clause-zero c = λ nowhere. (
     let bytes = (machine_at c.args.self.now c.args.user).core.processor.bytes in
     past_zero bytes c.args.page.0 (sym c.has_page.ensures.inside ∙ c.if-not-has_page.true))
+
+pub slot_of-requires : goal.slot_of-requires
+slot_of-requires c =
+    let bytes = (machine_at c.args.self.now c.args.user).core.processor.bytes in
+    let inside : nat_lt (c.args.page.0 * 4096) (length bytes) ≡ true = sym c.has_page.ensures.inside ∙ c.if-not-has_page.false in
+    let stored = bytes_are c.self.inside.machines.items c.self.inside.frames.storages c.self.inside.directory c.args.self.now.machines c.args.user c.self.invariant.whole (ap (λ (s : SystemView). s.machines) c.self.view_is) (c.has_page.ensures.user c.if-not-has_page.false) in
+    let less : c.args.page.0 * 4096 < length bytes = grind (arith, nat_tests) in
+    omega (arith, less, ap (λ (xs : List ℕ). length xs) stored)
 
 pub returns-clause-slot : goal.returns-clause-slot
 returns-clause-slot c =
