@@ -1,4 +1,5 @@
 use Rattle.std.proofs.Common.{◌≡◌, ◌*◌, ◌<◌, ◌∙◌, ap, arith, sym, subst, length, List, ℕ, nat_lt, true, false}
+use Rattle.std.proofs.lemmas.Bool.Decides.{nat_tests}
 use Rattle.cp_frames.specs.Layout.{IsZeroPage, frame_of}
 use Rattle.cp_core.specs.System.{SystemView, machine_at}
 use Rattle.cp_core.proofs.Loans.{frame_once, none_so, past_zero, told_inside, told_past}
