@@ -138,7 +138,7 @@ fn cards_of(alloc: Global, list: &str) -> Result<Vec<Card>> {
 }
 
 /// How a loading ends.
-#[derive(Clone, Copy, PartialEq, Eq)]
+#[derive(Clone, Copy, Debug, PartialEq, Eq)]
 enum End {
     /// What was loaded stops at once, in a disabled wait.
     Loaded,
