@@ -45,21 +45,13 @@ fn run<R: AllocGlobal + Files + Env + Print + Eprint>(rt: &R) -> Result<(), Bare
         Ok(options) => options,
         Err(error) => return Err(wrong_use(rt, &error, USAGE_NOTE).into()),
     };
-    let mut machine = machine_with(rt, &options)?;
+    let volumes = read_volumes(rt, options.volumes.as_slice())?;
+    let mut machine = machine_of(alloc, options.storage.blocks(), volumes)?;
     play(rt, &mut machine, options.script)?;
     if options.save {
         save_volumes(rt, &machine, options.volumes.as_slice())?;
     }
     Ok(())
-}
-
-/// The machine that the words ask for, with the volumes whose images they name.
-fn machine_with<R: AllocGlobal + Files>(
-    rt: &R,
-    options: &BareOptions<'_>,
-) -> Result<Installation, BareFailure> {
-    let volumes = read_volumes(rt, options.volumes.as_slice())?;
-    Ok(machine_of(rt.alloc(), options.storage.blocks(), volumes)?)
 }
 
 /// Plays the script at a path, and writes its transcript to standard output.

@@ -147,14 +147,15 @@ fn print_said(alloc: Global, out: &mut Vec<u8>, response: Response) -> Result<()
 }
 
 /// Adds a line for each deck of the reader, in their order.
+#[tactic(auto, using(crate::proofs::Queues::one_more, crate::proofs::Queues::no_more))]
 fn print_queue(alloc: Global, out: &mut Vec<u8>, reader: &Reader) -> Result<(), AllocError>
     ensures { OnOk result (out.new.items ≡ out.old.items ++ ended (queue_lines reader.now.decks)) }
 {
     for index in 0..reader.len() {
-        match reader.get(index) {
-            Some(deck) => print_deck(alloc, out, deck)?,
-            None => unreachable!(),
-        }
+        let Some(deck) = reader.get(index) else {
+            unreachable!();
+        };
+        print_deck(alloc, out, deck)?;
     }
     Ok(())
 }
