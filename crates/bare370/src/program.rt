@@ -2,7 +2,7 @@
 //!
 //! The transcript goes to standard output. A failure is one line on standard error, and its kind is the
 //! exit status.
-use crate::arguments::{BareOptions, bare_arguments};
+use crate::arguments::bare_arguments;
 use crate::ended::{BareFailure, Ended, finish};
 use crate::images::{read_volumes, save_volumes};
 use crate::session::{bare_session, machine_of};
