@@ -14,5 +14,5 @@ BEGIN {
     gsub(/[_-]/, " ", words)
     words = toupper(substr(words, 1, 1)) substr(words, 2)
     if ($(NF - 1) == "must-fail") words = "**" words "**"
-    print "| " words " | " ($NF in by ? by[$NF] : "not tried yet") " |"
+    print "| " words " | " ($NF in by ? by[$NF] : "not tried since it left the gate") " |"
 }
