@@ -148,7 +148,7 @@ sources() {
         done
         {
             listed "$*"
-            find "$@" \( -name out -o -name data -o -name must-fail \) -prune -o \
+            find "$@" \( -name out -o -name data -o -name must-fail -o -name planted \) -prune -o \
                 -type f \( -name '*.rt' -o -name '*.antt' \) -exec cksum {} +
         } | LC_ALL=C sort | cksum
     )

@@ -1,3 +1,4 @@
 mod Lines
+mod Queues
 mod Pieces
 mod Watched

@@ -2,7 +2,7 @@
 ghost use Rattle.std.specs.Prelude.{◌≡◌, [], IfOk, IfSome};
 ghost use Rattle.cp_panel.specs.Run.{run};
 
-use bare_installation::Installation;
+use bare_installation::Bare;
 use cp_dispatch::{Policy, Ready};
 use cp_panel::{MachineRan, Mode};
 use cp_users::UserNo;
@@ -62,7 +62,7 @@ impl Dealer {
     }
 
     /// Lets the machine run for at most so many units, and sees what it starts and withdraws. This takes no memory.
-    pub(crate) fn run(&mut self, machine: &mut Installation, count: u32) -> MachineRan
+    pub(crate) fn run(&mut self, machine: &mut Bare, count: u32) -> MachineRan
         ensures machine { run count machine.old.equipped.machine ≡ record { machine = machine.new.equipped.machine; units = result.ran.units; reason = result.ran.reason; notice = result.notice } }
         ensures devices { machine.new.equipped.devices ≡ machine.old.equipped.devices }
         ensures files { machine.new.files ≡ machine.old.files }
@@ -75,7 +75,7 @@ impl Dealer {
     }
 
     /// The same, unit by unit: a unit starts or withdraws one program at most, so each is seen in its turn.
-    fn run_watched(&mut self, machine: &mut Installation, count: u32) -> MachineRan
+    fn run_watched(&mut self, machine: &mut Bare, count: u32) -> MachineRan
         ensures machine { run count machine.old.equipped.machine ≡ record { machine = machine.new.equipped.machine; units = result.ran.units; reason = result.ran.reason; notice = result.notice } }
         ensures devices { machine.new.equipped.devices ≡ machine.old.equipped.devices }
         ensures files { machine.new.files ≡ machine.old.files }
@@ -91,8 +91,8 @@ impl Dealer {
     }
 
     /// Sees whether the user is logged on, and which programs were started, ended and withdrawn.
-    pub(crate) fn look(&mut self, machine: &Installation) {
-        self.see_user(machine.machine().mode());
+    pub(crate) fn look(&mut self, machine: &Bare) {
+        self.see_user(machine.mode());
         self.see_programs(machine);
     }
 
@@ -105,8 +105,8 @@ impl Dealer {
     }
 
     /// A program stands in the line from its start until it is served or withdrawn: as long as its device works.
-    fn see_programs(&mut self, machine: &Installation) {
-        for subchannel in machine.machine().subchannels() {
+    fn see_programs(&mut self, machine: &Bare) {
+        for subchannel in machine.subchannels() {
             self.see_program(subchannel);
         }
     }

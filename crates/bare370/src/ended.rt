@@ -8,7 +8,7 @@ use vm370::faults as session_faults;
 use vm370::session::SessionError;
 
 /// Why the program ends before its end.
-#[derive(Debug, Drop)]
+#[derive(Drop)]
 pub(crate) enum BareFailure {
     /// As the program `vm370` ends.
     Session(session_faults::Failure),

@@ -1,9 +1,9 @@
 //! The images of the volumes of a machine.
 use crate::ended::BareFailure;
-use bare_installation::Installation;
+use bare_installation::Bare;
 use ckd_image::{read_image, write_image};
 use ckd_volume::Volume;
-use s370_num::host::{Counted, HostWriter};
+use s370_num::host::Counted;
 use std::alloc::AllocError;
 use std::rt::Files;
 use std::{fs, io};
@@ -28,12 +28,12 @@ pub(crate) fn read_volumes<R: AllocGlobal + Files>(
 /// Writes the images of all volumes of the machine back to these paths, in their order.
 pub(crate) fn save_volumes<R: AllocGlobal + Files>(
     rt: &R,
-    machine: &Installation,
+    machine: &Bare,
     paths: &[&str],
 ) -> Result<(), BareFailure> {
     let alloc = rt.alloc();
     for (index, path) in paths.iter().enumerate() {
-        let Some(unit) = machine.devices().disk(index) else {
+        let Some(disk) = machine.disks().get(index) else {
             return Ok(());
         };
         let Ok(file) = fs::create(rt, path) else {
@@ -43,8 +43,7 @@ pub(crate) fn save_volumes<R: AllocGlobal + Files>(
             return Err(BareFailure::Session(vm370::faults::Failure::Memory));
         };
         let mut image = Counted::new(output);
-        write_image(alloc, unit.volume(), &mut image)?;
-        image.flush()?;
+        write_image(alloc, disk.unit().volume(), &mut image)?;
     }
     Ok(())
 }

@@ -6,6 +6,7 @@ use crate::arguments::bare_arguments;
 use crate::ended::{BareFailure, Ended, finish};
 use crate::images::{read_volumes, save_volumes};
 use crate::session::{bare_session, machine_of};
+use bare_installation::Bare;
 use s370_num::host::Counted;
 use std::io;
 use std::rt::{Env, Files};
@@ -46,14 +47,22 @@ fn run<R: AllocGlobal + Files + Env + Print + Eprint>(rt: &R) -> Result<(), Bare
     };
     let volumes = read_volumes(rt, options.volumes.as_slice())?;
     let mut machine = machine_of(alloc, options.storage.blocks(), volumes)?;
-    let mut script = open(rt, options.script)?;
-    let Ok(output) = io::BufWriter::new(alloc, io::writer(rt)) else {
-        return Err(BareFailure::Session(Failure::Memory));
-    };
-    let mut transcript = Counted::new(output);
-    bare_session(alloc, &mut machine, &mut script, &mut transcript)?;
+    play(rt, &mut machine, options.script)?;
     if options.save {
         save_volumes(rt, &machine, options.volumes.as_slice())?;
     }
     Ok(())
+}
+
+/// Plays the script at a path, and writes its transcript to standard output.
+fn play<R: AllocGlobal + Files + Print>(
+    rt: &R,
+    machine: &mut Bare,
+    path: &str,
+) -> Result<(), BareFailure> {
+    let mut script = open(rt, path)?;
+    let Ok(output) = io::BufWriter::new(rt.alloc(), io::writer(rt)) else {
+        return Err(BareFailure::Session(Failure::Memory));
+    };
+    Ok(bare_session(rt.alloc(), machine, &mut script, &mut Counted::new(output))?)
 }

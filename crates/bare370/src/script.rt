@@ -1,7 +1,7 @@
 //! The script of a machine of its own: events, decks of cards, and turns.
 ghost use Rattle.std.specs.Prelude.{◌≤◌, IfOk, length};
 
-use bare_installation::{BARE, Event, Installation, Reply};
+use bare_installation::{BARE, Event, Bare, Reply};
 use cp_script::{ScriptError, ScriptEvent, ScriptUser, read_script};
 use cp_text::lines::cut_line;
 use cp_text::numbers::decimal_of;
@@ -44,7 +44,7 @@ pub enum Happening<'a> {
 
 impl<'a> Happening<'a> {
     /// Lets it happen to the machine, and says what is told.
-    pub fn happen(&self, alloc: Global, machine: &mut Installation) -> Result<Reply, AllocError> {
+    pub fn happen(&self, alloc: Global, machine: &mut Bare) -> Result<Reply, AllocError> {
         let event = match self {
             Happening::Line(typed) => Event::Line(typed),
             Happening::Tick => Event::Tick,

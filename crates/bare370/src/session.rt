@@ -4,8 +4,9 @@ ghost use Rattle.std.specs.Prelude.{◌≤◌};
 use crate::dealer::Dealer;
 use crate::script::{Step, read_steps};
 use crate::transcript::{print_files, print_happening, print_run, print_turn};
-use bare_installation::Installation;
+use bare_installation::Bare;
 use ckd_volume::{Arm, Sense, Unit, Volume};
+use cp_channels::AttachedDisk;
 use cp_devices::{Devices, Places};
 use cp_script::ScriptError;
 use s370_num::DevAddr;
@@ -46,12 +47,12 @@ pub fn machine_of(
     alloc: Global,
     blocks: u32,
     volumes: Vec<Volume>,
-) -> Result<Installation, AllocError>
+) -> Result<Bare, AllocError>
     requires least { 4 ≤ blocks }
     requires most { blocks ≤ 2048 }
 {
     let storage = PlainStorage::new(alloc, blocks)?;
-    let mut devices = Devices::new(
+    let devices = Devices::new(
         alloc,
         Places {
             console: Some(DevAddr::new(CONSOLE)),
@@ -60,20 +61,42 @@ pub fn machine_of(
             printer: Some(DevAddr::new(PRINTER)),
         },
     );
+    let mut subchannels = unit_record_subchannels(alloc)?;
+    let disks = disks_of(alloc, &mut subchannels, volumes)?;
+    Ok(Bare::new(alloc, storage, subchannels, devices, disks))
+}
+
+/// The subchannels of console, reader, punch and printer.
+fn unit_record_subchannels(alloc: Global) -> Result<Subchannels, AllocError> {
     let mut subchannels = Subchannels::new(alloc);
     for address in [CONSOLE, READER, PUNCH, PRINTER] {
         add(&mut subchannels, address)?;
     }
+    Ok(subchannels)
+}
+
+/// A disk for each of these volumes, which has a subchannel.
+fn disks_of(
+    alloc: Global,
+    subchannels: &mut Subchannels,
+    volumes: Vec<Volume>,
+) -> Result<Vec<AttachedDisk>, AllocError> {
+    let mut disks = Vec::new(alloc);
     let mut address = FIRST_DISK;
     for volume in volumes {
-        // A volume has a first cylinder.
-        let _cylinders = volume.count();
-        let unit = Unit::new(alloc, volume, FIRST_CYLINDER)?;
-        devices.attach_disk(DevAddr::new(address), unit)?;
-        add(&mut subchannels, address)?;
+        let unit = disk(alloc, volume)?;
+        disks.push(AttachedDisk::new(DevAddr::new(address), unit))?;
+        add(subchannels, address)?;
         address = address.saturating_add(1);
     }
-    Ok(Installation::new(alloc, storage, subchannels, devices))
+    Ok(disks)
+}
+
+/// A disk over a volume.
+fn disk(alloc: Global, volume: Volume) -> Result<Unit, AllocError> {
+    // A volume has a first cylinder.
+    let _cylinders = volume.count();
+    Unit::new(alloc, volume, FIRST_CYLINDER)
 }
 
 /// A device more, where there is room for it.
@@ -86,9 +109,9 @@ fn add(subchannels: &mut Subchannels, address: u16) -> Result<(), AllocError> {
 }
 
 /// The addresses of the devices of a machine.
-fn addresses(alloc: Global, machine: &Installation) -> Result<Vec<u16>, AllocError> {
+fn addresses(alloc: Global, machine: &Bare) -> Result<Vec<u16>, AllocError> {
     let mut addresses = Vec::new(alloc);
-    for subchannel in machine.machine().subchannels() {
+    for subchannel in machine.subchannels() {
         addresses.push(subchannel.address.get())?;
     }
     Ok(addresses)
@@ -99,7 +122,7 @@ fn addresses(alloc: Global, machine: &Installation) -> Result<Vec<u16>, AllocErr
 /// happens, and nothing is written. After any other failure a beginning of the transcript is written.
 pub fn bare_session<R: HostReader, W: HostWriter>(
     alloc: Global,
-    machine: &mut Installation,
+    machine: &mut Bare,
     reader: &mut R,
     writer: &mut W,
 ) -> Result<(), SessionError> {
@@ -123,7 +146,7 @@ fn deals_turns(steps: &[Step<'_>]) -> bool {
 /// Lets the steps happen and deals the turns one after another, and writes the lines of each as they come, and then the files.
 fn play<W: HostWriter>(
     alloc: Global,
-    machine: &mut Installation,
+    machine: &mut Bare,
     dealer: &mut Dealer,
     steps: &[Step<'_>],
     writer: &mut W,
@@ -150,7 +173,7 @@ fn play<W: HostWriter>(
 /// Deals so many turns, one after another, and writes the lines of each.
 fn deal<W: HostWriter>(
     alloc: Global,
-    machine: &mut Installation,
+    machine: &mut Bare,
     dealer: &mut Dealer,
     turns: u32,
     writer: &mut W,

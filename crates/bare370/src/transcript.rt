@@ -1,14 +1,20 @@
 //! The transcript of a machine of its own: the lines of an event and of a turn, and the files at the end.
+ghost use Rattle.std.specs.Prelude.{◌≡◌, ◌++◌, ◌∷◌, [], OnOk};
+ghost use Rattle.cp_console.specs.Responses.{text_of};
+ghost use Rattle.bare_installation.specs.Bare.{bare};
+ghost use Rattle.vm370.specs.Transcript.{ended, told_line};
+ghost use Rattle.bare370.specs.Transcript.{queue_line, queue_lines, said_lines, told_lines};
+
 use crate::dealer::{Dealer, SLICE_UNITS};
 use crate::script::Happening;
-use bare_installation::{BARE, FileKind, Installation, Reply};
+use bare_installation::{BARE, FileKind, Bare, Reply};
 use cp_console::printing;
 use cp_console::responses::Response;
-use cp_devices::Told;
+use cp_devices::{Told, deck_line};
 use s370_num::DevAddr;
 use s370_num::ebcdic::printable;
 use std::alloc::{AllocError, Global};
-use unit_record::{Deck, File, Sender, Target};
+use unit_record::{Deck, File, Reader, Target};
 use vm370::transcript::{idle_line, print_line, print_ran};
 
 /// Lets what a script says happen to the machine. The transcript's lines for it, each ended by LF: the answer to a line where
@@ -16,15 +22,15 @@ use vm370::transcript::{idle_line, print_line, print_ran};
 /// of it.
 pub(crate) fn print_happening(
     alloc: Global,
-    machine: &mut Installation,
+    machine: &mut Bare,
     dealer: &mut Dealer,
     happening: &Happening<'_>,
 ) -> Result<Vec<u8>, AllocError> {
     let mut text = Vec::new(alloc);
-    let before = machine.machine().printed();
+    let before = machine.printed();
     match happening.happen(alloc, machine) {
         Ok(Reply::Told(told)) => {
-            print_told(alloc, &mut text, machine, told)?;
+            print_told(alloc, &mut text, machine.devices().reader(), told)?;
             print_console(alloc, &mut text, machine, before)?;
         }
         Ok(Reply::Served(done)) => {
@@ -44,7 +50,7 @@ pub(crate) fn print_happening(
 /// the run ended.
 pub(crate) fn print_run(
     alloc: Global,
-    machine: &mut Installation,
+    machine: &mut Bare,
     dealer: &mut Dealer,
     units: u32,
 ) -> Result<Vec<u8>, AllocError> {
@@ -57,11 +63,11 @@ pub(crate) fn print_run(
 fn add_run(
     alloc: Global,
     out: &mut Vec<u8>,
-    machine: &mut Installation,
+    machine: &mut Bare,
     dealer: &mut Dealer,
     units: u32,
 ) -> Result<(), AllocError> {
-    let before = machine.machine().printed();
+    let before = machine.printed();
     let told = dealer.run(machine, units);
     print_console(alloc, out, machine, before)?;
     print_ran(alloc, out, BARE, told.ran)
@@ -71,11 +77,11 @@ fn add_run(
 /// where one is started. Its lines are those of both, or that there was neither.
 pub(crate) fn print_turn(
     alloc: Global,
-    machine: &mut Installation,
+    machine: &mut Bare,
     dealer: &mut Dealer,
 ) -> Result<Vec<u8>, AllocError> {
     let mut text = Vec::new(alloc);
-    if dealer.slice(machine.machine().is_ready()) {
+    if dealer.slice(machine.is_ready()) {
         add_run(alloc, &mut text, machine, dealer, SLICE_UNITS)?;
     }
     if let Some(device) = dealer.serve() {
@@ -91,11 +97,11 @@ pub(crate) fn print_turn(
 fn add_serve(
     alloc: Global,
     out: &mut Vec<u8>,
-    machine: &mut Installation,
+    machine: &mut Bare,
     dealer: &mut Dealer,
     device: DevAddr,
 ) -> Result<(), AllocError> {
-    let before = machine.machine().printed();
+    let before = machine.printed();
     let done = machine.serve(device)?;
     dealer.look(machine);
     print_console(alloc, out, machine, before)?;
@@ -118,42 +124,47 @@ fn print_served(
 fn print_told(
     alloc: Global,
     out: &mut Vec<u8>,
-    machine: &Installation,
+    reader: &Reader,
     told: Told,
-) -> Result<(), AllocError> {
+) -> Result<(), AllocError>
+    ensures { OnOk result (out.new.items ≡ out.old.items ++ ended (told_lines reader.now.decks told)) }
+{
     match told {
         Told::Said(response) => print_said(alloc, out, response),
-        Told::Files => print_queue(alloc, out, machine),
-        Told::Silent | Told::Sent(_, _) => Ok(()),
+        Told::Files => print_queue(alloc, out, reader),
+        Told::Silent | Told::Sent(_, _) | Told::Loads(_) | Told::Closed => Ok(()),
     }
 }
 
 /// Adds a response that the console has not printed.
-fn print_said(alloc: Global, out: &mut Vec<u8>, response: Response) -> Result<(), AllocError> {
+fn print_said(alloc: Global, out: &mut Vec<u8>, response: Response) -> Result<(), AllocError>
+    ensures { OnOk result (out.new.items ≡ out.old.items ++ ended (said_lines response)) }
+{
     if response.is_panel() {
         return Ok(());
     }
     print_response(alloc, out, &response)
 }
 
-/// Adds a line for each deck of the reader.
-fn print_queue(alloc: Global, out: &mut Vec<u8>, machine: &Installation) -> Result<(), AllocError> {
-    let reader = machine.devices().reader();
+/// Adds a line for each deck of the reader, in their order.
+#[tactic(auto, using(crate::proofs::Queues::one_more, crate::proofs::Queues::no_more))]
+fn print_queue(alloc: Global, out: &mut Vec<u8>, reader: &Reader) -> Result<(), AllocError>
+    ensures { OnOk result (out.new.items ≡ out.old.items ++ ended (queue_lines reader.now.decks)) }
+{
     for index in 0..reader.len() {
-        if let Some(deck) = reader.get(index) {
-            print_deck(alloc, out, deck)?;
-        }
+        let Some(deck) = reader.get(index) else {
+            unreachable!();
+        };
+        print_deck(alloc, out, deck)?;
     }
     Ok(())
 }
 
 /// Adds the line of a deck.
-fn print_deck(alloc: Global, out: &mut Vec<u8>, deck: &Deck) -> Result<(), AllocError> {
-    let sender = match deck.sender() {
-        Sender::System => b"SYSTEM".as_slice(),
-        Sender::User(_) => BARE,
-    };
-    let line = printing::file_line(alloc, deck.label(), sender, deck.cards().len())?;
+fn print_deck(alloc: Global, out: &mut Vec<u8>, deck: &Deck) -> Result<(), AllocError>
+    ensures { OnOk result (out.new.items ≡ out.old.items ++ ended (queue_line deck.now ∷ [])) }
+{
+    let line = deck_line(alloc, &[BARE], deck)?;
     print_line(out, BARE, &line)
 }
 
@@ -161,11 +172,11 @@ fn print_deck(alloc: Global, out: &mut Vec<u8>, deck: &Deck) -> Result<(), Alloc
 fn print_console(
     alloc: Global,
     out: &mut Vec<u8>,
-    machine: &Installation,
+    machine: &Bare,
     before: usize,
 ) -> Result<(), AllocError> {
-    for line in before..machine.machine().printed() {
-        if let Some(response) = machine.machine().console_output(line) {
+    for line in before..machine.printed() {
+        if let Some(response) = machine.console_output(line) {
             print_response(alloc, out, &response)?;
         }
     }
@@ -173,14 +184,16 @@ fn print_console(
 }
 
 /// Adds a response as a line of the user.
-fn print_response(alloc: Global, out: &mut Vec<u8>, response: &Response) -> Result<(), AllocError> {
+fn print_response(alloc: Global, out: &mut Vec<u8>, response: &Response) -> Result<(), AllocError>
+    ensures { OnOk result (out.new.items ≡ out.old.items ++ ended (told_line bare (text_of response.now) ∷ [])) }
+{
     let text = printing::reply(alloc, response)?;
     print_line(out, BARE, &text)
 }
 
 /// The files that were closed for the operator, in the order of their numbers: a first line, and then each entry of a printer
 /// (its command code and its text), or each card.
-pub fn print_files(alloc: Global, machine: &Installation) -> Result<Vec<u8>, AllocError> {
+pub fn print_files(alloc: Global, machine: &Bare) -> Result<Vec<u8>, AllocError> {
     let mut text = Vec::new(alloc);
     let mut punched = 0usize;
     let mut printed = 0usize;

@@ -8,7 +8,7 @@
 #![tactic(auto)]
 
 use anyhow::{Context, Result, bail};
-use bare_installation::Installation;
+use bare_installation::Bare;
 use bare370::session::{FIRST_DISK, MOST_DISKS};
 use bare370::{bare_session, machine_of};
 use ckd_image::image;
@@ -77,7 +77,7 @@ fn volumes<R: AllocGlobal + Files>(rt: &R, folder: &str) -> Result<Vec<Volume>> 
 fn compare_disks<R: AllocGlobal + Files>(
     rt: &R,
     folder: &str,
-    machine: &Installation,
+    machine: &Bare,
 ) -> Result<()> {
     let alloc = rt.alloc();
     for address in FIRST_DISK..FIRST_DISK + MOST_DISKS {
@@ -86,11 +86,9 @@ fn compare_disks<R: AllocGlobal + Files>(
             continue;
         };
         let index = usize::from(address - FIRST_DISK);
-        let disk = machine
-            .devices()
-            .disk(index)
-            .context("there is no such disk")?;
-        if image(alloc, disk.volume())? != image(alloc, &make_volume(alloc, &text)?)? {
+        let disk = machine.disks().get(index);
+        let volume = disk.context("there is no such disk")?.unit().volume();
+        if image(alloc, volume)? != image(alloc, &make_volume(alloc, &text)?)? {
             bail!("{folder}: the disk {address:X} has another image at the end");
         }
     }

@@ -4,17 +4,21 @@
 //! The guest has the channel address word of the printer at 48 and that of the reader at 4C. It starts the printer, moves the
 //! second word over the first, starts the reader, and waits with channel 0 enabled; each interruption leads to 300, where it
 //! goes on waiting.
+//!
+//! Before that it is told what a machine has at its beginning.
 #![tactic(auto)]
 
+mod beginning;
+
+use crate::beginning::begin;
 use anyhow::{Result, bail};
-use bare_machine::Bare;
+use bare_installation::Bare;
 use cp_console::printing::reply;
+use cp_devices::{Devices, Places, Told};
 use s370_num::DevAddr;
 use s370_store::PlainStorage;
 use s370_subchannels::Subchannels;
-use s370_walk::Device;
 use std::alloc::Global;
-use unit_record::{Deck, Printer, Reader, Sender};
 
 /// The device address of the reader.
 const READER: u16 = 0x00C;
@@ -40,16 +44,15 @@ const TYPED: [&str; 12] = [
 
 fn main(rt: HostRuntime) -> Result<()> {
     let alloc = rt.alloc();
+    begin(&rt)?;
     let mut machine = machine(alloc)?;
-    let mut reader = Reader::new(alloc);
     let mut card = [0x40; 80];
     card[0] = 0xC1;
-    reader.deck(Deck::new(1, Sender::System, vec![in alloc; card]?))?;
-    let mut printer = Printer::new(alloc);
+    machine.deck(vec![in alloc; card]?)?;
     run(&rt, &mut machine, 100)?;
-    serve(&rt, &mut machine, PRINTER, &mut printer)?;
-    serve(&rt, &mut machine, READER, &mut reader)?;
-    serve(&rt, &mut machine, PRINTER, &mut printer)?;
+    serve(&rt, &mut machine, PRINTER)?;
+    serve(&rt, &mut machine, READER)?;
+    serve(&rt, &mut machine, PRINTER)?;
     run(&rt, &mut machine, 1)?;
     show(&rt, &mut machine, "#CP DISPLAY 30")?;
     show(&rt, &mut machine, "#CP DISPLAY 40")?;
@@ -57,7 +60,7 @@ fn main(rt: HostRuntime) -> Result<()> {
     show(&rt, &mut machine, "#CP DISPLAY 30")?;
     show(&rt, &mut machine, "#CP DISPLAY 40")?;
     show(&rt, &mut machine, "#CP DISPLAY 900")?;
-    for entry in printer.entries() {
+    for entry in machine.devices().printer().entries() {
         println!(&rt;
             "printed {:02X} {}",
             entry.code(),
@@ -69,17 +72,24 @@ fn main(rt: HostRuntime) -> Result<()> {
 
 /// The machine with its devices, running at its program.
 fn machine(alloc: Global) -> Result<Bare> {
-    let mut devices = Subchannels::new(alloc);
+    let places = Places {
+        reader: Some(DevAddr::new(READER)),
+        printer: Some(DevAddr::new(PRINTER)),
+        ..Places::NONE
+    };
+    let mut subchannels = Subchannels::new(alloc);
     for address in [READER, PRINTER] {
         let address = DevAddr::new(address);
-        if !devices.can_add(address) {
+        if !subchannels.can_add(address) {
             bail!("no such device can be added");
         }
-        devices.add(address)?;
+        subchannels.add(address)?;
     }
-    let mut machine = Bare::new(alloc, PlainStorage::new(alloc, 4)?, devices);
+    let storage = PlainStorage::new(alloc, 4)?;
+    let devices = Devices::new(alloc, places);
+    let mut machine = Bare::new(alloc, storage, subchannels, devices, Vec::new(alloc));
     for line in TYPED {
-        machine.line(line.as_bytes())?;
+        machine.line(alloc, line.as_bytes())?;
     }
     Ok(machine)
 }
@@ -92,18 +102,19 @@ fn run<R: Print>(rt: &R, machine: &mut Bare, units: u32) -> Result<()> {
 }
 
 /// Serves a device, and tells whether it worked.
-fn serve<R: Print, D: Device>(rt: &R, machine: &mut Bare, device: u16, part: &mut D) -> Result<()> {
-    match machine.serve(DevAddr::new(device), part) {
-        Ok(true) => println!(rt; "served {device:03X}")?,
-        Ok(false) => println!(rt; "idle {device:03X}")?,
-        Err(_) => bail!("no memory for a device"),
-    }
+fn serve<R: Print>(rt: &R, machine: &mut Bare, device: u16) -> Result<()> {
+    let word = if machine.serve(DevAddr::new(device))? {
+        "served"
+    } else {
+        "idle"
+    };
+    println!(rt; "{word} {device:03X}")?;
     Ok(())
 }
 
 /// What a display shows.
 fn show<R: Print + AllocGlobal>(rt: &R, machine: &mut Bare, line: &str) -> Result<()> {
-    let Some(response) = machine.line(line.as_bytes())? else {
+    let Told::Said(response) = machine.line(rt.alloc(), line.as_bytes())? else {
         bail!("nothing was said");
     };
     let text = String::from_utf8(reply(rt.alloc(), &response)?)?;

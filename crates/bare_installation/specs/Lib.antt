@@ -1,2 +1,2 @@
-pub mod Installation
+pub mod Bare
 pub mod Life

@@ -21,7 +21,7 @@ pub enum Event<'a> {
 }
 
 /// What is told to an event.
-#[derive(Clone, Copy, Debug, PartialEq, Eq)]
+#[derive(Clone, Copy, PartialEq, Eq)]
 pub enum Reply {
     /// To a run: how many units were done, and why no more.
     Ran(MachineRan),

@@ -1,7 +1,7 @@
 //! Files and their numbers.
 
 /// What a file was when it got its number.
-#[derive(Clone, Copy, Debug, PartialEq, Eq)]
+#[derive(Clone, Copy, PartialEq, Eq)]
 pub enum FileKind {
     /// A deck that the operator gave.
     Deck,

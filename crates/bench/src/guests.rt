@@ -1,13 +1,12 @@
 //! Where the guest programs run: on a bare machine, or as users of the control program.
 use crate::loops::Loop;
 use anyhow::{Result, bail};
-use bare_machine::Bare;
+use bare_installation::Bare;
 use cp_console::responses::Response;
 use cp_core::{Ended, Event, Sizes, System};
 use cp_directory::read_directory;
 use cp_users::UserNo;
 use s370_store::PlainStorage;
-use s370_subchannels::Subchannels;
 use std::alloc::Global;
 
 /// Where a guest program runs.
@@ -52,16 +51,12 @@ const TURN: u32 = 100;
 
 /// A machine that runs the loop.
 fn bare_guest(alloc: Global, guest: Loop) -> Result<Bare> {
-    let mut machine = Bare::new(
-        alloc,
-        PlainStorage::new(alloc, 128)?,
-        Subchannels::new(alloc),
-    );
-    machine.line(b"LOGON")?;
+    let mut machine = Bare::without_devices(alloc, PlainStorage::new(alloc, 128)?);
+    machine.line(alloc, b"LOGON")?;
     for line in guest.typed() {
-        machine.line(line.as_bytes())?;
+        machine.line(alloc, line.as_bytes())?;
     }
-    machine.line(b"BEGIN 200")?;
+    machine.line(alloc, b"BEGIN 200")?;
     Ok(machine)
 }
 

@@ -2,7 +2,7 @@
 //! 2 to the 32nd rounds.
 
 /// A guest program.
-#[derive(Clone, Copy, Debug, PartialEq, Eq)]
+#[derive(Clone, Copy, PartialEq, Eq)]
 pub enum Loop {
     /// BCT to itself.
     Count,

@@ -35,7 +35,7 @@ const TRANSFER: u8 = 0x08;
 const SEARCH_ID_EQUAL: u8 = 0x31;
 
 /// What a channel program does.
-#[derive(Clone, Copy, Debug, PartialEq, Eq)]
+#[derive(Clone, Copy, PartialEq, Eq)]
 pub enum Exchange {
     /// It reads from a device that gives many bytes at once.
     Give,

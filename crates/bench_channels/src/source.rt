@@ -15,8 +15,11 @@ pub struct Source {
 
 impl Device for Source {
     ghost use Rattle.bench_channels.specs.Source.{source};
+    ghost use Rattle.s370_walk.specs.Short.{nothing_needed};
 
     ghost machine = { source };
+
+    ghost needs_memory = { nothing_needed };
 
     fn command(&mut self, _order: Order) -> Result<Answer, AllocError> {
         Ok(Answer::Input(self.bytes))

@@ -109,8 +109,11 @@ impl Obedient {
 
 impl Device for Obedient {
     ghost use Rattle.channel_programs.specs.Device.{obedient};
+    ghost use Rattle.s370_walk.specs.Short.{nothing_needed};
 
     ghost machine = { obedient };
+
+    ghost needs_memory = { nothing_needed };
 
     fn command(&mut self, order: Order) -> Result<Answer, AllocError> {
         self.code = obeyed(self.read, order.command.code);

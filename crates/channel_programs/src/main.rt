@@ -16,7 +16,7 @@ use s370_channel::{Csw, Guest, Limits, MOST_COMMANDS, check_start, run, run_ipl}
 use s370_num::{AccessKey, StorageKey};
 use s370_store::{Access, Keyed, PlainStorage, Range, Storage};
 use std::alloc::Global;
-use std::{env, fs};
+use step_table::{byte, table, tally};
 
 /// How many blocks of 2048 bytes a machine of the cases has.
 const BLOCKS: u32 = 8;
@@ -75,18 +75,12 @@ fn device_of(case: &Case<'_>) -> Result<Obedient> {
     for word in case.found.split_whitespace() {
         let item = item_of(word).context("an item")?;
         match item.place {
-            Place::Read => read = byte_of(item.digits)?,
-            Place::Given => given = byte_of(item.digits)?,
+            Place::Read => read = byte(item.digits)?,
+            Place::Given => given = byte(item.digits)?,
             _ => {}
         }
     }
     Ok(Obedient::new(read, given))
-}
-
-/// The byte that two hexadecimal digits spell.
-fn byte_of(digits: &str) -> Result<u8> {
-    let byte = hexadecimal_of(2, 2, digits.as_bytes()).context("a byte has 2 digits")?;
-    Ok(byte as u8)
 }
 
 /// Starts and runs the program that a case names, and tells its status word, or None where the start is refused.
@@ -151,52 +145,22 @@ fn is_status(alloc: Global, csw: Option<[u8; 8]>, wanted: &str) -> Result<bool> 
     }
 }
 
-/// How many cases there are, and how many agree.
-#[derive(Drop)]
-struct Tally {
-    cases: u32,
-    agreed: u32,
-}
-
-/// Runs the program of a line, and prints it where it does not agree.
-fn try_line<R: Print>(
-    rt: &R,
-    alloc: Global,
-    number: u32,
-    line: &str,
-    tally: &mut Tally,
-) -> Result<()> {
-    let Some(case) = case_of(line) else {
-        bail!("line {number} is no case");
-    };
-    tally.cases = tally.cases.wrapping_add(1);
+/// What differs first, with the case's name.
+fn try_line(alloc: Global, line: &str) -> Result<Option<String>> {
+    let case = case_of(line).context("a line is no case")?;
     match judge(alloc, &case)? {
-        None => tally.agreed = tally.agreed.wrapping_add(1),
-        Some(what) => {
-            let name = case.name;
-            println!(rt; "line {number}: {name}: {what}")?;
-        }
+        None => Ok(None),
+        Some(what) => Ok(Some(format!(in alloc; "{}: {what}", case.name)?)),
     }
-    Ok(())
 }
 
 fn main(rt: HostRuntime) -> Result<()> {
-    let Some(path) = env::args(&rt)?.nth(1) else {
-        bail!("the file of cases has to be named");
-    };
-    let text = fs::read_to_string(&rt, &path)?;
-    let mut tally = Tally {
-        cases: 0,
-        agreed: 0,
-    };
-    let mut number = 0u32;
-    for line in text.lines() {
-        number = number.wrapping_add(1);
-        if !line.is_empty() && !line.starts_with('#') {
-            try_line(&rt, rt.alloc(), number, line, &mut tally)?;
-        }
-    }
-    let Tally { cases, agreed } = tally;
-    println!(rt; "{agreed} of {cases} programs agree")?;
+    let alloc = rt.alloc();
+    let table = table(&rt)?;
+    let agreement = tally(&rt, &table, |line| try_line(alloc, line))?;
+    println!(rt;
+        "{} of {} programs agree",
+        agreement.agreed, agreement.steps
+    )?;
     Ok(())
 }

@@ -13,7 +13,7 @@ use Rattle.ckd_image.specs.declared.faults.ImageError.TheVariants.{Memory, BadMa
 use Rattle.ckd_image.proofs.Volumes.{all_length, all_total}
 
 pub fault_read : (bytes : List ℕ) (f : ImageError) → IsFault bytes f → IsReadingOrMemory bytes (Err f)
-fault_read bytes Memory h = tt
+fault_read bytes Memory h = absurd h
 fault_read bytes BadMagic h = h
 fault_read bytes Truncated h = h
 fault_read bytes (BadTrack c i) h = h

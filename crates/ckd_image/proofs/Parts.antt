@@ -2,7 +2,8 @@
 use Rattle.std.specs.Prelude.{ℕ, zero, suc, ◌+◌, ◌≡◌, ◌<◌, refl, List, [], ◌∷◌, ◌++◌, length, drop, slice_index_or}
 use Rattle.std.proofs.Common.{sym, ◌∙◌, ap, arith, append_assoc}
 use Rattle.std.specs.Prelude.{Option, None, Some}
-use Rattle.std.proofs.Common.{append-nil}
+use Rattle.std.proofs.Common.{append-nil, take_all}
+use Rattle.std.specs.Io.KnownBytes.{Appends, Keeps}
 use Rattle.s370_num.specs.Host.{AppendsFront}
 use Rattle.ckd_track.specs.Track.{Record, no_record}
 use Rattle.ckd_volume.specs.Front.{Cylinder, no_track}
@@ -57,3 +58,14 @@ image_parts a b c d e = append_assoc ((a ++ b) ++ c) d e ∙ ap (λ l. l ++ (d +
 pub nothing_appended : (known : Option (List ℕ)) (bytes : List ℕ) → AppendsFront known known bytes
 nothing_appended None bytes = (zero, omega arith, tt)
 nothing_appended (Some xs) bytes = (zero, omega arith, sym (append-nil xs))
+
+-- what was appended is still there after a flush
+pub appended_kept : (old written flushed : Option (List ℕ)) (bytes : List ℕ) → Appends old written bytes → Keeps written flushed → Appends old flushed bytes
+appended_kept None written flushed bytes appends keeps = tt
+appended_kept (Some xs) None flushed bytes appends keeps = absurd appends
+appended_kept (Some xs) (Some ys) None bytes appends keeps = absurd keeps
+appended_kept (Some xs) (Some ys) (Some zs) bytes appends keeps = keeps ∙ appends
+
+-- all bytes are a beginning of themselves
+pub whole_front : (old new : Option (List ℕ)) (bytes : List ℕ) → Appends old new bytes → AppendsFront old new bytes
+whole_front old new bytes appends = (length bytes, omega arith, rw (take_all (length bytes) bytes (omega arith)) appends)

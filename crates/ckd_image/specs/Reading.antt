@@ -1,7 +1,7 @@
 -- What bytes are an image, of version 1 or 2, and what is wrong with those that are none (docs/FORMATS.md, "Volume images").
 -- An image is judged from its beginning: the header when its 12 bytes are there, a track when it is whole, the number of all
 -- records, and last what stands behind. The first fault is told.
-use Rattle.std.specs.Prelude.{◌≡◌, ℕ, ◌+◌, ◌*◌, ◌<◌, ◌≤◌, ◌^◌, ◌==◌, ◌⊎◌, Bool, true, false, ◌&&◌, ◌||◌, nat_le, if◌then◌else◌, List, [], ◌∷◌, ◌++◌, length, take, codes, All, Result, Ok, Err, Option, ⊤}
+use Rattle.std.specs.Prelude.{◌≡◌, ℕ, ◌+◌, ◌*◌, ◌<◌, ◌≤◌, ◌^◌, ◌==◌, ◌⊎◌, Bool, true, false, ◌&&◌, ◌||◌, nat_le, if◌then◌else◌, List, [], ◌∷◌, ◌++◌, length, take, codes, All, Result, Ok, Err, Option}
 use Rattle.std.specs.List.{list_all}
 use Rattle.std.specs.Io.KnownBytes.{Consumes, IsAtEnd}
 use Rattle.s370_num.specs.Host.{ReadsFront}
@@ -170,9 +170,16 @@ abbrev pub IsReading : List ℕ → Result VolumeFormat ImageError → Type 0
 IsReading bytes (Ok volume) = IsImage bytes volume
 IsReading bytes (Err fault) = IsFault bytes fault
 
--- the same, unless memory runs out
+-- the bytes begin with a header
+pub record HasHeader (bytes : List ℕ) : Type 0 where
+  pub version : Version
+  pub volser : List ℕ
+  pub count : ℕ
+  pub headed : IsHeader (take 12 bytes) version volser count
+
+-- the same, unless memory runs out, which only a volume needs whose header is good
 abbrev pub IsReadingOrMemory : List ℕ → Result VolumeFormat ImageError → Type 0
-IsReadingOrMemory bytes (Err Memory) = ⊤
+IsReadingOrMemory bytes (Err Memory) = HasHeader bytes
 IsReadingOrMemory bytes answer = IsReading bytes answer
 
 -- What is answered of a file that is read to its end: the reading of its bytes, unless memory runs out or the file fails.

@@ -13,7 +13,7 @@ use byteorder::{BigEndian, ByteOrder};
 pub const HEADER_LENGTH: usize = 12;
 
 /// The versions of images.
-#[derive(Clone, Copy, Debug, PartialEq, Eq)]
+#[derive(Clone, Copy, PartialEq, Eq)]
 pub enum Version {
     /// Up to 404 cylinders, and nothing behind the tracks.
     One,
@@ -22,7 +22,7 @@ pub enum Version {
 }
 
 /// What a header says.
-#[derive(Clone, Copy, Debug, PartialEq, Eq)]
+#[derive(Clone, Copy, PartialEq, Eq)]
 pub struct Header {
     pub version: Version,
     pub volser: [u8; 6],

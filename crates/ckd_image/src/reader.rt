@@ -57,7 +57,7 @@ fn read_records<'a>(track: &mut Track, count: u8, bytes: &'a [u8]) -> Option<(bo
 }
 
 /// What is wrong with a track.
-#[derive(Clone, Copy, Debug, PartialEq, Eq)]
+#[derive(Clone, Copy, PartialEq, Eq)]
 pub enum TrackFault {
     /// The bytes end before it is whole.
     Cut,
@@ -152,7 +152,8 @@ fn check_end(version: Version, total: u32, bytes: &[u8]) -> Result<(), ImageErro
     Ok(())
 }
 
-/// The volume of which these bytes are an image of version 1 or 2, or the first fault of the bytes.
+/// The volume of which these bytes are an image of version 1 or 2, or the first fault of the bytes. Memory is taken, and can
+/// be refused, only where their header is good.
 pub fn volume_of(alloc: Global, bytes: &[u8]) -> Result<Volume, ImageError>
     ensures { IsReadingOrMemory bytes.now result }
 {

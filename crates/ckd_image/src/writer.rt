@@ -1,7 +1,7 @@
 //! The image of a volume.
 ghost use Rattle.std.specs.Prelude.{◌≡◌, ◌<◌, ◌≤◌, ◌+◌, ◌*◌, ◌++◌, ◌∷◌, [], length, OnOk, OnErr, IfOk};
 ghost use Rattle.std.specs.Io.KnownBytes.{Appends};
-ghost use Rattle.s370_num.specs.Host.{AppendsFront};
+ghost use Rattle.s370_num.specs.Host.{AppendsFront, Counts};
 ghost use Rattle.ckd_image.specs.Faults.{CountsImage};
 ghost use Rattle.ckd_track.specs.Track.{record_in};
 ghost use Rattle.ckd_image.specs.Image.{record_bytes, track_bytes, tracks_bytes, tracks_total, cylinders_bytes, cylinders_total, image_of};
@@ -118,7 +118,7 @@ pub fn image(alloc: Global, volume: &Volume) -> Result<Vec<u8>, AllocError>
     Ok(out)
 }
 
-/// Writes the image of a volume, or a beginning of it where that fails.
+/// Writes the image of a volume, of which nothing is held back then; or a beginning of it where that fails.
 #[tactic(auto, using(crate::proofs::Parts::nothing_appended))]
 pub fn write_image<W: HostWriter>(
     alloc: Global,
@@ -126,15 +126,29 @@ pub fn write_image<W: HostWriter>(
     writer: &mut W,
 ) -> Result<(), ImageError>
     ensures ok { OnOk result (Appends (W.contents writer.old) (W.contents writer.new) (image_of volume.now)) }
+    ensures flushed { OnOk result (W.held writer.new ≡ []) }
     ensures err { OnErr result (AppendsFront (W.contents writer.old) (W.contents writer.new) (image_of volume.now)) }
     ensures counts { CountsImage (W.HostFile.failures writer.old) (W.HostFile.failures writer.new) result }
 {
     let Ok(bytes) = image(alloc, volume) else {
         return Err(ImageError::Memory);
     };
-    match write_all(writer, &bytes) {
+    match write_and_flush(writer, &bytes) {
         Ok(()) => Ok(()),
         Err(HostFault::Memory) => Err(ImageError::Memory),
         Err(HostFault::Device(number)) => Err(ImageError::Device(number)),
     }
+}
+
+/// Writes all the bytes, of which nothing is held back then; or a beginning of them where that fails.
+#[tactic(auto, using(crate::proofs::Parts::appended_kept, crate::proofs::Parts::whole_front))]
+fn write_and_flush<W: HostWriter>(writer: &mut W, bytes: &[u8]) -> Result<(), HostFault>
+    ensures ok { OnOk result (Appends (W.contents writer.old) (W.contents writer.new) bytes.now) }
+    ensures flushed { OnOk result (W.held writer.new ≡ []) }
+    ensures err { OnErr result (AppendsFront (W.contents writer.old) (W.contents writer.new) bytes.now) }
+    ensures counts { Counts (W.HostFile.failures writer.old) (W.HostFile.failures writer.new) result }
+{
+    write_all(writer, bytes)?;
+    writer.flush()?;
+    Ok(())
 }

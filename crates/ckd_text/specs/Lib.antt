@@ -5,3 +5,4 @@ pub mod Options
 pub mod Faults
 pub mod Map
 pub mod Grammar
+pub mod Made

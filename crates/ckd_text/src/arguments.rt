@@ -14,7 +14,7 @@ use std::convert::AsStr;
 use thiserror::Error;
 
 /// A program of volumes.
-#[derive(Clone, Copy, Debug, PartialEq, Eq)]
+#[derive(Clone, Copy, PartialEq, Eq)]
 pub enum Tool {
     /// `mkvol OUT TEXT`
     Mkvol,
@@ -23,7 +23,7 @@ pub enum Tool {
 }
 
 /// What the words of `mkvol` name.
-#[derive(Debug, Drop)]
+#[derive(Drop)]
 pub struct VolumePaths<'a> {
     /// The path of the image that is written.
     pub out: &'a str,

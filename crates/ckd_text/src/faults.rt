@@ -9,7 +9,7 @@ use s370_num::host::HostFault;
 use std::alloc::{AllocError, Global};
 
 /// Why a program ends before its end.
-#[derive(Debug, Drop, PartialEq, Eq)]
+#[derive(Drop, PartialEq, Eq)]
 pub enum Failure {
     /// This line of the text, counted from 1, is the first that is refused.
     Text(u64),

@@ -1,15 +1,15 @@
 //! The program `mkvol OUT TEXT`: the image of the volume that a text states.
-ghost use Rattle.std.specs.Prelude.{◌≡◌, [], OnOk};
-ghost use Rattle.std.specs.Io.KnownBytes.{Appends};
-ghost use Rattle.ckd_image.specs.Image.{image_of};
+ghost use Rattle.std.specs.Prelude.{◌≡◌, ℕ, [], Err, IfOk};
+ghost use Rattle.s370_num.specs.Counted.{failures_of};
+ghost use Rattle.ckd_text.specs.Made.{IsMade};
+ghost use Rattle.ckd_text.specs.Text.{volume_of};
 
 use crate::arguments::{UsageError, volume_paths};
 use crate::faults::Failure;
 use crate::host::{Ended, ended_of, open, words, wrong_use};
 use crate::reader::make_volume;
 use ckd_image::write_image;
-use ckd_volume::Volume;
-use s370_num::host::{Counted, HostWriter, read_all};
+use s370_num::host::{Counted, HostFault, HostWriter, read_all};
 use std::alloc::Global;
 use std::rt::{Env, Files};
 use std::{fs, io};
@@ -37,7 +37,7 @@ pub fn program<R: AllocGlobal + Files + Env + Eprint>(rt: &R) -> Ended {
     ended_of(rt, run(rt))
 }
 
-/// Reads the words and the text, and writes the image. The image is made only for a text that is accepted.
+/// Reads the words and the text, and has the image made.
 fn run<R: AllocGlobal + Files + Env + Eprint>(rt: &R) -> Result<(), Failure> {
     let alloc = rt.alloc();
     let words = words(rt, PROGRAM)?;
@@ -47,22 +47,64 @@ fn run<R: AllocGlobal + Files + Env + Eprint>(rt: &R) -> Result<(), Failure> {
         Err(UsageError::Usage(text)) => return Err(wrong_use(rt, &text, USAGE_NOTE)),
     };
     let text = read_all(alloc, &mut open(rt, paths.text)?)?;
-    let volume = make_volume(alloc, &text)?;
-    let Ok(file) = fs::create(rt, paths.out) else {
-        return Err(Failure::File(1));
+    let mut output = OutputFile {
+        rt,
+        path: paths.out,
     };
-    let Ok(output) = io::BufWriter::new(alloc, file) else {
-        return Err(Failure::Memory);
-    };
-    write_whole(alloc, &volume, &mut Counted::new(output))
+    let _written = make_image(alloc, &text, &mut output)?;
+    Ok(())
 }
 
-/// Writes the image of a volume, of which nothing is held back then.
-fn write_whole<W: HostWriter>(alloc: Global, volume: &Volume, writer: &mut W) -> Result<(), Failure>
-    ensures written { OnOk result (Appends (W.contents writer.old) (W.contents writer.new) (image_of volume.now)) }
-    ensures flushed { OnOk result (W.held writer.new ≡ []) }
+/// Where an image goes: something that makes the writer when it is asked to, and not before.
+pub trait Output {
+    /// What the image is written to.
+    type Writer: HostWriter + Drop;
+
+    /// The output may make this writer.
+    ghost makes: { Self → Self.Writer → Type 0 };
+
+    /// Makes the writer.
+    fn make(&mut self) -> Result<Self::Writer, HostFault>
+        ensures { IfOk result (λ writer. makes self.old writer) };
+}
+
+/// Makes the image of the volume that a text states, of which nothing is held back then, and gives what it was written to.
+/// The text is judged first: where it is refused, the output is not asked for anything.
+pub fn make_image<O: Output>(
+    alloc: Global,
+    text: &[u8],
+    output: &mut O,
+) -> Result<O::Writer, Failure>
+    ensures made { IfOk result (IsMade text.now (O.makes output.old) O.Writer.contents) }
+    ensures flushed { IfOk result (λ writer. O.Writer.held writer ≡ []) }
+    ensures told { (line : ℕ) → result ≡ Err (Failure.Text line) → volume_of text.now ≡ Err line }
+    ensures unasked { (line : ℕ) → volume_of text.now ≡ Err line → output.new ≡ output.old }
 {
-    write_image(alloc, volume, writer)?;
-    writer.flush()?;
-    Ok(())
+    let volume = make_volume(alloc, text)?;
+    let mut writer = output.make()?;
+    write_image(alloc, &volume, &mut writer)?;
+    Ok(writer)
+}
+
+/// The file at a path, which is made anew when it is asked for.
+#[derive(Drop)]
+struct OutputFile<'a, R> {
+    rt: &'a R,
+    path: &'a str,
+}
+
+impl<R: AllocGlobal + Files> Output for OutputFile<'_, R> {
+    type Writer = Counted<io::BufWriter<R::File, Global>>;
+
+    ghost makes = { λ _ writer. failures_of writer ≡ 0 };
+
+    fn make(&mut self) -> Result<Counted<io::BufWriter<R::File, Global>>, HostFault> {
+        let Ok(file) = fs::create(self.rt, self.path) else {
+            return Err(HostFault::Device(1));
+        };
+        let Ok(buffered) = io::BufWriter::new(self.rt.alloc(), file) else {
+            return Err(HostFault::Memory);
+        };
+        Ok(Counted::new(buffered))
+    }
 }

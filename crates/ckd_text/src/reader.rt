@@ -24,7 +24,7 @@ pub enum TextError {
 }
 
 /// The volume has no such track, or the track no room for the record.
-#[derive(Clone, Copy, Debug, Drop)]
+#[derive(Clone, Copy, Drop)]
 struct NoPlace;
 
 /// The volume that a text states (docs/FORMATS.md, "Volume texts"). The whole text is judged: where a line is refused,

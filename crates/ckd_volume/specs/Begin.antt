@@ -6,6 +6,7 @@ use Rattle.s370_walk.specs.declared.parts.Answer.TheVariants.{Refused, Input, Ou
 use Rattle.ckd_track.specs.Track.{Record}
 use Rattle.ckd_volume.specs.declared.parts.Place.{Place}
 use Rattle.ckd_volume.specs.declared.parts.Place.TheVariants.{Index}
+use Rattle.ckd_volume.specs.declared.parts.Right.{Right}
 use Rattle.ckd_volume.specs.declared.parts.Right.TheVariants as rights
 use Rattle.ckd_volume.specs.declared.parts.Job.{Job}
 use Rattle.ckd_volume.specs.declared.parts.Job.TheVariants as jobs
@@ -33,6 +34,12 @@ status_modifier = record { bits = 64 }
 abbrev pub starting : Front → Bool → Front
 starting f true = record f { place = Index; mask = 0; points = 0; right = rights.Nothing; job = jobs.Nothing; bytes = []; given = 0 }
 starting f false = record f { right = rights.Nothing; job = jobs.Nothing; bytes = []; given = 0 }
+
+-- The right to write that a command finds, given that it is the first of its program or not: what the command before gave, if
+-- that is one of the same program.
+abbrev pub right_found : Front → Bool → Right
+right_found f true = rights.Nothing
+right_found f false = f.right
 
 -- Sense bytes 0 and 1.
 abbrev pub sense_of : ℕ → ℕ → Sense

@@ -17,7 +17,7 @@ use Rattle.ckd_volume.specs.Search.{home_searched, id_searched, key_searched, sa
 use Rattle.ckd_volume.specs.Read.{home_read, count_read, data_read, both_read, whole_read, ipl_read}
 use Rattle.ckd_volume.specs.Write.{if_writes, data_written, both_written, whole_written, data_ended, both_ended, whole_ended}
 
--- The right is what the command before gave. The order is that of docs/MACHINE.md, "Disks".
+-- The right is what the command finds. The order is that of docs/MACHINE.md, "Disks".
 abbrev pub begun : Front → Right → Cylinder → Order → Begun
 begun f right c order =
     let code : ℕ = order.command.code in

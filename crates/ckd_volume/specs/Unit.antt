@@ -11,7 +11,7 @@ use Rattle.ckd_volume.specs.declared.parts.Right.TheVariants as rights
 use Rattle.ckd_volume.specs.declared.unit.Arm.{Arm}
 use Rattle.ckd_volume.specs.Front.{Front, Cylinder}
 use Rattle.ckd_volume.specs.Volume.{VolumeFormat}
-use Rattle.ckd_volume.specs.Begin.{Begun, starting, no_status, sense_of, unit_check}
+use Rattle.ckd_volume.specs.Begin.{Begun, starting, right_found, no_status, sense_of, unit_check}
 use Rattle.ckd_volume.specs.End.{Ended, resting, fails, stands}
 use Rattle.ckd_volume.specs.declared.control.Seek.{Seek}
 use Rattle.ckd_volume.specs.Control.{sought}
@@ -42,7 +42,7 @@ aimed d false = d
 
 -- A command begins over the cylinder under the arm.
 abbrev pub begins : Disk → Order → Begun
-begins d order = begun (starting d.front order.first) d.front.right (under d) order
+begins d order = begun (starting d.front order.first) (right_found d.front order.first) (under d) order
 
 abbrev pub keeps : Disk → Front → Disk
 keeps d front = record { volser = d.volser; cylinders = d.cylinders; cylinder = d.cylinder; home = d.home; front = front }
@@ -175,3 +175,11 @@ disk_reset d = idle (volume_of d) (without_sense d d.cylinder d.front.head)
 -- LOGON finds the arm at the first track.
 abbrev pub disk_cleared : Disk → Disk
 disk_cleared d = idle (volume_of d) (without_sense d 0 0)
+
+-- After a program: its arm and its sense are all that outlasts one.
+abbrev pub arm_of : Disk → Arm
+arm_of d =
+    record { cylinder = d.cylinder; head = d.front.head; home = d.home; writable = d.front.writable; sense = d.front.sense }
+
+abbrev pub rested : Disk → Disk
+rested d = idle (volume_of d) (arm_of d)

@@ -12,7 +12,7 @@ use crate::parts::{Job, Place};
 use s370_walk::{Answer, Order, UnitStatus};
 
 /// A track, as a seek names it.
-#[derive(Clone, Copy, Debug, PartialEq, Eq)]
+#[derive(Clone, Copy, PartialEq, Eq)]
 pub(crate) struct Seek {
     pub(crate) cylinder: usize,
     pub(crate) head: usize,

@@ -16,7 +16,7 @@ pub enum Place {
 }
 
 /// What the command that was started last gives the right to write.
-#[derive(Clone, Copy, Debug, PartialEq, Eq)]
+#[derive(Clone, Copy, PartialEq, Eq)]
 pub enum Right {
     /// Nothing.
     Nothing,
@@ -31,7 +31,7 @@ pub enum Right {
 }
 
 /// How a record's id has to stand to the one that is searched.
-#[derive(Clone, Copy, Debug, PartialEq, Eq)]
+#[derive(Clone, Copy, PartialEq, Eq)]
 pub enum Comparison {
     /// The same.
     Equal,
@@ -42,7 +42,7 @@ pub enum Comparison {
 }
 
 /// What is still to do when the bytes of a command are there.
-#[derive(Clone, Copy, Debug, PartialEq, Eq)]
+#[derive(Clone, Copy, PartialEq, Eq)]
 pub enum Job {
     /// Nothing.
     Nothing,
@@ -67,7 +67,7 @@ pub enum Job {
 }
 
 /// The first two sense bytes; the others are zero.
-#[derive(Clone, Copy, Debug, PartialEq, Eq)]
+#[derive(Clone, Copy, PartialEq, Eq)]
 pub struct Sense {
     /// Sense byte 0.
     pub first: u8,
@@ -76,7 +76,7 @@ pub struct Sense {
 }
 
 /// Which records a command looks for.
-#[derive(Clone, Copy, Debug, PartialEq, Eq)]
+#[derive(Clone, Copy, PartialEq, Eq)]
 pub enum Wanted {
     /// All.
     Any,
@@ -87,7 +87,7 @@ pub enum Wanted {
 }
 
 /// What a look for a record comes to.
-#[derive(Clone, Copy, Debug, PartialEq, Eq)]
+#[derive(Clone, Copy, PartialEq, Eq)]
 pub enum Found {
     /// By the head, the record, and the index points then.
     There(usize, usize, u8),

@@ -46,15 +46,22 @@ impl Panel {
 
     /// Begins a command, over the cylinder under the arm.
     pub(crate) fn begin(&mut self, cylinder: &Cylinder, order: Order) -> Answer
-        ensures answer { result ≡ (table.begun (begin.starting self.old order.first) self.old.right cylinder.now order).answer }
-        ensures after { self.new ≡ (table.begun (begin.starting self.old order.first) self.old.right cylinder.now order).front }
+        ensures answer { result ≡ (table.begun (begin.starting self.old order.first) (begin.right_found self.old order.first) cylinder.now order).answer }
+        ensures after { self.new ≡ (table.begun (begin.starting self.old order.first) (begin.right_found self.old order.first) cylinder.now order).front }
     {
-        let right = self.right;
+        let right = self.right_found(order.first);
         self.start(order.first);
         self.obey(right, cylinder, order)
     }
 
-    /// Begins a command of a program that has started; `right` is what the command before gave.
+    /// The right to write that a command finds: what the command before gave, but nothing where it is the first of its program.
+    fn right_found(&self, is_first: bool) -> Right
+        ensures { result ≡ begin.right_found self.now is_first }
+    {
+        if is_first { Right::Nothing } else { self.right }
+    }
+
+    /// Begins a command that has started, which found this right to write.
     fn obey(&mut self, right: Right, cylinder: &Cylinder, order: Order) -> Answer
         requires { self.old.bytes ≡ [] }
         ensures answer { result ≡ (table.begun self.old right cylinder.now order).answer }

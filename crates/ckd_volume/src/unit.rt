@@ -1,5 +1,5 @@
 //! The unit: a volume under an arm, as a device of a channel.
-ghost use Rattle.std.specs.Prelude.{◌≡◌, ◌≤◌, ◌<◌, [], length, ◌+◌, ◌*◌, ◌==◌, Some, None, slice_index, slice_index_or, IfOk};
+ghost use Rattle.std.specs.Prelude.{◌≡◌, ◌≤◌, ◌<◌, [], length, ◌+◌, ◌*◌, ◌==◌, Some, None, slice_index, slice_index_or, IsOk, IfOk, OnOk};
 ghost use Rattle.ckd_volume.specs.Front as front;
 ghost use Rattle.ckd_volume.specs.Control.{halfword, sought};
 ghost use Rattle.ckd_volume.specs.declared.parts.Place.TheVariants as places;
@@ -15,7 +15,7 @@ use std::alloc::{AllocError, Global};
 use std::marker::Model;
 
 /// What outlasts a channel program beside the volume.
-#[derive(Clone, Copy, Debug, PartialEq, Eq)]
+#[derive(Clone, Copy, PartialEq, Eq)]
 pub struct Arm {
     /// The cylinder under the arm.
     pub cylinder: usize,
@@ -50,7 +50,7 @@ impl Model for Unit {
 }
 
 impl Unit {
-    ghost use Rattle.ckd_volume.specs.Unit.{idle, begins, aimed, started, ending, after, finished, status, seek_of, seek_status, moved, keeps, disk_machine, disk_reset, disk_cleared};
+    ghost use Rattle.ckd_volume.specs.Unit.{idle, begins, aimed, started, ending, after, finished, status, seek_of, seek_status, moved, keeps, disk_machine, disk_reset, disk_cleared, rested};
 
     /// A unit whose arm stands over a volume; it has room for the longest command.
     pub fn new(alloc: Global, volume: Volume, arm: Arm) -> Result<Unit, AllocError>
@@ -121,6 +121,14 @@ impl Unit {
         self.cylinder = 0;
     }
 
+    /// After a channel program: no command is under way; the arm and the sense stay. The next program does not see the
+    /// difference, since its first command begins so.
+    pub fn rest(&mut self)
+        ensures { self.new ≡ rested self.old }
+    {
+        self.panel.start(true);
+    }
+
     /// Read IPL moves the arm to the first track before all else.
     fn aim(&mut self, is_ipl: bool)
         ensures { self.new ≡ aimed self.old is_ipl }
@@ -157,11 +165,19 @@ impl Unit {
 }
 
 impl Device for Unit {
+    ghost use Rattle.s370_walk.specs.Short.{nothing_needed};
     ghost use Rattle.ckd_volume.specs.Unit.{disk_machine};
 
     ghost machine = { disk_machine };
 
-    fn command(&mut self, order: Order) -> Result<Answer, AllocError> {
+    ghost needs_memory = { nothing_needed };
+
+    /// A command of a disk is never refused memory.
+    fn command(&mut self, order: Order) -> Result<Answer, AllocError>
+        ensures ready { IsOk result }
+        ensures answer { IfOk result (λ answer. answer ≡ disk_machine.answer self.old order) }
+        ensures after { OnOk result (self.new ≡ disk_machine.started self.old order) }
+    {
         Ok(self.begin(order))
     }
 

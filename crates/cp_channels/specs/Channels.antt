@@ -1,34 +1,82 @@
 -- The channels of a machine: the programs of its devices run on them, and its disks hang on them.
-use Rattle.std.specs.Prelude.{ℕ, ◌≡◌, List, slice_get, Option, Some, None}
+use Rattle.std.specs.Prelude.{ℕ, ◌≡◌, Bool, List, set, slice_get, Option, Some, None}
 use Rattle.s370_walk.specs.declared.parts.Ending.{Ending}
 use Rattle.s370_walk.specs.Hardware.{Machine, Memory}
-use Rattle.s370_walk.specs.Walk.{Fetching, Form, Over, Reaches, start_spot}
+use Rattle.s370_walk.specs.Short.{nothing_needed}
+use Rattle.s370_walk.specs.Walk.{Over, Reaches, live}
 use Rattle.s370_channel.specs.declared.running.ChannelError.{ChannelError}
 use Rattle.s370_channel.specs.declared.running.ChannelError.TheVariants as errors
 use Rattle.s370_channel.specs.declared.words.Caw.{Caw}
-use Rattle.ckd_volume.specs.Unit.{Disk, disk_machine}
-use Rattle.cp_channels.specs.Disks.{DiskAt, with_unit}
-use Rattle.channel_runs.specs.Runs.{limited}
+use Rattle.s370_channel.specs.Guest.{guest_written}
+use Rattle.s370_channel.specs.Loading.{MatchLoading, loading, loading_limits}
+use Rattle.s370_channel.specs.Progress.{setting}
+use Rattle.s370_channel.specs.Reading.{Reading}
+use Rattle.s370_channel.specs.Runs.{IsStopped, Walks}
+use Rattle.ckd_volume.specs.Unit.{Disk, disk_machine, rested}
+use Rattle.cp_channels.specs.Disks.{DiskAt}
 
--- the program with this start, read so, comes to an ending, with the storage and the device as they then are
-abbrev pub Walks : (Memory → Form) → {D : Type 0} → Machine D → Caw → Memory → D → Ending → Memory → D → Type 0
-Walks reads machine start old part ending new part' =
-    Reaches (reads old) (limited machine start) (Fetching (start_spot start.address) old part) (Over ending new part')
+-- ---- a program
 
--- the same on one of some disks, of which the others stay
-pub record WalksOn (reads : Memory → Form) (start : Caw) (old : Memory) (disks : List DiskAt) (index : ℕ) (disk : DiskAt) (ending : Ending) (new : Memory) (disks' : List DiskAt) : Type 0 where
+-- it runs on a disk, which is then at rest
+pub record RestsAfter (reads : Reading) (start : Caw) (old : Memory) (disk : DiskAt) (ending : Ending) (new : Memory) (left : DiskAt) : Type 0 where
   pub unit : Disk
   pub walk : Walks reads disk_machine start old disk.unit ending new unit
-  pub rest : disks' ≡ with_unit disks index disk unit
+  pub rest : left ≡ record disk { unit = rested unit }
 
-abbrev pub WalksAt : (Memory → Form) → Caw → Memory → List DiskAt → ℕ → Option DiskAt → Ending → Memory → List DiskAt → Type 0
+-- the same on one of some disks; the others stay
+pub record WalksOn (reads : Reading) (start : Caw) (old : Memory) (disks : List DiskAt) (index : ℕ) (disk : DiskAt) (ending : Ending) (new : Memory) (disks' : List DiskAt) : Type 0 where
+  pub left : DiskAt
+  pub one : RestsAfter reads start old disk ending new left
+  pub rest : disks' ≡ set disks index left
+
+abbrev pub WalksAt : Reading → Caw → Memory → List DiskAt → ℕ → Option DiskAt → Ending → Memory → List DiskAt → Type 0
 WalksAt reads start old disks index (Some disk) ending new disks' = WalksOn reads start old disks index disk ending new disks'
 WalksAt reads start old disks index None ending new disks' = ⊥
 
-abbrev pub WalksDisk : (Memory → Form) → Caw → Memory → List DiskAt → ℕ → Ending → Memory → List DiskAt → Type 0
-WalksDisk reads start old disks index ending new disks' = WalksAt reads start old disks index (slice_get disks index) ending new disks'
+abbrev pub WalksDisk : Reading → Caw → Memory → List DiskAt → ℕ → Ending → Memory → List DiskAt → Type 0
+WalksDisk reads start old disks index ending new disks' =
+    WalksAt reads start old disks index (slice_get disks index) ending new disks'
+
+-- ---- the program of an initial program loading
+
+abbrev pub WalksLoading : {D : Type 0} → Machine D → Memory → D → Ending → Memory → D → Type 0
+WalksLoading machine old part ending new part' =
+    Reaches (live guest_written) (setting machine loading_limits) (loading machine old part) (Over ending new part')
+
+pub record RestsLoaded (old : Memory) (disk : DiskAt) (ending : Ending) (new : Memory) (left : DiskAt) : Type 0 where
+  pub unit : Disk
+  pub walk : WalksLoading disk_machine old disk.unit ending new unit
+  pub rest : left ≡ record disk { unit = rested unit }
+
+pub record LoadsOn (old : Memory) (disks : List DiskAt) (index : ℕ) (disk : DiskAt) (ending : Ending) (new : Memory) (disks' : List DiskAt) : Type 0 where
+  pub left : DiskAt
+  pub one : RestsLoaded old disk ending new left
+  pub rest : disks' ≡ set disks index left
+
+abbrev pub LoadsAt : Memory → List DiskAt → ℕ → Option DiskAt → Ending → Memory → List DiskAt → Type 0
+LoadsAt old disks index (Some disk) ending new disks' = LoadsOn old disks index disk ending new disks'
+LoadsAt old disks index None ending new disks' = ⊥
+
+abbrev pub LoadsDisk : Memory → List DiskAt → ℕ → Ending → Memory → List DiskAt → Type 0
+LoadsDisk old disks index ending new disks' = LoadsAt old disks index (slice_get disks index) ending new disks'
+
+-- ---- why a program is not run to its end
 
 -- what holds where a page is not present, and not where memory was refused
 abbrev pub WhereAbsent : Type 0 → ChannelError → Type 0
 WhereAbsent P errors.Memory = Unit {0}
 WhereAbsent P (errors.Absent page) = P
+
+-- a device that is never refused memory stops for want of a page alone
+abbrev pub StopsForPage : {D : Type 0} → Machine D → (ℕ → Bool) → Caw → Memory → D → ChannelError → Type 0
+StopsForPage machine present start m part errors.Memory = ⊥
+StopsForPage machine present start m part (errors.Absent page) =
+    IsStopped machine nothing_needed present start m part (errors.Absent page)
+
+abbrev pub StopsDisk : (ℕ → Bool) → Caw → Memory → Option DiskAt → ChannelError → Type 0
+StopsDisk present start m (Some disk) error = StopsForPage disk_machine present start m disk.unit error
+StopsDisk present start m None error = ⊥
+
+abbrev pub StopsLoadingDisk : (ℕ → Bool) → Memory → Option DiskAt → ChannelError → Type 0
+StopsLoadingDisk present m (Some disk) error = MatchLoading guest_written disk_machine nothing_needed present m disk.unit error
+StopsLoadingDisk present m None error = ⊥

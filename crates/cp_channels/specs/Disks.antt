@@ -1,5 +1,5 @@
 -- The disks of a machine, each at its address.
-use Rattle.std.specs.Prelude.{ℕ, ◌==◌, Bool, List, set}
+use Rattle.std.specs.Prelude.{ℕ, ◌==◌, Bool}
 use Rattle.ckd_volume.specs.Unit.{Disk, disk_reset, disk_cleared}
 
 -- A disk unit, and its address.
@@ -9,10 +9,6 @@ pub record DiskAt : Type 0 where
 
 abbrev pub is_disk_at : ℕ → DiskAt → Bool
 is_disk_at device disk = disk.address == device
-
--- the disks with this unit as that of one of them
-abbrev pub with_unit : List DiskAt → ℕ → DiskAt → Disk → List DiskAt
-with_unit disks index disk unit = set disks index (record disk { unit = unit })
 
 -- a system reset: the arm stays
 abbrev pub reset_disk : DiskAt → DiskAt

@@ -1,10 +1,10 @@
 //! Who runs the programs of a machine's devices, and has its disks.
-ghost use Rattle.std.specs.Prelude.{◌≡◌, ◌<◌, ℕ, Bool, true, List, length, map, IfErr, IfOk, IfSome};
+ghost use Rattle.std.specs.Prelude.{◌≡◌, ◌<◌, Bool, true, false, List, length, map, slice_get, IfErr, IfOk, IfSome};
 ghost use Rattle.std.specs.List.{position};
-ghost use Rattle.s370_walk.specs.Hardware.{Memory, memory_of};
-ghost use Rattle.s370_walk.specs.Walk.{Form};
-ghost use Rattle.channel_runs.specs.Runs.{TellsAway};
-ghost use Rattle.cp_channels.specs.Channels.{Walks, WalksDisk, WhereAbsent};
+ghost use Rattle.s370_walk.specs.Hardware.{memory_of};
+ghost use Rattle.s370_channel.specs.Reading.{Reading};
+ghost use Rattle.s370_channel.specs.Runs.{IsStopped, TellsAway, Walks};
+ghost use Rattle.cp_channels.specs.Channels.{StopsDisk, WalksDisk, WhereAbsent};
 ghost use Rattle.cp_channels.specs.Disks.{DiskAt, cleared_disk, is_disk_at, reset_disk};
 
 use s370_channel::{Caw, ChannelError};
@@ -14,12 +14,13 @@ use s370_walk::{Device, Ending};
 /// The channels of a machine with this storage.
 pub trait Channels<S: Storage> {
     /// How a program is read that begins with this storage.
-    ghost reads: { Memory → Form };
+    ghost reads: { Reading };
 
     /// The disks, in the order in which they were attached.
     ghost disks: { Self → List DiskAt };
 
-    /// Whether a program that names a page that is not present has done nothing.
+    /// Whether a program is run as a whole or not at all: one that names a page which is not present has done nothing. Where
+    /// it is not so, a program stops at the step that needs the page.
     ghost is_whole: { Bool };
 
     /// How many disks there are.
@@ -31,8 +32,8 @@ pub trait Channels<S: Storage> {
         ensures index { result ≡ position (is_disk_at device) (disks self.now) }
         ensures inside { IfSome result (λ index. index < length (disks self.now)) };
 
-    /// Runs the program with this start, for a device that is no disk. An error is told only where memory was refused, or a
-    /// page is not present that the program names.
+    /// Runs the program with this start, for a device that is no disk. An error is told only where the program comes to a
+    /// command that needs memory, or a page is not present that the program names.
     fn run<D: Device>(
         &mut self,
         storage: &mut S,
@@ -42,13 +43,14 @@ pub trait Channels<S: Storage> {
         ensures walk { IfOk result (λ ending. Walks reads D.machine start (memory_of (S.bytes storage.old) (S.keys storage.old)) device.old ending (memory_of (S.bytes storage.new) (S.keys storage.new)) device.new) }
         ensures disks { disks self.new ≡ disks self.old }
         ensures away { IfErr result (TellsAway (S.present storage.old)) }
+        ensures stopped { is_whole ≡ false → IfErr result (IsStopped D.machine D.needs_memory (S.present storage.old) start (memory_of (S.bytes storage.old) (S.keys storage.old)) device.old) }
         ensures whole { is_whole ≡ true → IfErr result (WhereAbsent ((S.bytes storage.new ≡ S.bytes storage.old) × (device.new ≡ device.old) × (disks self.new ≡ disks self.old))) }
         ensures present { S.present storage.new ≡ S.present storage.old }
         ensures keys { S.keys storage.new ≡ S.keys storage.old }
         ensures size { length (S.bytes storage.new) ≡ length (S.bytes storage.old) }
         ensures rest { S.Keeps storage.old storage.new };
 
-    /// The same for the disk of this index.
+    /// The same for the disk of this index, which is at rest after its program.
     fn run_disk(
         &mut self,
         storage: &mut S,
@@ -58,6 +60,7 @@ pub trait Channels<S: Storage> {
         requires { index < length (disks self.old) }
         ensures walk { IfOk result (λ ending. WalksDisk reads start (memory_of (S.bytes storage.old) (S.keys storage.old)) (disks self.old) index ending (memory_of (S.bytes storage.new) (S.keys storage.new)) (disks self.new)) }
         ensures away { IfErr result (TellsAway (S.present storage.old)) }
+        ensures stopped { is_whole ≡ false → IfErr result (StopsDisk (S.present storage.old) start (memory_of (S.bytes storage.old) (S.keys storage.old)) (slice_get (disks self.old) index)) }
         ensures whole { is_whole ≡ true → IfErr result (WhereAbsent ((S.bytes storage.new ≡ S.bytes storage.old) × (disks self.new ≡ disks self.old))) }
         ensures present { S.present storage.new ≡ S.present storage.old }
         ensures keys { S.keys storage.new ≡ S.keys storage.old }

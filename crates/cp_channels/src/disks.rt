@@ -1,17 +1,13 @@
-//! Disks at their addresses.
-ghost use Rattle.std.specs.Prelude.{◌≡◌, IfErr, IfOk, length, map};
+//! The disks of a machine, each at its address.
+ghost use Rattle.std.specs.Prelude.{◌≡◌, IfErr, IfOk, Some, length, map};
 ghost use Rattle.s370_walk.specs.Hardware.{memory_of};
-ghost use Rattle.s370_walk.specs.Walk.{Over, Reaches, live};
-ghost use Rattle.s370_channel.specs.Guest.{guest_written};
-ghost use Rattle.s370_channel.specs.Loading.{loading, loading_limits};
-ghost use Rattle.s370_channel.specs.Progress.{setting};
-ghost use Rattle.channel_runs.specs.Reading.{as_reached};
-ghost use Rattle.channel_runs.specs.Runs.{TellsAway};
+ghost use Rattle.s370_channel.specs.Reading.{as_reached};
+ghost use Rattle.s370_channel.specs.Runs.{TellsAway};
+ghost use Rattle.cp_channels.specs.Channels.{RestsAfter, StopsForPage, StopsLoadingDisk, RestsLoaded};
+ghost use Rattle.cp_channels.specs.Disks.{cleared_disk, reset_disk};
 ghost use Rattle.ckd_volume.specs.Unit.{disk_machine};
-ghost use Rattle.cp_channels.specs.Channels.{Walks};
-ghost use Rattle.cp_channels.specs.Disks.{reset_disk, cleared_disk};
 
-use channel_runs::{Channel, Live};
+use crate::running::run_live;
 use ckd_volume::Unit;
 use s370_channel::{Caw, ChannelError, Guest, run_ipl};
 use s370_num::DevAddr;
@@ -56,33 +52,38 @@ impl AttachedDisk {
         &self.unit
     }
 
-    /// The program with this start runs on the unit, each word read when it is reached.
+    /// The program with this start runs on the unit, each word read when it is reached; the unit is then at rest.
     pub(crate) fn run<S: Storage>(
         &mut self,
         storage: &mut S,
         start: Caw,
     ) -> Result<Ending, ChannelError>
-        ensures walk { IfOk result (λ ending. Walks as_reached disk_machine start (memory_of (S.bytes storage.old) (S.keys storage.old)) self.old.unit ending (memory_of (S.bytes storage.new) (S.keys storage.new)) self.new.unit) }
-        ensures address { self.new ≡ record self.old { unit = self.new.unit } }
+        ensures walk { IfOk result (λ ending. RestsAfter as_reached start (memory_of (S.bytes storage.old) (S.keys storage.old)) self.old ending (memory_of (S.bytes storage.new) (S.keys storage.new)) self.new) }
         ensures away { IfErr result (TellsAway (S.present storage.old)) }
+        ensures stopped { IfErr result (StopsForPage disk_machine (S.present storage.old) start (memory_of (S.bytes storage.old) (S.keys storage.old)) self.old.unit) }
         ensures present { S.present storage.new ≡ S.present storage.old }
         ensures keys { S.keys storage.new ≡ S.keys storage.old }
         ensures size { length (S.bytes storage.new) ≡ length (S.bytes storage.old) }
         ensures rest { S.Keeps storage.old storage.new }
     {
-        Live.run(storage, start, &mut self.unit)
+        let ending = run_live(storage, start, &mut self.unit)?;
+        self.unit.rest();
+        Ok(ending)
     }
 
-    /// The program of an initial program loading runs on the unit. It has gone well where its ending says so.
-    pub fn load<S: Storage>(&mut self, storage: &mut S) -> Result<Ending, ChannelError>
-        ensures walk { IfOk result (λ ending. Reaches (live guest_written) (setting disk_machine loading_limits) (loading disk_machine (memory_of (S.bytes storage.old) (S.keys storage.old)) self.old.unit) (Over ending (memory_of (S.bytes storage.new) (S.keys storage.new)) self.new.unit)) }
-        ensures address { self.new ≡ record self.old { unit = self.new.unit } }
+    /// The program of an initial program loading runs on the unit, which is then at rest. It has gone well where its ending
+    /// says so.
+    pub(crate) fn load<S: Storage>(&mut self, storage: &mut S) -> Result<Ending, ChannelError>
+        ensures walk { IfOk result (λ ending. RestsLoaded (memory_of (S.bytes storage.old) (S.keys storage.old)) self.old ending (memory_of (S.bytes storage.new) (S.keys storage.new)) self.new) }
+        ensures stopped { IfErr result (StopsLoadingDisk (S.present storage.old) (memory_of (S.bytes storage.old) (S.keys storage.old)) (Some self.old)) }
         ensures present { S.present storage.new ≡ S.present storage.old }
         ensures keys { S.keys storage.new ≡ S.keys storage.old }
         ensures size { length (S.bytes storage.new) ≡ length (S.bytes storage.old) }
         ensures rest { S.Keeps storage.old storage.new }
     {
-        run_ipl(&Guest, storage, &mut self.unit)
+        let ending = run_ipl(&Guest, storage, &mut self.unit)?;
+        self.unit.rest();
+        Ok(ending)
     }
 
     /// A system reset.

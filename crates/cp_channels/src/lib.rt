@@ -7,9 +7,8 @@
 mod channels;
 mod disks;
 mod own;
-mod parts;
+mod running;
 
 pub use channels::Channels;
 pub use disks::AttachedDisk;
 pub use own::Own;
-pub use parts::Kind;

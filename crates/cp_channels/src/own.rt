@@ -1,46 +1,87 @@
 //! The channels of a machine of its own, with disk units of its own.
-ghost use Rattle.std.specs.Prelude.{◌≡◌, ◌<◌, IfErr, IfOk, length, map};
-ghost use Rattle.channel_runs.specs.Runs.{TellsAway};
+ghost use Rattle.std.specs.Prelude.{◌≡◌, ◌<◌, IfErr, IfOk, length, map, slice_get};
+ghost use Rattle.s370_walk.specs.Hardware.{memory_of};
+ghost use Rattle.cp_channels.specs.Channels.{LoadsDisk, StopsLoadingDisk};
+ghost use Rattle.cp_channels.specs.Disks.{cleared_disk, reset_disk};
+ghost use Rattle.cp_channels.specs.Own.{disks_of};
 
 use crate::channels::Channels;
 use crate::disks::{AttachedDisk, clear_each, reset_each};
-use channel_runs::{Channel, Live};
+use crate::running::run_live;
 use s370_channel::{Caw, ChannelError};
 use s370_store::Storage;
 use s370_walk::{Device, Ending};
 
 /// Each program is read as it is reached, in the machine's own storage; each disk has a volume of its own.
 #[derive(Drop)]
-pub struct Own<'a> {
-    units: &'a mut [AttachedDisk],
+pub struct Own {
+    disks: Vec<AttachedDisk>,
 }
 
-impl<'a> Own<'a> {
-    /// The channels on which these units hang.
-    pub fn new(units: &'a mut [AttachedDisk]) -> Own<'a>
-        ensures same { result.units.ghost_name ≡ units.entry.ghost_name }
-        ensures units { result.units.now ≡ units.old }
+impl Own {
+    /// The channels on which these disks hang, in this order.
+    pub fn new(disks: Vec<AttachedDisk>) -> Own
+        ensures { disks_of result ≡ disks.items }
     {
-        Own { units }
+        Own { disks }
+    }
+
+    /// The disks, in the order in which they were attached.
+    pub fn disks(&self) -> &[AttachedDisk]
+        ensures { result.now ≡ disks_of self.now }
+    {
+        self.disks.as_slice()
+    }
+
+    /// The program of an initial program loading runs on the disk of this index, which is at rest after it.
+    pub fn load_disk<S: Storage>(
+        &mut self,
+        storage: &mut S,
+        index: usize,
+    ) -> Result<Ending, ChannelError>
+        requires { index < length (disks_of self.old) }
+        ensures walk { IfOk result (λ ending. LoadsDisk (memory_of (S.bytes storage.old) (S.keys storage.old)) (disks_of self.old) index ending (memory_of (S.bytes storage.new) (S.keys storage.new)) (disks_of self.new)) }
+        ensures stopped { IfErr result (StopsLoadingDisk (S.present storage.old) (memory_of (S.bytes storage.old) (S.keys storage.old)) (slice_get (disks_of self.old) index)) }
+        ensures present { S.present storage.new ≡ S.present storage.old }
+        ensures keys { S.keys storage.new ≡ S.keys storage.old }
+        ensures size { length (S.bytes storage.new) ≡ length (S.bytes storage.old) }
+        ensures rest { S.Keeps storage.old storage.new }
+    {
+        self.disks[index].load(storage)
+    }
+
+    /// A system reset of the disks: the arms stay.
+    pub fn reset(&mut self)
+        ensures { disks_of self.new ≡ map reset_disk (disks_of self.old) }
+    {
+        reset_each(&mut self.disks);
+    }
+
+    /// As for a LOGON: the arms stand over cylinder 0, with head 0 chosen.
+    pub fn clear(&mut self)
+        ensures { disks_of self.new ≡ map cleared_disk (disks_of self.old) }
+    {
+        clear_each(&mut self.disks);
     }
 }
 
-impl<'a, S: Storage> Channels<S> for Own<'a> {
+impl<S: Storage> Channels<S> for Own {
     ghost use Rattle.std.specs.Prelude.{false};
-    ghost use Rattle.channel_runs.specs.Reading.{as_reached};
+    ghost use Rattle.s370_channel.specs.Reading.{as_reached};
+    ghost use Rattle.cp_channels.specs.Own.{disks_of};
 
     ghost reads = { as_reached };
 
-    ghost disks = { λ own. own.units.now };
+    ghost disks = { disks_of };
 
     ghost is_whole = { false };
 
     fn count(&self) -> usize {
-        self.units.len()
+        self.disks.len()
     }
 
     fn disk_at(&self, device: u16) -> Option<usize> {
-        self.units
+        self.disks
             .iter()
             .position(|disk| disk.address().get() == device)
     }
@@ -51,7 +92,7 @@ impl<'a, S: Storage> Channels<S> for Own<'a> {
         start: Caw,
         device: &mut D,
     ) -> Result<Ending, ChannelError> {
-        Live.run(storage, start, device)
+        run_live(storage, start, device)
     }
 
     fn run_disk(
@@ -60,14 +101,14 @@ impl<'a, S: Storage> Channels<S> for Own<'a> {
         start: Caw,
         index: usize,
     ) -> Result<Ending, ChannelError> {
-        self.units[index].run(storage, start)
+        self.disks[index].run(storage, start)
     }
 
     fn reset_disks(&mut self) {
-        reset_each(self.units);
+        self.reset();
     }
 
     fn clear_disks(&mut self) {
-        clear_each(self.units);
+        self.clear();
     }
 }

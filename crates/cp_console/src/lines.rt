@@ -11,7 +11,7 @@ use std::marker::Model;
 pub const LINE_LENGTH: usize = 130;
 
 /// A line as the program takes it: at most [`LINE_LENGTH`] characters, each of the EBCDIC alphabet.
-#[derive(Debug, Drop)]
+#[derive(Drop)]
 pub struct ConsoleText {
     characters: [u8; 130],
     count: usize,
@@ -70,7 +70,7 @@ fn character_of(c: u8) -> u8
 }
 
 /// What a line asks for.
-#[derive(Clone, Copy, Debug, PartialEq, Eq, Drop)]
+#[derive(Clone, Copy, PartialEq, Eq, Drop)]
 pub enum Asked<'a> {
     /// `#CP` alone: the machine stops, and nothing is said.
     Stop,

@@ -1,10 +1,12 @@
 -- What an event keeps of frames and slots.
-use Rattle.std.proofs.Common.{◌≡◌, ◌∙◌, ap, sym, subst, ℕ, zero, suc, Bool, true, false, List, get_or, length, replicate, refl, Option, arith, inl, inr}
+use Rattle.std.proofs.Common.{◌≡◌, ◌∙◌, ap, sym, subst, ℕ, zero, suc, ◌*◌, ◌≤◌, Bool, true, false, List, [], ◌∷◌, get_or, length, length-append, replicate, refl, Option, arith, inl, inr}
 use Rattle.std.specs.Prelude.{is_some}
+use Rattle.std.specs.List.{concat}
 use Rattle.s370_store.specs.Access.{Touches}
 use Rattle.std.proofs.lemmas.List.{length-map, length-replicate}
 use Rattle.std.proofs.lemmas.List.Elements.{All-get_or}
-use Rattle.s370_intr.specs.Run.{AllNeeded}
+use Rattle.s370_intr.specs.Units.{Core}
+use Rattle.s370_intr.specs.Run.{AllNeeded, EachBrings}
 use Rattle.s370_intr.proofs.Brings.{listed}
 use Rattle.cp_frames.specs.Layout.{FrameSupply, without}
 use Rattle.cp_dat.specs.Lent.{lent_pool, user_of}
@@ -35,6 +37,14 @@ given_back old new given = record {
   gone_slots = given.gone_slots;
   page_ins = ap (λ (s : FrameSupply). s.page_ins) given.supply;
 }
+
+-- ---- how many pages come
+
+-- nine pages at most for each unit
+pub nine_each : (old : Core) (unit : ℕ) (units : List (List ℕ)) → EachBrings old unit units → length (concat units) ≤ 9 * length units
+nine_each old unit [] each = omega arith
+nine_each old unit (pages ∷ units) each =
+    let rest = nine_each old (suc unit) units each.2 in omega (arith, each.1, rest, length-append pages (concat units))
 
 -- ---- why a page was refused
 

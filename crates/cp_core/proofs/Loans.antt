@@ -1,18 +1,20 @@
 -- What is written to a lent frame, seen in the machines of a system.
-use Rattle.std.proofs.Common.{◌≡◌, Option, None, Some, ℕ, ◌<◌, ◌≤◌, Bool, true, false, nat_lt, List, [], ◌∷◌, length, get_or, set, zero, suc, refl, ◌∙◌, ap, arith}
-use Rattle.std.specs.Prelude.{if◌then◌else◌}
+use Rattle.std.proofs.Common.{◌≡◌, Option, None, Some, ℕ, ◌*◌, ◌≤◌, Bool, true, false, nat_lt, List, [], ◌∷◌, length, get_or, set, zero, suc, refl, ◌∙◌, ap, arith, sym}
+use Rattle.std.specs.Prelude.{if◌then◌else◌, IfNone, IfSome}
 use Rattle.std.proofs.lemmas.Bool.Decides.{nat_tests}
-use Rattle.std.proofs.lemmas.List.{length-set}
+use Rattle.std.proofs.lemmas.List.{get_or_past, length-set}
 use Rattle.std.proofs.lemmas.List.FromFn.{length-map-range_with_len}
 use Rattle.cp_directory.specs.Users.{DirectoryUser}
 use Rattle.cp_frames.specs.declared.numbers.UserPage.{UserPage}
-use Rattle.cp_frames.specs.Layout.{Pool, bytes_of, put_page}
+use Rattle.cp_frames.specs.declared.numbers.FrameNo.{FrameNo}
+use Rattle.cp_frames.specs.Layout.{IsZeroPage, Pool, bytes_of, number_of, put_page}
+use Rattle.cp_frames.proofs.Layouts.{same_frame}
 use Rattle.cp_frames.specs.Layout.{written_page as pool_page, written_frame as pool_frame}
 use Rattle.cp_dat.specs.Supplied.{IsBetweenUnits}
 use Rattle.cp_panel.specs.Machine.{Machine}
 use Rattle.cp_core.specs.UserMachines.{UserParts, machine_of, Fits}
 use Rattle.cp_core.specs.System.{SystemView, machines_of, nobody}
-use Rattle.cp_core.specs.Loan.{with_page, written_page, written_frame}
+use Rattle.cp_core.specs.Loan.{frame_at, slot_at, with_page, written_page, written_frame}
 use Rattle.cp_core.specs.Whole.{IsSystem, IsWhole, no_machine}
 
 -- a page that is written leaves the size of its storage
@@ -81,9 +83,36 @@ pub seen_written : (seats : List UserParts) (users : List DirectoryUser) (is_spe
     → seen seats users is_spent (pool_frame pool frame written) ≡ written_frame (seen seats users is_spent pool) frame written
 seen_written seats users is_spent pool frame written = seen_page seats users is_spent pool (get_or pool.supply.owners frame None) written
 
--- which of two is chosen by an order
-pub past : (a b : ℕ) (x y : Option ℕ) → b ≤ a → (if nat_lt a b then x else y) ≡ y
-past a b x y h = let t : nat_lt a b ≡ false = grind (arith, nat_tests) in rw t refl
+-- ---- where a page stands
 
-pub before : (a b : ℕ) (x y : Option ℕ) → a < b → (if nat_lt a b then x else y) ≡ x
-before a b x y h = let t : nat_lt a b ≡ true = grind (arith, nat_tests) in rw t refl
+-- past storage all is zero
+pub past_zero : (bytes : List ℕ) (page : ℕ) → nat_lt (page * 4096) (length bytes) ≡ false → IsZeroPage bytes page
+past_zero bytes page past address e =
+    let above : length bytes ≤ page * 4096 = grind (arith, nat_tests) in get_or_past bytes address 0 (omega (arith, e, above))
+
+-- a place that is told is that of a page of storage
+chosen : (b : Bool) (o : Option ℕ) (place : ℕ) → (if b then o else None) ≡ Some place → o ≡ Some place
+chosen true o place e = e
+chosen false o place e = cc
+
+pub told_inside : (b : Bool) (o : Option ℕ) → b ≡ true → (if b then o else None) ≡ o
+told_inside true o e = refl
+told_inside false o e = cc
+
+pub told_past : (b : Bool) (o : Option ℕ) → b ≡ false → (if b then o else None) ≡ None
+told_past true o e = cc
+told_past false o e = refl
+
+-- a frame has one page at most
+pub frame_once : (s : SystemView) (user page : ℕ) (o : Option FrameNo) → number_of o ≡ frame_at s user page → IfSome o (λ frame. (other other_page : ℕ) → frame_at s other other_page ≡ Some frame.0 → (other ≡ user) × (other_page ≡ page))
+frame_once s user page None e = tt
+frame_once s user page (Some frame) e = λ other other_page there. same_frame s.supply.owners other other_page user page frame.0 (chosen _ _ frame.0 there) (chosen _ _ frame.0 (sym e))
+
+-- and a slot has
+pub slot_once : (s : SystemView) (user page : ℕ) (o : Option ℕ) → o ≡ slot_at s user page → IfSome o (λ slot. (other other_page : ℕ) → slot_at s other other_page ≡ Some slot → (other ≡ user) × (other_page ≡ page))
+slot_once s user page None e = tt
+slot_once s user page (Some slot) e = λ other other_page there. same_frame s.supply.slots other other_page user page slot (chosen _ _ slot there) (chosen _ _ slot (sym e))
+
+pub none_so : {X : Type 0} (o : Option X) (P Q : Type 0) → (P → Q) → IfNone o P → IfNone o Q
+none_so None P Q f h = f h
+none_so (Some x) P Q f h = tt

@@ -9,12 +9,6 @@ user_of (Run user units) = user
 user_of (Line user typed) = user
 user_of (Tick user) = user
 
--- the events that may take memory
-abbrev pub MayTakeMemory : Event → Type 0
-MayTakeMemory (Run user units) = ⊥
-MayTakeMemory (Line user typed) = Unit {0}
-MayTakeMemory (Tick user) = ⊥
-
 -- an event that is no run
 abbrev pub IsNoRun : Event → Type 0
 IsNoRun (Run user asked) = ⊥

@@ -1,17 +1,17 @@
 -- The whole system as it is seen, and what its events do: to each user what a bare machine does.
-use Rattle.std.specs.Prelude.{◌≡◌, ℕ, ◌==◌, ◌*◌, ◌≤◌, if◌then◌else◌, Bool, true, false, List, [], ◌∷◌, ◌++◌, length, map, replicate, reverse, slice_index_or, None}
-use Rattle.std.specs.List.{range_with_len}
+use Rattle.std.specs.Prelude.{◌≡◌, ℕ, ◌==◌, ◌*◌, ◌<◌, ◌≤◌, if◌then◌else◌, Bool, true, false, List, [], ◌∷◌, ◌++◌, length, map, replicate, reverse, slice_index_or, None}
+use Rattle.std.specs.List.{concat, range_with_len}
 use Rattle.s370_store.specs.Access.{Touches}
 use Rattle.s370_intr.specs.declared.next.Reason.TheVariants.{FramesOut as RunFramesOut}
 use Rattle.s370_intr.specs.declared.run.Ran.{Ran as RanUnits}
-use Rattle.s370_intr.specs.Run.{AllNeeded, IsLacking, RunNeeds}
+use Rattle.s370_intr.specs.Run.{AllNeeded, EachBrings, IsLacking}
 use Rattle.s370_intr.specs.Laws.{begun}
 use Rattle.cp_directory.specs.Users.{DirectoryUser}
 use Rattle.cp_frames.specs.Layout.{FrameSupply}
-use Rattle.cp_dat.specs.Supplied.{HasNoRoom, IsBetweenUnits, IsBroughtFor}
+use Rattle.cp_dat.specs.Supplied.{HasNoRoom, IsBetweenUnits, IsBroughtInUnits}
 use Rattle.cp_panel.specs.Machine.{Machine, unused}
 use Rattle.cp_panel.specs.Run.{TellsRun}
-use Rattle.cp_panel.specs.Panel.{line, line_needs, switches}
+use Rattle.cp_panel.specs.Panel.{line, line_needs, line_room, switches}
 use Rattle.cp_panel.specs.Tick.{TickNeeds, ticked}
 use Rattle.cp_panel.specs.Life.{Event as Local, Units, Line as Typed, Tick as Ticked, life}
 use Rattle.cp_core.specs.UserMachines.{UserParts, machine_of}
@@ -131,19 +131,13 @@ IsTold old (Line user typed) reply new =
 IsTold old (Tick user) reply new =
     TellsOfTick (machine_at old user) reply reply.ended (machine_at new user) (HasNoRoom new.supply user)
 
+-- the events that may take memory: lines for which the console has to make room
+abbrev pub MayTakeMemory : SystemView → Event → Type 0
+MayTakeMemory old (Run user asked) = ⊥
+MayTakeMemory old (Line user typed) = 0 < line_room typed.now (machine_at old user)
+MayTakeMemory old (Tick user) = ⊥
+
 -- ---- the supply of frames
-
-abbrev pub RunAsks : Machine → Ended → ℕ → Type 0
-RunAsks m (Ran ran) page = RunNeeds m.core ran.units ran.reason page
-RunAsks m Done page = ⊥
-RunAsks m FramesOut page = ⊥
-
--- a page that an event needs: of a unit that was done, or of the one that lacked a page; of the bytes that a line shows or
--- changes; of the timer of a machine that runs
-abbrev pub EventNeeds : SystemView → Event → Reply → ℕ → Type 0
-EventNeeds old (Run user asked) reply page = RunAsks (machine_at old user) reply.ended page
-EventNeeds old (Line user typed) reply page = Touches (line_needs typed.now (machine_at old user)) page
-EventNeeds old (Tick user) reply page = TickNeeds (machine_at old user) page
 
 -- whether an event switches a machine on or off, which gives back all the user's pages
 abbrev pub gives_back : SystemView → Event → Bool
@@ -151,25 +145,30 @@ gives_back old (Run user asked) = false
 gives_back old (Line user typed) = switches typed.now (machine_at old user)
 gives_back old (Tick user) = false
 
-abbrev pub RunBrings : Ended → ℕ → Type 0
-RunBrings (Ran ran) count = count ≤ 9 * begun ran.units ran.reason
-RunBrings Done count = ⊥
-RunBrings FramesOut count = ⊥
+abbrev pub RunBrings : Machine → Ended → List (List ℕ) → Type 0
+RunBrings m (Ran ran) units =
+    EachBrings m.core 0 units × (length units ≤ begun ran.units ran.reason) × (length (concat units) ≤ 9 * begun ran.units ran.reason)
+RunBrings m Done units = ⊥
+RunBrings m FramesOut units = ⊥
 
--- how many pages an event may bring: nine for each unit of a run, and nine more where it lacked a frame; one for a tick; as
--- many as it needs for a line
-abbrev pub MayBring : Event → Reply → ℕ → Type 0
-MayBring (Run user asked) reply count = RunBrings reply.ended count
-MayBring (Line user typed) reply count = Unit {0}
-MayBring (Tick user) reply count = count ≤ 1
+-- there is one unit, and it needs all that it brings
+abbrev pub OneBrings : (ℕ → Type 0) → List (List ℕ) → Type 0
+OneBrings needs units = (pages : List ℕ) × (units ≡ pages ∷ []) × AllNeeded needs pages
 
--- only pages that an event needs came, and no more than it may bring
+-- what the units of an event may bring: each unit of a run, and the one that lacked a page, nine pages that it needs; a line, as
+-- one unit, those of the bytes that it shows or changes; a tick the page of the timer, of a machine that runs
+abbrev pub MayBring : SystemView → Event → Reply → List (List ℕ) → Type 0
+MayBring old (Run user asked) reply units = RunBrings (machine_at old user) reply.ended units
+MayBring old (Line user typed) reply units = OneBrings (Touches (line_needs typed.now (machine_at old user))) units
+MayBring old (Tick user) reply units = OneBrings (TickNeeds (machine_at old user)) units × (length (concat units) ≤ 1)
+
+-- pages came as an event's units may bring them, and no others
 abbrev pub IsBroughtBy : SystemView → Event → Reply → SystemView → Type 0
 IsBroughtBy old event reply new =
-    (pages : List ℕ) × IsBroughtFor (user_of event) pages old.supply new.supply × AllNeeded (EventNeeds old event reply) pages × MayBring event reply (length pages)
+    (units : List (List ℕ)) × IsBroughtInUnits (user_of event) units old.supply new.supply × MayBring old event reply units
 
 -- what an event does to frames and slots: no frame is pinned before or after it; where the user's machine is switched on or
--- off, all his pages are given back, and else only pages that the event needs are brought
+-- off, all his pages are given back, and else only pages that its units need are brought
 pub record IsSupplied (old : SystemView) (event : Event) (reply : Reply) (new : SystemView) : Type 0 where
   pub between_before : IsBetweenUnits old.supply
   pub between : IsBetweenUnits new.supply

@@ -33,7 +33,7 @@ impl<'a> Event<'a> {
 }
 
 /// How an event ended.
-#[derive(Clone, Copy, Debug, PartialEq, Eq)]
+#[derive(Clone, Copy, PartialEq, Eq)]
 pub enum Ended {
     /// A run: so many units were done, and why no more.
     Ran(Ran),
@@ -44,7 +44,7 @@ pub enum Ended {
 }
 
 /// What the system answers to an event.
-#[derive(Clone, Copy, Debug, PartialEq, Eq)]
+#[derive(Clone, Copy, PartialEq, Eq)]
 pub struct Reply {
     /// How the event ended.
     pub ended: Ended,

@@ -1,7 +1,8 @@
 //! Where a user's page stands, and the loan of frames: the bytes of one.
-ghost use Rattle.std.specs.Prelude.{◌≡◌, ◌<◌, ◌↔◌, IsSome, length};
-ghost use Rattle.cp_frames.specs.Layout.{number_of};
+ghost use Rattle.std.specs.Prelude.{◌≡◌, ℕ, ◌*◌, ◌<◌, ◌↔◌, nat_lt, true, Some, None, IfNone, IfSome, IsSome, length};
+ghost use Rattle.cp_frames.specs.Layout.{IsZeroPage, number_of};
 ghost use Rattle.cp_core.specs.Loan.{frame_at, slot_at};
+ghost use Rattle.cp_core.specs.System.{machine_at};
 
 use crate::system::System;
 use cp_frames::{FRAME_SIZE, FrameNo};
@@ -12,27 +13,40 @@ impl System {
     ghost use Rattle.std.specs.Borrow.{sem};
     ghost use Rattle.cp_core.specs.Loan.{LendsFrame};
 
-    /// The frame in which a page of a user's storage stands; `None` past storage too. This takes no memory.
-    pub fn frame_of(&self, user: UserNo, page: Page) -> Option<FrameNo>
-        ensures { number_of result ≡ frame_at self.now user page.0 }
+    /// Whether a user's storage has this page.
+    fn has_page(&self, user: UserNo, page: Page) -> bool
+        ensures inside { result ≡ nat_lt (page.0 * 4096) (length (machine_at self.now user).core.processor.bytes) }
+        ensures user { result ≡ true → user < length self.now.machines }
     {
         if user.index() >= self.users() {
-            return None;
+            return false;
         }
-        if u64::from(page.0) * u64::from(PAGE_SIZE) >= u64::from(self.frames.size(user)) {
+        u64::from(page.0) * u64::from(PAGE_SIZE) < u64::from(self.frames.size(user))
+    }
+
+    /// The frame in which a page of a user's storage stands, with no other page; `None` past storage too. A page that stands in
+    /// none, and in no slot, is all zero. This takes no memory.
+    pub fn frame_of(&self, user: UserNo, page: Page) -> Option<FrameNo>
+        ensures frame { number_of result ≡ frame_at self.now user page.0 }
+        ensures apart { IsSome result → slot_at self.now user page.0 ≡ None }
+        ensures once { IfSome result (λ frame. (other other_page : ℕ) → frame_at self.now other other_page ≡ Some frame.0 → (other ≡ user) × (other_page ≡ page.0)) }
+        ensures zero { IfNone result (slot_at self.now user page.0 ≡ None → IsZeroPage (machine_at self.now user).core.processor.bytes page.0) }
+    {
+        if !self.has_page(user, page) {
             return None;
         }
         self.frames.frame_of(user, page)
     }
 
-    /// The slot in which a page of a user's storage stands; `None` past storage too. This takes no memory.
+    /// The slot in which a page of a user's storage stands, with no other page; `None` past storage too. A page that stands in
+    /// none, and in no frame, is all zero. This takes no memory.
     pub fn slot_of(&self, user: UserNo, page: Page) -> Option<usize>
-        ensures { result ≡ slot_at self.now user page.0 }
+        ensures slot { result ≡ slot_at self.now user page.0 }
+        ensures apart { IsSome result → frame_at self.now user page.0 ≡ None }
+        ensures once { IfSome result (λ slot. (other other_page : ℕ) → slot_at self.now other other_page ≡ Some slot → (other ≡ user) × (other_page ≡ page.0)) }
+        ensures zero { IfNone result (frame_at self.now user page.0 ≡ None → IsZeroPage (machine_at self.now user).core.processor.bytes page.0) }
     {
-        if user.index() >= self.users() {
-            return None;
-        }
-        if u64::from(page.0) * u64::from(PAGE_SIZE) >= u64::from(self.frames.size(user)) {
+        if !self.has_page(user, page) {
             return None;
         }
         self.frames.slot_of(user, page)

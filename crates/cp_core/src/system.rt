@@ -1,16 +1,17 @@
 //! The system: its users, their machines and the frames that they share.
-ghost use Rattle.std.specs.Prelude.{◌≡◌, ◌*◌, ◌<◌, ◌≤◌, ◌↔◌, ℕ, List, Err, true, false, IsOk, IfOk, OnErr, OnOk, length, slice_set};
+ghost use Rattle.std.specs.Prelude.{◌≡◌, ◌<◌, ◌≤◌, ◌↔◌, ℕ, List, [], ◌∷◌, Err, true, false, IsOk, IfOk, OnErr, OnOk, length, slice_set};
 ghost use Rattle.s370_store.specs.Access.{Touches};
 ghost use Rattle.s370_intr.specs.Laws.{begun};
-ghost use Rattle.s370_intr.specs.Run.{AllNeeded, IsLacking, RunNeeds};
+ghost use Rattle.s370_intr.specs.Run.{AllNeeded, EachBrings, IsLacking};
 ghost use Rattle.cp_panel.specs.declared.line.LineError.TheVariants as errors;
 ghost use Rattle.cp_panel.specs.Run.{TellsRun, notice_of};
 ghost use Rattle.cp_panel.specs.Panel.{line, line_needs, line_room, switches};
 ghost use Rattle.cp_panel.specs.Tick.{TickNeeds, ticked};
-ghost use Rattle.cp_core.specs.Events.{IsNoRun, MayTakeMemory, user_of};
+ghost use Rattle.cp_core.specs.declared.events.Reply.{Reply};
+ghost use Rattle.cp_core.specs.Events.{IsNoRun, user_of};
 ghost use Rattle.cp_core.specs.Supply.{IsGivenBack, IsShort};
-ghost use Rattle.cp_dat.specs.Supplied.{HasNoRoom, IsBetweenUnits, IsBroughtFor};
-ghost use Rattle.cp_core.specs.System.{EachIsBare, IsApplied, IsSupplied, IsTold, SystemView, machine_at};
+ghost use Rattle.cp_dat.specs.Supplied.{HasNoRoom, IsBetweenUnits, IsBroughtInUnits};
+ghost use Rattle.cp_core.specs.System.{EachIsBare, IsApplied, IsSupplied, IsTold, MayTakeMemory, SystemView, machine_at};
 
 use crate::events::{CpError, Ended, Event, Reply};
 use crate::user_machine::UserMachine;
@@ -112,7 +113,7 @@ impl System {
     fn run(&mut self, user: usize, units: u32) -> Ran
         requires { user < length self.old.machines }
         ensures told { TellsRun units (machine_at self.old user) (record { machine = machine_at self.new user; units = result.units; reason = result.reason; notice = notice_of result.reason }) (HasNoRoom self.new.supply user) }
-        ensures supply { (pages : List ℕ) × IsBroughtFor user pages self.old.supply self.new.supply × AllNeeded (RunNeeds (machine_at self.old user).core result.units result.reason) pages × (length pages ≤ 9 * begun result.units result.reason) }
+        ensures supply { (units : List (List ℕ)) × IsBroughtInUnits user units self.old.supply self.new.supply × EachBrings (machine_at self.old user).core 0 units × (length units ≤ begun result.units result.reason) }
         ensures machines { self.new.machines ≡ slice_set self.old.machines user (machine_at self.new user) }
         ensures between_before { IsBetweenUnits self.old.supply }
         ensures between { IsBetweenUnits self.new.supply }
@@ -129,7 +130,7 @@ impl System {
         ensures ok { OnOk result (machine_at self.new user ≡ ticked (machine_at self.old user)) }
         ensures err { OnErr result (machine_at self.new user ≡ machine_at self.old user) }
         ensures frames { OnErr result (IsLacking (TickNeeds (machine_at self.old user)) (length (machine_at self.old user).core.processor.bytes) (HasNoRoom self.new.supply user)) }
-        ensures supply { (pages : List ℕ) × IsBroughtFor user pages self.old.supply self.new.supply × AllNeeded (TickNeeds (machine_at self.old user)) pages × (length pages ≤ 1) }
+        ensures supply { (pages : List ℕ) × IsBroughtInUnits user (pages ∷ []) self.old.supply self.new.supply × AllNeeded (TickNeeds (machine_at self.old user)) pages × (length pages ≤ 1) }
         ensures machines { self.new.machines ≡ slice_set self.old.machines user (machine_at self.new user) }
         ensures between_before { IsBetweenUnits self.old.supply }
         ensures between { IsBetweenUnits self.new.supply }
@@ -145,9 +146,10 @@ impl System {
         requires { user < length self.old.machines }
         ensures ok { IfOk result (λ reply. line typed.now (machine_at self.old user) ≡ record { machine = machine_at self.new user; reply = reply }) }
         ensures err { OnErr result (machine_at self.new user ≡ machine_at self.old user) }
+        ensures memory { result ≡ Err errors.Memory → 0 < line_room typed.now (machine_at self.old user) }
         ensures frames { result ≡ Err errors.FramesOut → IsLacking (Touches (line_needs typed.now (machine_at self.old user))) (length (machine_at self.old user).core.processor.bytes) (IsShort self.new.supply user (Touches (line_needs typed.now (machine_at self.old user)))) }
         ensures cleared { switches typed.now (machine_at self.old user) ≡ true → IsGivenBack user self.old.supply self.new.supply }
-        ensures supply { switches typed.now (machine_at self.old user) ≡ false → ((pages : List ℕ) × IsBroughtFor user pages self.old.supply self.new.supply × AllNeeded (Touches (line_needs typed.now (machine_at self.old user))) pages) }
+        ensures supply { switches typed.now (machine_at self.old user) ≡ false → ((pages : List ℕ) × IsBroughtInUnits user (pages ∷ []) self.old.supply self.new.supply × AllNeeded (Touches (line_needs typed.now (machine_at self.old user))) pages) }
         ensures machines { self.new.machines ≡ slice_set self.old.machines user (machine_at self.new user) }
         ensures between_before { IsBetweenUnits self.old.supply }
         ensures between { IsBetweenUnits self.new.supply }
@@ -166,6 +168,7 @@ impl System {
         ensures views { IfOk result (λ reply. IsApplied self.old event.entry reply self.new) }
         ensures told { IfOk result (λ reply. IsTold self.old event.entry reply self.new) }
         ensures supplied { IfOk result (λ reply. IsSupplied self.old event.entry reply self.new) }
+        ensures supplied_without_memory { result ≡ Err CpError.Memory → (reply : Reply) → IsSupplied self.old event.entry reply self.new }
         ensures user { IsOk result → user_of event.entry < length self.old.machines }
         ensures users { self.new.users ≡ self.old.users }
         ensures alive { IsOk result → self.new.is_spent ≡ false }
@@ -174,7 +177,7 @@ impl System {
         ensures no_such_user { (result ≡ Err CpError.NoSuchUser) ↔ ((self.old.is_spent ≡ false) × (length self.old.machines ≤ user_of event.entry)) }
         ensures not_stated { result ≡ Err CpError.NoSuchUser → length self.old.users ≤ user_of event.entry }
         ensures unchanged_for_nobody { result ≡ Err CpError.NoSuchUser → self.new ≡ self.old }
-        ensures memory { result ≡ Err CpError.Memory → (self.new.is_spent ≡ true) × MayTakeMemory event.entry }
+        ensures memory { result ≡ Err CpError.Memory → (self.new.is_spent ≡ true) × MayTakeMemory self.old event.entry }
         ensures unchanged_without_memory { result ≡ Err CpError.Memory → (user : ℕ) → machine_at self.new user ≡ machine_at self.old user }
     {
         match event {
@@ -198,6 +201,7 @@ impl System {
         ensures views { IfOk result (λ reply. IsApplied self.old event.entry reply self.new) }
         ensures told { IfOk result (λ reply. IsTold self.old event.entry reply self.new) }
         ensures supplied { IfOk result (λ reply. IsSupplied self.old event.entry reply self.new) }
+        ensures supplied_without_memory { result ≡ Err CpError.Memory → (reply : Reply) → IsSupplied self.old event.entry reply self.new }
         ensures user { IsOk result → user_of event.entry < length self.old.machines }
         ensures users { self.new.users ≡ self.old.users }
         ensures alive { IsOk result → self.new.is_spent ≡ false }
@@ -206,7 +210,7 @@ impl System {
         ensures no_such_user { (result ≡ Err CpError.NoSuchUser) ↔ ((self.old.is_spent ≡ false) × (length self.old.machines ≤ user_of event.entry)) }
         ensures not_stated { result ≡ Err CpError.NoSuchUser → length self.old.users ≤ user_of event.entry }
         ensures unchanged_for_nobody { result ≡ Err CpError.NoSuchUser → self.new ≡ self.old }
-        ensures memory { result ≡ Err CpError.Memory → (self.new.is_spent ≡ true) × MayTakeMemory event.entry }
+        ensures memory { result ≡ Err CpError.Memory → (self.new.is_spent ≡ true) × MayTakeMemory self.old event.entry }
         ensures unchanged_without_memory { result ≡ Err CpError.Memory → (user : ℕ) → machine_at self.new user ≡ machine_at self.old user }
     {
         match event {

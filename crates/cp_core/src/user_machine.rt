@@ -1,11 +1,11 @@
 //! A user's machine, of which the storage stands in frames.
-ghost use Rattle.std.specs.Prelude.{◌≡◌, ◌<◌, ◌≤◌, ◌*◌, ℕ, List, [], Err, IfOk, OnErr, OnOk, length, replicate, slice_set, true, false};
+ghost use Rattle.std.specs.Prelude.{◌≡◌, ◌<◌, ◌≤◌, ◌*◌, ℕ, List, [], ◌∷◌, Err, IfOk, OnErr, OnOk, length, replicate, slice_set, true, false};
 ghost use Rattle.s370_store.specs.Access.{Touches};
-ghost use Rattle.s370_intr.specs.Run.{AllNeeded, IsLacking, RunNeeds};
+ghost use Rattle.s370_intr.specs.Run.{AllNeeded, EachBrings, IsLacking};
 ghost use Rattle.s370_intr.specs.Laws.{begun};
 ghost use Rattle.cp_frames.specs.Layout.{bytes_of};
 ghost use Rattle.cp_frames.specs.Paging.{IsRefused};
-ghost use Rattle.cp_dat.specs.Supplied.{HasNoRoom, IsBetweenUnits, IsBroughtFor, IsPagedFor};
+ghost use Rattle.cp_dat.specs.Supplied.{HasNoRoom, IsBetweenUnits, IsBroughtInUnits, IsPagedFor};
 ghost use Rattle.cp_panel.specs.declared.line.LineError.TheVariants as errors;
 ghost use Rattle.cp_panel.specs.Machine.{machine_of as parts_with, unused};
 ghost use Rattle.cp_panel.specs.Run.{TellsRun, notice_of};
@@ -64,7 +64,7 @@ impl UserMachine {
             let after = machine_of self.new (bytes_of frames.new user) in
             TellsRun count before (record { machine = after; units = result.units; reason = result.reason; notice = notice_of result.reason }) (HasNoRoom frames.new.supply user) }
         ensures supply { let before = machine_of self.old (bytes_of frames.old user) in
-            (pages : List ℕ) × IsBroughtFor user pages frames.old.supply frames.new.supply × AllNeeded (RunNeeds before.core result.units result.reason) pages × (length pages ≤ 9 * begun result.units result.reason) }
+            (units : List (List ℕ)) × IsBroughtInUnits user units frames.old.supply frames.new.supply × EachBrings before.core 0 units × (length units ≤ begun result.units result.reason) }
         ensures others { frames.new.storages ≡ slice_set frames.old.storages user (bytes_of frames.new user) }
         ensures fits { Fits self.new (bytes_of frames.new user) }
         ensures between { IsBetweenUnits frames.new.supply }
@@ -82,7 +82,7 @@ impl UserMachine {
         ensures frames { let before = machine_of self.old (bytes_of frames.old user) in
             OnErr result (IsLacking (TickNeeds before) (length before.core.processor.bytes) (HasNoRoom frames.new.supply user)) }
         ensures supply { let before = machine_of self.old (bytes_of frames.old user) in
-            (pages : List ℕ) × IsBroughtFor user pages frames.old.supply frames.new.supply × AllNeeded (TickNeeds before) pages × (length pages ≤ 1) }
+            (pages : List ℕ) × IsBroughtInUnits user (pages ∷ []) frames.old.supply frames.new.supply × AllNeeded (TickNeeds before) pages × (length pages ≤ 1) }
         ensures others { frames.new.storages ≡ slice_set frames.old.storages user (bytes_of frames.new user) }
         ensures fits { Fits self.new (bytes_of frames.new user) }
         ensures between { IsBetweenUnits frames.new.supply }
@@ -110,7 +110,7 @@ impl UserMachine {
         ensures cleared { let before = machine_of self.old (bytes_of frames.old user) in
             switches typed.now before ≡ true → IsGivenBack user frames.old.supply frames.new.supply }
         ensures supply { let before = machine_of self.old (bytes_of frames.old user) in
-            switches typed.now before ≡ false → ((pages : List ℕ) × IsBroughtFor user pages frames.old.supply frames.new.supply × AllNeeded (Touches (line_needs typed.now before)) pages) }
+            switches typed.now before ≡ false → ((pages : List ℕ) × IsBroughtInUnits user (pages ∷ []) frames.old.supply frames.new.supply × AllNeeded (Touches (line_needs typed.now before)) pages) }
         ensures others { frames.new.storages ≡ slice_set frames.old.storages user (bytes_of frames.new user) }
         ensures fits { Fits self.new (bytes_of frames.new user) }
         ensures between { IsBetweenUnits frames.new.supply }
@@ -137,7 +137,7 @@ fn run_over(
         let after = parts_with machine.new (bytes_of frames.new user) keys.new in
         TellsRun count before (record { machine = after; units = result.units; reason = result.reason; notice = notice_of result.reason }) (HasNoRoom frames.new.supply user) }
     ensures supply { let before = parts_with machine.old (bytes_of frames.old user) keys.old in
-        (pages : List ℕ) × IsBroughtFor user pages frames.old.supply frames.new.supply × AllNeeded (RunNeeds before.core result.units result.reason) pages × (length pages ≤ 9 * begun result.units result.reason) }
+        (units : List (List ℕ)) × IsBroughtInUnits user units frames.old.supply frames.new.supply × EachBrings before.core 0 units × (length units ≤ begun result.units result.reason) }
     ensures between { IsBetweenUnits frames.new.supply }
     ensures others { frames.new.storages ≡ slice_set frames.old.storages user (bytes_of frames.new user) }
     ensures size { length (bytes_of frames.new user) ≡ length (bytes_of frames.old user) }
@@ -167,7 +167,7 @@ fn tick_over(
     ensures frames { let before = parts_with machine.old (bytes_of frames.old user) keys.old in
         OnErr result (IsLacking (TickNeeds before) (length (bytes_of frames.old user)) (HasNoRoom frames.new.supply user)) }
     ensures supply { let before = parts_with machine.old (bytes_of frames.old user) keys.old in
-        (pages : List ℕ) × IsBroughtFor user pages frames.old.supply frames.new.supply × AllNeeded (TickNeeds before) pages × (length pages ≤ 1) }
+        (pages : List ℕ) × IsBroughtInUnits user (pages ∷ []) frames.old.supply frames.new.supply × AllNeeded (TickNeeds before) pages × (length pages ≤ 1) }
     ensures between { IsBetweenUnits frames.new.supply }
     ensures others { frames.new.storages ≡ slice_set frames.old.storages user (bytes_of frames.new user) }
     ensures size { length (bytes_of frames.new user) ≡ length (bytes_of frames.old user) }

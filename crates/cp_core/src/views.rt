@@ -13,6 +13,7 @@ use cp_users::UserNo;
 use s370_intr::Pending;
 use s370_num::StorageKey;
 use s370_psw::Psw;
+use s370_rows::Cpu;
 
 impl System {
     /// A user's machine but for the bytes of its storage.
@@ -128,7 +129,13 @@ impl UserMachine {
     fn general(&self) -> [u32; 16]
         ensures { result ≡ self.now.parts.cpu.general }
     {
-        self.machine.cpu().general
+        // All its fields: what is added to them is seen here.
+        let Cpu {
+            general,
+            control: _,
+            psw: _,
+        } = self.machine.cpu();
+        *general
     }
 
     fn control(&self) -> [u32; 16]
@@ -152,7 +159,10 @@ impl UserMachine {
     fn pending(&self) -> Pending
         ensures { result ≡ self.now.parts.pending }
     {
-        self.machine.pending()
+        let pending = self.machine.pending();
+        // All its fields: what is added to them is seen here.
+        let Pending { timer: _, key: _ } = pending;
+        pending
     }
 
     fn key(&self, block: u32) -> Option<StorageKey>

@@ -5,7 +5,7 @@ use Rattle.std.proofs.Math.ListN.{set, length-set}
 use Rattle.cp_frames.specs.declared.numbers.UserPage.{UserPage}
 use Rattle.cp_frames.specs.Layout.{FrameSupply, owned, is_page, is_there, frame_of, Holds}
 use Rattle.cp_frames.specs.Paging.{IsBrought, IsGivenUp, IsPagedIn, IsOpen, IsPinned, counted, unpinned_count}
-use Rattle.cp_dat.specs.Supplied.{HasSuch, IsPagedFor, StaysPinned, Stands}
+use Rattle.cp_dat.specs.Supplied.{HasSuch, IsPagedFor, IsPageIn, StaysPinned, Stands}
 use Rattle.cp_dat.specs.Bringing.{found_from, passing}
 use Rattle.cp_frames.proofs.Layouts.{dec_eq, is_this_page, frame_found}
 use Rattle.cp_frames.proofs.Tables.{page_is, page_is_at}
@@ -22,7 +22,7 @@ there_at : (owners : List (Option UserPage)) (user page : ℕ) → is_there owne
 there_at owners user page there =
     let at = passing (is_page user page) None 0 owners there in (at.0, page_is_at user page (get_or owners at.0 None) at.1)
 
-at_there : (owners : List (Option UserPage)) (user page k : ℕ) → Holds owners k (owned user page) → is_there owners user page ≡ true
+pub at_there : (owners : List (Option UserPage)) (user page k : ℕ) → Holds owners k (owned user page) → is_there owners user page ≡ true
 at_there owners user page k holds = found_from (is_page user page) None 0 owners k refl (ap (is_page user page) holds ∙ is_this_page user page)
 
 -- what the slots are given: nothing, or what the frame held takes a slot that was free or had the wanted page
@@ -143,8 +143,9 @@ fewer_open (false ∷ pins) (suc frame) lt e = let rest = fewer_open pins frame 
 one_fewer : (user page frame : ℕ) (old new : FrameSupply) → IsOne user page frame old new → unpinned_count old.pins ≡ unpinned_count new.pins + 1
 one_fewer user page frame old new one = rw one.pins (fewer_open old.pins frame one.marked one.unpinned)
 
-paged_one : (user page frame : ℕ) (old new : FrameSupply) → IsOne user page frame old new → IsPagedFor user (page ∷ []) old new
-paged_one user page frame old new one = record {
+paged_one : (user page frame : ℕ) (old new : FrameSupply) → IsPageIn user old page new → IsOne user page frame old new → IsPagedFor user (page ∷ []) old new
+paged_one user page frame old new step one = record {
+  page_ins_are = (new, step, refl);
   same_frames = ap length one.owners ∙ length-set old.owners frame (Some (owned user page));
   same_slots = one_same user page frame old new one;
   same_marks = ap length one.pins ∙ length-set old.pins frame true;
@@ -162,33 +163,50 @@ paged_one user page frame old new one = record {
   page_ins = one.page_ins;
 }
 
-is_one : (user page frame : ℕ) (old middle new : FrameSupply) → frame_of old.owners user page ≡ None → IsPagedIn old middle user page frame → IsOpen old.pins frame → frame_of middle.owners user page ≡ Some frame →
-    new ≡ record middle { pins = set middle.pins frame (is_some (get_or middle.owners frame None)) } → IsOne user page frame old new
-is_one user page frame old middle new nowhere paged spare there is =
-    let room : frame < length old.owners = omega (arith, (frame_found middle.owners user page frame there).within, ap length paged.owners, length-set old.owners frame (Some (owned user page))) in
-    let here : get_or middle.owners frame None ≡ Some (owned user page) = page_is middle.owners user page frame there in
+is_one : (user page : ℕ) (old new : FrameSupply) (step : IsPageIn user old page new) → IsOne user page step.frame old new
+is_one user page old new step =
+    let frame = step.frame in
+    let paged = step.paged in
+    let is = step.pinned in
+    let owners : new.owners ≡ set old.owners frame (Some (owned user page)) = ap (λ (s : FrameSupply). s.owners) is ∙ paged.owners in
     record {
-      nowhere = nowhere;
-      within = room;
-      marked = spare.0;
-      unpinned = spare.1;
-      owners = ap (λ (s : FrameSupply). s.owners) is ∙ paged.owners;
-      pins = ap (λ (s : FrameSupply). s.pins) is ∙ ap (λ (o : Option UserPage). set middle.pins frame (is_some o)) here ∙ ap (λ ps. set ps frame true) paged.pins;
+      nowhere = step.absent;
+      within = omega (arith, (frame_found new.owners user page frame step.there).within, ap length owners, length-set old.owners frame (Some (owned user page)));
+      marked = step.unpinned.0;
+      unpinned = step.unpinned.1;
+      owners = owners;
+      pins = ap (λ (s : FrameSupply). s.pins) is ∙ ap (λ ps. set ps frame true) paged.pins;
       slots = slotted user page (frame_of old.slots user page) (get_or old.owners frame None) old.slots new.slots refl (rw (ap (λ (s : FrameSupply). s.slots) is) paged.slots);
       page_ins = ap (λ (s : FrameSupply). s.page_ins) is ∙ paged.page_ins;
     }
 
--- a page that stood in no frame was brought and pinned
+-- a page that came into a frame
+pub one_for : (user page : ℕ) (old new : FrameSupply) → IsPageIn user old page new → IsPagedFor user (page ∷ []) old new
+one_for user page old new step = paged_one user page step.frame old new step (is_one user page old new step)
+
+-- a page that stood in no frame was brought, and its frame was marked
+step_of : (user page frame : ℕ) (old middle new : FrameSupply) → is_there old.owners user page ≡ false → IsBrought old middle user page frame → IsOpen old.pins frame → frame_of middle.owners user page ≡ Some frame →
+    new ≡ record middle { pins = set middle.pins frame (is_some (get_or middle.owners frame None)) } → IsPageIn user old page new
+step_of user page frame old middle new away brought spare there is =
+    let nowhere : frame_of old.owners user page ≡ None = stands_nowhere (frame_of old.owners user page) away in
+    let paged : IsPagedIn old middle user page frame = rw nowhere at brought in
+    record {
+      frame = frame;
+      between = middle;
+      absent = nowhere;
+      unpinned = spare;
+      paged = paged;
+      pinned = is ∙ ap (λ (o : Option UserPage). record middle { pins = set middle.pins frame (is_some o) }) (page_is middle.owners user page frame there);
+      there = ap (λ (s : FrameSupply). frame_of s.owners user page) is ∙ there;
+    }
+
 pub brought_one : (user page frame : ℕ) (old middle new : FrameSupply) → is_there old.owners user page ≡ false → IsBrought old middle user page frame → IsOpen old.pins frame → frame_of middle.owners user page ≡ Some frame →
     new ≡ record middle { pins = set middle.pins frame (is_some (get_or middle.owners frame None)) } → IsPagedFor user (page ∷ []) old new
 brought_one user page frame old middle new away brought spare there is =
-    let nowhere : frame_of old.owners user page ≡ None = stands_nowhere (frame_of old.owners user page) away in
-    let paged : IsPagedIn old middle user page frame = rw nowhere at brought in
-    paged_one user page frame old new (is_one user page frame old middle new nowhere paged spare there is)
+    one_for user page old new (step_of user page frame old middle new away brought spare there is)
 
 pub fewer_left : (user page frame : ℕ) (old middle new : FrameSupply) → is_there old.owners user page ≡ false → IsBrought old middle user page frame → IsOpen old.pins frame → frame_of middle.owners user page ≡ Some frame →
     new ≡ record middle { pins = set middle.pins frame (is_some (get_or middle.owners frame None)) } → unpinned_count new.pins < unpinned_count old.pins
 fewer_left user page frame old middle new away brought spare there is =
-    let nowhere : frame_of old.owners user page ≡ None = stands_nowhere (frame_of old.owners user page) away in
-    let paged : IsPagedIn old middle user page frame = rw nowhere at brought in
-    omega (arith, one_fewer user page frame old new (is_one user page frame old middle new nowhere paged spare there is))
+    let step = step_of user page frame old middle new away brought spare there is in
+    omega (arith, one_fewer user page step.frame old new (is_one user page old new step))

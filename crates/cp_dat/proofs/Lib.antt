@@ -1,3 +1,4 @@
 pub mod Pages
 mod Placed
 pub mod Brought
+pub mod Once

@@ -7,7 +7,7 @@ use Rattle.cp_dat.specs.declared.dat.Dat.{Dat}
 use Rattle.cp_frames.specs.Layout.{FrameSupply}
 use Rattle.cp_frames.specs.Paging.{counted, counted_by}
 use Rattle.cp_dat.specs.Lent.{KeepsRest, keeps_frames, keeps_frames_on, user_of, lent_pool}
-use Rattle.cp_dat.specs.Supplied.{IsPagedFor, Supplied}
+use Rattle.cp_dat.specs.Supplied.{ArePageIns, IsPagedFor, Supplied}
 
 pub differ : {b : Bool} → b ≡ false → b ≡ true → ⊥
 differ away there = cc
@@ -37,9 +37,15 @@ pub counted_on : (first second n : ℕ) → counted_by (first + second) n ≡ co
 counted_on zero second n = let e : zero + second ≡ second = omega arith in ap (λ k. counted_by k n) e
 counted_on (suc first) second n = ap (λ k. counted_by k n) (let e : suc first + second ≡ suc (first + second) = omega arith in e) ∙ counted_on first second (counted n)
 
+-- pages came, and then more of them
+page_ins_on : (user : ℕ) (first second : List ℕ) (old middle new : FrameSupply) → ArePageIns user old first middle → ArePageIns user middle second new → ArePageIns user old (first ++ second) new
+page_ins_on user [] second old middle new same b = subst (λ (s : FrameSupply). ArePageIns user s second new) same b
+page_ins_on user (page ∷ first) second old middle new a b = (a.0, a.1, page_ins_on user first second a.0 middle new a.2 b)
+
 -- where nothing has moved no page came
 paged_none : (user : ℕ) (old new : FrameSupply) → new ≡ old → IsPagedFor user [] old new
 paged_none user old new same = subst (λ (s : FrameSupply). IsPagedFor user [] old s) (sym same) (record {
+  page_ins_are = refl;
   same_frames = refl;
   same_slots = refl;
   same_marks = refl;
@@ -55,6 +61,7 @@ paged_none user old new same = subst (λ (s : FrameSupply). IsPagedFor user [] o
 
 paged_on : (user : ℕ) (first second : List ℕ) (old middle new : FrameSupply) → IsPagedFor user first old middle → IsPagedFor user second middle new → IsPagedFor user (first ++ second) old new
 paged_on user first second old middle new a b = record {
+  page_ins_are = page_ins_on user first second old middle new a.page_ins_are b.page_ins_are;
   same_frames = b.same_frames ∙ a.same_frames;
   same_slots = b.same_slots ∙ a.same_slots;
   same_marks = b.same_marks ∙ a.same_marks;

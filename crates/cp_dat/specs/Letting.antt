@@ -3,19 +3,20 @@ use Rattle.std.specs.Prelude.{◌≡◌, ℕ, zero, suc, ◌≤◌, List, [], �
 use Rattle.std.proofs.Common.{◌∙◌, sym, ap, subst, inl, inr, arith, length-append}
 use Rattle.std.proofs.lemmas.Bool.Decides.{nat_tests}
 use Rattle.std.proofs.lemmas.Grind.{common_steps}
-use Rattle.std.proofs.lemmas.List.{length-replicate}
+use Rattle.std.specs.List.{concat}
+use Rattle.std.proofs.lemmas.List.{append-nil, append_assoc, length-replicate}
 use Rattle.std.proofs.lemmas.List.Elements.{All-head, All-tail, Contains-append_left, Contains-append_right}
 use Rattle.cp_dat.specs.declared.dat.Dat.{Dat}
 use Rattle.cp_frames.specs.Layout.{FrameSupply, is_page, is_there, owned}
 use Rattle.cp_dat.specs.Lent.{KeepsRest, is_lent_page, keeps_frames, keeps_frames_on, lent_pool, user_of}
 use Rattle.cp_frames.specs.Paging.{IsRefused, counted_by, unpinned_count}
-use Rattle.cp_dat.specs.Supplied.{HasNoRoom, IsBetweenUnits, IsBroughtFor, IsPagedFor, Supplied, SuppliedUnits, TakesPins, unpinned}
+use Rattle.cp_dat.specs.Supplied.{AreUnits, HasNoRoom, IsBetweenUnits, IsBroughtFor, IsBroughtInUnits, IsPagedFor, Supplied, SuppliedUnits, TakesPins, unpinned}
 use Rattle.cp_dat.specs.Bringing.{counted_on, differ, found_from}
 
 -- ---- what came
 
 -- pages that were brought and pinned came, also when the pins are taken away
-pub brought_for : (user : ℕ) (pages : List ℕ) (old between new : FrameSupply) → IsPagedFor user pages old between → new ≡ unpinned between → IsBroughtFor user pages old new
+brought_for : (user : ℕ) (pages : List ℕ) (old between new : FrameSupply) → IsPagedFor user pages old between → new ≡ unpinned between → IsBroughtFor user pages old new
 brought_for user pages old between new paged is = subst (λ (s : FrameSupply). IsBroughtFor user pages old s) (sym is) (record {
   same_frames = paged.same_frames;
   same_slots = paged.same_slots;
@@ -25,7 +26,7 @@ brought_for user pages old between new paged is = subst (λ (s : FrameSupply). I
   page_ins = paged.page_ins;
 })
 
-pub brought_none : (user : ℕ) (old new : FrameSupply) → new ≡ old → IsBroughtFor user [] old new
+brought_none : (user : ℕ) (old new : FrameSupply) → new ≡ old → IsBroughtFor user [] old new
 brought_none user old new same = subst (λ (s : FrameSupply). IsBroughtFor user [] old s) (sym same) (record {
   same_frames = refl;
   same_slots = refl;
@@ -35,7 +36,7 @@ brought_none user old new same = subst (λ (s : FrameSupply). IsBroughtFor user 
   page_ins = refl;
 })
 
-pub brought_on : (user : ℕ) (first second : List ℕ) (old middle new : FrameSupply) → IsBroughtFor user first old middle → IsBroughtFor user second middle new → IsBroughtFor user (first ++ second) old new
+brought_on : (user : ℕ) (first second : List ℕ) (old middle new : FrameSupply) → IsBroughtFor user first old middle → IsBroughtFor user second middle new → IsBroughtFor user (first ++ second) old new
 brought_on user first second old middle new a b = record {
   same_frames = b.same_frames ∙ a.same_frames;
   same_slots = b.same_slots ∙ a.same_slots;
@@ -57,24 +58,68 @@ brought_on user first second old middle new a b = record {
   page_ins = b.page_ins ∙ ap (counted_by (length second)) a.page_ins ∙ sym (ap (λ (n : ℕ). counted_by n old.page_ins) (length-append first second) ∙ counted_on (length first) (length second) old.page_ins);
 }
 
-pub came_none : (s t : Dat) → KeepsRest s t → SuppliedUnits s [] t
-came_none s t k = record {
-  kept = keeps_frames s t k;
-  brought = brought_none (user_of s) (lent_pool s).supply (lent_pool t).supply k.same_supply;
+-- ---- units
+
+-- one unit
+pub unit_for : (user : ℕ) (pages : List ℕ) (old between new : FrameSupply) → IsPagedFor user pages old between → new ≡ unpinned between → IsBroughtInUnits user (pages ∷ []) old new
+unit_for user pages old between new paged is = record {
+  in_units = (new, record { held = between; page_ins = paged.page_ins_are; let_go = is }, refl);
+  brought = subst (λ (all : List ℕ). IsBroughtFor user all old new) (sym (append-nil pages)) (brought_for user pages old between new paged is);
 }
 
-pub came_on : (s t u : Dat) (before after : List ℕ) → SuppliedUnits s before t → SuppliedUnits t after u → SuppliedUnits s (before ++ after) u
+-- where no frame is pinned, nothing is taken away with the pins
+still_unpinned : (supply : FrameSupply) → IsBetweenUnits supply → supply ≡ unpinned supply
+still_unpinned supply rest =
+    let count : length supply.owners ≡ length supply.pins = sym (ap (λ (ps : List Bool). length ps) rest.idle ∙ length-replicate (length supply.owners) false) in
+    ap (λ (ps : List Bool). record supply { pins = ps }) (rest.idle ∙ ap (λ (n : ℕ). replicate n false) count)
+
+-- units that bring nothing
+units_none : (user n : ℕ) (old : FrameSupply) → IsBetweenUnits old → AreUnits user old (replicate n []) old
+units_none user zero old rest = refl
+units_none user (suc n) old rest = (old, record { held = old; page_ins = refl; let_go = still_unpinned old rest }, units_none user n old rest)
+
+no_pages : (n : ℕ) → concat (replicate n []) ≡ []
+no_pages zero = refl
+no_pages (suc n) = no_pages n
+
+quiet_units : (user n : ℕ) (old new : FrameSupply) → IsBetweenUnits old → new ≡ old → IsBroughtInUnits user (replicate n []) old new
+quiet_units user n old new rest same = record {
+  in_units = subst (λ (s : FrameSupply). AreUnits user old (replicate n []) s) (sym same) (units_none user n old rest);
+  brought = subst (λ (all : List ℕ). IsBroughtFor user all old new) (sym (no_pages n)) (brought_none user old new same);
+}
+
+units_on : (user : ℕ) (first second : List (List ℕ)) (old middle new : FrameSupply) → AreUnits user old first middle → AreUnits user middle second new → AreUnits user old (first ++ second) new
+units_on user [] second old middle new same b = subst (λ (s : FrameSupply). AreUnits user s second new) same b
+units_on user (pages ∷ first) second old middle new a b = (a.0, a.1, units_on user first second a.0 middle new a.2 b)
+
+all_pages : (first second : List (List ℕ)) → concat (first ++ second) ≡ concat first ++ concat second
+all_pages [] second = refl
+all_pages (pages ∷ first) second = ap (λ (rest : List ℕ). pages ++ rest) (all_pages first second) ∙ sym (append_assoc pages (concat first) (concat second))
+
+in_units_on : (user : ℕ) (first second : List (List ℕ)) (old middle new : FrameSupply) → IsBroughtInUnits user first old middle → IsBroughtInUnits user second middle new → IsBroughtInUnits user (first ++ second) old new
+in_units_on user first second old middle new a b = record {
+  in_units = units_on user first second old middle new a.in_units b.in_units;
+  brought = subst (λ (all : List ℕ). IsBroughtFor user all old new) (sym (all_pages first second)) (brought_on user (concat first) (concat second) old middle new a.brought b.brought);
+}
+
+pub came_none : (s t : Dat) (units : ℕ) → IsBetweenUnits (lent_pool s).supply → KeepsRest s t → SuppliedUnits s (replicate units []) t
+came_none s t units rest k = record {
+  kept = keeps_frames s t k;
+  brought = quiet_units (user_of s) units (lent_pool s).supply (lent_pool t).supply rest k.same_supply;
+}
+
+pub came_on : (s t u : Dat) (before after : List (List ℕ)) → SuppliedUnits s before t → SuppliedUnits t after u → SuppliedUnits s (before ++ after) u
 came_on s t u before after a b =
-    let P : ℕ → Type 0 = λ user. IsBroughtFor user after (lent_pool t).supply (lent_pool u).supply in
+    let P : ℕ → Type 0 = λ user. IsBroughtInUnits user after (lent_pool t).supply (lent_pool u).supply in
     record {
       kept = keeps_frames_on s t u a.kept b.kept;
-      brought = brought_on (user_of s) before after (lent_pool s).supply (lent_pool t).supply (lent_pool u).supply a.brought (subst P a.kept.same_user b.brought);
+      brought = in_units_on (user_of s) before after (lent_pool s).supply (lent_pool t).supply (lent_pool u).supply a.brought (subst P a.kept.same_user b.brought);
     }
 
-pub let_go_came : (s t u : Dat) (pages : List ℕ) → Supplied s pages t → TakesPins t u → SuppliedUnits s pages u
+pub let_go_came : (s t u : Dat) (pages : List ℕ) → Supplied s pages t → TakesPins t u → SuppliedUnits s (pages ∷ []) u
 let_go_came s t u pages supplied taken = record {
   kept = keeps_frames_on s t u supplied.kept taken.kept;
-  brought = brought_for (user_of s) pages (lent_pool s).supply (lent_pool t).supply (lent_pool u).supply supplied.paged taken.supply;
+  brought = unit_for (user_of s) pages (lent_pool s).supply (lent_pool t).supply (lent_pool u).supply supplied.paged taken.supply;
 }
 
 -- ---- no pins between units

@@ -3,3 +3,4 @@ pub mod Blocks
 pub mod Supplied
 pub mod Bringing
 pub mod Letting
+pub mod Laws

@@ -1,9 +1,10 @@
 -- What bringing pages of a user leaves of the frames from which his storage is lent.
-use Rattle.std.specs.Prelude.{◌≡◌, ℕ, ◌+◌, ◌≤◌, All, IsSome, List, true, false, ◌⊎◌, length, replicate, slice_index_or, Contains, Option, None}
+use Rattle.std.specs.Prelude.{◌≡◌, ℕ, ◌+◌, ◌≤◌, All, IsSome, List, [], ◌∷◌, true, false, ◌⊎◌, length, replicate, slice_index_or, slice_set, Contains, Option, Some, None}
+use Rattle.std.specs.List.{concat}
 use Rattle.cp_frames.specs.declared.numbers.UserPage.{UserPage}
 use Rattle.cp_dat.specs.declared.dat.Dat.{Dat}
-use Rattle.cp_frames.specs.Layout.{FrameSupply, owned, is_there, cleared_of, Holds}
-use Rattle.cp_frames.specs.Paging.{IsPinned, counted_by, unpinned_count}
+use Rattle.cp_frames.specs.Layout.{FrameSupply, owned, frame_of, is_there, cleared_of, Holds}
+use Rattle.cp_frames.specs.Paging.{IsOpen, IsPagedIn, IsPinned, counted_by, unpinned_count}
 use Rattle.cp_dat.specs.Lent.{KeepsFrames, user_of, lent_pool}
 
 -- a page of a user stands in a frame or in a slot
@@ -27,10 +28,26 @@ pub record HasSuch (user : ℕ) (is_such : ℕ → Type 0) (owners : List (Optio
   pub such : is_such page
   pub here : Holds owners frame (owned user page)
 
--- these pages of this user came into frames, and each stays there in a pinned frame, as no other frame was pinned: no pinned
--- frame has lost its page, no page that stood somewhere stands nowhere, and none but these came into a frame, or from nowhere;
--- each was pinned once, and counted once
+-- a page of this user that stood in no frame has come into one that was not pinned, and is pinned there
+pub record IsPageIn (user : ℕ) (old : FrameSupply) (page : ℕ) (new : FrameSupply) : Type 0 where
+  pub frame : ℕ
+  pub between : FrameSupply
+  pub absent : frame_of old.owners user page ≡ None
+  pub unpinned : IsOpen old.pins frame
+  pub paged : IsPagedIn old between user page frame
+  pub pinned : new ≡ record between { pins = slice_set between.pins frame true }
+  pub there : frame_of new.owners user page ≡ Some frame
+
+-- these pages have come so, one after another, and nothing else has happened
+abbrev pub ArePageIns : ℕ → FrameSupply → List ℕ → FrameSupply → Type 0
+ArePageIns user old [] new = new ≡ old
+ArePageIns user old (page ∷ pages) new = (next : FrameSupply) × IsPageIn user old page next × ArePageIns user next pages new
+
+-- these pages of this user came into frames, one after another, and each stays there in a pinned frame, as no other frame was
+-- pinned: no pinned frame has lost its page, no page that stood somewhere stands nowhere, and none but these came into a frame,
+-- or from nowhere; each was pinned once, and counted once
 pub record IsPagedFor (user : ℕ) (pages : List ℕ) (old new : FrameSupply) : Type 0 where
+  pub page_ins_are : ArePageIns user old pages new
   pub same_frames : length new.owners ≡ length old.owners
   pub same_slots : length new.slots ≡ length old.slots
   pub same_marks : length new.pins ≡ length old.pins
@@ -89,11 +106,27 @@ pub record IsBroughtFor (user : ℕ) (pages : List ℕ) (old new : FrameSupply) 
   pub came : (u page : ℕ) → Stands new u page → Stands old u page ⊎ ((u ≡ user) × Contains pages page)
   pub page_ins : new.page_ins ≡ counted_by (length pages) old.page_ins
 
--- from one to the other just these pages of the user came: the same user of the same frames, where each other user has the
--- bytes he had
-pub record SuppliedUnits (old : Dat) (pages : List ℕ) (new : Dat) : Type 0 where
+-- for one unit these pages have come, one after another, and then the pins are taken away
+pub record IsUnit (user : ℕ) (old : FrameSupply) (pages : List ℕ) (new : FrameSupply) : Type 0 where
+  pub held : FrameSupply
+  pub page_ins : ArePageIns user old pages held
+  pub let_go : new ≡ unpinned held
+
+-- units, one after another, with the pages that have come for each
+abbrev pub AreUnits : ℕ → FrameSupply → List (List ℕ) → FrameSupply → Type 0
+AreUnits user old [] new = new ≡ old
+AreUnits user old (pages ∷ units) new = (next : FrameSupply) × IsUnit user old pages next × AreUnits user next units new
+
+-- just these pages of this user came, in these units; so each was counted once, and no other was
+pub record IsBroughtInUnits (user : ℕ) (units : List (List ℕ)) (old new : FrameSupply) : Type 0 where
+  pub in_units : AreUnits user old units new
+  pub brought : IsBroughtFor user (concat units) old new
+
+-- from one to the other just these pages of the user came, in these units: the same user of the same frames, where each other
+-- user has the bytes he had
+pub record SuppliedUnits (old : Dat) (units : List (List ℕ)) (new : Dat) : Type 0 where
   pub kept : KeepsFrames old new
-  pub brought : IsBroughtFor (user_of old) pages (lent_pool old).supply (lent_pool new).supply
+  pub brought : IsBroughtInUnits (user_of old) units (lent_pool old).supply (lent_pool new).supply
 
 -- the pins are taken away, and all else stays
 pub record TakesPins (old new : Dat) : Type 0 where

@@ -5,7 +5,7 @@ use Rattle.std.proofs.lemmas.List.{append_assoc, take_all}
 use Rattle.std.specs.Prelude.{Bool}
 use Rattle.s370_walk.specs.declared.parts.Ending.{Ending}
 use Rattle.s370_subchannels.specs.declared.subchannel.Subchannel.{Subchannel}
-use Rattle.s370_subchannels.specs.Serving.{program_ended}
+use Rattle.s370_subchannels.specs.Programs.{program_ended}
 use Rattle.s370_subchannels.specs.Subchannels.{with_attention}
 use Rattle.unit_record.specs.Console.{ConsoleState, wants_attention}
 use Rattle.cp_devices.specs.Serve.{console_over}

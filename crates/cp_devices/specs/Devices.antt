@@ -11,8 +11,8 @@ use Rattle.unit_record.specs.Punch.{PunchState, punch_new}
 use Rattle.unit_record.specs.Printer.{PrinterState, printer_new}
 use Rattle.cp_channels.specs.Disks.{DiskAt, is_disk_at}
 use Rattle.cp_devices.specs.declared.places.Places.{Places}
-use Rattle.cp_channels.specs.declared.parts.Kind.{Kind}
-use Rattle.cp_channels.specs.declared.parts.Kind.TheVariants as kinds
+use Rattle.cp_devices.specs.declared.places.Kind.{Kind}
+use Rattle.cp_devices.specs.declared.places.Kind.TheVariants as kinds
 
 -- Console, reader, punch and printer are there also where no address leads to them.
 pub record DevicesValue : Type 0 where
@@ -52,13 +52,12 @@ part_at d device =
     else None
 
 -- The first of all that has this address, the disks last; of a disk, its index.
+abbrev pub part_or_disk : Option Kind → Option ℕ → Option Kind
+part_or_disk (Some part) disk = Some part
+part_or_disk None disk = option_map kinds.Disk disk
+
 abbrev pub kind_at : DevicesValue → List DiskAt → ℕ → Option Kind
-kind_at d disks device =
-    if is_there d.places.console device then Some kinds.Console
-    else if is_there d.places.reader device then Some kinds.Reader
-    else if is_there d.places.punch device then Some kinds.Punch
-    else if is_there d.places.printer device then Some kinds.Printer
-    else option_map kinds.Disk (position (is_disk_at device) disks)
+kind_at d disks device = part_or_disk (part_at d device) (position (is_disk_at device) disks)
 
 -- Where it is a disk, there is a disk of its index.
 abbrev pub IsAttached : List DiskAt → Kind → Type 0

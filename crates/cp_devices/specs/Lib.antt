@@ -3,9 +3,11 @@ pub mod Resets
 pub mod Spooling
 pub mod Equipped
 pub mod Serve
+pub mod Stopped
 pub mod Loading
 pub mod World
-pub mod Among
 pub mod Requests
 pub mod Lines
 pub mod Life
+pub mod Attention
+pub mod Files

@@ -1,14 +1,13 @@
 -- The life of a machine with devices: one event after another.
 use Rattle.std.specs.Prelude.{ℕ, ◌≡◌, Bool, List, [], ◌∷◌}
 use Rattle.unit_record.specs.Reader.{DeckValue}
-use Rattle.s370_walk.specs.Hardware.{Memory}
-use Rattle.s370_walk.specs.Walk.{Form}
+use Rattle.s370_channel.specs.Reading.{Reading}
 use Rattle.cp_panel.specs.Machine.{printed}
 use Rattle.cp_panel.specs.Run.{run}
 use Rattle.cp_panel.specs.Tick.{ticked}
 use Rattle.cp_devices.specs.declared.line.Told.{Told}
 use Rattle.cp_devices.specs.Equipped.{Equipped}
-use Rattle.cp_devices.specs.Lines.{IsLine}
+use Rattle.cp_devices.specs.Lines.{IsWholeLine}
 use Rattle.cp_devices.specs.Serve.{IsServedAt}
 use Rattle.cp_devices.specs.Spooling.{with_deck_queued}
 use Rattle.cp_devices.specs.World.{World}
@@ -29,15 +28,15 @@ pub data Event : Type 0 where
   Message : List ℕ → Event
 
 -- what an event leaves
-abbrev pub Leaves : (Memory → Form) → Event → Equipped → Equipped → Type 0
+abbrev pub Leaves : Reading → Event → Equipped → Equipped → Type 0
 Leaves reads (Units count) old new = (new.machine ≡ (run count old.machine).machine) × (new.devices ≡ old.devices) × (new.disks ≡ old.disks)
 Leaves reads (Serve device) old new = (done : Bool) × IsServedAt reads device old done new
-Leaves reads (Line world typed) old new = (told : Told) × IsLine world typed old told new
+Leaves reads (Line world typed) old new = (told : Told) × IsWholeLine world typed old told new
 Leaves reads Tick old new = (new.machine ≡ ticked old.machine) × (new.devices ≡ old.devices) × (new.disks ≡ old.disks)
 Leaves reads (Deck deck) old new = new ≡ record old { devices = with_deck_queued old.devices deck }
 Leaves reads (Message text) old new = new ≡ record old { machine = printed old.machine text }
 
 -- what events leave, in order
-abbrev pub Lives : (Memory → Form) → List Event → Equipped → Equipped → Type 0
+abbrev pub Lives : Reading → List Event → Equipped → Equipped → Type 0
 Lives reads [] old new = new ≡ old
 Lives reads (event ∷ events) old new = (next : Equipped) × Leaves reads event old next × Lives reads events next new

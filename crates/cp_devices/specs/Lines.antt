@@ -1,5 +1,5 @@
 -- What a line does to a machine and its devices, and what is told (docs/COMMANDS.md).
-use Rattle.std.specs.Prelude.{ℕ, ◌≡◌, ◌⊎◌, Bool, true, false, if◌then◌else◌, List, [], ◌∷◌, codes, is_some, map, slice_get, take, Option, Some, None}
+use Rattle.std.specs.Prelude.{ℕ, ◌≡◌, ◌⊎◌, Bool, true, false, if◌then◌else◌, List, [], ◌∷◌, codes, is_some, map, set, slice_get, take, Option, Some, None}
 use Rattle.std.specs.Str.{bytes_eq}
 use Rattle.cp_users.specs.Users.{user_of}
 use Rattle.cp_console.specs.ConsoleLine.{characters_of}
@@ -14,17 +14,17 @@ use Rattle.unit_record.specs.declared.output.Target.{Target}
 use Rattle.unit_record.specs.declared.output.Target.TheVariants as targets
 use Rattle.unit_record.specs.Console.{has_room, with_typed}
 use Rattle.unit_record.specs.Reader.{DeckValue, queued_at, reader_machine}
-use Rattle.ckd_volume.specs.Unit.{Disk, disk_machine}
+use Rattle.ckd_volume.specs.Unit.{Disk, disk_machine, rested}
 use Rattle.s370_intr.specs.Run.{IsLacking}
 use Rattle.cp_panel.specs.Machine.{cleared, printed, reset, switched_off}
 use Rattle.cp_panel.specs.Panel.{line}
 use Rattle.cp_devices.specs.declared.line.Told.{Told}
 use Rattle.cp_devices.specs.declared.line.Told.TheVariants.{Silent, Said, Files, Sent, Loads, Closed}
-use Rattle.cp_channels.specs.declared.parts.Kind.{Kind}
-use Rattle.cp_channels.specs.declared.parts.Kind.TheVariants as kinds
+use Rattle.cp_devices.specs.declared.places.Kind.{Kind}
+use Rattle.cp_devices.specs.declared.places.Kind.TheVariants as kinds
 use Rattle.cp_devices.specs.declared.request.Request.{Request}
 use Rattle.cp_devices.specs.declared.request.Request.TheVariants.{LogsOn, LogsOff, Resets, Types, Asks, Elsewhere}
-use Rattle.cp_channels.specs.Disks.{DiskAt, cleared_disk, reset_disk, with_unit}
+use Rattle.cp_channels.specs.Disks.{DiskAt, cleared_disk, reset_disk}
 use Rattle.cp_devices.specs.Devices.{DevicesValue, kind_at, part_at}
 use Rattle.cp_devices.specs.Equipped.{Equipped, with_attended}
 use Rattle.cp_devices.specs.Loading.{IsLoaded}
@@ -153,7 +153,7 @@ pub record LoadsUnit (index : ℕ) (disk : DiskAt) (device : ℕ) (old : Equippe
   pub unit : Disk
   pub loaded : IsLoaded disk_machine device old.machine disk.unit well new.machine unit
   pub rest : new.devices ≡ devices_reset old.devices
-  pub disks : new.disks ≡ with_unit (map reset_disk old.disks) index disk unit
+  pub disks : new.disks ≡ set (map reset_disk old.disks) index (record disk { unit = rested unit })
   pub says : told ≡ ipl_told well
 
 abbrev pub IsNotFound : Equipped → Told → Equipped → Type 0
@@ -205,6 +205,18 @@ requested typed e = request_in e.machine.mode (is_some e.devices.places.console)
 -- a line, what it leaves, and what is told
 abbrev pub IsLine : World → List ℕ → Equipped → Told → Equipped → Type 0
 IsLine w typed old told new = IsAnswered (requested typed old) w typed old told new
+
+-- where it tells of an IPL, the owner does that at once
+abbrev pub IsFollowed : Told → Equipped → Told → Equipped → Type 0
+IsFollowed (Loads device) old told new = IsIpl device old told new
+IsFollowed other old told new = outcome new told ≡ outcome old other
+
+-- a line with what follows it
+pub record IsWholeLine (w : World) (typed : List ℕ) (old : Equipped) (told : Told) (new : Equipped) : Type 0 where
+  pub first : Told
+  pub next : Equipped
+  pub line : IsLine w typed old first next
+  pub followed : IsFollowed first next told new
 
 -- ---- where there is no room for a page
 

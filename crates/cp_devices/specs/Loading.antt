@@ -1,18 +1,21 @@
 -- IPL: the initial program loading of a machine (GA22-7000, "Initial Program Loading"; docs/COMMANDS.md).
-use Rattle.std.specs.Prelude.{ℕ, ◌≡◌, ◌==◌, ◌&&◌, Bool, true, false, List, slice_range}
+use Rattle.std.specs.Prelude.{ℕ, ◌≡◌, ◌==◌, ◌&&◌, ◌⊎◌, Bool, true, false, List, [], ◌∷◌, slice_range}
 use Rattle.std.specs.Int.{w16, to_be_bytes}
 use Rattle.s370_psw.specs.Fields.{loaded as loaded_psw}
-use Rattle.s370_store.specs.Access.{put}
+use Rattle.s370_store.specs.Access.{Touches, put}
+use Rattle.s370_store.specs.declared.Access.TheVariants.{Store}
 use Rattle.s370_walk.specs.declared.parts.Ending.{Ending}
-use Rattle.s370_walk.specs.Hardware.{Machine as Device, memory_of}
-use Rattle.s370_walk.specs.Walk.{Over, Reaches, live}
+use Rattle.s370_walk.specs.declared.parts.Order.{Order}
+use Rattle.s370_walk.specs.Hardware.{Machine as Device, area, memory_of}
+use Rattle.s370_channel.specs.declared.running.ChannelError.{ChannelError}
+use Rattle.s370_channel.specs.declared.running.ChannelError.TheVariants as errors
 use Rattle.s370_channel.specs.Guest.{guest_written}
-use Rattle.s370_channel.specs.Loading.{loading, loading_limits}
-use Rattle.s370_channel.specs.Progress.{setting}
+use Rattle.s370_channel.specs.Loading.{MatchLoading}
 use Rattle.cp_console.specs.Responses.{text_of}
 use Rattle.cp_console.specs.declared.responses.Response.TheVariants.{IplFailed}
 use Rattle.cp_panel.specs.Machine.{Machine, printed, reset, started}
-use Rattle.cp_devices.specs.Equipped.{with_bytes}
+use Rattle.cp_channels.specs.Channels.{WalksLoading}
+use Rattle.cp_devices.specs.Equipped.{storage_in, with_bytes}
 
 -- channel end and device end alone: nothing went wrong
 abbrev pub is_good : Ending → Bool
@@ -35,6 +38,16 @@ left_by false device m bytes = printed (with_bytes m bytes) (text_of IplFailed)
 pub record IsLoaded {D : Type 0} (machine : Device D) (device : ℕ) (old : Machine) (part : D) (well : Bool) (new : Machine) (part' : D) : Type 0 where
   pub ending : Ending
   pub bytes : List ℕ
-  pub walk : Reaches (live guest_written) (setting machine loading_limits) (loading machine (memory_of old.core.processor.bytes old.core.processor.keys) part) (Over ending (memory_of bytes old.core.processor.keys) part')
+  pub walk : WalksLoading machine (storage_in old) part ending (memory_of bytes old.core.processor.keys) part'
   pub told : well ≡ is_good ending
   pub left : new ≡ left_by (is_good ending) device (reset old) bytes
+
+-- the page of the PSW that is to be loaded is not present
+abbrev pub LacksPsw : (ℕ → Bool) → ChannelError → Type 0
+LacksPsw present errors.Memory = ⊥
+LacksPsw present (errors.Absent page) = (present page.0 ≡ false) × Touches (area Store 0 8 ∷ []) page.0
+
+-- why a machine is not loaded: the program of the loading stops, or has run and the page of its PSW is not present
+abbrev pub StopsLoading : {D : Type 0} → Device D → (D → Order → Bool) → (ℕ → Bool) → Machine → D → ChannelError → Type 0
+StopsLoading machine needs present old part error =
+    MatchLoading guest_written machine needs present (storage_in old) part error ⊎ LacksPsw present error

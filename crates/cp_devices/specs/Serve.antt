@@ -5,15 +5,16 @@ use Rattle.unit_record.specs.Reader.{reader_machine}
 use Rattle.unit_record.specs.Punch.{punch_machine}
 use Rattle.unit_record.specs.Printer.{printer_machine}
 use Rattle.s370_walk.specs.declared.parts.Ending.{Ending}
-use Rattle.s370_walk.specs.Hardware.{Machine as Device, Memory}
-use Rattle.s370_walk.specs.Walk.{Form}
+use Rattle.s370_walk.specs.Hardware.{Machine as Device}
 use Rattle.s370_channel.specs.declared.words.Caw.{Caw}
-use Rattle.s370_subchannels.specs.Serving.{program_ended, program_of}
+use Rattle.s370_channel.specs.Reading.{Reading}
+use Rattle.s370_channel.specs.Runs.{Walks}
+use Rattle.s370_subchannels.specs.Programs.{program_ended, program_of}
 use Rattle.s370_subchannels.specs.Subchannels.{with_attention}
 use Rattle.cp_panel.specs.Machine.{Machine, with_subchannels}
-use Rattle.cp_channels.specs.declared.parts.Kind.{Kind}
-use Rattle.cp_channels.specs.declared.parts.Kind.TheVariants as kinds
-use Rattle.cp_channels.specs.Channels.{Walks, WalksDisk}
+use Rattle.cp_devices.specs.declared.places.Kind.{Kind}
+use Rattle.cp_devices.specs.declared.places.Kind.TheVariants as kinds
+use Rattle.cp_channels.specs.Channels.{WalksDisk}
 use Rattle.cp_devices.specs.Devices.{kind_at}
 use Rattle.cp_devices.specs.Equipped.{Equipped, storage_in, with_bytes, with_lines}
 
@@ -32,7 +33,7 @@ console_over device key ending console m bytes =
     with_lines (with_subchannels (with_bytes m bytes) (program_ended device key ending (with_attention device (wants_attention console) m.core.subchannels))) console.lines
 
 -- programs are read so
-module _ (reads : Memory → Form) where
+module _ (reads : Reading) where
   -- the program of a part comes to an ending
   pub record RunsPart {D : Type 0} (part : Device D) (device : ℕ) (start : Caw) (old : Machine) (before : D) (new : Machine) (after : D) : Type 0 where
     pub ending : Ending

@@ -7,8 +7,8 @@ use Rattle.unit_record.specs.Output.{EntryValue, FileValue, has_entries}
 use Rattle.unit_record.specs.Reader.{DeckValue, with_deck, with_deck_back, queued_at, purged}
 use Rattle.unit_record.specs.Punch.{punch_closed}
 use Rattle.unit_record.specs.Printer.{printer_closed}
-use Rattle.cp_channels.specs.declared.parts.Kind.{Kind}
-use Rattle.cp_channels.specs.declared.parts.Kind.TheVariants as kinds
+use Rattle.cp_devices.specs.declared.places.Kind.{Kind}
+use Rattle.cp_devices.specs.declared.places.Kind.TheVariants as kinds
 use Rattle.cp_devices.specs.Devices.{DevicesValue, part_at}
 
 -- ---- SPOOL

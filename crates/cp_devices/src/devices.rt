@@ -3,8 +3,8 @@ ghost use Rattle.std.specs.Prelude.{◌≡◌, IfSome};
 ghost use Rattle.cp_devices.specs.Devices.{IsAttached, devices_new, kind_at, part_at};
 ghost use Rattle.cp_devices.specs.Resets.{devices_reset};
 
-use crate::places::{Places, is_there};
-use cp_channels::{Channels, Kind};
+use crate::places::{Kind, Places, is_there};
+use cp_channels::Channels;
 use s370_store::Storage;
 use std::alloc::Global;
 use std::marker::Model;
@@ -67,20 +67,12 @@ impl Devices {
         ensures kind { result ≡ kind_at self.now (C.disks channels.now) device }
         ensures inside { IfSome result (IsAttached (C.disks channels.now)) }
     {
-        let places = self.places;
-        if is_there(places.console, device) {
-            Some(Kind::Console)
-        } else if is_there(places.reader, device) {
-            Some(Kind::Reader)
-        } else if is_there(places.punch, device) {
-            Some(Kind::Punch)
-        } else if is_there(places.printer, device) {
-            Some(Kind::Printer)
-        } else {
-            match channels.disk_at(device) {
-                None => None,
+        match self.part_at(device) {
+            Some(part) => Some(part),
+            None => match channels.disk_at(device) {
                 Some(index) => Some(Kind::Disk(index)),
-            }
+                None => None,
+            },
         }
     }
 

@@ -1,8 +1,8 @@
 //! The initial program loading of a machine.
 ghost use Rattle.std.specs.Prelude.{◌≡◌, ◌<◌, ◌≤◌, IfErr, IfOk, length};
-ghost use Rattle.channel_runs.specs.Runs.{TellsAway};
+ghost use Rattle.s370_channel.specs.Runs.{TellsAway};
 ghost use Rattle.cp_panel.specs.Machine.{machine_of};
-ghost use Rattle.cp_devices.specs.Loading.{IsLoaded, is_good};
+ghost use Rattle.cp_devices.specs.Loading.{IsLoaded, LacksPsw, StopsLoading, is_good, left_by};
 
 use cp_console::responses::Response;
 use cp_panel::Machine;
@@ -16,9 +16,10 @@ use s370_walk::{ChannelStatus, Device, Ending, UnitStatus};
 const IPL_PSW: Range = Range { start: 0, count: 8 };
 
 /// Resets the machine, runs the program that the device loads, and lets the machine run where that ended well; tells whether
-/// it did. An error is told only where memory was refused, or a page is not present that the program names; nothing is said
-/// of the machine then. There is room for a line and for the notice of the machine's stop.
-pub fn load<S: Storage, D: Device>(
+/// it did. An error is told only where the program comes to a command that needs memory, or to a step that needs a page
+/// which is not present, or where the page of the PSW is not; nothing is said of the machine then. There is room for a line
+/// and for the notice of the machine's stop.
+pub(crate) fn load<S: Storage, D: Device>(
     machine: &mut Machine,
     storage: &mut S,
     device: DevAddr,
@@ -30,6 +31,8 @@ pub fn load<S: Storage, D: Device>(
         let after = machine_of machine.new (S.bytes storage.new) (S.keys storage.new) in
         IfOk result (λ well. IsLoaded D.machine device before part.old well after part.new) }
     ensures away { IfErr result (TellsAway (S.present storage.old)) }
+    ensures stopped { let before = machine_of machine.old (S.bytes storage.old) (S.keys storage.old) in
+        IfErr result (StopsLoading D.machine D.needs_memory (S.present storage.old) before part.old) }
     ensures size { length (S.bytes storage.new) ≡ length (S.bytes storage.old) }
     ensures keys { S.keys storage.new ≡ S.keys storage.old }
     ensures present { S.present storage.new ≡ S.present storage.old }
@@ -37,7 +40,30 @@ pub fn load<S: Storage, D: Device>(
 {
     machine.reset();
     let ending = run_ipl(&Guest, storage, part)?;
-    if !is_good(&ending) {
+    start_loaded(machine, storage, device, &ending)
+}
+
+/// Lets a machine run whose program of loading ended well, and tells whether it did. There is room for a line and for the
+/// notice of the machine's stop.
+pub(crate) fn start_loaded<S: Storage>(
+    machine: &mut Machine,
+    storage: &mut S,
+    device: DevAddr,
+    ending: &Ending,
+) -> Result<bool, ChannelError>
+    requires size { 8192 ≤ length (S.bytes storage.old) }
+    requires room { 1 < machine.old.room }
+    ensures well { IfOk result (λ well. well ≡ is_good ending.now) }
+    ensures left { let before = machine_of machine.old (S.bytes storage.old) (S.keys storage.old) in
+        let after = machine_of machine.new (S.bytes storage.new) (S.keys storage.new) in
+        IfOk result (λ well. after ≡ left_by (is_good ending.now) device before (S.bytes storage.old)) }
+    ensures stopped { IfErr result (LacksPsw (S.present storage.old)) }
+    ensures size { length (S.bytes storage.new) ≡ length (S.bytes storage.old) }
+    ensures keys { S.keys storage.new ≡ S.keys storage.old }
+    ensures present { S.present storage.new ≡ S.present storage.old }
+    ensures rest { S.Keeps storage.old storage.new }
+{
+    if !is_good(ending) {
         machine.print(&Response::IplFailed);
         return Ok(false);
     }

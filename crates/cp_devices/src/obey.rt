@@ -12,7 +12,7 @@ ghost use Rattle.cp_devices.specs.Spooling.{with_deck_purged};
 use crate::devices::Devices;
 use crate::line::Told;
 use crate::world::World;
-use cp_channels::Kind;
+use crate::places::Kind;
 use cp_console::console_line::ConsoleLine;
 use cp_console::device_commands::DeviceCommand;
 use cp_console::printing::message_line;

@@ -5,12 +5,33 @@ ghost use Rattle.cp_devices.specs.Devices.{is_there};
 use s370_num::DevAddr;
 
 /// The addresses of console, reader, punch and printer; None where the machine has no such device.
-#[derive(Clone, Copy, Debug, PartialEq, Eq)]
+#[derive(Clone, Copy, PartialEq, Eq)]
 pub struct Places {
     pub console: Option<DevAddr>,
     pub reader: Option<DevAddr>,
     pub punch: Option<DevAddr>,
     pub printer: Option<DevAddr>,
+}
+
+impl Places {
+    /// A machine that has none of them.
+    pub const NONE: Places = Places {
+        console: None,
+        reader: None,
+        punch: None,
+        printer: None,
+    };
+}
+
+/// What has an address.
+#[derive(Clone, Copy, PartialEq, Eq)]
+pub enum Kind {
+    Console,
+    Reader,
+    Punch,
+    Printer,
+    /// The disk of this index.
+    Disk(usize),
 }
 
 /// Whether this is the address of the device.

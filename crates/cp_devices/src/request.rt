@@ -10,7 +10,7 @@ use cp_console::lines::{Asked, asked_of};
 use cp_panel::Mode;
 
 /// What of a line concerns the devices of a machine.
-#[derive(Debug, PartialEq, Eq, Drop)]
+#[derive(PartialEq, Eq, Drop)]
 pub enum Request<'a> {
     /// LOGON switches the machine on.
     LogsOn,

@@ -1,13 +1,15 @@
 //! The devices of a machine are served.
-ghost use Rattle.std.specs.Prelude.{◌≡◌, ◌++◌, true, IfErr, IfOk, OnOk, length};
-ghost use Rattle.channel_runs.specs.Runs.{TellsAway};
+ghost use Rattle.std.specs.Prelude.{◌≡◌, ◌<◌, ◌++◌, false, true, IfErr, IfOk, OnErr, OnOk, length};
+ghost use Rattle.s370_channel.specs.Runs.{TellsAway};
 ghost use Rattle.cp_channels.specs.Channels.{WhereAbsent};
 ghost use Rattle.cp_devices.specs.Devices.{IsAttached};
 ghost use Rattle.cp_devices.specs.Equipped.{equipped};
 ghost use Rattle.cp_devices.specs.Serve.{IsServedAt, RunsConsole, RunsKind};
+ghost use Rattle.cp_devices.specs.Stopped.{StopsAt, StopsConsole, StopsKind};
 
 use crate::devices::Devices;
-use cp_channels::{Channels, Kind};
+use crate::places::Kind;
+use cp_channels::Channels;
 use cp_console::console_line::ConsoleLine;
 use cp_console::responses::Response;
 use cp_panel::Machine;
@@ -34,6 +36,8 @@ impl Devices {
         ensures whole { let before = equipped machine.old self.old (C.disks channels.old) (S.bytes storage.old) (S.keys storage.old) in
             let after = equipped machine.new self.new (C.disks channels.new) (S.bytes storage.new) (S.keys storage.new) in
             C.is_whole ≡ true → IfErr result (WhereAbsent (after ≡ before)) }
+        ensures stopped { let before = equipped machine.old self.old (C.disks channels.old) (S.bytes storage.old) (S.keys storage.old) in
+            C.is_whole ≡ false → IfErr result (StopsAt C.reads (S.present storage.old) device before) }
         ensures away { IfErr result (TellsAway (S.present storage.old)) }
         ensures size { length (S.bytes storage.new) ≡ length (S.bytes storage.old) }
         ensures keys { S.keys storage.new ≡ S.keys storage.old }
@@ -69,6 +73,8 @@ impl Devices {
         ensures whole { let before = equipped machine.old self.old (C.disks channels.old) (S.bytes storage.old) (S.keys storage.old) in
             let after = equipped machine.new self.new (C.disks channels.new) (S.bytes storage.new) (S.keys storage.new) in
             C.is_whole ≡ true → IfErr result (WhereAbsent (after ≡ before)) }
+        ensures stopped { let before = equipped machine.old self.old (C.disks channels.old) (S.bytes storage.old) (S.keys storage.old) in
+            C.is_whole ≡ false → IfErr result (StopsKind C.reads (S.present storage.old) kind start before) }
         ensures away { IfErr result (TellsAway (S.present storage.old)) }
         ensures size { length (S.bytes storage.new) ≡ length (S.bytes storage.old) }
         ensures keys { S.keys storage.new ≡ S.keys storage.old }
@@ -107,6 +113,8 @@ impl Devices {
         ensures whole { let before = equipped machine.old self.old (C.disks channels.old) (S.bytes storage.old) (S.keys storage.old) in
             let after = equipped machine.new self.new (C.disks channels.new) (S.bytes storage.new) (S.keys storage.new) in
             C.is_whole ≡ true → IfErr result (WhereAbsent (after ≡ before)) }
+        ensures stopped { let before = equipped machine.old self.old (C.disks channels.old) (S.bytes storage.old) (S.keys storage.old) in
+            C.is_whole ≡ false → IfErr result (StopsConsole C.reads (S.present storage.old) start before) }
         ensures away { IfErr result (TellsAway (S.present storage.old)) }
         ensures size { length (S.bytes storage.new) ≡ length (S.bytes storage.old) }
         ensures keys { S.keys storage.new ≡ S.keys storage.old }
@@ -131,7 +139,8 @@ impl Devices {
 
 /// Prints the lines that a console has finished.
 fn print_written(machine: &mut Machine, console: &Console) -> Result<(), AllocError>
-    ensures { OnOk result (machine.new ≡ record machine.old { output = machine.old.output ++ console.now.lines; room = machine.new.room }) }
+    ensures printed { OnOk result (machine.new ≡ record machine.old { output = machine.old.output ++ console.now.lines; room = machine.new.room }) }
+    ensures some { OnErr result (0 < length console.now.lines) }
 {
     for line in console.lines() {
         machine.make_room(1)?;

@@ -6,7 +6,7 @@ ghost use Rattle.cp_devices.specs.Devices.{part_at};
 ghost use Rattle.cp_devices.specs.Spooling.{is_punch, spooled, output_of, with_punch_closed, with_printer_closed, devices_logged_off, with_deck_queued, with_deck_purged, with_deck_put_back, card_of, card_of_entry, deck_punched};
 
 use crate::devices::Devices;
-use cp_channels::Kind;
+use crate::places::Kind;
 use std::alloc::{AllocError, Global};
 use unit_record::{Card, Closed, Deck, Entry, Sender, Target, close_both};
 

@@ -104,7 +104,9 @@ impl Directory {
         ensures users { result.now ≡ self.now }
         ensures few { length result.now ≤ MOST_USERS }
     {
-        self.users.as_slice()
+        // All its fields: what is added to them is seen here.
+        let Directory { users } = self;
+        users.as_slice()
     }
 
     /// How many users there are.

@@ -13,14 +13,14 @@ use crate::storage::StorageSize;
 use cp_text::numbers::is_digit;
 
 /// The letter of a size.
-#[derive(Clone, Copy, Debug)]
+#[derive(Clone, Copy)]
 pub enum SizeUnit {
     Kilobyte,
     Megabyte,
 }
 
 /// A size as it is spelled: a number of any length, and its unit.
-#[derive(Clone, Copy, Debug)]
+#[derive(Clone, Copy)]
 pub struct SpelledSize<'a> {
     pub digits: &'a [u8],
     pub unit: SizeUnit,

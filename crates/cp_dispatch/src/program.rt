@@ -6,7 +6,7 @@ use cp_users::UserNo;
 use s370_num::DevAddr;
 
 /// A channel program that was started: whose it is, and at which device.
-#[derive(Clone, Copy, Debug, PartialEq, Eq, Drop)]
+#[derive(Clone, Copy, PartialEq, Eq, Drop)]
 pub struct Program {
     /// The user whose program it is.
     pub user: UserNo,

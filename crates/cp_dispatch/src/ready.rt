@@ -6,7 +6,7 @@ use cp_users::{MOST_USERS, UserNo};
 use std::marker::Model;
 
 /// The users who are ready for a slice: those whose machines would do something with it.
-#[derive(Clone, Copy, Debug, PartialEq, Eq, Drop)]
+#[derive(Clone, Copy, PartialEq, Eq, Drop)]
 pub struct Ready {
     flags: [bool; MOST_USERS],
 }

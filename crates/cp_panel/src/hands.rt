@@ -1,7 +1,7 @@
 //! What the devices of a machine, and the operator, change of it beside its units and its lines.
 ghost use Rattle.std.specs.Prelude.{◌≡◌, ◌+◌, ◌<◌, ◌≤◌, ◌++◌, ◌∷◌, [], ℕ, List, OnErr, OnOk};
 ghost use Rattle.cp_console.specs.Responses.{text_of};
-ghost use Rattle.s370_subchannels.specs.Serving.{program_ended, program_of};
+ghost use Rattle.s370_subchannels.specs.Programs.{program_ended, program_of};
 ghost use Rattle.s370_subchannels.specs.Subchannels.{attended, reset as reset_devices, with_attention};
 ghost use Rattle.cp_panel.specs.Machine.{nothing_pending, reset_cpu};
 ghost use Rattle.cp_panel.specs.declared.machine.Mode.TheVariants.{Running, Stopped};

@@ -2,7 +2,7 @@
 //! have, written once.
 //!
 //! Its one theorem: what a [`Machine`] does when it is let run ([`Machine::run`]), when a line is typed
-//! ([`Machine::line`]), at a tick of its timer ([`Machine::tick`]) and when a device is served ([`Machine::serve`]) is what `specs/` defines (docs/MACHINE.md,
+//! ([`Machine::line`]) and at a tick of its timer ([`Machine::tick`]) is what `specs/` defines (docs/MACHINE.md,
 //! docs/COMMANDS.md), over any storage that can bring its absent pages; and it brings only pages that these need. Where
 //! there is no room for one, a run stands after the units that it tells, and a line or a tick has done nothing.
 //!
@@ -21,7 +21,6 @@ mod line;
 mod machine;
 mod ready;
 mod run;
-mod serve;
 mod tick;
 
 pub use display_store::{change, display};

@@ -1,7 +1,7 @@
 //! Units of a machine.
-ghost use Rattle.std.specs.Prelude.{◌≡◌, ℕ, ◌+◌, ◌*◌, ◌≤◌, List, Option, length};
+ghost use Rattle.std.specs.Prelude.{◌≡◌, ℕ, ◌+◌, ◌≤◌, List, Option, length};
 ghost use Rattle.s370_intr.specs.Laws.{begun};
-ghost use Rattle.s370_intr.specs.Run.{AllNeeded, RunNeeds};
+ghost use Rattle.s370_intr.specs.Run.{EachBrings};
 ghost use Rattle.cp_panel.specs.Machine.{machine_of};
 ghost use Rattle.cp_panel.specs.Run.{TellsRun, halted, notice_of};
 
@@ -12,7 +12,7 @@ use s370_supply::UnitSupply;
 
 /// What a run of a machine tells: how many units it did, why it did no more, and the notice that it printed, if it
 /// stopped.
-#[derive(Clone, Copy, Debug, PartialEq, Eq)]
+#[derive(Clone, Copy, PartialEq, Eq)]
 pub struct MachineRan {
     pub ran: Ran,
     pub notice: Option<Response>,
@@ -53,7 +53,7 @@ impl Machine {
             let after = machine_of self.new (S.Storage.bytes storage.new) (S.Storage.keys storage.new) in
             TellsRun count before (record { machine = after; units = result.units; reason = result.reason; notice = notice_of result.reason }) (S.IsOut storage.new) }
         ensures supply { let before = machine_of self.old (S.Storage.bytes storage.old) (S.Storage.keys storage.old) in
-            (pages : List ℕ) × S.Came storage.old pages storage.new × AllNeeded (RunNeeds before.core result.units result.reason) pages × (length pages ≤ 9 * begun result.units result.reason) }
+            (units : List (List ℕ)) × S.Came storage.old units storage.new × EachBrings before.core 0 units × (length units ≤ begun result.units result.reason) }
         ensures between { S.IsBetween storage.new }
         ensures size { length (S.Storage.bytes storage.new) ≡ length (S.Storage.bytes storage.old) }
         ensures room { length self.new.output + self.new.room ≡ length self.old.output + self.old.room }

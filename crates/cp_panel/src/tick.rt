@@ -1,5 +1,5 @@
 //! Ticks of the interval timer.
-ghost use Rattle.std.specs.Prelude.{◌≡◌, ◌+◌, ◌≤◌, ℕ, List, OnErr, OnOk, Result, length};
+ghost use Rattle.std.specs.Prelude.{◌≡◌, ◌+◌, ◌≤◌, ℕ, List, [], ◌∷◌, OnErr, OnOk, Result, length};
 ghost use Rattle.s370_intr.specs.Run.{AllNeeded, IsLacking};
 ghost use Rattle.s370_intr.specs.Timer.{tick, timed};
 ghost use Rattle.cp_panel.specs.Machine.{machine_of};
@@ -25,7 +25,7 @@ impl Machine {
         ensures frames { let before = machine_of self.old (S.Storage.bytes storage.old) (S.Storage.keys storage.old) in
             OnErr result (IsLacking (TickNeeds before) (length (S.Storage.bytes storage.old)) (S.IsOut storage.new)) }
         ensures supply { let before = machine_of self.old (S.Storage.bytes storage.old) (S.Storage.keys storage.old) in
-            (pages : List ℕ) × S.Came storage.old pages storage.new × AllNeeded (TickNeeds before) pages × (length pages ≤ 1) }
+            (pages : List ℕ) × S.Came storage.old (pages ∷ []) storage.new × AllNeeded (TickNeeds before) pages × (length pages ≤ 1) }
         ensures between { S.IsBetween storage.new }
         ensures size { length (S.Storage.bytes storage.new) ≡ length (S.Storage.bytes storage.old) }
         ensures room { length self.new.output + self.new.room ≡ length self.old.output + self.old.room }
@@ -45,7 +45,7 @@ fn tick_supplied<S: UnitSupply>(pending: &mut Pending, storage: &mut S) -> Resul
     ensures err { OnErr result (timed (S.Storage.bytes storage.new) pending.new ≡ timed (S.Storage.bytes storage.old) pending.old) }
     ensures keys { S.Storage.keys storage.new ≡ S.Storage.keys storage.old }
     ensures frames { OnErr result (IsLacking (λ page. page ≡ 0) (length (S.Storage.bytes storage.old)) (S.IsOut storage.new)) }
-    ensures supply { (pages : List ℕ) × S.Came storage.old pages storage.new × AllNeeded (λ page. page ≡ 0) pages × (length pages ≤ 1) }
+    ensures supply { (pages : List ℕ) × S.Came storage.old (pages ∷ []) storage.new × AllNeeded (λ page. page ≡ 0) pages × (length pages ≤ 1) }
     ensures between { S.IsBetween storage.new }
     ensures size { length (S.Storage.bytes storage.new) ≡ length (S.Storage.bytes storage.old) }
 {

@@ -5,7 +5,7 @@ ghost use Rattle.cp_script.specs.Script.{user_of_event};
 use cp_users::UserNo;
 
 /// What a line of a script says that happens.
-#[derive(Clone, Copy, Debug, PartialEq, Eq)]
+#[derive(Clone, Copy, PartialEq, Eq)]
 pub enum ScriptEvent<'a> {
     /// A user's machine runs for at most so many units.
     Run(UserNo, u32),

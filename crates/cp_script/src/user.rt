@@ -7,7 +7,7 @@ use cp_users::{Named, UserNo};
 use std::marker::Model;
 
 /// A user as scripts know it.
-#[derive(Debug, Drop)]
+#[derive(Drop)]
 pub struct ScriptUser<'a> {
     /// The characters of the name.
     pub name: &'a [u8],

@@ -26,7 +26,7 @@ pub fn cut_line(text: &[u8]) -> (&[u8], &[u8])
 }
 
 /// A line of a text, without its LF.
-#[derive(Clone, Copy, Debug)]
+#[derive(Clone, Copy)]
 pub struct NumberedLine<'a> {
     /// The line's number, from 1.
     pub number: usize,
@@ -35,7 +35,7 @@ pub struct NumberedLine<'a> {
 }
 
 /// The lines of a text that are left to be read, in order.
-#[derive(Debug, Drop)]
+#[derive(Drop)]
 pub struct NumberedLines<'a> {
     number: usize,
     rest: &'a [u8],

@@ -12,7 +12,7 @@ use s370_rows::{Cpu, Instruction, IoOperation};
 use s370_store::{Keyed, Page};
 
 /// What became of a privileged instruction of a guest.
-#[derive(Clone, Copy, Debug, PartialEq, Eq)]
+#[derive(Clone, Copy, PartialEq, Eq)]
 pub enum Simulated {
     /// It is done, on the virtual registers and the guest's storage.
     Done,

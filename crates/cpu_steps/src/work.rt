@@ -1,25 +1,20 @@
 //! What comes of each step.
 use crate::machine::{place, processor, supervised};
-use anyhow::Result;
-use cp_text::numbers::hexadecimal_of;
+use anyhow::{Result, bail};
 use s370_cpu::Stop;
 use s370_rows::IoOperation;
 use s370_store::{Page, PagedStorage, PlainStorage};
 use std::alloc::Global;
+use step_table::{byte, words_of};
 
-/// What comes of a step with these words.
-pub fn told(alloc: Global, words: &[&[u8]]) -> Result<String> {
-    match words {
-        [b"codes", digit] => codes(alloc, byte_of(digit) & 15),
-        [b"ask", code] => ask(alloc, byte_of(code)),
-        [b"keys"] => keys(alloc),
-        _ => Ok(String::from_str(alloc, "no such step")?),
+/// What comes of a step.
+pub fn told(alloc: Global, step: &str) -> Result<String> {
+    match words_of(alloc, step)?.as_slice() {
+        ["codes", digit] => codes(alloc, byte(digit)? & 15),
+        ["ask", code] => ask(alloc, byte(code)?),
+        ["keys"] => keys(alloc),
+        _ => bail!("no such step: {step}"),
     }
-}
-
-/// The byte that digits spell; 0 where they are none.
-fn byte_of(digits: &[u8]) -> u8 {
-    (hexadecimal_of(1, 2, digits).unwrap_or(0) & 0xFF) as u8
 }
 
 /// `codes 0`: who may use each of the sixteen operation codes that begin with this digit.

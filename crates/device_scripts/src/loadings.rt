@@ -2,9 +2,10 @@
 use crate::panel::{display, machine_of};
 use crate::states::FIRST_TRACK;
 use anyhow::{Context, Result, bail};
-use bare_installation::Installation;
+use bare_installation::Bare;
 use ckd_text::make_volume;
 use ckd_volume::Unit;
+use cp_channels::AttachedDisk;
 use cp_console::responses::Response;
 use cp_devices::{Devices, Places, Told};
 use s370_num::DevAddr;
@@ -66,24 +67,21 @@ pub fn difference(alloc: Global, fields: &str) -> Result<Option<String>> {
 }
 
 /// A machine whose only device has these cards or tracks.
-fn machine(alloc: Global, loading: &Loading<'_>) -> Result<Installation> {
+fn machine(alloc: Global, loading: &Loading<'_>) -> Result<Bare> {
     let is_reader = loading.kind == "reader";
     let device = DevAddr::new(DEVICE);
-    let mut devices = Devices::new(
-        alloc,
-        Places {
-            console: None,
-            reader: if is_reader { Some(device) } else { None },
-            punch: None,
-            printer: None,
-        },
-    );
+    let places = Places {
+        reader: if is_reader { Some(device) } else { None },
+        ..Places::NONE
+    };
+    let devices = Devices::new(alloc, places);
+    let mut disks = Vec::new(alloc);
     if !is_reader {
         let text = volume_text(alloc, loading)?;
         let unit = Unit::new(alloc, make_volume(alloc, text.as_bytes())?, FIRST_TRACK)?;
-        devices.attach_disk(device, unit)?;
+        disks.push(AttachedDisk::new(device, unit))?;
     }
-    let mut machine = machine_of(alloc, BLOCKS, devices, &[DEVICE])?;
+    let mut machine = machine_of(alloc, BLOCKS, devices, disks, &[DEVICE])?;
     if is_reader && loading.content != "-" {
         machine.deck(cards_of(alloc, loading.content)?)?;
     }
@@ -149,7 +147,7 @@ enum End {
 }
 
 /// Loads the machine, and tells how that ended.
-fn load(alloc: Global, machine: &mut Installation) -> Result<End> {
+fn load(alloc: Global, machine: &mut Bare) -> Result<End> {
     match machine.line(alloc, b"IPL 190")? {
         Told::Said(Response::IplFailed) => Ok(End::Failed),
         Told::Silent => match machine.units(1).notice {
@@ -180,7 +178,7 @@ fn image_of(alloc: Global, list: &str) -> Result<Vec<u8>> {
 /// What differs first of storage, from an address on; the interval timer is not compared.
 fn storage_difference(
     alloc: Global,
-    machine: &mut Installation,
+    machine: &mut Bare,
     first: u32,
     list: &str,
 ) -> Result<Option<String>> {

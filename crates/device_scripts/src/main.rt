@@ -12,33 +12,16 @@ mod states;
 use anyhow::{Result, bail};
 use std::alloc::Global;
 use std::{env, fs};
+use step_table::tally;
 
 fn main(rt: HostRuntime) -> Result<()> {
+    let alloc = rt.alloc();
     for path in env::args(&rt)?.skip(1) {
         let text = fs::read_to_string(&rt, &path)?;
-        let (agreed, lines) = agreement(&rt, &text)?;
-        println!(rt; "{path}: {agreed} of {lines}")?;
+        let agreement = tally(&rt, &text, |line| difference(alloc, line))?;
+        println!(rt; "{path}: {} of {}", agreement.agreed, agreement.steps)?;
     }
     Ok(())
-}
-
-/// With how many lines of a text the machine agrees, and how many there are; tells those with which it does not.
-fn agreement<R: AllocGlobal + Print>(rt: &R, text: &str) -> Result<(u64, u64)> {
-    let mut agreed = 0u64;
-    let mut lines = 0u64;
-    let mut number = 0u64;
-    for line in text.lines() {
-        number = number.wrapping_add(1);
-        if line.starts_with('#') {
-            continue;
-        }
-        lines = lines.wrapping_add(1);
-        match difference(rt.alloc(), line)? {
-            None => agreed = agreed.wrapping_add(1),
-            Some(what) => println!(rt; "line {number}: {what}")?,
-        }
-    }
-    Ok((agreed, lines))
 }
 
 /// What differs first from what a line tells; none where all is as it should be.

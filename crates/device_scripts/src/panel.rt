@@ -2,7 +2,8 @@
 ghost use Rattle.std.specs.Prelude.{◌≤◌};
 
 use anyhow::{Result, bail};
-use bare_installation::Installation;
+use bare_installation::Bare;
+use cp_channels::AttachedDisk;
 use cp_console::responses::Response;
 use cp_devices::{Devices, Told};
 use s370_num::DevAddr;
@@ -15,8 +16,9 @@ pub fn machine_of(
     alloc: Global,
     blocks: u32,
     devices: Devices,
+    disks: Vec<AttachedDisk>,
     addresses: &[u16],
-) -> Result<Installation>
+) -> Result<Bare>
     requires least { 4 ≤ blocks }
     requires most { blocks ≤ 2048 }
 {
@@ -29,13 +31,13 @@ pub fn machine_of(
         }
         subchannels.add(device)?;
     }
-    let mut machine = Installation::new(alloc, storage, subchannels, devices);
+    let mut machine = Bare::new(alloc, storage, subchannels, devices, disks);
     log_on(alloc, &mut machine)?;
     Ok(machine)
 }
 
 /// The user logs on.
-fn log_on(alloc: Global, machine: &mut Installation) -> Result<()> {
+fn log_on(alloc: Global, machine: &mut Bare) -> Result<()> {
     match machine.line(alloc, b"LOGON")? {
         Told::Said(Response::LogonOk) => Ok(()),
         _ => bail!("the user can't log on"),
@@ -43,7 +45,7 @@ fn log_on(alloc: Global, machine: &mut Installation) -> Result<()> {
 }
 
 /// The machine runs from where it is.
-pub fn begin(alloc: Global, machine: &mut Installation) -> Result<()> {
+pub fn begin(alloc: Global, machine: &mut Bare) -> Result<()> {
     match machine.line(alloc, b"BEGIN")? {
         Told::Said(Response::NotLoggedOn) => bail!("nobody is logged on"),
         Told::Silent => Ok(()),
@@ -52,7 +54,7 @@ pub fn begin(alloc: Global, machine: &mut Installation) -> Result<()> {
 }
 
 /// Stores the bytes that digits spell from an address on.
-pub fn store(alloc: Global, machine: &mut Installation, place: &str, digits: &str) -> Result<()> {
+pub fn store(alloc: Global, machine: &mut Bare, place: &str, digits: &str) -> Result<()> {
     let line = format!(in alloc; "#CP STORE {place} {digits}")?;
     match machine.line(alloc, line.as_bytes())? {
         Told::Said(Response::Stored) => Ok(()),
@@ -61,7 +63,7 @@ pub fn store(alloc: Global, machine: &mut Installation, place: &str, digits: &st
 }
 
 /// The sixteen bytes of storage at an address.
-pub fn display(alloc: Global, machine: &mut Installation, address: u32) -> Result<[u8; 16]> {
+pub fn display(alloc: Global, machine: &mut Bare, address: u32) -> Result<[u8; 16]> {
     let line = format!(in alloc; "#CP DISPLAY {address:X}")?;
     match machine.line(alloc, line.as_bytes())? {
         Told::Said(Response::Storage(_, bytes)) => Ok(bytes),
@@ -70,7 +72,7 @@ pub fn display(alloc: Global, machine: &mut Installation, address: u32) -> Resul
 }
 
 /// The condition code.
-pub fn condition_code(alloc: Global, machine: &mut Installation) -> Result<u64> {
+pub fn condition_code(alloc: Global, machine: &mut Bare) -> Result<u64> {
     match machine.line(alloc, b"#CP DISPLAY PSW")? {
         Told::Said(Response::Psw(psw)) => Ok(psw >> 28 & 3),
         _ => bail!("the PSW can't be displayed"),

@@ -1,8 +1,9 @@
 //! Scripts of four disks: what the instructions that ask a device are answered, and what interrupts.
 use crate::panel::{begin, condition_code, display, machine_of, store};
 use anyhow::{Context, Result, bail};
-use bare_installation::Installation;
+use bare_installation::Bare;
 use ckd_volume::{Arm, Sense, Unit, Volume};
+use cp_channels::AttachedDisk;
 use cp_devices::{Devices, Places};
 use s370_num::DevAddr;
 use std::alloc::Global;
@@ -53,22 +54,15 @@ pub fn difference(alloc: Global, script: &str) -> Result<Option<String>> {
 }
 
 /// A machine with the disks, which runs.
-fn machine(alloc: Global) -> Result<Installation> {
-    let mut devices = Devices::new(
-        alloc,
-        Places {
-            console: None,
-            reader: None,
-            punch: None,
-            printer: None,
-        },
-    );
+fn machine(alloc: Global) -> Result<Bare> {
+    let devices = Devices::new(alloc, Places::NONE);
+    let mut disks = Vec::new(alloc);
     for address in DISKS {
         let volume = Volume::blank(alloc, *b"TEST01", 1)?;
         let unit = Unit::new(alloc, volume, FIRST_TRACK)?;
-        devices.attach_disk(DevAddr::new(address), unit)?;
+        disks.push(AttachedDisk::new(DevAddr::new(address), unit))?;
     }
-    let mut machine = machine_of(alloc, BLOCKS, devices, &DISKS)?;
+    let mut machine = machine_of(alloc, BLOCKS, devices, disks, &DISKS)?;
     for (place, digits) in STORED {
         store(alloc, &mut machine, place, digits)?;
     }
@@ -77,7 +71,7 @@ fn machine(alloc: Global) -> Result<Installation> {
 }
 
 /// What a step of a script gives, as the script would say it.
-fn answer(alloc: Global, machine: &mut Installation, asked: &str) -> Result<String> {
+fn answer(alloc: Global, machine: &mut Bare, asked: &str) -> Result<String> {
     let (verb, operand) = asked.split_once(':').unwrap_or((asked, ""));
     match verb {
         "SIO" => {
@@ -109,7 +103,7 @@ fn address_word(program: &str) -> Result<&'static str> {
 }
 
 /// Executes an instruction under a system mask.
-fn execute(alloc: Global, machine: &mut Installation, mask: &str, instruction: &str) -> Result<()> {
+fn execute(alloc: Global, machine: &mut Bare, mask: &str, instruction: &str) -> Result<()> {
     store(alloc, machine, "38", UNTOUCHED)?;
     store(alloc, machine, "40", UNTOUCHED)?;
     store(alloc, machine, "200", instruction)?;
@@ -120,7 +114,7 @@ fn execute(alloc: Global, machine: &mut Installation, mask: &str, instruction: &
 }
 
 /// The condition code of an instruction that asks a device, and the channel status word where it was stored.
-fn ask(alloc: Global, machine: &mut Installation, code: &str, device: &str) -> Result<String> {
+fn ask(alloc: Global, machine: &mut Bare, code: &str, device: &str) -> Result<String> {
     let instruction = format!(in alloc; "{code}0{device}")?;
     execute(alloc, machine, "00", instruction.as_str())?;
     let condition = condition_code(alloc, machine)?;
@@ -133,13 +127,13 @@ fn ask(alloc: Global, machine: &mut Installation, code: &str, device: &str) -> R
 }
 
 /// The digits of the channel status word.
-fn status_word(alloc: Global, machine: &mut Installation) -> Result<String> {
+fn status_word(alloc: Global, machine: &mut Bare) -> Result<String> {
     let shown = display(alloc, machine, 0x40)?;
     Ok(hex::encode_upper(alloc, &shown[..8])?)
 }
 
 /// The device that interrupts under a system mask, and its channel status word.
-fn interruption(alloc: Global, machine: &mut Installation, mask: &str) -> Result<String> {
+fn interruption(alloc: Global, machine: &mut Bare, mask: &str) -> Result<String> {
     execute(alloc, machine, mask, "0700")?;
     let shown = display(alloc, machine, 0x30)?;
     let old = hex::encode_upper(alloc, &shown[8..])?;
@@ -152,7 +146,7 @@ fn interruption(alloc: Global, machine: &mut Installation, mask: &str) -> Result
 }
 
 /// Serves each disk, and says nothing.
-fn serve(alloc: Global, machine: &mut Installation) -> Result<String> {
+fn serve(alloc: Global, machine: &mut Bare) -> Result<String> {
     for address in DISKS {
         machine.serve(DevAddr::new(address))?;
     }

@@ -1,13 +1,14 @@
 //! Volumes that are made of texts, and their images.
-use crate::spelling::{byte, bytes, cut, decimal, told};
+use crate::spelling::{bytes, cut, told};
 use anyhow::{Context, Result, bail};
 use ckd_image::{ImageError, image, read_image, write_image};
 use ckd_text::arguments::{UsageError, image_path, volume_paths};
 use ckd_text::faults::{Failure, fault_line, outcome};
 use ckd_text::{TextError, make_volume, track_map};
-use ckd_volume::Volume;
+use ckd_volume::{Volume, VolumeError};
 use s370_num::host::Bytes;
 use std::alloc::{AllocError, Global};
+use step_table::{byte, decimal, halfword, words_of};
 
 /// A volume, and the bytes of an image.
 #[derive(Drop)]
@@ -49,10 +50,7 @@ fn refused(alloc: Global, error: UsageError) -> Result<String> {
 
 /// The files that the words of `mkvol` or `trackmap` name.
 fn files(alloc: Global, step: &str) -> Result<String> {
-    let mut words = Vec::new(alloc);
-    for word in step.split_whitespace() {
-        words.push(word)?;
-    }
+    let words = words_of(alloc, step)?;
     if step.starts_with("trackmap") {
         return match image_path(alloc, words.as_slice()) {
             Ok(path) => Ok(format!(in alloc; "{path}")?),
@@ -66,7 +64,7 @@ fn files(alloc: Global, step: &str) -> Result<String> {
 }
 
 /// A text in which `|` stands for each LF and `^` for each CR, and behind it so many bytes of zeros in digits.
-fn text_of(alloc: Global, spelled: &str, zeros: u32) -> Result<Vec<u8>, AllocError> {
+pub fn text_of(alloc: Global, spelled: &str, zeros: u32) -> Result<Vec<u8>, AllocError> {
     let mut text = Vec::new(alloc);
     for byte in spelled.as_bytes() {
         text.push(match *byte {
@@ -99,6 +97,8 @@ impl Disk {
                 let (zeros, text) = cut(operand);
                 return self.make(alloc, text, decimal(zeros)?);
             }
+            "blank" => return self.blank(alloc, operand),
+            "track" => return self.track(alloc, operand),
             "map" => return self.map(alloc, operand),
             "image" => self.image = image(alloc, &self.volume)?,
             "write" => {
@@ -125,6 +125,24 @@ impl Disk {
             Err(TextError::Memory) => bail!("no memory for a volume"),
         }
         Ok(format!(in alloc; "made")?)
+    }
+
+    fn blank(&mut self, alloc: Global, operand: &str) -> Result<String> {
+        match Volume::blank(alloc, *b"TEST01", halfword(operand)?) {
+            Ok(volume) => self.volume = volume,
+            Err(VolumeError::Cylinders) => return Ok(format!(in alloc; "refused")?),
+            Err(VolumeError::Memory) => bail!("no memory for a volume"),
+        }
+        let label = self.volume.volser();
+        Ok(format!(in alloc; "made {}", str::from_utf8(&label)?)?)
+    }
+
+    /// Whether the volume has a track, `CYLINDER HEAD`.
+    fn track(&mut self, alloc: Global, operand: &str) -> Result<String> {
+        let (cylinder, head) = cut(operand);
+        let (cylinder, head) = (decimal(cylinder)? as usize, decimal(head)? as usize);
+        let is_there = self.volume.track_mut(cylinder, head).is_some();
+        Ok(format!(in alloc; "{}", if is_there { "there" } else { "none" })?)
     }
 
     fn map(&self, alloc: Global, operand: &str) -> Result<String> {

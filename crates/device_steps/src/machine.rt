@@ -2,7 +2,7 @@
 ghost use Rattle.std.specs.Prelude.{◌≤◌, length};
 ghost use Rattle.s370_store.specs.Plain.{plain_bytes};
 
-use crate::spelling::{address, byte, cut, decimal, halfword, hexadecimal};
+use crate::spelling::cut;
 use anyhow::{Result, bail};
 use cp_trap::VirtualCpu;
 use s370_intr::{Class, Pending, Processor, Ran, RealCpu, instruct, run_units, swap, tick};
@@ -15,6 +15,7 @@ use s370_store::{
 };
 use s370_subchannels::{DeviceState, Subchannels, answer};
 use std::alloc::{AllocError, Global};
+use step_table::{address, byte, decimal, halfword, hexadecimal};
 
 /// A machine whose units are done one by one over pages that may be absent, or by a run over a copy that is all there.
 #[derive(Drop)]

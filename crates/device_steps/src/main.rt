@@ -1,22 +1,23 @@
 //! Does the steps of a table over a processor, its channels, its devices and images of volumes, and compares what comes of each
 //! with what the table says.
 //!
-//! `steps.txt` has one step a line, with what comes of it behind an equals sign; its first lines tell the steps. A line that
-//! does not agree is told by its number, with what came of it. The last line tells how many agree.
+//! `steps.txt` has one step a line, with what comes of it behind an equals sign; its first lines tell the steps.
 #![tactic(auto)]
 
 mod disk;
 mod machine;
 mod spelling;
+mod unit;
 mod units;
 
 use crate::disk::Disk;
 use crate::machine::Machine;
 use crate::spelling::cut;
+use crate::unit::DiskUnit;
 use crate::units::Units;
 use anyhow::{Result, bail};
 use std::alloc::Global;
-use std::{env, fs};
+use step_table::{compare, table};
 
 /// What the steps are done to.
 #[derive(Drop)]
@@ -24,6 +25,7 @@ struct Work {
     machine: Machine,
     units: Units,
     disk: Disk,
+    unit: DiskUnit,
 }
 
 impl Work {
@@ -37,6 +39,7 @@ impl Work {
             "punch" => self.units.take_punch(alloc, rest),
             "printer" => self.units.take_printer(alloc, rest),
             "disk" => self.disk.take(alloc, rest),
+            "unit" => self.unit.take(alloc, rest),
             _ => bail!("no step begins with {what}"),
         }
     }
@@ -44,32 +47,12 @@ impl Work {
 
 fn main(rt: HostRuntime) -> Result<()> {
     let alloc = rt.alloc();
-    let Some(path) = env::args(&rt)?.nth(1) else {
-        bail!("the file of steps has to be named");
-    };
-    let text = fs::read_to_string(&rt, &path)?;
+    let table = table(&rt)?;
     let mut work = Work {
         machine: Machine::new(alloc)?,
         units: Units::new(alloc),
         disk: Disk::new(alloc)?,
+        unit: DiskUnit::new(alloc)?,
     };
-    let mut agreed = 0u64;
-    let mut lines = 0u64;
-    let mut number = 0u64;
-    for line in text.lines() {
-        number = number.wrapping_add(1);
-        if line.starts_with('#') {
-            continue;
-        }
-        lines = lines.wrapping_add(1);
-        let (step, wanted) = line.split_once(" = ").unwrap_or((line, ""));
-        let told = work.take(alloc, step)?;
-        if told.as_str() == wanted {
-            agreed = agreed.wrapping_add(1);
-        } else {
-            println!(rt; "line {number}: {told}")?;
-        }
-    }
-    println!(rt; "devices: {agreed} of {lines}")?;
-    Ok(())
+    compare(&rt, "devices", &table, " =", |step| work.take(alloc, step))
 }

@@ -1,35 +1,11 @@
-//! How the table spells numbers and bytes.
+//! How the table spells bytes.
 use anyhow::Result;
 use std::alloc::{AllocError, Global};
+use step_table::decimal;
 
 /// The first word of a text, and what stands behind the blank after it.
 pub fn cut(text: &str) -> (&str, &str) {
     text.split_once(' ').unwrap_or((text, ""))
-}
-
-/// The number that hexadecimal digits spell.
-pub fn hexadecimal(digits: &str) -> Result<u64> {
-    Ok(u64::from_str_radix(digits, 16)?)
-}
-
-/// The address that hexadecimal digits spell.
-pub fn address(digits: &str) -> Result<u32> {
-    Ok(u32::from_str_radix(digits, 16)?)
-}
-
-/// The halfword that hexadecimal digits spell.
-pub fn halfword(digits: &str) -> Result<u16> {
-    Ok(u16::from_str_radix(digits, 16)?)
-}
-
-/// The byte that hexadecimal digits spell.
-pub fn byte(digits: &str) -> Result<u8> {
-    Ok(u8::from_str_radix(digits, 16)?)
-}
-
-/// The number that decimal digits spell.
-pub fn decimal(digits: &str) -> Result<u32> {
-    Ok(u32::from_str_radix(digits, 10)?)
 }
 
 /// The bytes that words of digits spell, each of which may stand several times, as `C1*80`.

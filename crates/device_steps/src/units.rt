@@ -1,8 +1,9 @@
 //! A console, a card reader, a card punch and a line printer.
-use crate::spelling::{byte, bytes, cut, decimal, told};
+use crate::spelling::{bytes, cut, told};
 use anyhow::{Result, bail};
 use s370_walk::{Answer, Command, Device, Flags, Order};
 use std::alloc::{AllocError, Global};
+use step_table::{byte, decimal};
 use unit_record::{
     Console, Deck, Entry, File, Printer, Punch, RECORD_LENGTH, Reader, Sender, Target,
 };
@@ -17,7 +18,7 @@ pub struct Units {
 }
 
 /// A command, `CODE`, first in its program and with no flags; or with flags, `CODE/FLAGS`, and a later one, `CODE/FLAGS/later`.
-fn order_of(word: &str) -> Result<Order> {
+pub fn order_of(word: &str) -> Result<Order> {
     let (code, rest) = word.split_once('/').unwrap_or((word, "00"));
     let (flags, later) = rest.split_once('/').unwrap_or((rest, ""));
     Ok(Order {

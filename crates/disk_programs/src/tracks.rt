@@ -1,19 +1,10 @@
 //! The disk of a line: its volume, made of the tracks that are listed, and the comparison of two volumes.
-use crate::setting::{byte_of, cut_item};
 use anyhow::{Context, Result};
 use ckd_track::Track;
 use ckd_volume::{HEADS, Volume};
 use cp_text::numbers::decimal_of;
 use std::alloc::Global;
-
-/// The bytes that digits spell.
-fn bytes_of(alloc: Global, digits: &[u8]) -> Result<Vec<u8>> {
-    let mut bytes = Vec::new(alloc);
-    for k in 0..digits.len() / 2 {
-        bytes.push(byte_of(digits[2 * k], digits[2 * k + 1]))?;
-    }
-    Ok(bytes)
-}
+use storage_lists::cut_item;
 
 /// Two decimal numbers with a mark between them.
 pub fn pair_of(mark: u8, word: &[u8]) -> Option<(usize, usize)> {
@@ -28,9 +19,9 @@ pub fn pair_of(mark: u8, word: &[u8]) -> Option<(usize, usize)> {
 fn write_record(alloc: Global, track: &mut Track, i: usize, item: &[u8]) -> Result<()> {
     let (digits, rest) = cut_item(b':', item).context("a record has an id")?;
     let (key, content) = cut_item(b':', rest).context("a record has a key and data")?;
-    let id = bytes_of(alloc, digits)?;
-    let key = bytes_of(alloc, key)?;
-    let content = bytes_of(alloc, content)?;
+    let id = hex::decode(alloc, digits)?;
+    let key = hex::decode(alloc, key)?;
+    let content = hex::decode(alloc, content)?;
     let id: &[u8; 5] = id.first_chunk().context("an id has five bytes")?;
     if i <= track.len() {
         track.write_after(i, *id, &key, &content)?;

@@ -1,7 +1,7 @@
 //! What a machine is to look like.
 use crate::case::{Item, Place};
 use anyhow::{Context, Result};
-use bare_machine::Bare;
+use bare_installation::Bare;
 use cp_text::numbers::hexadecimal_of;
 use s370_psw::Ilc;
 use side_by_side::{SideError, View};

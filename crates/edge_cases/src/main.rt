@@ -16,7 +16,7 @@ use cp_core::Sizes;
 use cp_users::UserNo;
 use side_by_side::{SideBySide, SideError};
 use std::alloc::Global;
-use std::{env, fs};
+use step_table::{table, tally};
 
 /// What each case finds that does not say otherwise: where interruptions go, and the PSW.
 const SETTING: [&str; 4] = [
@@ -49,7 +49,7 @@ fn store(alloc: Global, machines: &mut SideBySide, item: &Item<'_>) -> Result<()
         Place::General(number) => format!(in alloc; "STORE G{number} {digits}")?,
         Place::Storage(address) => format!(in alloc; "STORE {address:X} {digits}")?,
     };
-    if machines.line(user(), line.as_bytes())? != Some(Response::Stored) {
+    if machines.line(alloc, user(), line.as_bytes())? != Some(Response::Stored) {
         bail!("not stored: {line}");
     }
     Ok(())
@@ -59,7 +59,7 @@ fn store(alloc: Global, machines: &mut SideBySide, item: &Item<'_>) -> Result<()
 fn setting(alloc: Global, case: &Case<'_>) -> Result<SideBySide> {
     let mut machines = booted(alloc)?;
     for line in SETTING {
-        machines.line(user(), line.as_bytes())?;
+        machines.line(alloc, user(), line.as_bytes())?;
     }
     let code = Item {
         place: Place::Storage(0x200),
@@ -69,7 +69,7 @@ fn setting(alloc: Global, case: &Case<'_>) -> Result<SideBySide> {
     for word in case.found.split_whitespace() {
         store(alloc, &mut machines, &item_of(word).context("an item")?)?;
     }
-    machines.line(user(), b"BEGIN")?;
+    machines.line(alloc, user(), b"BEGIN")?;
     Ok(machines)
 }
 
@@ -90,54 +90,21 @@ fn carry_out(machines: &mut SideBySide, image: &Image) -> Result<(), SideError> 
     image.compare(machines.bare(user())?)
 }
 
-/// How many cases there are, and how many agree.
-#[derive(Drop)]
-struct Tally {
-    cases: u32,
-    agreed: u32,
-}
-
-/// Carries out the case of a line, and prints it where it does not agree.
-fn try_line<R: Print>(
-    rt: &R,
-    alloc: Global,
-    number: u32,
-    line: &str,
-    tally: &mut Tally,
-) -> Result<()> {
-    let Some(case) = case_of(line) else {
-        bail!("line {number} is no case");
-    };
+/// What differs first, with the case's name.
+fn try_line(alloc: Global, line: &str) -> Result<Option<String>> {
+    let case = case_of(line).context("a line is no case")?;
     let mut machines = setting(alloc, &case)?;
     let image = wanted(alloc, &case, &machines)?;
-    tally.cases = tally.cases.wrapping_add(1);
     match carry_out(&mut machines, &image) {
-        Ok(()) => tally.agreed = tally.agreed.wrapping_add(1),
-        Err(error) => {
-            let name = case.name;
-            println!(rt; "line {number}: {name}: {error}")?;
-        }
+        Ok(()) => Ok(None),
+        Err(error) => Ok(Some(format!(in alloc; "{}: {error}", case.name)?)),
     }
-    Ok(())
 }
 
 fn main(rt: HostRuntime) -> Result<()> {
-    let Some(path) = env::args(&rt)?.nth(1) else {
-        bail!("the file of cases has to be named");
-    };
-    let text = fs::read_to_string(&rt, &path)?;
-    let mut tally = Tally {
-        cases: 0,
-        agreed: 0,
-    };
-    let mut number = 0u32;
-    for line in text.lines() {
-        number = number.wrapping_add(1);
-        if !line.is_empty() && !line.starts_with('#') {
-            try_line(&rt, rt.alloc(), number, line, &mut tally)?;
-        }
-    }
-    let Tally { cases, agreed } = tally;
-    println!(rt; "{agreed} of {cases} cases agree")?;
+    let alloc = rt.alloc();
+    let table = table(&rt)?;
+    let agreement = tally(&rt, &table, |line| try_line(alloc, line))?;
+    println!(rt; "{} of {} cases agree", agreement.agreed, agreement.steps)?;
     Ok(())
 }

@@ -5,7 +5,7 @@ use s370_store::Page;
 use std::alloc::{AllocError, Global};
 
 /// A page of a user.
-#[derive(Clone, Copy, Debug, PartialEq, Eq, Drop)]
+#[derive(Clone, Copy, PartialEq, Eq, Drop)]
 pub struct Owner {
     /// Whose it is.
     pub user: UserNo,

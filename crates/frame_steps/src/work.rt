@@ -1,13 +1,13 @@
 //! The frames of two users on which steps are done, and what comes of each.
-ghost use Rattle.std.specs.Prelude.{◌≡◌, length};
-
-use crate::step::{Named, Sizes, Spot, Step};
+use crate::operands::{frame_of, key_of, page_of, user_of};
+use anyhow::{Result, bail};
 use cp_dat::Dat;
 use cp_frames::{FRAME_SIZE, FrameNo, Frames};
 use cp_users::UserNo;
 use s370_num::{AccessKey, StorageKey};
 use s370_store::{Access, Fault, FramesOut, Keyed, PAGE_SIZE, Page, Range, Storage, Supply};
 use std::alloc::{AllocError, Global};
+use step_table::{address, byte, decimal, words_of};
 
 /// How many blocks of 2048 bytes have keys: a user has no more than 32 pages here.
 const BLOCKS: usize = 64;
@@ -25,8 +25,11 @@ pub struct Work {
     keys: [StorageKey; BLOCKS],
 }
 
+/// What is told, where there is memory for it.
+type Told = Result<String, AllocError>;
+
 /// The text of an access's outcome.
-fn told_fault(alloc: Global, fault: Fault) -> Result<String, AllocError> {
+fn told_fault(alloc: Global, fault: Fault) -> Told {
     match fault {
         Fault::Addressing => format!(in alloc; "addressing"),
         Fault::Protection => format!(in alloc; "protection"),
@@ -80,53 +83,69 @@ impl Work {
     }
 
     /// Does a step, and tells what came of it.
-    pub fn take(&mut self, alloc: Global, step: Step) -> Result<String, AllocError> {
-        match step {
-            Step::New(sizes) => self.begin(alloc, sizes),
-            Step::Bring(named) => self.bring(alloc, named),
-            Step::Find(named) => self.find(alloc, named),
-            Step::Owner(frame) => self.owner(alloc, FrameNo(frame)),
-            Step::Pin(frame) => {
-                self.frames.pin(FrameNo(frame));
+    pub fn take(&mut self, alloc: Global, step: &str) -> Result<String> {
+        let words = words_of(alloc, step)?;
+        let told = match words.as_slice() {
+            ["new", frames, slots, first, second] => {
+                let pages = [decimal(first)?, decimal(second)?];
+                self.begin(alloc, decimal(frames)?, decimal(slots)?, pages)
+            }
+            ["bring", user, page] => self.bring(alloc, user_of(user)?, page_of(page)?),
+            ["find", user, page] => self.find(alloc, user_of(user)?, page_of(page)?),
+            ["owner", frame] => self.owner(alloc, frame_of(frame)?),
+            ["pin", frame] => {
+                self.frames.pin(frame_of(frame)?);
                 format!(in alloc; "done")
             }
-            Step::Unpin(frame) => {
-                self.frames.unpin(FrameNo(frame));
+            ["unpin", frame] => {
+                self.frames.unpin(frame_of(frame)?);
                 format!(in alloc; "done")
             }
-            Step::UnpinAll => {
+            ["unpin-all"] => {
                 self.frames.unpin_all();
                 format!(in alloc; "done")
             }
-            Step::Pinned(frame) => {
-                format!(in alloc; "{}", self.frames.is_pinned(FrameNo(frame)))
-            }
-            Step::Release(user) => {
-                self.frames.release(user);
+            ["pinned", frame] => format!(in alloc; "{}", self.frames.is_pinned(frame_of(frame)?)),
+            ["release", user] => {
+                self.frames.release(user_of(user)?);
                 format!(in alloc; "done")
             }
-            Step::Mark(frame, place, byte) => self.mark(alloc, FrameNo(frame), place, byte),
-            Step::Byte(spot) => match self.frames.byte(spot.user, spot.address) {
-                Some(byte) => format!(in alloc; "{byte:02X}"),
-                None => format!(in alloc; "{OUTSIDE}"),
-            },
-            Step::Put(spot, word, key) => self.put(alloc, spot, word, key),
-            Step::Get(spot) => self.get(alloc, spot),
-            Step::Supply(spot) => self.supply(alloc, spot),
-            Step::Key(block, key) => self.set_key(alloc, block, key),
-            Step::Segment(user, segment) => self.segment(alloc, user, segment),
-            Step::Entry(user, page) => self.entry(alloc, user, page),
-            Step::Count => format!(in alloc; "{}", self.frames.page_ins()),
+            ["count"] => format!(in alloc; "{}", self.frames.page_ins()),
+            words => return self.take_storage(alloc, words),
+        };
+        Ok(told?)
+    }
+
+    /// Does a step over what stands in frames, or over the tables.
+    fn take_storage(&mut self, alloc: Global, words: &[&str]) -> Result<String> {
+        let told = match words {
+            ["mark", frame, place, mark] => {
+                self.mark(alloc, frame_of(frame)?, decimal(place)?, byte(mark)?)
+            }
+            ["byte", user, place] => self.byte(alloc, user_of(user)?, decimal(place)?),
+            ["put", user, place, word, key] => {
+                let place = decimal(place)?;
+                self.put(alloc, user_of(user)?, place, address(word)?, key_of(key)?)
+            }
+            ["get", user, place] => self.get(alloc, user_of(user)?, decimal(place)?),
+            ["supply", user, place] => self.supply(alloc, user_of(user)?, decimal(place)?),
+            ["key", block, key] => self.set_key(alloc, decimal(block)?, byte(key)?),
+            ["segment", user, number] => self.segment(alloc, user_of(user)?, decimal(number)?),
+            ["entry", user, page] => self.entry(alloc, user_of(user)?, decimal(page)?),
+            _ => bail!("no such step"),
+        };
+        Ok(told?)
+    }
+
+    fn byte(&self, alloc: Global, user: UserNo, address: u32) -> Told {
+        match self.frames.byte(user, address) {
+            Some(byte) => format!(in alloc; "{byte:02X}"),
+            None => format!(in alloc; "{OUTSIDE}"),
         }
     }
 
-    fn begin(&mut self, alloc: Global, sizes: Sizes) -> Result<String, AllocError> {
-        let Sizes {
-            frames,
-            slots,
-            first,
-            second,
-        } = sizes;
+    fn begin(&mut self, alloc: Global, frames: u32, slots: u32, pages: [u32; 2]) -> Told {
+        let [first, second] = pages;
         if frames > 4096 || slots > 65536 || first > 32 || second > 32 {
             return format!(in alloc; "{OUTSIDE}");
         }
@@ -136,33 +155,30 @@ impl Work {
         format!(in alloc; "done")
     }
 
-    fn bring(&mut self, alloc: Global, named: Named) -> Result<String, AllocError> {
-        let Named { user, page } = named;
-        if page >= 1024 || page * PAGE_SIZE >= self.frames.size(user) {
+    fn bring(&mut self, alloc: Global, user: UserNo, page: Page) -> Told {
+        if page.0 >= 1024 || page.0 * PAGE_SIZE >= self.frames.size(user) {
             return format!(in alloc; "{OUTSIDE}");
         }
-        match self.frames.bring(user, Page(page)) {
+        match self.frames.bring(user, page) {
             Ok(frame) => format!(in alloc; "frame {}", frame.0),
             Err(FramesOut) => format!(in alloc; "no room"),
         }
     }
 
-    fn find(&self, alloc: Global, named: Named) -> Result<String, AllocError> {
-        let Named { user, page } = named;
-        if page >= 1024 || page * PAGE_SIZE >= self.frames.size(user) {
+    fn find(&self, alloc: Global, user: UserNo, page: Page) -> Told {
+        if page.0 >= 1024 || page.0 * PAGE_SIZE >= self.frames.size(user) {
             return format!(in alloc; "{OUTSIDE}");
         }
-        match self.frames.frame_of(user, Page(page)) {
-            Some(frame) => return format!(in alloc; "frame {}", frame.0),
-            None => {}
+        if let Some(frame) = self.frames.frame_of(user, page) {
+            return format!(in alloc; "frame {}", frame.0);
         }
-        match self.frames.slot_of(user, Page(page)) {
+        match self.frames.slot_of(user, page) {
             Some(slot) => format!(in alloc; "slot {slot}"),
             None => format!(in alloc; "nowhere"),
         }
     }
 
-    fn owner(&self, alloc: Global, frame: FrameNo) -> Result<String, AllocError> {
+    fn owner(&self, alloc: Global, frame: FrameNo) -> Told {
         match self.frames.page_in(frame) {
             Some(there) => {
                 let letter = if there.user.number() == 0 { "A" } else { "B" };
@@ -172,13 +188,7 @@ impl Work {
         }
     }
 
-    fn mark(
-        &mut self,
-        alloc: Global,
-        frame: FrameNo,
-        place: u32,
-        byte: u8,
-    ) -> Result<String, AllocError> {
+    fn mark(&mut self, alloc: Global, frame: FrameNo, place: u32, byte: u8) -> Told {
         let place = place as usize;
         if place >= FRAME_SIZE {
             return format!(in alloc; "{OUTSIDE}");
@@ -192,41 +202,41 @@ impl Work {
         }
     }
 
-    fn put(&mut self, alloc: Global, spot: Spot, word: u32, key: u8) -> Result<String, AllocError> {
-        if key >= 16 || self.frames.size(spot.user) > MOST_BYTES {
+    fn put(&mut self, alloc: Global, user: UserNo, at: u32, word: u32, key: AccessKey) -> Told {
+        if self.frames.size(user) > MOST_BYTES {
             return format!(in alloc; "{OUTSIDE}");
         }
-        let mut dat = Dat::new(&mut self.frames, &mut self.keys, spot.user);
-        match put(&mut dat, spot.address, word, AccessKey::new(key)) {
+        let mut dat = Dat::new(&mut self.frames, &mut self.keys, user);
+        match put(&mut dat, at, word, key) {
             Ok(()) => format!(in alloc; "done"),
             Err(fault) => told_fault(alloc, fault),
         }
     }
 
-    fn get(&mut self, alloc: Global, spot: Spot) -> Result<String, AllocError> {
-        if self.frames.size(spot.user) > MOST_BYTES {
+    fn get(&mut self, alloc: Global, user: UserNo, at: u32) -> Told {
+        if self.frames.size(user) > MOST_BYTES {
             return format!(in alloc; "{OUTSIDE}");
         }
-        let dat = Dat::new(&mut self.frames, &mut self.keys, spot.user);
-        match get(&dat, spot.address) {
+        let dat = Dat::new(&mut self.frames, &mut self.keys, user);
+        match get(&dat, at) {
             Ok(word) => format!(in alloc; "{word:08X}"),
             Err(fault) => told_fault(alloc, fault),
         }
     }
 
-    fn supply(&mut self, alloc: Global, spot: Spot) -> Result<String, AllocError> {
-        if self.frames.size(spot.user) > MOST_BYTES {
+    fn supply(&mut self, alloc: Global, user: UserNo, at: u32) -> Told {
+        if self.frames.size(user) > MOST_BYTES {
             return format!(in alloc; "{OUTSIDE}");
         }
-        let mut dat = Dat::new(&mut self.frames, &mut self.keys, spot.user);
-        match supply(&mut dat, spot.address) {
+        let mut dat = Dat::new(&mut self.frames, &mut self.keys, user);
+        match supply(&mut dat, at) {
             Ok(true) => format!(in alloc; "came"),
             Ok(false) => format!(in alloc; "did not come"),
             Err(FramesOut) => format!(in alloc; "no room"),
         }
     }
 
-    fn set_key(&mut self, alloc: Global, block: u32, key: u8) -> Result<String, AllocError> {
+    fn set_key(&mut self, alloc: Global, block: u32, key: u8) -> Told {
         let block = block as usize;
         if key >= 32 || block >= BLOCKS {
             return format!(in alloc; "{OUTSIDE}");
@@ -235,14 +245,14 @@ impl Work {
         format!(in alloc; "done")
     }
 
-    fn segment(&self, alloc: Global, user: UserNo, segment: u32) -> Result<String, AllocError> {
+    fn segment(&self, alloc: Global, user: UserNo, segment: u32) -> Told {
         if segment >= 64 {
             return format!(in alloc; "{OUTSIDE}");
         }
         format!(in alloc; "{:08X}", self.frames.segment_entry(user, segment))
     }
 
-    fn entry(&self, alloc: Global, user: UserNo, page: u32) -> Result<String, AllocError> {
+    fn entry(&self, alloc: Global, user: UserNo, page: u32) -> Told {
         if page >= 1024 {
             return format!(in alloc; "{OUTSIDE}");
         }

@@ -67,9 +67,14 @@ fn guest() -> UserNo {
 }
 
 /// Types lines.
-fn type_all(machines: &mut SideBySide, user: UserNo, lines: &[&str]) -> Result<(), SideError> {
+fn type_all(
+    alloc: Global,
+    machines: &mut SideBySide,
+    user: UserNo,
+    lines: &[&str],
+) -> Result<(), SideError> {
     for line in lines {
-        machines.line(user, line.as_bytes())?;
+        machines.line(alloc, user, line.as_bytes())?;
     }
     Ok(())
 }
@@ -81,10 +86,11 @@ fn two_users(alloc: Global) -> Result<SideBySide> {
     };
     let mut machines = SideBySide::boot(alloc, DIRECTORY, sizes)?;
     for user in [neighbour(), guest()] {
-        machines.line(user, b"LOGON")?;
-        type_all(&mut machines, user, &FILLING)?;
+        machines.line(alloc, user, b"LOGON")?;
+        type_all(alloc, &mut machines, user, &FILLING)?;
     }
     type_all(
+        alloc,
         &mut machines,
         neighbour(),
         &["STORE G7 00ABCDEF", "BEGIN 700"],
@@ -99,9 +105,10 @@ fn set(
     state: State,
     halfword: u16,
 ) -> Result<(), SideError> {
-    type_all(machines, guest(), &SETTING)?;
+    type_all(alloc, machines, guest(), &SETTING)?;
     let code = format!(in alloc; "#CP STORE 2FC 980F0400{halfword:04X}00000000")?;
     type_all(
+        alloc,
         machines,
         guest(),
         &[code.as_str(), state.psw_line(), "#CP BEGIN"],

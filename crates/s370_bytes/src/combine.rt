@@ -13,7 +13,7 @@ use s370_rows::{Cpu, Ending, Instruction, Refusal, grant_two};
 use s370_store::{Access, Range, Storage};
 
 /// What is made of a byte of each operand.
-#[derive(Clone, Copy, Debug, PartialEq, Eq)]
+#[derive(Clone, Copy, PartialEq, Eq)]
 pub enum Combine {
     Move,
     MoveNumerics,

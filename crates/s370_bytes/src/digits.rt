@@ -9,7 +9,7 @@ use s370_rows::{Cpu, Ending, Instruction, Refusal, grant_two};
 use s370_store::{Access, Range, Storage};
 
 /// How digits are laid out anew.
-#[derive(Clone, Copy, Debug, PartialEq, Eq)]
+#[derive(Clone, Copy, PartialEq, Eq)]
 pub enum Layout {
     MoveWithOffset,
     Pack,

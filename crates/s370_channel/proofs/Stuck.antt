@@ -3,6 +3,7 @@ use Rattle.std.proofs.Common.{◌≡◌, ◌≢◌, ℕ, ◌<◌, Bool, true, fa
 use Rattle.std.proofs.lemmas.Bool.{lt-ltb}
 use Rattle.s370_store.specs.declared.Access.{Access}
 use Rattle.s370_store.specs.Access.{Test, IsAway, Touches, IsVerdict}
+use Rattle.s370_walk.specs.declared.parts.Order.{Order}
 use Rattle.s370_walk.specs.declared.parts.Position.{Position}
 use Rattle.s370_walk.specs.declared.parts.Spot.{Spot}
 use Rattle.s370_walk.specs.declared.parts.Word.{Word}
@@ -23,7 +24,7 @@ use Rattle.s370_store.specs.declared.Fault.{Fault}
 use Rattle.s370_store.specs.declared.Fault.TheVariants.{Absent}
 use Rattle.s370_store.specs.declared.Page.{Page}
 use Rattle.std.specs.Prelude.{Result, Err, ⊤}
-use Rattle.s370_walk.specs.Reaching.{reach_here, reach_on, reach_then, reach_next}
+use Rattle.s370_walk.specs.Reaching.{reach_here, reach_on, reach_then, reach_next, short_on}
 
 takes_all : (p : Position) (k : Kind) → k ≢ Gives → is_skipped p k ≡ false
 takes_all p Gives ne = absurd (ne refl)
@@ -71,10 +72,10 @@ stuck_later {w = w} {machine = machine} {limits = limits} {present = present} {l
     let c = subst Q two (subst R one b) in
     record { state = c.state; comes = reach_on (live w) (setting machine limits) a c.comes; asked = c.asked; away = c.away }
 
-pub match_later : {D : Type 0} (w : Written) (machine : Machine D) (limits : Limits) {present later : ℕ → Bool} {r s : State D} (error : ChannelError) → MatchStuck w (setting machine limits) later s error → Reaches (live w) (setting machine limits) r s → later ≡ present
-    → MatchStuck w (setting machine limits) present r error
-match_later w machine limits errors.Memory b a e = tt
-match_later w machine limits (errors.Absent page) b a e = stuck_later b a refl e
+pub match_later : {D : Type 0} (w : Written) (machine : Machine D) (needs : D → Order → Bool) (limits : Limits) {present later : ℕ → Bool} {r s : State D} (error : ChannelError) → MatchStuck w (setting machine limits) needs later s error → Reaches (live w) (setting machine limits) r s → later ≡ present
+    → MatchStuck w (setting machine limits) needs present r error
+match_later w machine needs limits errors.Memory b a e = short_on a b
+match_later w machine needs limits (errors.Absent page) b a e = stuck_later b a refl e
 
 pub stuck_next : {D : Type 0} {w : Written} {h : Setting D} {present : ℕ → Bool} {r s : State D} {page : ℕ} → IsStuck w h present s page → next (live w) h r ≡ s → IsStuck w h present r page
 stuck_next {w = w} {h = h} {r = r} {s = s} b e = record { state = b.state; comes = reach_on (live w) h (reach_next (live w) h r s e) b.comes; asked = b.asked; away = b.away }

@@ -1,10 +1,15 @@
 -- The channel program of an initial program loading (GA22-7000, "Initial Program Loading"): its first command stands in no
 -- storage, and the words after it begin at location 8.
-use Rattle.std.specs.Prelude.{None}
+use Rattle.std.specs.Prelude.{ℕ, ◌≡◌, ◌⊎◌, Bool, true, None}
+use Rattle.s370_walk.specs.declared.parts.Order.{Order}
 use Rattle.s370_walk.specs.declared.parts.Word.{Word}
 use Rattle.s370_walk.specs.Hardware.{Memory, Machine}
-use Rattle.s370_walk.specs.Walk.{State, entered, start_spot}
+use Rattle.s370_walk.specs.Short.{IsShort}
+use Rattle.s370_walk.specs.Stuck.{IsStuck}
+use Rattle.s370_walk.specs.Walk.{State, Written, entered, live, order_of, start_spot}
 use Rattle.s370_channel.specs.declared.limits.Limits.{Limits}
+use Rattle.s370_channel.specs.declared.running.ChannelError.{ChannelError}
+use Rattle.s370_channel.specs.declared.running.ChannelError.TheVariants as errors
 use Rattle.s370_channel.specs.Progress.{setting}
 use Rattle.s370_channel.specs.Start.{most_commands}
 
@@ -19,3 +24,10 @@ loading_limits = record { key = 0; commands = most_commands; prefix = 0 }
 -- where the walk starts: the implied word is obeyed, as if it had been fetched at location 0
 abbrev pub loading : {D : Type 0} → Machine D → Memory → D → State D
 loading machine m d = entered (setting machine loading_limits) (start_spot 0) implied_word None m d
+
+-- why it stops: the implied command needs memory, or the walk is stuck or comes to a command that needs memory
+abbrev pub MatchLoading : {D : Type 0} → Written → Machine D → (D → Order → Bool) → (ℕ → Bool) → Memory → D → ChannelError → Type 0
+MatchLoading w machine needs present m d errors.Memory =
+    (needs d (order_of 0 (start_spot 0) implied_word) ≡ true) ⊎ IsShort (live w) (setting machine loading_limits) needs (loading machine m d)
+MatchLoading w machine needs present m d (errors.Absent page) =
+    IsStuck w (setting machine loading_limits) present (loading machine m d) page.0

@@ -1,13 +1,16 @@
 -- What the parts of a run tell, as states of the walk.
-use Rattle.std.specs.Prelude.{ℕ, ◌+◌, ◌-◌, ◌*◌, ◌^◌, ◌≡◌, ◌<◌, ◌≤◌, Option, None, Some, Bool, ◌⊎◌, if◌then◌else◌}
+use Rattle.std.specs.Prelude.{ℕ, ◌+◌, ◌-◌, ◌*◌, ◌^◌, ◌≡◌, ◌<◌, ◌≤◌, Option, None, Some, Bool, true, ◌⊎◌, if◌then◌else◌}
+use Rattle.s370_walk.specs.declared.parts.Order.{Order}
 use Rattle.s370_walk.specs.declared.parts.Transfer.{Transfer}
 use Rattle.s370_walk.specs.declared.parts.Spot.{Spot}
 use Rattle.s370_walk.specs.declared.parts.Position.{Position}
 use Rattle.s370_walk.specs.declared.parts.Progress.{Progress}
 use Rattle.s370_walk.specs.declared.parts.Progress.TheVariants.{At, Ended}
+use Rattle.s370_walk.specs.declared.parts.Word.{Word}
 use Rattle.s370_walk.specs.Hardware.{Memory, Machine}
+use Rattle.s370_walk.specs.Short.{IsShort}
 use Rattle.s370_walk.specs.Stuck.{IsStuck}
-use Rattle.s370_walk.specs.Walk.{Setting, State, Moving, Over, Written, rest}
+use Rattle.s370_walk.specs.Walk.{Setting, State, Moving, Over, Written, entered, live, order_of, rest}
 use Rattle.s370_channel.specs.declared.limits.Limits.{Limits}
 use Rattle.s370_channel.specs.declared.running.ChannelError.{ChannelError}
 use Rattle.s370_channel.specs.declared.running.ChannelError.TheVariants as errors
@@ -93,7 +96,12 @@ abbrev pub IsOneOn : Position → Moved → Type 0
 IsOneOn old (Done new) = HasStepped old new
 IsOneOn old (Stopped e) = Unit {0}
 
--- the walk is stuck at the page that is told; where memory is refused, nothing is said of the walk
-abbrev pub MatchStuck : {D : Type 0} → Written → Setting D → (ℕ → Bool) → State D → ChannelError → Type 0
-MatchStuck w h present from errors.Memory = Unit {0}
-MatchStuck w h present from (errors.Absent page) = IsStuck w h present from page.0
+-- why a run stops: the walk is stuck at the page that is told, or comes to a command that needs memory
+abbrev pub MatchStuck : {D : Type 0} → Written → Setting D → (D → Order → Bool) → (ℕ → Bool) → State D → ChannelError → Type 0
+MatchStuck w h needs present from errors.Memory = IsShort (live w) h needs from
+MatchStuck w h needs present from (errors.Absent page) = IsStuck w h present from page.0
+
+-- why it stops at a command that it starts: that command needs memory, or the walk is stuck after it
+abbrev pub MatchBegun : {D : Type 0} → Written → Setting D → (D → Order → Bool) → (ℕ → Bool) → Spot → Word → Memory → D → ChannelError → Type 0
+MatchBegun w h needs present spot word m d errors.Memory = needs d (order_of h.prefix spot word) ≡ true
+MatchBegun w h needs present spot word m d (errors.Absent page) = IsStuck w h present (entered h spot word None m d) page.0

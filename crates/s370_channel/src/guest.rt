@@ -13,7 +13,7 @@ use s370_store::{Access, Fault, Page, Range, Storage, load_word};
 use s370_walk::{Flags, Position, Word, WordForm};
 
 /// The words of a guest.
-#[derive(Clone, Copy, Debug, PartialEq, Eq)]
+#[derive(Clone, Copy, PartialEq, Eq)]
 pub struct Guest;
 
 /// An address of 24 bits, so many bytes further on.

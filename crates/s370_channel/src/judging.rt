@@ -6,7 +6,7 @@ ghost use Rattle.s370_channel.specs.Verdicts.{verdict_of};
 use s370_walk::{Flags, Spot, Word};
 
 /// What a word is where it stands.
-#[derive(Clone, Copy, Debug, PartialEq, Eq)]
+#[derive(Clone, Copy, PartialEq, Eq)]
 pub enum Verdict {
     /// A program check.
     Bad,

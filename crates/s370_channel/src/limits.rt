@@ -3,7 +3,7 @@
 use s370_num::AccessKey;
 
 /// The key of a program, and how many commands it may start.
-#[derive(Clone, Copy, Debug, PartialEq, Eq)]
+#[derive(Clone, Copy, PartialEq, Eq)]
 pub struct Limits {
     /// The key that accesses to data are tested with.
     pub key: AccessKey,

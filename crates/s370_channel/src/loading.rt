@@ -2,8 +2,8 @@
 ghost use Rattle.std.specs.Prelude.{◌≡◌, IfOk, IfErr, length};
 ghost use Rattle.s370_walk.specs.Hardware.{memory_of};
 ghost use Rattle.s370_walk.specs.Walk.{Over, Reaches, live};
-ghost use Rattle.s370_channel.specs.Loading.{loading, loading_limits};
-ghost use Rattle.s370_channel.specs.Progress.{setting, MatchStuck};
+ghost use Rattle.s370_channel.specs.Loading.{MatchLoading, loading, loading_limits};
+ghost use Rattle.s370_channel.specs.Progress.{setting};
 
 use crate::limits::Limits;
 use crate::running::{ChannelError, begin, go_on};
@@ -41,7 +41,7 @@ pub fn run_ipl<F: WordForm, S: Storage, D: Device>(
     ensures keys { S.keys storage.new ≡ S.keys storage.old }
     ensures size { length (S.bytes storage.new) ≡ length (S.bytes storage.old) }
     ensures rest { S.Keeps storage.old storage.new }
-    ensures stuck { IfErr result (MatchStuck (F.written program.now) (setting D.machine loading_limits) (S.present storage.old) (loading D.machine (memory_of (S.bytes storage.old) (S.keys storage.old)) device.old)) }
+    ensures stuck { IfErr result (MatchLoading (F.written program.now) D.machine D.needs_memory (S.present storage.old) (memory_of (S.bytes storage.old) (S.keys storage.old)) device.old) }
 {
     match begin(program, storage, device, &LIMITS, &first_spot(0), IMPLIED)? {
         Progress::At(spot) => go_on(program, storage, device, &LIMITS, spot),

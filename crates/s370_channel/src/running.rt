@@ -3,7 +3,7 @@ ghost use Rattle.std.specs.Prelude.{◌≡◌, ℕ, ◌+◌, ◌<◌, ◌≤◌,
 ghost use Rattle.s370_walk.specs.Hardware.{memory_of};
 ghost use Rattle.s370_walk.specs.Walk.{Moving, Fetching, Over, next, judged, moving, Good, state_of, entered, Reaches, start_spot, live};
 ghost use Rattle.s370_walk.specs.Stuck.{IsStuck};
-ghost use Rattle.s370_channel.specs.Progress.{setting, IsLighter, IsFollowed, MatchStuck};
+ghost use Rattle.s370_channel.specs.Progress.{setting, IsLighter, IsFollowed, MatchBegun, MatchStuck};
 
 use crate::endings::{close, end_at, fail, finish};
 use crate::judging::{Verdict, judge};
@@ -74,7 +74,7 @@ pub(crate) fn begin<F: WordForm, S: Storage, D: Device>(
     ensures keys { S.keys storage.new ≡ S.keys storage.old }
     ensures size { length (S.bytes storage.new) ≡ length (S.bytes storage.old) }
     ensures rest { S.Keeps storage.old storage.new }
-    ensures stuck { IfErr result (MatchStuck (F.written program.now) (setting D.machine limits.now) (S.present storage.old) (entered (setting D.machine limits.now) spot.now word None (memory_of (S.bytes storage.old) (S.keys storage.old)) device.old)) }
+    ensures stuck { IfErr result (MatchBegun (F.written program.now) (setting D.machine limits.now) D.needs_memory (S.present storage.old) spot.now word (memory_of (S.bytes storage.old) (S.keys storage.old)) device.old) }
 {
     let order = Order {
         command: word.command,
@@ -147,7 +147,7 @@ fn resume<F: WordForm, S: Storage, D: Device>(
     ensures keys { S.keys storage.new ≡ S.keys storage.old }
     ensures size { length (S.bytes storage.new) ≡ length (S.bytes storage.old) }
     ensures rest { S.Keeps storage.old storage.new }
-    ensures stuck { IfErr result (MatchStuck (F.written program.now) (setting D.machine limits.now) (S.present storage.old) (Fetching spot.now (memory_of (S.bytes storage.old) (S.keys storage.old)) device.old)) }
+    ensures stuck { IfErr result (MatchStuck (F.written program.now) (setting D.machine limits.now) D.needs_memory (S.present storage.old) (Fetching spot.now (memory_of (S.bytes storage.old) (S.keys storage.old)) device.old)) }
 {
     match obey(
         program,
@@ -176,7 +176,7 @@ fn one_word<F: WordForm, S: Storage, D: Device>(
     ensures keys { S.keys storage.new ≡ S.keys storage.old }
     ensures size { length (S.bytes storage.new) ≡ length (S.bytes storage.old) }
     ensures rest { S.Keeps storage.old storage.new }
-    ensures stuck { IfErr result (MatchStuck (F.written program.now) (setting D.machine limits.now) (S.present storage.old) (Fetching spot.now (memory_of (S.bytes storage.old) (S.keys storage.old)) device.old)) }
+    ensures stuck { IfErr result (MatchStuck (F.written program.now) (setting D.machine limits.now) D.needs_memory (S.present storage.old) (Fetching spot.now (memory_of (S.bytes storage.old) (S.keys storage.old)) device.old)) }
 {
     let found = match program.fetch(storage, spot.at) {
         Ok(found) => found,
@@ -203,7 +203,7 @@ fn one_word<F: WordForm, S: Storage, D: Device>(
 /// Why a program could not be run.
 #[derive(Clone, Copy, Debug, PartialEq, Eq, Error)]
 pub enum ChannelError {
-    /// A device was refused the memory that a command wants.
+    /// A device was refused the memory that a command needs.
     #[error("out of memory")]
     Memory,
     /// A page of its words, its lists or its data is not present.
@@ -225,7 +225,7 @@ pub(crate) fn go_on<F: WordForm, S: Storage, D: Device>(
     ensures keys { S.keys storage.new ≡ S.keys storage.old }
     ensures size { length (S.bytes storage.new) ≡ length (S.bytes storage.old) }
     ensures rest { S.Keeps storage.old storage.new }
-    ensures stuck { IfErr result (MatchStuck (F.written program.now) (setting D.machine limits.now) (S.present storage.old) (Fetching from (memory_of (S.bytes storage.old) (S.keys storage.old)) device.old)) }
+    ensures stuck { IfErr result (MatchStuck (F.written program.now) (setting D.machine limits.now) D.needs_memory (S.present storage.old) (Fetching from (memory_of (S.bytes storage.old) (S.keys storage.old)) device.old)) }
 {
     let mut spot = from;
     'words: loop {
@@ -250,7 +250,7 @@ pub fn run<F: WordForm, S: Storage, D: Device>(
     ensures keys { S.keys storage.new ≡ S.keys storage.old }
     ensures size { length (S.bytes storage.new) ≡ length (S.bytes storage.old) }
     ensures rest { S.Keeps storage.old storage.new }
-    ensures stuck { IfErr result (MatchStuck (F.written program.now) (setting D.machine limits.now) (S.present storage.old) (Fetching (start_spot start) (memory_of (S.bytes storage.old) (S.keys storage.old)) device.old)) }
+    ensures stuck { IfErr result (MatchStuck (F.written program.now) (setting D.machine limits.now) D.needs_memory (S.present storage.old) (Fetching (start_spot start) (memory_of (S.bytes storage.old) (S.keys storage.old)) device.old)) }
 {
     go_on(program, storage, device, limits, first_spot(start))
 }

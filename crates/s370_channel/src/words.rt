@@ -8,7 +8,7 @@ use s370_num::{AccessKey, Addr24};
 use s370_walk::{ChannelStatus, Command, Ending, Flags, UnitStatus};
 
 /// A channel command word: what a device is to do, and with which bytes of storage.
-#[derive(Clone, Copy, Debug, PartialEq, Eq)]
+#[derive(Clone, Copy, PartialEq, Eq)]
 pub struct Ccw {
     /// What is to be done.
     pub command: Command,
@@ -47,7 +47,7 @@ impl Ccw {
 }
 
 /// A channel status word: how a channel program ended.
-#[derive(Clone, Copy, Debug, PartialEq, Eq)]
+#[derive(Clone, Copy, PartialEq, Eq)]
 pub struct Csw {
     /// The key of the program.
     pub key: AccessKey,
@@ -103,7 +103,7 @@ impl Csw {
 }
 
 /// A channel address word: where a channel program begins, and its key.
-#[derive(Clone, Copy, Debug, PartialEq, Eq)]
+#[derive(Clone, Copy, PartialEq, Eq)]
 pub struct Caw {
     /// The key that the accesses of the program to its data are tested with.
     pub key: AccessKey,

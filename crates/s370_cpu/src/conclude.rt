@@ -8,7 +8,7 @@ use s370_rows::{Cpu, Ending, Instruction, IoOperation, Place, Refusal};
 use s370_store::Page;
 
 /// How a unit ends.
-#[derive(Clone, Copy, Debug, PartialEq, Eq)]
+#[derive(Clone, Copy, PartialEq, Eq)]
 pub enum Stop {
     /// The instruction is done, or a part of it; the program status word has the address of the next one.
     Done,

@@ -6,7 +6,7 @@ use s370_bytes::{Combine, Layout};
 use s370_rows::{Arithmetic, ByteChange, ByteTest, IndexBranch, IoOperation, Shift};
 
 /// When a branch is taken, and what else it does.
-#[derive(Clone, Copy, Debug, PartialEq, Eq)]
+#[derive(Clone, Copy, PartialEq, Eq)]
 pub enum Branching {
     /// Where one less is left in a register.
     Count,

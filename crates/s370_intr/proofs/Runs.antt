@@ -1,5 +1,5 @@
 -- A run of units done, and what comes after it.
-use Rattle.std.proofs.Common.{◌≡◌, ℕ, ◌+◌, ◌<◌, ◌≤◌, zero, suc, Bool, true, false, Option, None, Some, length, List, [], ◌∷◌, ◌++◌, refl, sym, ◌∙◌, ap, arith, subst, inl, inr, ◌⊎◌}
+use Rattle.std.proofs.Common.{◌≡◌, ℕ, ◌+◌, ◌<◌, ◌≤◌, zero, suc, Bool, true, false, Option, None, Some, length, replicate, List, [], ◌∷◌, ◌++◌, refl, sym, ◌∙◌, ap, arith, subst}
 use Rattle.std.specs.Prelude.{if◌then◌else◌, ◌==◌}
 use Rattle.s370_intr.specs.declared.pending.Pending.{Pending}
 use Rattle.s370_intr.specs.declared.next.Next.{Next}
@@ -24,7 +24,7 @@ use Rattle.s370_cpu.specs.Unit.{Ran}
 use Rattle.s370_quick.specs.Quick.{DoesUnits}
 use Rattle.s370_intr.specs.InputOutput.{configuration_of}
 use Rattle.s370_intr.specs.Units.{Core, core_of, followed, look, offered, unit_at, with_configuration, enabled_of, is_any, Needs, NeedsAt}
-use Rattle.s370_intr.specs.Run.{Run, run, looked, one_more, AllNeeded, RunNeeds, IsLacking, IsCut, TellsRun}
+use Rattle.s370_intr.specs.Run.{Run, run, looked, one_more, AllNeeded, EachBrings, IsLacking, IsCut, TellsRun}
 
 abbrev pub all_done : ℕ → Core → Run
 all_done k c = record { core = c; units = k; reason = Count }
@@ -106,18 +106,22 @@ pub more_needs : (needs others : ℕ → Type 0) (xs : List ℕ) → ((page : �
 more_needs needs others [] f a = tt
 more_needs needs others (x ∷ xs) f a = (f x a.0, more_needs needs others xs f a.1)
 
--- what a beginning of a run needs, the longer run needs
-later : (old : Core) (k n : ℕ) (reason : Reason) (page : ℕ) → k ≤ n → RunNeeds old k Count page → RunNeeds old n reason page
-later old k n reason page l (j, inl h, need) = (j, inl (omega arith), need)
-later old k n reason page l (j, inr h, need) = (let e : Count ≡ FramesOut = h.1 in cc)
+-- what units bring, and units after them
+pub each_on : (old : Core) (unit : ℕ) (before after : List (List ℕ)) → EachBrings old unit before → EachBrings old (length before + unit) after → EachBrings old unit (before ++ after)
+each_on old unit [] after a b = subst (λ (n : ℕ). EachBrings old n after) (omega arith) b
+each_on old unit (pages ∷ before) after a b = (a.0, a.1, each_on old (suc unit) before after a.2 (subst (λ (n : ℕ). EachBrings old n after) (omega arith) b))
 
-pub later_needs : (old : Core) (k n : ℕ) (reason : Reason) (xs : List ℕ) → k ≤ n → AllNeeded (RunNeeds old k Count) xs → AllNeeded (RunNeeds old n reason) xs
-later_needs old k n reason xs l a = more_needs (RunNeeds old k Count) (RunNeeds old n reason) xs (λ page need. later old k n reason page l need) a
+-- units that bring nothing
+pub each_none : (old : Core) (unit n : ℕ) → EachBrings old unit (replicate n [])
+each_none old unit zero = tt
+each_none old unit (suc n) = (tt, omega arith, each_none old (suc unit) n)
 
--- what the next unit needs, the run needs that does it, or lacks a page for it
-pub next_needs : (old c : Core) (k n : ℕ) (reason : Reason) (xs : List ℕ) → run k old ≡ all_done k c → (k < n) ⊎ ((k ≡ n) × (reason ≡ FramesOut)) → AllNeeded (NeedsAt (look c) c) xs → AllNeeded (RunNeeds old n reason) xs
-next_needs old c k n reason xs e l a =
-    more_needs (NeedsAt (look c) c) (RunNeeds old n reason) xs (λ page need. (k, l, subst (λ (r : Run). Needs r.core page) (sym e) need)) a
+-- a run, and the next unit
+pub each_more : (old c : Core) (k : ℕ) (units : List (List ℕ)) (pages : List ℕ) → run k old ≡ all_done k c → EachBrings old 0 units → length units ≡ k → AllNeeded (NeedsAt (look c) c) pages → length pages ≤ 9 → EachBrings old 0 (units ++ pages ∷ [])
+each_more old c k units pages e each many needed few =
+    let here : length units + 0 ≡ k = omega (arith, many) in
+    let needs : AllNeeded (Needs (run k old).core) pages = subst (λ (r : Run). AllNeeded (Needs r.core) pages) (sym e) needed in
+    each_on old 0 units (pages ∷ []) each (subst (λ (n : ℕ). EachBrings old n (pages ∷ [])) (sym here) (needs, few, tt))
 
 -- ---- what a run tells
 

@@ -1,6 +1,6 @@
 -- What a running processor does in at most n units of operation (docs/MACHINE.md, "Units, states and runs"), and what code
 -- may tell of it whose storage has to bring its pages.
-use Rattle.std.specs.Prelude.{◌≡◌, ℕ, ◌+◌, ◌*◌, ◌<◌, ◌⊎◌, zero, suc, List, [], ◌∷◌, length, Result, Ok, Err, ⊤}
+use Rattle.std.specs.Prelude.{◌≡◌, ℕ, ◌+◌, ◌*◌, ◌<◌, ◌≤◌, ◌⊎◌, zero, suc, List, [], ◌∷◌, length, Result, Ok, Err, ⊤}
 use Rattle.s370_store.specs.declared.supply.FramesOut.{FramesOut as Lack}
 use Rattle.s370_intr.specs.declared.next.Next.{Next}
 use Rattle.s370_intr.specs.declared.next.Next.TheVariants.{Stops, Accepts, AcceptsStatus, Instructs}
@@ -79,3 +79,8 @@ TellsRun n old told is_short = TellsFor told.reason n old told is_short
 abbrev pub RunNeeds : Core → ℕ → Reason → ℕ → Type 0
 RunNeeds old units reason page =
     (k : ℕ) × ((k < units) ⊎ ((k ≡ units) × (reason ≡ FramesOut))) × Needs (run k old).core page
+
+-- what each unit of a run brings, from this one on: at most nine pages, and the unit needs them
+abbrev pub EachBrings : Core → ℕ → List (List ℕ) → Type 0
+EachBrings old unit [] = Unit {0}
+EachBrings old unit (pages ∷ units) = AllNeeded (Needs (run unit old).core) pages × (length pages ≤ 9) × EachBrings old (suc unit) units

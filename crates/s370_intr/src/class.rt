@@ -4,7 +4,7 @@ ghost use Rattle.s370_intr.specs.Swap.{old_psw_of, new_psw_of};
 
 /// A class of interruptions: each has a place for the program status word that it stores, and one for the word that it
 /// loads (GA22-7000, "Assigned Storage Locations").
-#[derive(Clone, Copy, Debug, PartialEq, Eq)]
+#[derive(Clone, Copy, PartialEq, Eq)]
 pub enum Class {
     External,
     SupervisorCall,

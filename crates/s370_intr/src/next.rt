@@ -27,7 +27,7 @@ pub enum Reason {
 }
 
 /// What a running processor does next.
-#[derive(Clone, Copy, Debug, PartialEq, Eq)]
+#[derive(Clone, Copy, PartialEq, Eq)]
 pub enum Next {
     /// It does no unit.
     Stops(Reason),

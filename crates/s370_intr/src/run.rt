@@ -1,12 +1,12 @@
 //! Units, one after another.
-ghost use Rattle.std.specs.Prelude.{◌≡◌, ℕ, ◌+◌, ◌*◌, ◌/◌, ◌%◌, ◌<◌, ◌≤◌, List, IfSome, IsSome, length, Result, true};
+ghost use Rattle.std.specs.Prelude.{◌≡◌, ℕ, ◌+◌, ◌*◌, ◌/◌, ◌%◌, ◌<◌, ◌≤◌, List, [], ◌∷◌, IfSome, IsSome, length, Result, true};
 ghost use Rattle.s370_store.specs.Blocks.{MayFetch};
 ghost use Rattle.s370_rows.specs.State.{state_of};
 ghost use Rattle.s370_quick.specs.Quick.{IsLongMoveAt};
 ghost use Rattle.s370_intr.specs.Laws.{begun};
 ghost use Rattle.s370_intr.specs.Units.{MeetsUnitAt, NeedsAt, core_of, look};
 ghost use Rattle.s370_intr.specs.declared.next.Next.TheVariants as next;
-ghost use Rattle.s370_intr.specs.Run.{AllNeeded, DoesInstructions, RunNeeds, SuppliesUnit, TellsRun, run};
+ghost use Rattle.s370_intr.specs.Run.{AllNeeded, DoesInstructions, EachBrings, SuppliesUnit, TellsRun, run};
 ghost use Rattle.s370_intr.specs.declared.next.Reason.TheVariants as reasons;
 ghost use Rattle.s370_subchannels.specs.declared.subchannel.Subchannel.{Subchannel};
 ghost use Rattle.s370_intr.specs.declared.pending.Pending.{Pending};
@@ -26,7 +26,7 @@ use s370_supply::UnitSupply;
 const LONG_MOVE: u8 = 0x0E;
 
 /// How many units a run did, and why it did no more.
-#[derive(Clone, Copy, Debug, PartialEq, Eq)]
+#[derive(Clone, Copy, PartialEq, Eq)]
 pub struct Ran {
     pub units: u32,
     pub reason: Reason,
@@ -103,7 +103,7 @@ fn bring_for_unit<P: Processor, S: UnitSupply>(
         let after = core_of (state_of cpu.new (S.Storage.bytes storage.new) (S.Storage.keys storage.new)) pending.new subchannels.new in
         SuppliesUnit said before result after (S.IsOut storage.new) }
     ensures supply { let before = core_of (state_of cpu.old (S.Storage.bytes storage.old) (S.Storage.keys storage.old)) pending.old subchannels.old in
-        (pages : List ℕ) × S.Came storage.old pages storage.new × AllNeeded (NeedsAt said before) pages × (length pages ≤ 9) }
+        (pages : List ℕ) × S.Came storage.old (pages ∷ []) storage.new × AllNeeded (NeedsAt said before) pages × (length pages ≤ 9) }
     ensures between { S.IsBetween storage.new }
     ensures size { length (S.Storage.bytes storage.new) ≡ length (S.Storage.bytes storage.old) }
 {
@@ -129,7 +129,7 @@ fn try_or_bring<P: Processor, S: UnitSupply>(
         let after = core_of (state_of cpu.new (S.Storage.bytes storage.new) (S.Storage.keys storage.new)) pending.new subchannels.new in
         SuppliesUnit said before result after (S.IsOut storage.new) }
     ensures supply { let before = core_of (state_of cpu.old (S.Storage.bytes storage.old) (S.Storage.keys storage.old)) pending.old subchannels.old in
-        (pages : List ℕ) × S.Came storage.old pages storage.new × AllNeeded (NeedsAt said before) pages × (length pages ≤ 9) }
+        (pages : List ℕ) × S.Came storage.old (pages ∷ []) storage.new × AllNeeded (NeedsAt said before) pages × (length pages ≤ 9) }
     ensures between { S.IsBetween storage.new }
     ensures size { length (S.Storage.bytes storage.new) ≡ length (S.Storage.bytes storage.old) }
 {
@@ -155,7 +155,7 @@ fn accept_supplied<P: Processor, S: UnitSupply>(
         let after = core_of (state_of cpu.new (S.Storage.bytes storage.new) (S.Storage.keys storage.new)) pending.new subchannels.new in
         SuppliesUnit said before result after (S.IsOut storage.new) }
     ensures supply { let before = core_of (state_of cpu.old (S.Storage.bytes storage.old) (S.Storage.keys storage.old)) pending.old subchannels.old in
-        (pages : List ℕ) × S.Came storage.old pages storage.new × AllNeeded (NeedsAt said before) pages × (length pages ≤ 9) }
+        (pages : List ℕ) × S.Came storage.old (pages ∷ []) storage.new × AllNeeded (NeedsAt said before) pages × (length pages ≤ 9) }
     ensures between { S.IsBetween storage.new }
     ensures size { length (S.Storage.bytes storage.new) ≡ length (S.Storage.bytes storage.old) }
 {
@@ -178,7 +178,7 @@ fn supplied<P: Processor, S: UnitSupply>(
         let after = core_of (state_of cpu.new (S.Storage.bytes storage.new) (S.Storage.keys storage.new)) pending.new subchannels.new in
         SuppliesUnit said before result after (S.IsOut storage.new) }
     ensures supply { let before = core_of (state_of cpu.old (S.Storage.bytes storage.old) (S.Storage.keys storage.old)) pending.old subchannels.old in
-        (pages : List ℕ) × S.Came storage.old pages storage.new × AllNeeded (NeedsAt said before) pages × (length pages ≤ 9) }
+        (pages : List ℕ) × S.Came storage.old (pages ∷ []) storage.new × AllNeeded (NeedsAt said before) pages × (length pages ≤ 9) }
     ensures between { S.IsBetween storage.new }
     ensures size { length (S.Storage.bytes storage.new) ≡ length (S.Storage.bytes storage.old) }
 {
@@ -365,7 +365,7 @@ pub fn run_units<P: Processor, S: UnitSupply>(
         let after = core_of (state_of cpu.new (S.Storage.bytes storage.new) (S.Storage.keys storage.new)) pending.new subchannels.new in
         TellsRun count before (record { core = after; units = result.units; reason = result.reason }) (S.IsOut storage.new) }
     ensures supply { let before = core_of (state_of cpu.old (S.Storage.bytes storage.old) (S.Storage.keys storage.old)) pending.old subchannels.old in
-        (pages : List ℕ) × S.Came storage.old pages storage.new × AllNeeded (RunNeeds before result.units result.reason) pages × (length pages ≤ 9 * begun result.units result.reason) }
+        (units : List (List ℕ)) × S.Came storage.old units storage.new × EachBrings before 0 units × (length units ≤ begun result.units result.reason) }
     ensures between { S.IsBetween storage.new }
     ensures size { length (S.Storage.bytes storage.new) ≡ length (S.Storage.bytes storage.old) }
 {

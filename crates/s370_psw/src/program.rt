@@ -6,7 +6,7 @@ ghost use Rattle.s370_psw.specs.ProgramCode.{program_number, program_name};
 use std::fmt;
 
 /// Why a program was interrupted (GA22-7000, "Program Interruption").
-#[derive(Clone, Copy, PartialEq, Eq, Debug)]
+#[derive(Clone, Copy, PartialEq, Eq)]
 pub enum ProgramCode {
     Operation,
     PrivilegedOperation,

@@ -10,7 +10,7 @@ use s370_rows::Cpu;
 use s370_store::{Access, Block, Storage};
 
 /// The blocks in which the last operands lay, one for each kind of access: what may be fetched from may not be stored into.
-#[derive(Clone, Copy, Debug, PartialEq, Eq)]
+#[derive(Clone, Copy, PartialEq, Eq)]
 pub struct Held {
     /// The block from which operands are fetched.
     pub fetched: Block,

@@ -5,7 +5,7 @@ ghost use Rattle.s370_rows.specs.Arithmetic.{computed, plain, exact, exact_numbe
 use s370_num::ConditionCode;
 
 /// An operation on a register and another operand.
-#[derive(Clone, Copy, Debug, PartialEq, Eq)]
+#[derive(Clone, Copy, PartialEq, Eq)]
 pub enum Arithmetic {
     Load,
     LoadAndTest,
@@ -24,7 +24,7 @@ pub enum Arithmetic {
 }
 
 /// What an operation makes: the new contents of its register, the condition code, and whether a signed result did not fit.
-#[derive(Clone, Copy, Debug, PartialEq, Eq)]
+#[derive(Clone, Copy, PartialEq, Eq)]
 pub struct Computed {
     pub value: u32,
     pub condition: ConditionCode,

@@ -9,7 +9,7 @@ use crate::place::Place;
 use s370_num::Register;
 
 /// When a branch on an index is taken.
-#[derive(Clone, Copy, Debug, PartialEq, Eq)]
+#[derive(Clone, Copy, PartialEq, Eq)]
 pub enum IndexBranch {
     /// 86 BXH
     High,

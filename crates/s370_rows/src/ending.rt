@@ -16,7 +16,7 @@ pub enum IoOperation {
 }
 
 /// How an instruction ended that was carried out.
-#[derive(Clone, Copy, Debug, PartialEq, Eq)]
+#[derive(Clone, Copy, PartialEq, Eq)]
 pub enum Ending {
     /// It is done, and the next instruction follows.
     Done,
@@ -34,7 +34,7 @@ pub enum Ending {
 }
 
 /// Why an instruction was not carried out. It changed nothing.
-#[derive(Clone, Copy, Debug, PartialEq, Eq)]
+#[derive(Clone, Copy, PartialEq, Eq)]
 pub enum Refusal {
     /// It is suppressed by a program interruption.
     Program(ProgramCode),

@@ -6,7 +6,7 @@ use crate::arithmetic::{order_of, zero_of};
 use s370_num::ConditionCode;
 
 /// A test of a byte by the immediate one.
-#[derive(Clone, Copy, Debug, PartialEq, Eq)]
+#[derive(Clone, Copy, PartialEq, Eq)]
 pub enum ByteTest {
     /// 91 TM
     UnderMask,
@@ -15,7 +15,7 @@ pub enum ByteTest {
 }
 
 /// A change of a byte, mostly by the immediate one.
-#[derive(Clone, Copy, Debug, PartialEq, Eq)]
+#[derive(Clone, Copy, PartialEq, Eq)]
 pub enum ByteChange {
     /// 92 MVI
     Move,
@@ -30,7 +30,7 @@ pub enum ByteChange {
 }
 
 /// What a byte is changed to, and the condition code.
-#[derive(Clone, Copy, Debug, PartialEq, Eq)]
+#[derive(Clone, Copy, PartialEq, Eq)]
 pub struct ChangedByte {
     pub byte: u8,
     pub condition: ConditionCode,

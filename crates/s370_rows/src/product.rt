@@ -9,7 +9,7 @@ use s370_num::Register;
 use s370_psw::ProgramCode;
 
 /// A quotient towards zero, and a remainder with the dividend's sign.
-#[derive(Clone, Copy, Debug, PartialEq, Eq)]
+#[derive(Clone, Copy, PartialEq, Eq)]
 pub struct Quotient {
     pub quotient: i32,
     pub remainder: i32,

@@ -9,7 +9,7 @@ use crate::rows::overflow_ending;
 use s370_num::{ConditionCode, Register};
 
 /// Where bits are shifted to, and whether the sign stays.
-#[derive(Clone, Copy, Debug, PartialEq, Eq)]
+#[derive(Clone, Copy, PartialEq, Eq)]
 pub enum Shift {
     Right,
     Left,
@@ -18,7 +18,7 @@ pub enum Shift {
 }
 
 /// A new value of a pair, a condition code, and whether a signed result did not fit.
-#[derive(Clone, Copy, Debug, PartialEq, Eq)]
+#[derive(Clone, Copy, PartialEq, Eq)]
 pub struct ComputedPair {
     pub value: u64,
     pub condition: ConditionCode,

@@ -5,7 +5,7 @@ ghost use Rattle.std.specs.Prelude.{◌≡◌, ◌+◌, ◌%◌, ◌<◌, ◌≤
 ///
 /// What its place is, only the storage knows that found it: whoever fetches one instruction after another from a block, or has
 /// operands near one another in it, passes it back with each, and nothing is looked up twice.
-#[derive(Clone, Copy, Debug, PartialEq, Eq)]
+#[derive(Clone, Copy, PartialEq, Eq)]
 pub struct Block {
     /// The address of its first byte.
     pub first: u32,

@@ -47,7 +47,7 @@ pub const BLOCK_SIZE: u32 = 2048;
 pub const LEAST_STORAGE: u32 = 8192;
 
 /// What is done with a range of bytes.
-#[derive(Clone, Copy, Debug, PartialEq, Eq)]
+#[derive(Clone, Copy, PartialEq, Eq)]
 pub enum Access {
     /// The bytes are read.
     Fetch,
@@ -56,7 +56,7 @@ pub enum Access {
 }
 
 /// Bytes that follow one another, by their addresses.
-#[derive(Clone, Copy, Debug, PartialEq, Eq)]
+#[derive(Clone, Copy, PartialEq, Eq)]
 pub struct Range {
     /// The address of the first byte.
     pub start: u32,

@@ -5,10 +5,10 @@
 //! storage that can hold nine tells that there is no room only where there is none for any unit.
 //!
 //! Its one theorem: whatever was brought from a state between units on, letting go leads to such a state again, and just
-//! the pages that were brought came from one to the other.
+//! the pages that were brought came from one to the other, as those of one unit.
 #![tactic(auto)]
 
-ghost use Rattle.std.specs.Prelude.{◌≡◌, ◌≤◌, ℕ, List, [], ◌++◌, length, true, Contains};
+ghost use Rattle.std.specs.Prelude.{◌≡◌, ◌≤◌, ℕ, List, [], ◌∷◌, ◌++◌, length, replicate, true, Contains};
 
 use s370_store::{PlainStorage, Supply};
 
@@ -31,8 +31,9 @@ pub trait UnitSupply: Supply {
     /// There is no room for this page, though nothing is held.
     ghost IsOut: { Self → ℕ → Type 0 };
 
-    /// From one state between units to another just these pages came, in this order; what this storage is lent from stays.
-    ghost Came: { Self → List ℕ → Self → Type 0 };
+    /// From one state between units to another just these pages came, for each unit in turn, in this order; what this storage is
+    /// lent from stays.
+    ghost Came: { Self → List (List ℕ) → Self → Type 0 };
 
     /// What was brought is held no longer. It stays present, until another page takes its place.
     ghost LetsGo: { Self → Self → Type 0 };
@@ -49,8 +50,8 @@ pub trait UnitSupply: Supply {
     /// Letting go ends a unit.
     ghost let_go_between: { (s t u : Self) (pages : List ℕ) → IsBetween s → Self.Brought s pages t → LetsGo t u → IsBetween u };
 
-    /// What was brought has come.
-    ghost let_go_came: { (s t u : Self) (pages : List ℕ) → Self.Brought s pages t → LetsGo t u → Came s pages u };
+    /// What was brought has come, for one unit.
+    ghost let_go_came: { (s t u : Self) (pages : List ℕ) → Self.Brought s pages t → LetsGo t u → Came s (pages ∷ []) u };
 
     /// Where there was no room beside at most nine pages that are held, there is none.
     ghost let_go_out: { (s t u : Self) (pages : List ℕ) (page : ℕ) → IsBetween s → Self.Brought s pages t → length pages ≤ 9 → Self.IsShort t page → LetsGo t u → IsOut u page };
@@ -58,11 +59,11 @@ pub trait UnitSupply: Supply {
     /// An access holds nothing.
     ghost between_kept: { (s t : Self) → Self.Keeps s t → IsBetween s → IsBetween t };
 
-    /// No page comes by an access.
-    ghost came_none: { (s t : Self) → Self.Keeps s t → Came s [] t };
+    /// No page comes by an access, for so many units.
+    ghost came_none: { (s t : Self) (units : ℕ) → IsBetween s → Self.Keeps s t → Came s (replicate units []) t };
 
-    /// What comes twice comes.
-    ghost came_on: { (s t u : Self) (before after : List ℕ) → Came s before t → Came t after u → Came s (before ++ after) u };
+    /// What comes for some units and then for others comes for all of them.
+    ghost came_on: { (s t u : Self) (before after : List (List ℕ)) → Came s before t → Came t after u → Came s (before ++ after) u };
 }
 
 /// All of it is there, so nothing is ever held.
@@ -95,7 +96,7 @@ impl UnitSupply for PlainStorage {
 
     ghost between_kept = { λ s t kept between. tt };
 
-    ghost came_none = { λ s t kept. tt };
+    ghost came_none = { λ s t units between kept. tt };
 
     ghost came_on = { λ s t u before after a b. tt };
 }

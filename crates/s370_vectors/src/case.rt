@@ -1,6 +1,6 @@
 //! A line of the file: what an instruction finds and what it leaves.
-use cp_text::lines::place_of;
-use cp_text::numbers::{decimal_of, digit_value, hexadecimal_of};
+use cp_text::numbers::{decimal_of, hexadecimal_of};
+use storage_lists::{cut_item, doubleword_of};
 
 /// The fields of a line but for the second, whose bytes stand in storage too. A list has its items between commas; `-`
 /// is an empty one.
@@ -48,16 +48,6 @@ pub fn case_of<'a>(words: &[&'a [u8]]) -> Option<Case<'a>> {
     })
 }
 
-/// Sixteen digits as a number.
-fn doubleword_of(digits: &[u8]) -> Option<u64> {
-    if digits.len() != 16 {
-        return None;
-    }
-    let high = hexadecimal_of(8, 8, &digits[..8])?;
-    let low = hexadecimal_of(8, 8, &digits[8..])?;
-    Some((high as u64) << 32 | low as u64)
-}
-
 /// The words of sixteen registers.
 fn registers_of(digits: &[u8]) -> Option<[u32; 16]> {
     if digits.len() != 128 {
@@ -70,15 +60,6 @@ fn registers_of(digits: &[u8]) -> Option<[u32; 16]> {
     Some(registers)
 }
 
-/// The two parts of an item, before and after its colon.
-fn cut_item(item: &[u8]) -> Option<(&[u8], &[u8])> {
-    let at = place_of(b':', item)?;
-    if at >= item.len() {
-        return None;
-    }
-    Some((&item[..at], &item[at + 1..]))
-}
-
 /// Registers after those of a list were changed.
 fn changed(before: [u32; 16], list: &[u8]) -> Option<[u32; 16]> {
     let mut registers = before;
@@ -86,7 +67,7 @@ fn changed(before: [u32; 16], list: &[u8]) -> Option<[u32; 16]> {
         return Some(registers);
     }
     for item in list.split(|c| *c == b',') {
-        let (number, value) = cut_item(item)?;
+        let (number, value) = cut_item(b':', item)?;
         let register = decimal_of(2, number)? as usize;
         if register > 15 {
             return None;
@@ -94,18 +75,4 @@ fn changed(before: [u32; 16], list: &[u8]) -> Option<[u32; 16]> {
         registers[register] = hexadecimal_of(8, 8, value)?;
     }
     Some(registers)
-}
-
-/// The address and the digits of an item of storage or of a key.
-pub fn addressed(item: &[u8]) -> Option<(u32, &[u8])> {
-    let (address, digits) = cut_item(item)?;
-    Some((hexadecimal_of(6, 6, address)?, digits))
-}
-
-/// The value of two digits; what are no digits count as zero.
-pub fn byte_of(high: u8, low: u8) -> u8 {
-    let (Some(high), Some(low)) = (digit_value(high), digit_value(low)) else {
-        return 0;
-    };
-    high * 16 + low
 }

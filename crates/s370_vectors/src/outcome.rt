@@ -1,14 +1,12 @@
 //! The run of an instruction, and how what it leaves differs from what a line has.
-use crate::bed::{Bed, doubleword_at};
 use crate::case::Case;
-use crate::setting::{
-    CALL, CALL_PSW, PROGRAM, PROGRAM_PSW, expect, has_same_keys, is_same_in, prepare,
-};
+use crate::setting::{CALL, CALL_PSW, PROGRAM, PROGRAM_PSW, expect, prepare};
 use s370_intr::{RealCpu, instruct};
 use s370_psw::{Ilc, Psw};
 use s370_rows::Cpu;
 use s370_store::{LEAST_STORAGE, PlainStorage};
 use s370_subchannels::Subchannels;
+use storage_lists::{Bed, doubleword_at, has_same_keys, is_same_in};
 
 /// How many times an instruction is carried out at most, whose parts or whose pages follow one another.
 const MOST: u32 = 200_000;

@@ -1,8 +1,7 @@
-//! What a line lists of storage and keys, set in a storage and compared with one.
-use crate::bed::{Bed, byte_at, key_at, set_byte, set_doubleword, set_key_at};
-use crate::case::{Case, addressed, byte_of};
-use s370_num::StorageKey;
+//! What a line lists of storage and keys, set in a storage and made zero again.
+use crate::case::Case;
 use s370_store::PlainStorage;
+use storage_lists::{Bed, clear_bytes, clear_keys, set_bytes, set_doubleword, set_keys};
 
 /// The program status word that a program interruption loads: it waits, at an address that no line has.
 pub const PROGRAM_PSW: u64 = 0x0002_0000_00FF_FF68;
@@ -42,100 +41,4 @@ pub fn clear<S: Bed>(storage: &mut S, case: &Case) {
     for at in [PROGRAM.0, PROGRAM.1, CALL.0, CALL.1] {
         set_doubleword(storage, at, 0);
     }
-}
-
-/// Sets the bytes of a list.
-fn set_bytes<S: Bed>(storage: &mut S, list: &[u8]) {
-    for item in list.split(|c| *c == b',') {
-        if let Some((at, digits)) = addressed(item) {
-            set_run(storage, at, digits);
-        }
-    }
-}
-
-/// Sets the bytes from an address on.
-fn set_run<S: Bed>(storage: &mut S, start: u32, digits: &[u8]) {
-    let mut at = start;
-    for k in 0..digits.len() / 2 {
-        set_byte(storage, at, byte_of(digits[2 * k], digits[2 * k + 1]));
-        at = at.wrapping_add(1);
-    }
-}
-
-/// Makes the bytes of a list zero.
-fn clear_bytes<S: Bed>(storage: &mut S, list: &[u8]) {
-    for item in list.split(|c| *c == b',') {
-        if let Some((at, digits)) = addressed(item) {
-            clear_run(storage, at, digits.len() / 2);
-        }
-    }
-}
-
-/// Makes so many bytes from an address on zero.
-fn clear_run<S: Bed>(storage: &mut S, start: u32, count: usize) {
-    let mut at = start;
-    for _ in 0..count {
-        set_byte(storage, at, 0);
-        at = at.wrapping_add(1);
-    }
-}
-
-/// Whether the bytes of a list are the same in two storages.
-pub fn is_same_in<S: Bed>(storage: &mut S, image: &mut PlainStorage, list: &[u8]) -> bool {
-    for item in list.split(|c| *c == b',') {
-        if let Some((at, digits)) = addressed(item) {
-            if !is_same_run(storage, image, at, digits.len() / 2) {
-                return false;
-            }
-        }
-    }
-    true
-}
-
-/// Whether so many bytes from an address on are the same in two storages.
-fn is_same_run<S: Bed>(
-    storage: &mut S,
-    image: &mut PlainStorage,
-    start: u32,
-    count: usize,
-) -> bool {
-    let mut at = start;
-    for _ in 0..count {
-        if byte_at(storage, at) != byte_at(image, at) {
-            return false;
-        }
-        at = at.wrapping_add(1);
-    }
-    true
-}
-
-/// Sets the keys of a list, whose bits stand on the left of a byte.
-fn set_keys<S: Bed>(storage: &mut S, list: &[u8]) {
-    for item in list.split(|c| *c == b',') {
-        if let Some((at, [high, low])) = addressed(item) {
-            let bits = byte_of(*high, *low) >> 3;
-            set_key_at(storage, at, StorageKey::new(bits));
-        }
-    }
-}
-
-/// Makes the keys of a list zero.
-fn clear_keys<S: Bed>(storage: &mut S, list: &[u8]) {
-    for item in list.split(|c| *c == b',') {
-        if let Some((at, _)) = addressed(item) {
-            set_key_at(storage, at, StorageKey::ZERO);
-        }
-    }
-}
-
-/// Whether the keys of a list are the same in two storages.
-pub fn has_same_keys<S: Bed>(storage: &S, image: &PlainStorage, list: &[u8]) -> bool {
-    for item in list.split(|c| *c == b',') {
-        if let Some((at, _)) = addressed(item) {
-            if key_at(storage, at) != key_at(image, at) {
-                return false;
-            }
-        }
-    }
-    true
 }

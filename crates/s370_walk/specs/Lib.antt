@@ -5,3 +5,5 @@ pub mod Walk
 pub mod Stuck
 pub mod Moved
 pub mod Reaching
+pub mod Short
+pub mod Frozen

@@ -2,7 +2,9 @@
 use Rattle.std.specs.Prelude.{ℕ, zero, suc, ◌+◌, ◌-◌, ◌≡◌, ◌≤◌, refl, Bool}
 use Rattle.std.proofs.Common.{sym, ◌∙◌, ap, arith, inl, inr, ◌⊎◌}
 use Rattle.s370_walk.specs.declared.parts.Ending.{Ending}
+use Rattle.s370_walk.specs.declared.parts.Order.{Order}
 use Rattle.s370_walk.specs.Hardware.{Memory}
+use Rattle.s370_walk.specs.Short.{IsShort}
 use Rattle.s370_walk.specs.Stuck.{IsStuck}
 use Rattle.s370_walk.specs.Walk.{Form, Setting, State, Over, next, walk, Reaches, Written, live}
 
@@ -53,3 +55,18 @@ reach_from {form = form} {h = h} {r = r} {s = s} e a = reach_on form h (reach_ne
 -- What a walk is stuck at later, it is stuck at.
 pub stuck_on : {D : Type 0} {w : Written} {h : Setting D} {present : ℕ → Bool} {r s : State D} {page : ℕ} → Reaches (live w) h r s → IsStuck w h present s page → IsStuck w h present r page
 stuck_on {w = w} {h = h} a b = record { state = b.state; comes = reach_on (live w) h a b.comes; asked = b.asked; away = b.away }
+
+-- A walk that comes to a command later that needs memory, comes to it.
+pub short_on : {D : Type 0} {form : Form} {h : Setting D} {needs : D → Order → Bool} {r s : State D} → Reaches form h r s → IsShort form h needs s → IsShort form h needs r
+short_on {form = form} {h = h} a b =
+    record {
+      spot = b.spot;
+      memory = b.memory;
+      device = b.device;
+      word = b.word;
+      comes = reach_on form h a b.comes;
+      text = b.text;
+      good = b.good;
+      command = b.command;
+      needed = b.needed;
+    }

@@ -120,7 +120,7 @@ impl UnitStatus {
 }
 
 /// What the channel says at the end of a program: bits 40 to 47 of a channel status word.
-#[derive(Clone, Copy, Debug, PartialEq, Eq)]
+#[derive(Clone, Copy, PartialEq, Eq)]
 pub struct ChannelStatus {
     /// The eight bits.
     pub bits: u8,

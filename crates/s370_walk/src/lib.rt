@@ -1,6 +1,7 @@
 //! The walk of a channel program, one step at a time, and what it goes over: devices and forms of words.
 //!
-//! Its one theorem: a walk comes to one end. What each step does is `next` in `specs/Walk.antt`, which is to be read beside
+//! Its theorems: a walk comes to one end ([`a_walk_comes_to_one_end`]), and to the same one where each word is read as it stood
+//! when the program began, if the program changes none ([`steady_programs_end_alike`]). What each step does is `next` in `specs/Walk.antt`, which is to be read beside
 //! docs/MACHINE.md, "Channel"; the run of a program in `s370_channel` is that walk, for each [`Device`], each [`WordForm`]
 //! and each storage.
 //!
@@ -9,9 +10,11 @@
 #![tactic(auto)]
 
 mod bits;
+mod laws;
 mod parts;
 mod traits;
 
 pub use bits::{ChannelStatus, Command, Flags, UnitStatus};
+pub use laws::{a_walk_comes_to_one_end, steady_programs_end_alike};
 pub use parts::{Answer, Ending, Kind, Order, Position, Progress, Spot, Transfer, Word};
 pub use traits::{Device, WordForm};

@@ -20,7 +20,7 @@ pub struct Word {
 }
 
 /// A command as the channel hands it to a device.
-#[derive(Clone, Copy, Debug, PartialEq, Eq)]
+#[derive(Clone, Copy, PartialEq, Eq)]
 pub struct Order {
     /// What is to be done.
     pub command: Command,
@@ -46,7 +46,7 @@ pub enum Answer {
 }
 
 /// Which way bytes go.
-#[derive(Clone, Copy, Debug, PartialEq, Eq)]
+#[derive(Clone, Copy, PartialEq, Eq)]
 pub enum Kind {
     /// The device gives.
     Gives,
@@ -57,7 +57,7 @@ pub enum Kind {
 }
 
 /// A command that is being carried out, and what the device still has or wants.
-#[derive(Clone, Copy, Debug, PartialEq, Eq)]
+#[derive(Clone, Copy, PartialEq, Eq)]
 pub struct Transfer {
     /// The command.
     pub command: Command,
@@ -68,7 +68,7 @@ pub struct Transfer {
 }
 
 /// Where the next word is fetched, and in which role.
-#[derive(Clone, Copy, Debug, PartialEq, Eq)]
+#[derive(Clone, Copy, PartialEq, Eq)]
 pub struct Spot {
     /// Where the word stands.
     pub at: u32,
@@ -81,7 +81,7 @@ pub struct Spot {
 }
 
 /// A word whose bytes are being moved.
-#[derive(Clone, Copy, Debug, PartialEq, Eq)]
+#[derive(Clone, Copy, PartialEq, Eq)]
 pub struct Position {
     /// Where the word stands.
     pub at: u32,
@@ -98,7 +98,7 @@ pub struct Position {
 }
 
 /// How a program ended.
-#[derive(Clone, Copy, Debug, PartialEq, Eq)]
+#[derive(Clone, Copy, PartialEq, Eq)]
 pub struct Ending {
     /// Where the last word that was used stands, or the one that failed.
     pub at: u32,
@@ -111,7 +111,7 @@ pub struct Ending {
 }
 
 /// What a word leads to.
-#[derive(Clone, Copy, Debug, PartialEq, Eq)]
+#[derive(Clone, Copy, PartialEq, Eq)]
 pub enum Progress {
     /// Another word.
     At(Spot),

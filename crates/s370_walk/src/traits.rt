@@ -1,5 +1,5 @@
 //! Devices, and the forms in which channel programs are written.
-ghost use Rattle.std.specs.Prelude.{◌≡◌, ℕ, ◌<◌, ◌≤◌, ◌+◌, ◌-◌, ◌*◌, false, length, List, if◌then◌else◌, IfOk, OnOk, OnErr};
+ghost use Rattle.std.specs.Prelude.{◌≡◌, ℕ, ◌<◌, ◌≤◌, ◌+◌, ◌-◌, ◌*◌, Bool, true, false, length, List, if◌then◌else◌, IfOk, OnOk, OnErr};
 ghost use Rattle.s370_walk.specs.Hardware.{Machine, FetchTells, memory_of, given, after_giving, after_taking};
 ghost use Rattle.s370_walk.specs.Walk.{Written};
 
@@ -13,8 +13,13 @@ use std::alloc::AllocError;
 /// Whoever writes one says what it is by total functions on its state ([`Machine`](../specs/Hardware.antt)), and shows
 /// that its code is those functions: there is no other law.
 pub trait Device {
+    ghost use Rattle.s370_walk.specs.declared.parts.Order.{Order};
+
     /// The device as total functions on its state.
     ghost machine: { Machine Self };
+
+    /// Whether a command needs memory: it keeps a record. No other is ever refused any.
+    ghost needs_memory: { Self → Order → Bool };
 
     /// Begins a command, or refuses it.
     ///
@@ -23,7 +28,8 @@ pub trait Device {
     fn command(&mut self, order: Order) -> Result<Answer, AllocError>
         ensures answer { IfOk result (λ answer. answer ≡ machine.answer self.old order) }
         ensures after { OnOk result (self.new ≡ machine.started self.old order) }
-        ensures memory { OnErr result (self.new ≡ self.old) };
+        ensures memory { OnErr result (self.new ≡ self.old) }
+        ensures needed { OnErr result (needs_memory self.old order ≡ true) };
 
     /// Whether it wants no more bytes, though it has fewer than it said.
     fn is_done(&self) -> bool

@@ -1,7 +1,7 @@
 //! A block of the table: a script, and what comes of it.
-use anyhow::{Context, Result};
-use cp_text::numbers::decimal_of;
-use std::alloc::{AllocError, Global};
+use anyhow::Result;
+use std::alloc::Global;
+use step_table::decimal;
 
 /// A script and its transcript, or the line at which it is refused.
 #[derive(Drop)]
@@ -15,15 +15,7 @@ pub struct Block {
 
 /// The number that decimal digits spell.
 fn number_of(digits: &[u8]) -> Result<u64> {
-    Ok(u64::from(decimal_of(7, digits).context("no number")?))
-}
-
-/// Adds bytes behind others.
-fn append(all: &mut Vec<u8>, bytes: &[u8]) -> Result<(), AllocError> {
-    for byte in bytes {
-        all.push(*byte)?;
-    }
-    Ok(())
+    Ok(u64::from(decimal(str::from_utf8(digits)?)?))
 }
 
 impl Block {
@@ -52,7 +44,7 @@ impl Block {
             self.calls = number_of(digits)?;
             return Ok(());
         }
-        append(&mut self.told, line)?;
+        self.told.extend_from_slice(line)?;
         self.told.push(b'\n')?;
         Ok(())
     }
@@ -62,10 +54,9 @@ impl Block {
         if !self.script.is_empty() {
             self.script.push(b'\n')?;
         }
-        match event.strip_prefix(b" ") {
-            Some(event) => append(&mut self.script, event)?,
-            None => append(&mut self.script, event)?,
-        }
-        Ok(())
+        Ok(
+            self.script
+                .extend_from_slice(event.strip_prefix(b" ").unwrap_or(event))?,
+        )
     }
 }

@@ -16,7 +16,7 @@ use s370_num::host::failing::Failing;
 use s370_num::host::{Bytes, Counted};
 use std::alloc::Global;
 use std::io::BufWriter;
-use std::{env, fs};
+use step_table::table;
 use vm370::session::{SessionError, session};
 
 /// The longest transcript of a block that tells how many calls it makes.
@@ -24,13 +24,10 @@ const ROOM: usize = 256;
 
 fn main(rt: HostRuntime) -> Result<()> {
     let alloc = rt.alloc();
-    let Some(path) = env::args(&rt)?.nth(1) else {
-        bail!("the file of scripts has to be named");
-    };
-    let text = fs::read(&rt, &path)?;
+    let table = table(&rt)?;
     let mut block = Block::new(alloc);
     let mut blocks = 0u64;
-    for line in numbered_lines(&text) {
+    for line in numbered_lines(table.as_bytes()) {
         if !line.text.is_empty() {
             block.add(line.text)?;
             continue;

@@ -2,11 +2,11 @@
 //!
 //! It is for programs that look whether a user sees what the bare machine shows: [`SideBySide`] gives each event to both,
 //! and tells the first [`View`] in which they differ. Nothing is promised of it but safety; what it compares is what the
-//! public calls of `cp_core` and `bare_machine` show.
+//! public calls of `cp_core` and `bare_installation` show.
 //!
 //! ```
 //! let mut machines = SideBySide::boot(alloc, b"USER A PW 8K", sizes)?;
-//! machines.line(user, b"LOGON")?;
+//! machines.line(alloc, user, b"LOGON")?;
 //! machines.run(user, 1)?;
 //! machines.compare(user)?;
 //! ```

@@ -1,12 +1,13 @@
 //! The machines, their events, and what is compared of them.
 use crate::view::{SideError, View};
-use bare_machine::{Bare, Ran};
+use bare_installation::Bare;
 use cp_console::responses::Response;
 use cp_core::{Ended, Event, Reply, Sizes, System};
+use cp_devices::Told;
 use cp_directory::{User, read_directory};
 use cp_users::UserNo;
+use s370_intr::Ran;
 use s370_store::{BLOCK_SIZE, PlainStorage};
-use s370_subchannels::Subchannels;
 use std::alloc::{AllocError, Global};
 
 /// A system, and for each of its users a bare machine with a storage of the same size.
@@ -21,9 +22,17 @@ fn machines_of(alloc: Global, users: &[User]) -> Result<Vec<Bare>, AllocError> {
     let mut machines = Vec::new(alloc);
     for user in users {
         let storage = PlainStorage::new(alloc, user.storage().blocks())?;
-        machines.push(Bare::new(alloc, storage, Subchannels::new(alloc)))?;
+        machines.push(Bare::without_devices(alloc, storage))?;
     }
     Ok(machines)
+}
+
+/// The response that was told, if there was one.
+fn response_of(told: Told) -> Option<Response> {
+    match told {
+        Told::Said(response) => Some(response),
+        _ => None,
+    }
 }
 
 /// An error where two views differ.
@@ -60,8 +69,13 @@ impl SideBySide {
     }
 
     /// Types a line at both, and tells the response of both.
-    pub fn line(&mut self, user: UserNo, typed: &[u8]) -> Result<Option<Response>, SideError> {
-        let said = self.bare_mut(user)?.line(typed)?;
+    pub fn line(
+        &mut self,
+        alloc: Global,
+        user: UserNo,
+        typed: &[u8],
+    ) -> Result<Option<Response>, SideError> {
+        let said = response_of(self.bare_mut(user)?.line(alloc, typed)?);
         let reply = self.system.apply(Event::Line(user, typed))?;
         let wanted = Reply {
             ended: Ended::Done,

@@ -79,11 +79,11 @@ fn type_program(
     for _ in 0..PIECES_EACH {
         let piece = sequence.pick(&PIECES);
         let line = format!(in alloc; "STORE {address:X} {piece}")?;
-        machines.line(user, line.as_bytes())?;
+        machines.line(alloc, user, line.as_bytes())?;
         address = address.wrapping_add(piece.len() / 2);
     }
     let line = format!(in alloc; "STORE {address:X} 47F00400")?;
-    machines.line(user, line.as_bytes())?;
+    machines.line(alloc, user, line.as_bytes())?;
     Ok(())
 }
 
@@ -94,17 +94,17 @@ fn begin(
     user: UserNo,
     sequence: &mut Sequence,
 ) -> Result<()> {
-    machines.line(user, b"LOGON")?;
+    machines.line(alloc, user, b"LOGON")?;
     for line in DATA {
-        machines.line(user, line.as_bytes())?;
+        machines.line(alloc, user, line.as_bytes())?;
     }
     for register in 0..16u32 {
         let value = sequence.next_number();
         let line = format!(in alloc; "STORE G{register} {value:08X}")?;
-        machines.line(user, line.as_bytes())?;
+        machines.line(alloc, user, line.as_bytes())?;
     }
     type_program(alloc, machines, user, sequence)?;
-    machines.line(user, b"BEGIN 400")?;
+    machines.line(alloc, user, b"BEGIN 400")?;
     Ok(())
 }
 
@@ -131,14 +131,19 @@ fn compare_all(machines: &SideBySide) -> Result<(), SideError> {
 }
 
 /// Lets something happen to a user, and compares the views of all.
-fn happen(machines: &mut SideBySide, user: UserNo, what: Happening) -> Result<(), SideError> {
+fn happen(
+    alloc: Global,
+    machines: &mut SideBySide,
+    user: UserNo,
+    what: Happening,
+) -> Result<(), SideError> {
     let printed = machines.bare(user)?.printed();
     match what {
         Happening::Run(units) => {
             machines.run(user, units)?;
         }
         Happening::Line(typed) => {
-            machines.line(user, typed.as_bytes())?;
+            machines.line(alloc, user, typed.as_bytes())?;
         }
         Happening::Tick => machines.tick(user)?,
     }
@@ -147,12 +152,13 @@ fn happen(machines: &mut SideBySide, user: UserNo, what: Happening) -> Result<()
 }
 
 fn main(rt: HostRuntime) -> Result<()> {
+    let alloc = rt.alloc();
     let mut sequence = Sequence::new(370);
-    let mut machines = all_users(rt.alloc(), &mut sequence)?;
+    let mut machines = all_users(alloc, &mut sequence)?;
     for event in 0..EVENTS {
         let user = next_user(&mut sequence);
         let what = next_happening(&mut sequence);
-        happen(&mut machines, user, what).context(format_args!("after event {event}"))?;
+        happen(alloc, &mut machines, user, what).context(format_args!("after event {event}"))?;
     }
     for number in 0..64u8 {
         machines.compare_console(UserNo::new(number), 0)?;

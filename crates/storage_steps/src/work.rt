@@ -1,8 +1,8 @@
 //! What comes of each step.
-ghost use Rattle.std.specs.Prelude.{IfSome, ◌+◌, ◌≤◌};
+ghost use Rattle.std.specs.Prelude.{IfOk, IfSome, ◌+◌, ◌≤◌};
 
 use crate::lender::{Shared, stamp_for};
-use crate::step::Step;
+use anyhow::{Result, bail};
 use s370_num::{AccessKey, StorageKey};
 use s370_store::{
     Access, Block, Fault, Keyed, Page, PagedStorage, PlainStorage, Range, Storage, check_two,
@@ -10,24 +10,62 @@ use s370_store::{
     store_doubleword, store_halfword, store_word, store_word_in,
 };
 use std::alloc::{AllocError, Global};
+use step_table::{address, byte, words_of};
+
+/// What is told, where there is memory for it.
+type Told = Result<String, AllocError>;
 
 /// What comes of a step.
-pub fn told(alloc: Global, step: &Step<'_>) -> Result<String, AllocError> {
-    match step.word(0) {
-        b"new" => new(alloc),
-        b"access" => access(alloc, step),
-        b"both" => both(alloc, step),
-        b"paged" => paged(alloc, step),
-        b"find" => find(alloc, step),
-        b"move" => moves(alloc, step),
-        b"bytes" => bytes(alloc),
-        b"stamp" => stamp(alloc, step),
-        _ => String::from_str(alloc, "no such step"),
+pub fn told(alloc: Global, step: &str) -> Result<String> {
+    let told = match words_of(alloc, step)?.as_slice() {
+        ["new"] => new(alloc),
+        ["access", start, count, kind, key] => {
+            access(alloc, range(start, count)?, access_of(kind)?, key_of(key)?)
+        }
+        ["both", start, count, other, others, key] => {
+            both(
+                alloc,
+                range(start, count)?,
+                range(other, others)?,
+                key_of(key)?,
+            )
+        }
+        ["paged", start, count, key] => paged(alloc, range(start, count)?, key_of(key)?),
+        ["find", start, kind, key] => find(alloc, address(start)?, access_of(kind)?, key_of(key)?),
+        ["move", from, to] => moves(alloc, address(from)?, address(to)?),
+        ["bytes"] => bytes(alloc),
+        ["stamp", user, start, mark] => stamp(alloc, byte(user)?, address(start)?, byte(mark)?),
+        _ => bail!("no such step: {step}"),
+    };
+    Ok(told?)
+}
+
+/// A range of at most 256 bytes.
+fn range(start: &str, count: &str) -> Result<Range>
+    ensures { IfOk result (λ range. range.count ≤ 256) }
+{
+    let (start, count) = (address(start)?, address(count)?);
+    if count > 256 {
+        bail!("a range has at most 256 bytes");
+    }
+    Ok(Range { start, count })
+}
+
+fn access_of(word: &str) -> Result<Access> {
+    match word {
+        "store" => Ok(Access::Store),
+        "fetch" => Ok(Access::Fetch),
+        _ => bail!("{word} is no access"),
     }
 }
 
+/// The key of an access.
+fn key_of(digit: &str) -> Result<AccessKey> {
+    Ok(AccessKey::new(byte(digit)? & 15))
+}
+
 /// The text of an access's outcome.
-fn verdict(alloc: Global, outcome: Result<(), Fault>) -> Result<String, AllocError> {
+fn verdict(alloc: Global, outcome: Result<(), Fault>) -> Told {
     match outcome {
         Ok(()) => String::from_str(alloc, "granted"),
         Err(Fault::Addressing) => String::from_str(alloc, "addressing"),
@@ -37,7 +75,7 @@ fn verdict(alloc: Global, outcome: Result<(), Fault>) -> Result<String, AllocErr
 }
 
 /// `new`: what a new storage of two blocks has.
-fn new(alloc: Global) -> Result<String, AllocError> {
+fn new(alloc: Global) -> Told {
     let storage = PlainStorage::new(alloc, 2)?;
     let size = storage.size();
     let is_zero = storage.bytes().iter().all(|byte| *byte == 0);
@@ -54,41 +92,41 @@ fn four_blocks(alloc: Global) -> Result<PlainStorage, AllocError> {
 }
 
 /// `access 800 2 fetch 5`: whether an access is granted.
-fn access(alloc: Global, step: &Step<'_>) -> Result<String, AllocError> {
+fn access(alloc: Global, range: Range, access: Access, key: AccessKey) -> Told
+    requires { range.count ≤ 256 }
+{
     let storage = four_blocks(alloc)?;
-    let outcome = storage.check(step.range(1, 2), step.access(3), step.key(4));
+    let outcome = storage.check(range, access, key);
     verdict(alloc, outcome)
 }
 
 /// `both 1000 4 2000 4 5`: whether both ranges may be fetched.
-fn both(alloc: Global, step: &Step<'_>) -> Result<String, AllocError> {
+fn both(alloc: Global, one: Range, other: Range, key: AccessKey) -> Told
+    requires first { one.count ≤ 256 }
+    requires second { other.count ≤ 256 }
+{
     let storage = four_blocks(alloc)?;
-    let outcome = check_two(
-        &storage,
-        step.range(1, 2),
-        Access::Fetch,
-        step.range(3, 4),
-        Access::Fetch,
-        step.key(5),
-    );
+    let outcome = check_two(&storage, one, Access::Fetch, other, Access::Fetch, key);
     verdict(alloc, outcome)
 }
 
 /// `paged FFF 2 5`: whether a range may be fetched where page 1 is absent and the blocks on both sides of its beginning have
 /// access control 3 and fetch protection.
-fn paged(alloc: Global, step: &Step<'_>) -> Result<String, AllocError> {
+fn paged(alloc: Global, range: Range, key: AccessKey) -> Told
+    requires { range.count ≤ 256 }
+{
     let mut storage = PagedStorage::new(alloc, 2)?;
     storage.set_present(Page(0), true);
     storage.set_key(1, StorageKey::new(7));
     storage.set_key(2, StorageKey::new(7));
-    let outcome = storage.check(step.range(1, 2), Access::Fetch, step.key(3));
+    let outcome = storage.check(range, Access::Fetch, key);
     verdict(alloc, outcome)
 }
 
 /// `find 900 fetch 5`: the first address of the block that is found for accesses of a kind.
-fn find(alloc: Global, step: &Step<'_>) -> Result<String, AllocError> {
+fn find(alloc: Global, start: u32, access: Access, key: AccessKey) -> Told {
     let storage = four_blocks(alloc)?;
-    match storage.find_block(step.number(1), step.access(2), step.key(3)) {
+    match storage.find_block(start, access, key) {
         Some(block) => format!(in alloc; "{:X}", block.first),
         None => String::from_str(alloc, "none"),
     }
@@ -96,23 +134,17 @@ fn find(alloc: Global, step: &Step<'_>) -> Result<String, AllocError> {
 
 /// `move 808 1010`: a word that is stored into its block, the one to which it is copied, and the first byte of that; in a storage
 /// that is all there, and in one of which page 1 alone is present.
-fn moves(alloc: Global, step: &Step<'_>) -> Result<String, AllocError> {
+fn moves(alloc: Global, from: u32, to: u32) -> Told {
     let mut whole = PlainStorage::new(alloc, 4)?;
     let mut paged = PagedStorage::new(alloc, 2)?;
     paged.set_present(Page(1), true);
-    let (from, to) = (step.number(1), step.number(2));
     let first = moved(alloc, &mut whole, from, to)?;
     let second = moved(alloc, &mut paged, from, to)?;
     format!(in alloc; "{first}, {second}")
 }
 
 /// What is moved between two blocks that were found for stores.
-fn moved<S: Storage>(
-    alloc: Global,
-    storage: &mut S,
-    from: u32,
-    to: u32,
-) -> Result<String, AllocError> {
+fn moved<S: Storage>(alloc: Global, storage: &mut S, from: u32, to: u32) -> Told {
     match find_room(storage, from) {
         Some(source) => match find_room(storage, to) {
             Some(target) => {
@@ -145,7 +177,7 @@ fn find_room<S: Storage>(storage: &S, start: u32) -> Option<Block>
 }
 
 /// `bytes`: what is loaded after each store, from the left.
-fn bytes(alloc: Global) -> Result<String, AllocError> {
+fn bytes(alloc: Global) -> Told {
     let mut storage = PlainStorage::new(alloc, 1)?;
     let range = Range { start: 8, count: 8 };
     if let Err(fault) = storage.check(range, Access::Store, AccessKey::ZERO) {
@@ -163,15 +195,12 @@ fn bytes(alloc: Global) -> Result<String, AllocError> {
 }
 
 /// `stamp 1 10 9`: what a user's stamp leaves at its place in the storages of both users.
-fn stamp(alloc: Global, step: &Step<'_>) -> Result<String, AllocError> {
+fn stamp(alloc: Global, user: u8, start: u32, mark: u8) -> Told {
     let mut shared = Shared {
         bytes: [[0; 4096]; 2],
         keys: [[StorageKey::ZERO; 2]; 2],
     };
-    let user = (step.number(1) & 1) as usize;
-    let start = step.number(2);
-    let mark = (step.number(3) & 0xFF) as u8;
-    let outcome = stamp_for(&mut shared, user, start, mark);
+    let outcome = stamp_for(&mut shared, usize::from(user & 1), start, mark);
     let verdict = verdict(alloc, outcome)?;
     let place = (start & 4095) as usize;
     let (first, second) = (shared.bytes[0][place], shared.bytes[1][place]);

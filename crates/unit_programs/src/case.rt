@@ -1,6 +1,6 @@
 //! A line of the file: what a program finds and what it leaves.
-use cp_text::lines::place_of;
-use cp_text::numbers::{digit_value, hexadecimal_of};
+use cp_text::numbers::hexadecimal_of;
+use storage_lists::{byte_of, doubleword_of};
 
 /// The fields of a line. A list has its items between commas or plus signs; `-` is an empty one.
 #[derive(Clone, Copy)]
@@ -22,38 +22,17 @@ pub fn case_of<'a>(words: &[&'a [u8]]) -> Option<Case<'a>> {
     if words.len() != 11 {
         return None;
     }
-    let csw = words[7];
-    if csw.len() != 16 {
-        return None;
-    }
-    let high = hexadecimal_of(8, 8, &csw[..8])?;
-    let low = hexadecimal_of(8, 8, &csw[8..])?;
     Some(Case {
         kind: words[1],
         cards: words[2],
         keys: words[3],
         storage: words[4],
         caw: hexadecimal_of(8, 8, words[5])?,
-        csw: (high as u64) << 32 | low as u64,
+        csw: doubleword_of(words[7])?,
         storage_after: words[8],
         sense: words[9],
         output: words[10],
     })
-}
-
-/// The two parts of an item, before and after its colon.
-pub fn cut_item(item: &[u8]) -> Option<(&[u8], &[u8])> {
-    let at = place_of(b':', item)?;
-    if at >= item.len() {
-        return None;
-    }
-    Some((&item[..at], &item[at + 1..]))
-}
-
-/// The address and the digits of an item of storage or of a key.
-pub fn addressed(item: &[u8]) -> Option<(u32, &[u8])> {
-    let (address, digits) = cut_item(item)?;
-    Some((hexadecimal_of(6, 6, address)?, digits))
 }
 
 /// The byte of this number that digits spell; what are no digits count as zero.
@@ -61,13 +40,7 @@ pub fn byte_in(digits: &[u8], number: usize) -> u8 {
     if number >= digits.len() / 2 {
         return 0;
     }
-    let (Some(high), Some(low)) = (
-        digit_value(digits[2 * number]),
-        digit_value(digits[2 * number + 1]),
-    ) else {
-        return 0;
-    };
-    high * 16 + low
+    byte_of(digits[2 * number], digits[2 * number + 1])
 }
 
 /// Whether these bytes are those that the digits spell.

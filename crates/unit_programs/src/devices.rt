@@ -1,9 +1,10 @@
 //! The run of a program on one device, and how what it leaves differs from what a line has.
 use crate::bed::Bed;
-use crate::case::{Case, byte_in, cut_item, spells};
+use crate::case::{Case, byte_in, spells};
 use s370_channel::{Csw, Guest, Limits, MOST_COMMANDS, check_start, run};
 use s370_walk::Device;
 use std::alloc::{AllocError, Global};
+use storage_lists::cut_item;
 use unit_record::{Deck, Entry, Printer, Punch, Reader, Sender};
 
 /// What differs first; none where all is as it should be.
@@ -20,7 +21,7 @@ pub fn difference(
     } else {
         printer_difference(alloc, bed, case)
     };
-    let same = bed.is_same_in(case.storage) && bed.is_same_in(case.storage_after);
+    let same = bed.is_as_expected(case);
     bed.clear(case);
     Ok(match told {
         None if !same => Some("storage"),
@@ -128,7 +129,7 @@ fn is_entry(entry: &Entry, item: &[u8], coded: bool) -> bool {
     if !coded {
         return spells(item, entry.bytes());
     }
-    let Some((code, digits)) = cut_item(item) else {
+    let Some((code, digits)) = cut_item(b':', item) else {
         return false;
     };
     entry.code() == byte_in(code, 0) && spells(digits, entry.bytes())

@@ -9,41 +9,37 @@ mod bed;
 mod case;
 mod devices;
 
-use crate::bed::{Bed, is_clear};
-use crate::case::{Case, case_of};
+use crate::bed::Bed;
+use crate::case::case_of;
 use crate::devices::difference;
-use anyhow::{Result, bail};
-use cp_text::lines::numbered_lines;
+use anyhow::{Context, Result};
 use cp_text::words::words_of;
-use std::{env, fs};
+use std::alloc::Global;
+use step_table::{table, tally};
+use storage_lists::is_clear;
 
 fn main(rt: HostRuntime) -> Result<()> {
     let alloc = rt.alloc();
-    let Some(path) = env::args(&rt)?.nth(1) else {
-        bail!("the file of programs has to be named");
-    };
-    let text = fs::read(&rt, &path)?;
+    let table = table(&rt)?;
     let mut bed = Bed::new(alloc)?;
-    let mut agreed = 0u64;
-    let mut lines = 0u64;
-    for line in numbered_lines(&text) {
-        if line.text.starts_with(b"#") {
-            continue;
-        }
-        lines = lines.wrapping_add(1);
-        let words = words_of(alloc, line.text)?;
-        let told = match case_of(&words) {
-            Some(case) => difference(alloc, &mut bed, &case)?,
-            None => Some("it can't be read"),
-        };
-        match told {
-            None => agreed = agreed.wrapping_add(1),
-            Some(what) => println!(rt; "line {}: {what}", line.number)?,
-        }
-    }
-    println!(rt; "unit record: {agreed} of {lines}")?;
-    if !is_clear(&bed) {
-        println!(rt; "bytes were changed that no line names")?;
+    let agreement = tally(
+        &rt,
+        &table,
+        |line| try_line(alloc, &mut bed, line.as_bytes()),
+    )?;
+    println!(rt; "unit record: {} of {}", agreement.agreed, agreement.steps)?;
+    if !is_clear(&mut bed.storage) {
+        println!(rt; "bytes or keys were changed that no line names")?;
     }
     Ok(())
+}
+
+/// What differs first.
+fn try_line(alloc: Global, bed: &mut Bed, line: &[u8]) -> Result<Option<String>> {
+    let words = words_of(alloc, line)?;
+    let case = case_of(&words).context("a line has eleven fields")?;
+    match difference(alloc, bed, &case)? {
+        Some(what) => Ok(Some(String::from_str(alloc, what)?)),
+        None => Ok(None),
+    }
 }

@@ -63,6 +63,10 @@ console_started c order =
     else if is_sense order then record c { giving = c.sense ∷ [] }
     else record c { sense = command_reject }
 
+-- Memory: a write needs it, for the lines that it may finish
+abbrev pub console_needs_memory : ConsoleState → Order → Bool
+console_needs_memory c order = is_write order.command.code
+
 -- Data: what is written is kept as it prints
 abbrev pub console_took : ConsoleState → ℕ → ConsoleState
 console_took c byte = if nat_lt 0 c.wanted then record (with_character c (printable_of byte)) { wanted = c.wanted - 1 } else c

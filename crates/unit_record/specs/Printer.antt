@@ -44,6 +44,10 @@ printer_started p order =
     else if is_sense order then p
     else record p { sense = command_reject }
 
+-- Memory: a write and a space need it, for their entry
+abbrev pub printer_needs_memory : PrinterState → Order → Bool
+printer_needs_memory p order = is_write order.command.code || is_space order.command.code
+
 -- Data
 abbrev pub printer_took : PrinterState → ℕ → PrinterState
 printer_took p byte = if nat_lt (length p.line) 132 then record p { line = p.line ++ byte ∷ [] } else p

@@ -36,6 +36,10 @@ punch_started p order =
     else if is_sense order then p
     else record p { sense = command_reject }
 
+-- Memory: Punch needs it, for its card
+abbrev pub punch_needs_memory : PunchState → Order → Bool
+punch_needs_memory p order = order.command.code == 0x01
+
 -- Data
 abbrev pub punch_took : PunchState → ℕ → PunchState
 punch_took p byte = if nat_lt (length p.card) 80 then record p { card = p.card ++ byte ∷ [] } else p

@@ -12,7 +12,7 @@ use crate::record::Record;
 use std::alloc::{AllocError, Global};
 
 /// Which open files there were to be closed.
-#[derive(Clone, Copy, Debug, PartialEq, Eq)]
+#[derive(Clone, Copy, PartialEq, Eq)]
 pub struct Closed {
     /// The punch had an open file.
     pub punch: bool,

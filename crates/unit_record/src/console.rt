@@ -60,9 +60,11 @@ impl Model for Console {
 }
 
 impl Device for Console {
-    ghost use Rattle.unit_record.specs.Console.{console_machine};
+    ghost use Rattle.unit_record.specs.Console.{console_machine, console_needs_memory};
 
     ghost machine = { console_machine };
+
+    ghost needs_memory = { console_needs_memory };
 
     fn command(&mut self, order: Order) -> Result<Answer, AllocError> {
         match order.command.code {

@@ -32,9 +32,11 @@ impl Model for Printer {
 }
 
 impl Device for Printer {
-    ghost use Rattle.unit_record.specs.Printer.{printer_machine};
+    ghost use Rattle.unit_record.specs.Printer.{printer_machine, printer_needs_memory};
 
     ghost machine = { printer_machine };
+
+    ghost needs_memory = { printer_needs_memory };
 
     fn command(&mut self, order: Order) -> Result<Answer, AllocError> {
         match order.command.code {

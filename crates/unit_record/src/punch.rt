@@ -39,9 +39,11 @@ impl Model for Punch {
 }
 
 impl Device for Punch {
-    ghost use Rattle.unit_record.specs.Punch.{punch_machine};
+    ghost use Rattle.unit_record.specs.Punch.{punch_machine, punch_needs_memory};
 
     ghost machine = { punch_machine };
+
+    ghost needs_memory = { punch_needs_memory };
 
     fn command(&mut self, order: Order) -> Result<Answer, AllocError> {
         match order.command.code {

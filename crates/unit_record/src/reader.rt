@@ -1,5 +1,5 @@
 //! The card reader.
-ghost use Rattle.std.specs.Prelude.{◌≡◌, ◌++◌, ◌∷◌, [], ◌==◌, length, slice_get, is_some, IfOk, OnOk, OnErr};
+ghost use Rattle.std.specs.Prelude.{◌≡◌, ◌++◌, ◌∷◌, [], ◌==◌, length, slice_get, is_some, IsOk, IfOk, OnOk, OnErr};
 ghost use Rattle.std.specs.Option.{option_copied};
 ghost use Rattle.unit_record.specs.Reader.{reader_new, reader_reset, currents, with_deck, with_deck_back, queued_at, purged};
 
@@ -96,11 +96,19 @@ impl Model for Reader {
 }
 
 impl Device for Reader {
+    ghost use Rattle.s370_walk.specs.Short.{nothing_needed};
     ghost use Rattle.unit_record.specs.Reader.{reader_machine};
 
     ghost machine = { reader_machine };
 
-    fn command(&mut self, order: Order) -> Result<Answer, AllocError> {
+    ghost needs_memory = { nothing_needed };
+
+    /// A command of a reader is never refused memory.
+    fn command(&mut self, order: Order) -> Result<Answer, AllocError>
+        ensures ready { IsOk result }
+        ensures answer { IfOk result (λ answer. answer ≡ reader_machine.answer self.old order) }
+        ensures after { OnOk result (self.new ≡ reader_machine.started self.old order) }
+    {
         Ok(match order.command.code {
             READ => self.read(),
             NO_OPERATION => Answer::Immediate,

@@ -1,55 +1,36 @@
-//! Reads the words of `vm370` and prints its faults as a table asks, and compares what comes of it with what the table says.
+//! Reads the words of `vm370` and `bare370`, prints faults and refuses scripts as a table asks, and compares what comes of it with
+//! what the table says.
 //!
-//! `steps.txt` has one step a line, with what comes of it behind a bar; its first lines tell the steps. A line that does not
-//! agree is told by its number, with what came of it. The last line tells how many agree.
+//! `steps.txt` has one step a line, with what comes of it behind a bar; its first lines tell the steps.
 #![tactic(auto)]
 
+mod bare;
 mod failures;
 mod usage;
 
+use crate::bare::{bare_options, refusal};
 use crate::failures::failure;
 use crate::usage::{help, options};
 use anyhow::{Result, bail};
-use std::alloc::{AllocError, Global};
-use std::{env, fs};
+use std::alloc::Global;
+use step_table::{compare, table, words_of};
 
 fn main(rt: HostRuntime) -> Result<()> {
     let alloc = rt.alloc();
-    let Some(path) = env::args(&rt)?.nth(1) else {
-        bail!("the file of steps has to be named");
-    };
-    let text = fs::read_to_string(&rt, &path)?;
-    let mut number = 0u64;
-    let mut agreed = 0u64;
-    let mut steps = 0u64;
-    for line in text.lines() {
-        number = number.wrapping_add(1);
-        if line.starts_with('#') {
-            continue;
-        }
-        steps = steps.wrapping_add(1);
-        let (given, wanted) = line.split_once('|').unwrap_or((line, ""));
-        let told = told(alloc, given)?;
-        if told.as_str() == wanted.trim_ascii() {
-            agreed = agreed.wrapping_add(1);
-        } else {
-            println!(rt; "line {number}: {told}")?;
-        }
-    }
-    println!(rt; "usage: {agreed} of {steps}")?;
-    Ok(())
+    let table = table(&rt)?;
+    compare(&rt, "usage", &table, " |", |step| told(alloc, step))
 }
 
 /// What comes of a step.
-fn told(alloc: Global, given: &str) -> Result<String, AllocError> {
-    let mut words = Vec::new(alloc);
-    for word in given.split_whitespace() {
-        words.push(word)?;
+fn told(alloc: Global, step: &str) -> Result<String> {
+    if let Some(script) = step.strip_prefix("bare-script ") {
+        return refusal(alloc, script);
     }
-    match words.as_slice() {
-        ["words", words @ ..] => options(alloc, words),
-        ["help", words @ ..] => help(alloc, words),
-        ["fault", name, numbers @ ..] => failure(alloc, name, numbers),
-        _ => String::from_str(alloc, "no such step"),
+    match words_of(alloc, step)?.as_slice() {
+        ["words", words @ ..] => Ok(options(alloc, words)?),
+        ["bare-words", words @ ..] => Ok(bare_options(alloc, words)?),
+        ["help", words @ ..] => Ok(help(alloc, words)?),
+        ["fault", words @ ..] => failure(alloc, words),
+        _ => bail!("no such step: {step}"),
     }
 }

@@ -1,7 +1,6 @@
 //! Does the steps of a table over values and texts, and compares what each tells with what the table says.
 //!
-//! `steps.txt` has one step a line, with what it tells behind a bar; its first lines tell the steps. A line that does not agree
-//! is told by its number, with what came of it. The last line tells how many agree.
+//! `steps.txt` has one step a line, with what it tells behind a bar; its first lines tell the steps.
 #![tactic(auto)]
 
 mod commands;
@@ -16,36 +15,21 @@ mod telling;
 mod texts;
 mod turns;
 
-use crate::step::{Step, cut_at};
-use anyhow::{Result, bail};
-use cp_text::lines::numbered_lines;
-use cp_text::words::unindented;
+use crate::step::Step;
+use anyhow::Result;
 use std::alloc::Global;
-use std::{env, fs};
+use step_table::{compare, table};
 
 fn main(rt: HostRuntime) -> Result<()> {
     let alloc = rt.alloc();
-    let Some(path) = env::args(&rt)?.nth(1) else {
-        bail!("the file of steps has to be named");
-    };
-    let text = fs::read(&rt, &path)?;
-    let mut agreed = 0u64;
-    let mut lines = 0u64;
-    for line in numbered_lines(&text) {
-        if line.text.starts_with(b"#") {
-            continue;
-        }
-        lines = lines.wrapping_add(1);
-        let (given, wanted) = cut_at(b'|', line.text);
-        let told = told(alloc, &Step::new(alloc, given)?)?;
-        if told.as_bytes() == unindented(wanted) {
-            agreed = agreed.wrapping_add(1);
-        } else {
-            println!(rt; "line {}: {told}", line.number)?;
-        }
-    }
-    println!(rt; "values: {agreed} of {lines}")?;
-    Ok(())
+    let table = table(&rt)?;
+    compare(
+        &rt,
+        "values",
+        &table,
+        " |",
+        |step| told(alloc, &Step::new(alloc, step.as_bytes())?),
+    )
 }
 
 /// What a step over a value tells.

@@ -12,7 +12,7 @@ pub struct Step<'a> {
 }
 
 /// What stands before the first such byte, and behind it.
-pub fn cut_at(byte: u8, line: &[u8]) -> (&[u8], &[u8]) {
+fn cut_at(byte: u8, line: &[u8]) -> (&[u8], &[u8]) {
     match place_of(byte, line) {
         Some(at) => (&line[..at], &line[at + 1..]),
         None => (line, &[]),

@@ -10,7 +10,7 @@ use s370_num::host::HostFault;
 use std::alloc::{AllocError, Global};
 
 /// Why the program ends before its end.
-#[derive(Debug, Drop, PartialEq, Eq)]
+#[derive(Drop, PartialEq, Eq)]
 pub enum Failure {
     /// The directory was not read.
     Directory(DirError),

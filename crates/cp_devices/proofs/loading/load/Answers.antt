@@ -1,14 +1,4 @@
-use Rattle.std.proofs.Common.{arith}
-use Rattle.s370_intr.proofs.Assigned.{never_refused}
 use Rattle.cp_devices.proofs.loading.load.Goals as goal
 
-pub unreachable-requires : goal.unreachable-requires
-unreachable-requires g c =
-    never_refused _ _ _ _ _ (omega (arith, c.requires.size, c.in_ok-ending.ensures.size)) (rw c.in-Err-Addressing.field-0-is at c.in-Err-Addressing.ensures)
-
-pub unreachable-requires-in-Err-Protection : goal.unreachable-requires-in-Err-Protection
-unreachable-requires-in-Err-Protection g c =
-    never_refused _ _ _ _ _ (omega (arith, c.requires.size, c.in_ok-ending.ensures.size)) (rw c.in-Err-Protection.field-0-is at c.in-Err-Protection.ensures)
-
 pub returns-clause-rest : goal.returns-clause-rest
-returns-clause-rest g c = g.met.S.Storage.keeps_on _ _ _ c.in_ok-ending.ensures.rest c.store_halfword.ensures.rest
+returns-clause-rest g c = g.met.S.Storage.keeps_on _ _ _ c.in_ok-ending.ensures.rest c.start_loaded.ensures.rest

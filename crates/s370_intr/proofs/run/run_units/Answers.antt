@@ -1,10 +1,11 @@
-use Rattle.std.proofs.Common.{◌≡◌, ℕ, [], ◌++◌, ◌∙◌, ◌+◌, ◌-◌, ◌<◌, ◌≤◌, length-append, subst, sym, arith, refl, inl, inr}
+use Rattle.std.proofs.Common.{◌≡◌, ℕ, List, [], ◌∷◌, ◌++◌, ◌∙◌, ◌+◌, ◌-◌, ◌<◌, ◌≤◌, length, length-append, replicate, subst, sym, arith}
+use Rattle.std.proofs.lemmas.List.{length-replicate}
 use Rattle.s370_rows.specs.State.{state_of}
 use Rattle.s370_intr.specs.declared.next.Next.{Next}
-use Rattle.s370_intr.specs.declared.next.Reason.TheVariants.{Count, FramesOut}
+use Rattle.s370_intr.specs.declared.next.Reason.TheVariants.{Count}
 use Rattle.s370_intr.specs.Units.{NeedsAt, core_of, look, unit_at}
 use Rattle.s370_intr.specs.Run.{AllNeeded, Run, run}
-use Rattle.s370_intr.proofs.Runs.{all_done, all_needed, does_many, does_more, later_needs, next_needs, not_stopped, tells_cut, tells_stop, Goes}
+use Rattle.s370_intr.proofs.Runs.{all_done, does_many, does_more, each_more, each_none, each_on, not_stopped, tells_cut, tells_stop, Goes}
 use Rattle.s370_intr.proofs.Brings.{begun_all}
 use Rattle.s370_intr.proofs.run.run_units.Goals as goal
 
@@ -18,14 +19,24 @@ returns-then-units-count-clause-told g c =
     let told : Run = record { core = now; units = n; reason = Count } in
     subst (λ (k : ℕ). run k first ≡ told) c.if-units-count.true quick.0
 
+pub returns-then-units-count-clause-supply : goal.returns-then-units-count-clause-supply
+returns-then-units-count-clause-supply g c =
+    let n = c.go_quickly-units.result in
+    let first = core_of (state_of c.args.cpu.now (g.S.Storage.bytes c.args.storage.now) (g.S.Storage.keys c.args.storage.now)) c.args.pending.now c.args.subchannels.now in
+    let quiet : List (List ℕ) = replicate n [] in
+    let many : length quiet ≡ n = length-replicate n [] in
+    (quiet, g.met.S.UnitSupply.came_none _ _ n c.requires.between c.go_quickly-units.ensures.rest, each_none first 0 n, omega (arith, many))
+
 pub loop-units-init : goal.loop-units-init
 loop-units-init g c =
+    let n = c.go_quickly-units.result in
+    let first = core_of (state_of c.args.cpu.now (g.S.Storage.bytes c.args.storage.now) (g.S.Storage.keys c.args.storage.now)) c.args.pending.now c.args.subchannels.now in
     let plain = c.is_plain-plain.ensures (g.S.Storage.bytes c.args.storage.now) (g.S.Storage.keys c.args.storage.now) in
     let quick = c.go_quickly-units.ensures.done c.args.pending.now c.args.subchannels.now plain in
     record {
       within = c.go_quickly-units.ensures.within;
       ran = quick.0;
-      supply = ([], g.met.S.UnitSupply.came_none _ _ c.go_quickly-units.ensures.rest, tt, omega arith);
+      supply = (replicate n [], g.met.S.UnitSupply.came_none _ _ n c.requires.between c.go_quickly-units.ensures.rest, each_none first 0 n, length-replicate n []);
       between = g.met.S.UnitSupply.between_kept _ _ c.go_quickly-units.ensures.rest c.requires.between;
       plain = λ bytes keys is_it. quick.1 is_it;
       size = c.go_quickly-units.ensures.size;
@@ -43,7 +54,7 @@ pub returns-in-Stops-clause-supply : goal.returns-in-Stops-clause-supply
 returns-in-Stops-clause-supply g c =
     let k = c.loop-units.units in
     let s = c.loop-units.invariant.supply in
-    (s.0, s.1, later_needs _ k k c.in-Stops.reason s.0 (omega arith) s.2, omega (arith, s.3, begun_all k c.in-Stops.reason))
+    (s.0, s.1, s.2, omega (arith, s.3, begun_all k c.in-Stops.reason))
 
 pub returns-in-Err : goal.returns-in-Err
 returns-in-Err g c =
@@ -57,10 +68,10 @@ returns-in-Err g c =
     record {
       told = tells_cut k c.args.count first now _ c.next_of-next.result _ c.loop-units.invariant.ran c.loop-units-test.true e c.in-Err.ensures.unit.0 c.in-Err.ensures.unit.1;
       supply = (
-        s.0 ++ t.0,
-        g.met.S.UnitSupply.came_on _ _ _ s.0 t.0 s.1 t.1,
-        all_needed _ s.0 t.0 (later_needs first k k FramesOut s.0 (omega arith) s.2) (next_needs first now k k FramesOut t.0 c.loop-units.invariant.ran (inr (refl, refl)) needed),
-        omega (arith, s.3, t.3, length-append s.0 t.0),
+        s.0 ++ t.0 ∷ [],
+        g.met.S.UnitSupply.came_on _ _ _ s.0 (t.0 ∷ []) s.1 t.1,
+        each_more first now k s.0 t.0 c.loop-units.invariant.ran s.2 s.3 needed t.3,
+        omega (arith, s.3, length-append s.0 (t.0 ∷ [])),
       );
       between = c.in-Err.ensures.between;
       size = c.in-Err.ensures.size ∙ c.loop-units.invariant.size;
@@ -85,15 +96,17 @@ loop-units-preserved g c =
     let quick = c.go_quickly-units-in-loop-units.ensures.done c.supplied.new.pending c.supplied.new.subchannels plain in
     let within : n ≤ c.args.count - (k + 1) = c.go_quickly-units-in-loop-units.ensures.within in
     let less : k < c.args.count = c.loop-units-test.true in
-    let quietly = g.met.S.UnitSupply.came_none _ _ c.go_quickly-units-in-loop-units.ensures.rest in
+    let quiet : List (List ℕ) = replicate n [] in
+    let many : length quiet ≡ n = length-replicate n [] in
+    let quietly = g.met.S.UnitSupply.came_none _ _ n c.in-Ok.ensures.between c.go_quickly-units-in-loop-units.ensures.rest in
     record {
       within = omega (arith, within, less);
       ran = does_many (k + 1) n first new end one quick.0;
       supply = (
-        (s.0 ++ t.0) ++ [],
-        g.met.S.UnitSupply.came_on _ _ _ (s.0 ++ t.0) [] (g.met.S.UnitSupply.came_on _ _ _ s.0 t.0 s.1 t.1) quietly,
-        all_needed _ (s.0 ++ t.0) [] (all_needed _ s.0 t.0 (later_needs first k (k + 1 + n) Count s.0 (omega arith) s.2) (next_needs first now k (k + 1 + n) Count t.0 c.loop-units.invariant.ran (inl (omega arith)) needed)) tt,
-        omega (arith, s.3, t.3, length-append s.0 t.0, length-append (s.0 ++ t.0) []),
+        (s.0 ++ t.0 ∷ []) ++ quiet,
+        g.met.S.UnitSupply.came_on _ _ _ (s.0 ++ t.0 ∷ []) quiet (g.met.S.UnitSupply.came_on _ _ _ s.0 (t.0 ∷ []) s.1 t.1) quietly,
+        each_on first 0 (s.0 ++ t.0 ∷ []) quiet (each_more first now k s.0 t.0 c.loop-units.invariant.ran s.2 s.3 needed t.3) (each_none first _ n),
+        omega (arith, s.3, length-append s.0 (t.0 ∷ []), length-append (s.0 ++ t.0 ∷ []) quiet, many),
       );
       between = g.met.S.UnitSupply.between_kept _ _ c.go_quickly-units-in-loop-units.ensures.rest c.in-Ok.ensures.between;
       plain = λ bytes keys is_it. quick.1 is_it;

@@ -1,9 +1,8 @@
-use Rattle.std.proofs.Common.{◌≡◌, true, ◌-◌, ◌*◌, ◌≤◌, ℕ, List, length}
+use Rattle.std.proofs.Common.{◌≡◌, true, ◌-◌, ◌≤◌, ℕ, List, length}
 use Rattle.s370_rows.specs.State.{state_of}
 use Rattle.s370_intr.specs.Units.{core_of, look}
-use Rattle.s370_intr.specs.Run.{AllNeeded, RunNeeds, run}
+use Rattle.s370_intr.specs.Run.{EachBrings, run}
 use Rattle.s370_intr.specs.declared.next.Next.TheVariants.{Instructs}
-use Rattle.s370_intr.specs.declared.next.Reason.TheVariants.{Count}
 use Rattle.s370_intr.proofs.Runs.{all_done}
 use Rattle.s370_intr.proofs.run.run_units.Given as goal
 
@@ -13,7 +12,7 @@ invariant-loop-units g l =
     record {
       within : l.units ≤ l.count;
       ran : run l.units first ≡ all_done l.units (core_of (state_of l.cpu (g.S.Storage.bytes l.storage) (g.S.Storage.keys l.storage)) l.pending l.subchannels);
-      supply : (pages : List ℕ) × g.S.UnitSupply.Came l.fn.storage pages l.storage × AllNeeded (RunNeeds first l.units Count) pages × (length pages ≤ 9 * l.units);
+      supply : (units : List (List ℕ)) × g.S.UnitSupply.Came l.fn.storage units l.storage × EachBrings first 0 units × (length units ≡ l.units);
       between : g.S.UnitSupply.IsBetween l.storage;
       plain : (bytes keys : List ℕ) → l.plain ≡ true → look (core_of (state_of l.cpu bytes keys) l.pending l.subchannels) ≡ Instructs;
       size : length (g.S.Storage.bytes l.storage) ≡ length (g.S.Storage.bytes l.fn.storage);

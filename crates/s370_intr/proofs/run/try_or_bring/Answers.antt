@@ -1,11 +1,11 @@
-use Rattle.std.proofs.Common.{[], arith, subst}
+use Rattle.std.proofs.Common.{[], ◌∷◌, arith, subst}
 use Rattle.s370_rows.specs.State.{state_of}
 use Rattle.s370_intr.specs.Units.{Core, NeedsAt, core_of}
 use Rattle.s370_intr.specs.Run.{AllNeeded, SuppliesUnit}
 use Rattle.s370_intr.proofs.run.try_or_bring.Goals as goal
 
 pub returns-in-Ok-clause-supply : goal.returns-in-Ok-clause-supply
-returns-in-Ok-clause-supply g c = ([], g.met.S.UnitSupply.came_none _ _ c.try_unit.ensures.rest, tt, omega arith)
+returns-in-Ok-clause-supply g c = ([], g.met.S.UnitSupply.came_none _ _ 1 c.requires.between c.try_unit.ensures.rest, tt, omega arith)
 
 pub returns-in-Ok-clause-between : goal.returns-in-Ok-clause-between
 returns-in-Ok-clause-between g c = g.met.S.UnitSupply.between_kept _ _ c.try_unit.ensures.rest c.requires.between
@@ -24,5 +24,5 @@ returns-in-Err-clause-unit g c =
 pub returns-in-Err-clause-supply : goal.returns-in-Err-clause-supply
 returns-in-Err-clause-supply g c =
     let s = c.bring_for_unit.ensures.supply in
-    let came = g.met.S.UnitSupply.came_on _ _ _ [] s.0 (g.met.S.UnitSupply.came_none _ _ c.try_unit.ensures.rest) s.1 in
+    let came = g.met.S.UnitSupply.came_on _ _ _ [] (s.0 ∷ []) (g.met.S.UnitSupply.came_none _ _ 0 c.requires.between c.try_unit.ensures.rest) s.1 in
     (s.0, came, subst (λ (x : Core). AllNeeded (NeedsAt c.args.said x) s.0) c.in-Err.ensures.unit.0 s.2, s.3)

@@ -1,14 +1,17 @@
-use Rattle.std.proofs.Common.{◌≡◌, ap, arith, length, List, ℕ, true, false, Err}
+use Rattle.std.proofs.Common.{◌≡◌, ◌<◌, ap, arith, length, List, [], ◌∷◌, ℕ, true, false, Err}
 use Rattle.std.specs.Prelude.{IfOk}
 use Rattle.s370_store.specs.Access.{Touches}
 use Rattle.s370_intr.specs.Run.{AllNeeded, IsLacking}
-use Rattle.cp_panel.specs.Panel.{line, line_needs, switches}
+use Rattle.cp_panel.specs.Panel.{line, line_needs, line_room, switches}
 use Rattle.cp_panel.specs.declared.line.LineError.TheVariants as errors
-use Rattle.cp_dat.specs.Supplied.{IsBroughtFor}
+use Rattle.cp_dat.specs.Supplied.{IsBroughtInUnits}
 use Rattle.cp_core.specs.Supply.{IsGivenBack, IsShort}
 use Rattle.cp_core.specs.System.{SystemView}
 use Rattle.cp_core.proofs.Systems.{change, is_user, seat_fits, transported, same_if_refused}
 use Rattle.cp_core.proofs.system.System.line.Goals as goal
+
+some_room : (room wanted : ℕ) → room < wanted → 0 < wanted
+some_room room wanted less = omega (arith, less)
 
 pub index_mut-machine-requires : goal.index_mut-machine-requires
 index_mut-machine-requires c =
@@ -40,6 +43,11 @@ returns-clause-err c =
     let changed = change c.self.inside.machines.items c.self.inside.frames.storages c.line.new.frames.storages c.self.inside.directory c.args.self.now.machines c.args.user c.index_mut-machine.result.now c.line.new.self c.self.invariant.whole (ap (λ (s : SystemView). s.machines) c.self.view_is) c.requires (c.index_mut-machine.ensures.value) (rw c.new.ensures at c.line.ensures.others) in
     same_if_refused changed.old changed.new c.line.result (rw c.new.ensures at c.line.ensures.err)
 
+pub returns-clause-memory : goal.returns-clause-memory
+returns-clause-memory c =
+    let changed = change c.self.inside.machines.items c.self.inside.frames.storages c.line.new.frames.storages c.self.inside.directory c.args.self.now.machines c.args.user c.index_mut-machine.result.now c.line.new.self c.self.invariant.whole (ap (λ (s : SystemView). s.machines) c.self.view_is) c.requires (c.index_mut-machine.ensures.value) (rw c.new.ensures at c.line.ensures.others) in
+    transported (λ old new. c.line.result ≡ Err errors.Memory → 0 < line_room c.args.typed.now old) _ _ _ _ changed.old changed.new (λ refused. some_room _ _ (c.line.ensures.memory refused))
+
 pub returns-clause-frames : goal.returns-clause-frames
 returns-clause-frames c =
     let changed = change c.self.inside.machines.items c.self.inside.frames.storages c.line.new.frames.storages c.self.inside.directory c.args.self.now.machines c.args.user c.index_mut-machine.result.now c.line.new.self c.self.invariant.whole (ap (λ (s : SystemView). s.machines) c.self.view_is) c.requires (c.index_mut-machine.ensures.value) (rw c.new.ensures at c.line.ensures.others) in
@@ -55,7 +63,7 @@ pub returns-clause-supply : goal.returns-clause-supply
 returns-clause-supply c =
     let changed = change c.self.inside.machines.items c.self.inside.frames.storages c.line.new.frames.storages c.self.inside.directory c.args.self.now.machines c.args.user c.index_mut-machine.result.now c.line.new.self c.self.invariant.whole (ap (λ (s : SystemView). s.machines) c.self.view_is) c.requires (c.index_mut-machine.ensures.value) (rw c.new.ensures at c.line.ensures.others) in
     let o : c.self.inside.frames.supply ≡ c.args.self.now.supply = ap (λ (s : SystemView). s.supply) c.self.view_is in
-    rw (← o) (transported (λ old new. switches c.args.typed.now old ≡ false → ((pages : List ℕ) × IsBroughtFor c.args.user pages c.self.inside.frames.supply c.line.new.frames.supply × AllNeeded (Touches (line_needs c.args.typed.now old)) pages)) _ _ _ _ changed.old changed.new (rw c.new.ensures at c.line.ensures.supply))
+    rw (← o) (transported (λ old new. switches c.args.typed.now old ≡ false → ((pages : List ℕ) × IsBroughtInUnits c.args.user (pages ∷ []) c.self.inside.frames.supply c.line.new.frames.supply × AllNeeded (Touches (line_needs c.args.typed.now old)) pages)) _ _ _ _ changed.old changed.new (rw c.new.ensures at c.line.ensures.supply))
 
 pub returns-clause-machines : goal.returns-clause-machines
 returns-clause-machines c =

@@ -1,8 +1,8 @@
-use Rattle.std.proofs.Common.{◌≡◌, ◌*◌, ◌≤◌, ap, arith, length, List, ℕ}
+use Rattle.std.proofs.Common.{◌≡◌, ◌≤◌, ap, arith, length, List, ℕ}
 use Rattle.s370_intr.specs.Laws.{begun}
-use Rattle.s370_intr.specs.Run.{AllNeeded, RunNeeds}
+use Rattle.s370_intr.specs.Run.{EachBrings}
 use Rattle.cp_panel.specs.Run.{TellsRun, notice_of}
-use Rattle.cp_dat.specs.Supplied.{HasNoRoom, IsBroughtFor}
+use Rattle.cp_dat.specs.Supplied.{HasNoRoom, IsBroughtInUnits}
 use Rattle.cp_core.specs.System.{SystemView}
 use Rattle.cp_core.proofs.Systems.{change, is_user, seat_fits, transported}
 use Rattle.cp_core.proofs.system.System.run.Goals as goal
@@ -36,7 +36,7 @@ pub returns-clause-supply : goal.returns-clause-supply
 returns-clause-supply c =
     let changed = change c.self.inside.machines.items c.self.inside.frames.storages c.run.new.frames.storages c.self.inside.directory c.args.self.now.machines c.args.user c.index_mut-machine.result.now c.run.new.self c.self.invariant.whole (ap (λ (s : SystemView). s.machines) c.self.view_is) c.requires (c.index_mut-machine.ensures.value) (rw c.new.ensures at c.run.ensures.others) in
     let o : c.self.inside.frames.supply ≡ c.args.self.now.supply = ap (λ (s : SystemView). s.supply) c.self.view_is in
-    rw (← o) (transported (λ old new. (pages : List ℕ) × IsBroughtFor c.args.user pages c.self.inside.frames.supply c.run.new.frames.supply × AllNeeded (RunNeeds old.core c.run.result.units c.run.result.reason) pages × (length pages ≤ 9 * begun c.run.result.units c.run.result.reason)) _ _ _ _ changed.old changed.new (rw c.new.ensures at c.run.ensures.supply))
+    rw (← o) (transported (λ old new. (units : List (List ℕ)) × IsBroughtInUnits c.args.user units c.self.inside.frames.supply c.run.new.frames.supply × EachBrings old.core 0 units × (length units ≤ begun c.run.result.units c.run.result.reason)) _ _ _ _ changed.old changed.new (rw c.new.ensures at c.run.ensures.supply))
 
 pub returns-clause-machines : goal.returns-clause-machines
 returns-clause-machines c =

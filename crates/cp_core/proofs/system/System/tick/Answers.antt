@@ -1,8 +1,8 @@
-use Rattle.std.proofs.Common.{◌≡◌, ◌≤◌, ap, arith, length, List, ℕ}
+use Rattle.std.proofs.Common.{◌≡◌, ◌≤◌, ap, arith, length, List, [], ◌∷◌, ℕ}
 use Rattle.std.specs.Prelude.{OnErr, OnOk}
 use Rattle.s370_intr.specs.Run.{AllNeeded, IsLacking}
 use Rattle.cp_panel.specs.Tick.{TickNeeds, ticked}
-use Rattle.cp_dat.specs.Supplied.{HasNoRoom, IsBroughtFor}
+use Rattle.cp_dat.specs.Supplied.{HasNoRoom, IsBroughtInUnits}
 use Rattle.cp_core.specs.System.{SystemView}
 use Rattle.cp_core.proofs.Systems.{change, is_user, seat_fits, transported, same_if_refused}
 use Rattle.cp_core.proofs.system.System.tick.Goals as goal
@@ -46,7 +46,7 @@ pub returns-clause-supply : goal.returns-clause-supply
 returns-clause-supply c =
     let changed = change c.self.inside.machines.items c.self.inside.frames.storages c.tick.new.frames.storages c.self.inside.directory c.args.self.now.machines c.args.user c.index_mut-machine.result.now c.tick.new.self c.self.invariant.whole (ap (λ (s : SystemView). s.machines) c.self.view_is) c.requires (c.index_mut-machine.ensures.value) (rw c.new.ensures at c.tick.ensures.others) in
     let o : c.self.inside.frames.supply ≡ c.args.self.now.supply = ap (λ (s : SystemView). s.supply) c.self.view_is in
-    rw (← o) (transported (λ old new. (pages : List ℕ) × IsBroughtFor c.args.user pages c.self.inside.frames.supply c.tick.new.frames.supply × AllNeeded (TickNeeds old) pages × (length pages ≤ 1)) _ _ _ _ changed.old changed.new (rw c.new.ensures at c.tick.ensures.supply))
+    rw (← o) (transported (λ old new. (pages : List ℕ) × IsBroughtInUnits c.args.user (pages ∷ []) c.self.inside.frames.supply c.tick.new.frames.supply × AllNeeded (TickNeeds old) pages × (length pages ≤ 1)) _ _ _ _ changed.old changed.new (rw c.new.ensures at c.tick.ensures.supply))
 
 pub returns-clause-machines : goal.returns-clause-machines
 returns-clause-machines c =

@@ -1,11 +1,11 @@
-use Rattle.std.proofs.Common.{◌≡◌, ℕ, List, false, length, rules}
+use Rattle.std.proofs.Common.{◌≡◌, ℕ, List, [], ◌∷◌, false, length, rules}
 use Rattle.s370_store.specs.Access.{Touches}
 use Rattle.s370_intr.specs.Run.{AllNeeded, IsLacking}
 use Rattle.cp_frames.specs.Layout.{bytes_of}
 use Rattle.cp_panel.specs.Machine.{machine_of as parts_with}
 use Rattle.cp_panel.specs.Panel.{line_needs, switches}
-use Rattle.cp_dat.specs.Supplied.{IsBroughtFor}
-use Rattle.cp_dat.specs.Letting.{between_again, brought_for}
+use Rattle.cp_dat.specs.Supplied.{IsBroughtInUnits}
+use Rattle.cp_dat.specs.Letting.{between_again, unit_for}
 use Rattle.cp_core.specs.Supply.{IsGivenBack, IsShort}
 use Rattle.cp_core.proofs.Kept.{given_for, line_short}
 use Rattle.cp_core.proofs.user_machine.UserMachine.line.Goals as goal
@@ -32,8 +32,8 @@ returns-clause-supply c = λ off. (
     let before = parts_with c.self.inside.machine (bytes_of c.args.frames.now c.args.user) c.deref_mut.result.now in
     let none : switches c.args.typed.now before ≡ false = search rules in
     let s = c.line_over-reply.ensures.supply none in
-    let brought : (pages : List ℕ) × IsBroughtFor c.args.user pages c.args.frames.now.supply c.unpin_all.new.self.supply × AllNeeded (Touches (line_needs c.args.typed.now before)) pages =
-    (s.0, brought_for c.args.user s.0 c.args.frames.now.supply c.line_over-reply.new.frames.supply c.unpin_all.new.self.supply s.1 c.unpin_all.ensures.supply, s.2) in
+    let brought : (pages : List ℕ) × IsBroughtInUnits c.args.user (pages ∷ []) c.args.frames.now.supply c.unpin_all.new.self.supply × AllNeeded (Touches (line_needs c.args.typed.now before)) pages =
+    (s.0, unit_for c.args.user s.0 c.args.frames.now.supply c.line_over-reply.new.frames.supply c.unpin_all.new.self.supply s.1 c.unpin_all.ensures.supply, s.2) in
     search rules)
 
 pub returns-clause-between : goal.returns-clause-between

@@ -25,7 +25,7 @@ returns-clause-runs g c =
       ending = c.in-Ok.ending;
       console = c.run.new.device;
       walk = c.in-Ok.ensures.walk;
-      left = console_on c.args.machine.now c.set_attention.new.self c.end_program.new.self c.print_written.new.machine c.args.device _ c.in-Ok.ending c.attention.result c.run.new.device _ bytes bytes_left keys keys_left c.attention.ensures c.set_attention.ensures c.end_program.ensures c.in-Ok-print_written.ensures c.run.ensures.keys;
+      left = console_on c.args.machine.now c.set_attention.new.self c.end_program.new.self c.print_written.new.machine c.args.device _ c.in-Ok.ending c.attention.result c.run.new.device _ bytes bytes_left keys keys_left c.attention.ensures c.set_attention.ensures c.end_program.ensures c.in-Ok-print_written.ensures.printed c.run.ensures.keys;
       devices = ap (λ (console : ConsoleState). with_console old console) c.forget_lines.ensures;
       disks = c.run.ensures.disks;
     })

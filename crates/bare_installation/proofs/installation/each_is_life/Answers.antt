@@ -1,5 +1,0 @@
-use Rattle.bare_installation.proofs.Lives.{each}
-use Rattle.bare_installation.proofs.installation.each_is_life.Goals as goal
-
-pub returns : goal.returns
-returns c = each

@@ -1,0 +1,440 @@
+//! A machine with its devices, and nobody else.
+ghost use Rattle.std.specs.Prelude.{◌≡◌, ◌≤◌, [], Option, true, IfOk, OnErr, OnOk, length, slice_get};
+ghost use Rattle.std.specs.Option.{option_map};
+ghost use Rattle.s370_store.specs.Plain.{plain_bytes, plain_keys};
+ghost use Rattle.s370_channel.specs.Reading.{as_reached};
+ghost use Rattle.cp_console.specs.Responses.{text_of};
+ghost use Rattle.cp_panel.specs.Machine.{unused};
+ghost use Rattle.cp_panel.specs.Ready.{is_ready};
+ghost use Rattle.cp_panel.specs.Run.{run};
+ghost use Rattle.cp_panel.specs.Tick.{ticked};
+ghost use Rattle.cp_devices.specs.Lines.{IsIpl, IsLine, IsWholeLine};
+ghost use Rattle.cp_devices.specs.Serve.{IsServedAt};
+ghost use Rattle.bare_installation.specs.Bare.{IsTyped, is_logged_on, next_file, noted, printed_file, punched, received, with_deck, world_of};
+ghost use Rattle.bare_installation.specs.Life.{AttentionAgreesThroughout, EachIsLife, IsApplied, LacksMemory, MayLackMemory};
+
+use crate::alone::Alone;
+use crate::events::{Event, Reply};
+use crate::files::FileKind;
+use cp_channels::{AttachedDisk, Own};
+use cp_console::responses::Response;
+use cp_devices::{Devices, Places, Told};
+use cp_panel::{LineError, Machine, MachineRan, Mode};
+use s370_channel::ChannelError;
+use s370_intr::{Pending, RealCpu};
+use s370_num::{DevAddr, StorageKey};
+use s370_psw::Psw;
+use s370_store::{PlainStorage, Supply};
+use s370_subchannels::{Subchannel, Subchannels};
+use std::alloc::{AllocError, Global};
+use std::marker::Model;
+use unit_record::{Card, Deck, Sender, Target};
+
+/// One System/370 with its panel, its own storage and its devices. Its user is `BARE`.
+#[derive(Drop)]
+pub struct Bare {
+    machine: Machine,
+    devices: Devices,
+    channels: Own,
+    storage: PlainStorage,
+    files: Vec<FileKind>,
+}
+
+impl Model for Bare {
+    ghost use Rattle.std.specs.Prelude.{◌≤◌, length};
+    ghost use Rattle.s370_store.specs.Plain.{plain_bytes, plain_keys};
+    ghost use Rattle.cp_channels.specs.Own.{disks_of};
+    ghost use Rattle.cp_devices.specs.Equipped.{equipped};
+    ghost use Rattle.bare_installation.specs.Bare.{Bare as Whole};
+
+    ghost Value = { Whole };
+
+    ghost view = { λ b. record { equipped = equipped b.machine b.devices (disks_of b.channels) (plain_bytes b.storage) (plain_keys b.storage); files = b.files.items } };
+
+    ghost invariant = { λ b. 8192 ≤ length (plain_bytes b.storage) };
+}
+
+impl Bare {
+    /// A machine that is off, with this storage of at least 8 KiB, which is cleared, these subchannels, which are reset, the
+    /// parts of their devices, and these disks.
+    pub fn new(
+        alloc: Global,
+        mut storage: PlainStorage,
+        subchannels: Subchannels,
+        devices: Devices,
+        disks: Vec<AttachedDisk>,
+    ) -> Bare
+        requires { 8192 ≤ length (plain_bytes storage) }
+        ensures machine { result.equipped.machine ≡ unused (plain_bytes storage) (plain_keys storage) subchannels }
+        ensures devices { result.equipped.devices ≡ devices }
+        ensures disks { result.equipped.disks ≡ disks.items }
+        ensures files { result.files ≡ [] }
+    {
+        Supply::clear(&mut storage);
+        Bare {
+            machine: Machine::new(alloc, subchannels),
+            devices,
+            channels: Own::new(disks),
+            storage,
+            files: Vec::new(alloc),
+        }
+    }
+
+    /// A machine without devices that is off, with this storage of at least 8 KiB, which is cleared.
+    pub fn without_devices(alloc: Global, storage: PlainStorage) -> Bare
+        requires { 8192 ≤ length (plain_bytes storage) }
+        ensures { result.equipped.machine ≡ unused (plain_bytes storage) (plain_keys storage) [] }
+    {
+        Bare::new(
+            alloc,
+            storage,
+            Subchannels::new(alloc),
+            Devices::new(alloc, Places::NONE),
+            Vec::new(alloc),
+        )
+    }
+
+    /// What an event does to the machine, and what is told. Where memory is refused, nothing is said of the machine.
+    pub fn apply(&mut self, alloc: Global, event: Event<'_>) -> Result<Reply, AllocError>
+        ensures applied { IfOk result (λ reply. IsApplied self.old event.entry reply self.new) }
+        ensures memory { OnErr result (MayLackMemory self.old event.entry) }
+    {
+        match event {
+            Event::Run(count) => Ok(Reply::Ran(self.units(count))),
+            Event::Line(typed) => match self.line(alloc, typed) {
+                Ok(told) => Ok(Reply::Told(told)),
+                Err(error) => Err(error),
+            },
+            Event::Serve(device) => match self.serve(device) {
+                Ok(done) => Ok(Reply::Served(done)),
+                Err(error) => Err(error),
+            },
+            Event::Tick => {
+                self.tick();
+                Ok(Reply::Done)
+            }
+            Event::Deck(cards) => {
+                self.deck(copy_of(alloc, cards)?)?;
+                Ok(Reply::Done)
+            }
+        }
+    }
+
+    /// Lets the machine run for at most so many units. This takes no memory.
+    pub fn units(&mut self, count: u32) -> MachineRan
+        ensures machine { run count self.old.equipped.machine ≡ record { machine = self.new.equipped.machine; units = result.ran.units; reason = result.ran.reason; notice = result.notice } }
+        ensures devices { self.new.equipped.devices ≡ self.old.equipped.devices }
+        ensures disks { self.new.equipped.disks ≡ self.old.equipped.disks }
+        ensures files { self.new.files ≡ self.old.files }
+    {
+        let ran = self
+            .machine
+            .run::<RealCpu, PlainStorage>(&mut self.storage, count);
+        MachineRan::told(ran)
+    }
+
+    /// A tick of the interval timer, which steps where the machine runs. This takes no memory.
+    pub fn tick(&mut self)
+        ensures machine { self.new.equipped.machine ≡ ticked self.old.equipped.machine }
+        ensures devices { self.new.equipped.devices ≡ self.old.equipped.devices }
+        ensures disks { self.new.equipped.disks ≡ self.old.equipped.disks }
+        ensures files { self.new.files ≡ self.old.files }
+    {
+        match self.machine.tick(&mut self.storage) {
+            Ok(()) => {}
+            // Every page of its storage is present.
+            Err(_) => unreachable!(),
+        }
+    }
+
+    /// Serves the device of this address: the channel program that was started runs as a whole, and its status is pending.
+    /// Tells whether there was one; else nothing has happened. Where memory is refused, nothing is said of the machine.
+    pub fn serve(&mut self, device: DevAddr) -> Result<bool, AllocError>
+        ensures served { IfOk result (λ done. IsServedAt as_reached device self.old.equipped done self.new.equipped) }
+        ensures files { self.new.files ≡ self.old.files }
+        ensures memory { OnErr result (LacksMemory device self.old) }
+    {
+        match self.devices.serve(
+            &mut self.machine,
+            &mut self.storage,
+            &mut self.channels,
+            device,
+        ) {
+            Ok(done) => Ok(done),
+            Err(ChannelError::Memory) => Err(AllocError),
+            // Every page of its storage is present.
+            Err(ChannelError::Absent(_)) => unreachable!(),
+        }
+    }
+
+    /// A deck that the operator gives to the reader; no cards are no deck. Where memory is refused, nothing is said of the
+    /// machine.
+    pub fn deck(&mut self, cards: Vec<Card>) -> Result<(), AllocError>
+        ensures { OnOk result (self.new ≡ with_deck cards.items self.old) }
+    {
+        if cards.is_empty() {
+            return Ok(());
+        }
+        let number = self.next_file();
+        self.devices.deck(Deck::new(number, Sender::System, cards))?;
+        self.files.push(FileKind::Deck)?;
+        Ok(())
+    }
+
+    /// A line that is typed, and what is told. Where memory is refused, nothing is said of the machine.
+    pub fn line(&mut self, alloc: Global, typed: &[u8]) -> Result<Told, AllocError>
+        ensures { IfOk result (λ told. IsTyped typed.now self.old told self.new) }
+    {
+        let punched = self.devices.punch().closed().len();
+        let printed = self.devices.printer().closed().len();
+        let first = self.answer_whole(alloc, typed)?;
+        let told = self.receive(first)?;
+        self.note(alloc, punched, printed)?;
+        Ok(told)
+    }
+
+    /// What a line does in the small world of one user, an IPL included.
+    fn answer_whole(&mut self, alloc: Global, typed: &[u8]) -> Result<Told, AllocError>
+        ensures line { IfOk result (λ told. IsWholeLine (world_of self.old) typed.now self.old.equipped told self.new.equipped) }
+        ensures files { self.new.files ≡ self.old.files }
+    {
+        match self.answer(alloc, typed)? {
+            Told::Loads(device) => self.ipl(device),
+            other => Ok(other),
+        }
+    }
+
+    /// What a line does in the small world of one user.
+    fn answer(&mut self, alloc: Global, typed: &[u8]) -> Result<Told, AllocError>
+        ensures line { IfOk result (λ told. IsLine (world_of self.old) typed.now self.old.equipped told self.new.equipped) }
+        ensures files { self.new.files ≡ self.old.files }
+    {
+        let world = Alone {
+            on: is_logged_on(self.machine.mode()),
+        };
+        let told = self.devices.line(
+            alloc,
+            &mut self.machine,
+            &mut self.storage,
+            &mut self.channels,
+            &world,
+            typed,
+        );
+        match told {
+            Ok(told) => Ok(told),
+            Err(LineError::Memory) => Err(AllocError),
+            // Every page of its storage is present.
+            Err(LineError::FramesOut) => unreachable!(),
+        }
+    }
+
+    /// The machine is loaded from the device of this address.
+    fn ipl(&mut self, device: DevAddr) -> Result<Told, AllocError>
+        ensures loaded { IfOk result (λ told. IsIpl device self.old.equipped told self.new.equipped) }
+        ensures files { self.new.files ≡ self.old.files }
+    {
+        let told = self.devices.ipl(
+            &mut self.machine,
+            &mut self.storage,
+            &mut self.channels,
+            device,
+        );
+        match told {
+            Ok(told) => Ok(told),
+            Err(LineError::Memory) => Err(AllocError),
+            // Every page of its storage is present.
+            Err(LineError::FramesOut) => unreachable!(),
+        }
+    }
+
+    /// A message to itself is printed, and a file that was closed has the next number.
+    fn receive(&mut self, told: Told) -> Result<Told, AllocError>
+        ensures told { IfOk result (λ last. last ≡ (received (next_file self.old.files) told self.old.equipped).told) }
+        ensures after { OnOk result (self.new.equipped ≡ (received (next_file self.old.files) told self.old.equipped).equipped) }
+        ensures files { self.new.files ≡ self.old.files }
+    {
+        match told {
+            Told::Sent(_, line) => {
+                self.machine.make_room(1)?;
+                self.machine.print(&Response::Written(line));
+                Ok(Told::Said(Response::Sent))
+            }
+            Told::Closed => Ok(Told::Said(Response::FileClosed(self.next_file()))),
+            other => Ok(other),
+        }
+    }
+
+    /// The number of the next file.
+    fn next_file(&self) -> u64
+        ensures { result ≡ next_file self.now.files }
+    {
+        self.files.len() as u64 + 1
+    }
+
+    /// Each file that was closed, of so many punched and printed ones before, gets its number.
+    fn note(
+        &mut self,
+        alloc: Global,
+        punched_before: usize,
+        printed_before: usize,
+    ) -> Result<(), AllocError>
+        ensures { OnOk result (self.new ≡ noted punched_before printed_before self.old) }
+    {
+        let has_printed = self.devices.printer().closed().len() > printed_before;
+        if self.devices.punch().closed().len() > punched_before {
+            self.note_punched(alloc, punched_before)?;
+        }
+        if has_printed {
+            self.files.push(FileKind::Printer)?;
+        }
+        Ok(())
+    }
+
+    /// The punched file of this index gets its number, and goes where it is for.
+    fn note_punched(&mut self, alloc: Global, index: usize) -> Result<(), AllocError>
+        ensures { OnOk result (self.new ≡ punched true index self.old) }
+    {
+        let number = self.next_file();
+        match self.devices.punch().closed().get(index) {
+            Some(file) => match file.target() {
+                Target::User(_) => {
+                    let deck = self
+                        .devices
+                        .deck_of_punched(alloc, index, number, Sender::User(0))?;
+                    self.devices.deck(deck)?;
+                }
+                Target::System => {}
+            },
+            None => {}
+        }
+        self.files.push(FileKind::Punch)?;
+        Ok(())
+    }
+
+    /// The general registers.
+    pub fn general(&self) -> &[u32; 16]
+        ensures { result.now ≡ self.now.equipped.machine.core.processor.cpu.general }
+    {
+        &self.machine.cpu().general
+    }
+
+    /// The control registers.
+    pub fn control(&self) -> &[u32; 16]
+        ensures { result.now ≡ self.now.equipped.machine.core.processor.cpu.control }
+    {
+        &self.machine.cpu().control
+    }
+
+    /// The PSW.
+    pub fn psw(&self) -> Psw
+        ensures { result ≡ self.now.equipped.machine.core.processor.cpu.psw }
+    {
+        self.machine.cpu().psw
+    }
+
+    /// The bytes of storage.
+    pub fn storage(&self) -> &[u8]
+        ensures { result.now ≡ self.now.equipped.machine.core.processor.bytes }
+    {
+        self.storage.bytes()
+    }
+
+    /// The key in storage of a block of 2048 bytes, `None` past storage.
+    pub fn key(&self, block: u32) -> Option<StorageKey>
+        ensures { result ≡ slice_get self.now.equipped.machine.core.processor.keys block }
+    {
+        self.storage.keys().get(block as usize).copied()
+    }
+
+    /// The subchannels of the devices, in the order of their addresses.
+    pub fn subchannels(&self) -> &[Subchannel]
+        ensures { result.now ≡ self.now.equipped.machine.core.subchannels }
+    {
+        self.machine.subchannels()
+    }
+
+    /// The external conditions that are pending.
+    pub fn pending(&self) -> Pending
+        ensures { result ≡ self.now.equipped.machine.core.pending }
+    {
+        self.machine.pending()
+    }
+
+    /// Whether the machine is on, and whether it runs.
+    pub fn mode(&self) -> Mode
+        ensures { result ≡ self.now.equipped.machine.mode }
+    {
+        self.machine.mode()
+    }
+
+    /// Whether the machine would do something with a slice of the processor.
+    pub fn is_ready(&self) -> bool
+        ensures { result ≡ is_ready self.now.equipped.machine }
+    {
+        self.machine.is_ready()
+    }
+
+    /// How many lines the console has printed.
+    pub fn printed(&self) -> usize
+        ensures { result ≡ length self.now.equipped.machine.output }
+    {
+        self.machine.printed()
+    }
+
+    /// A line that the console has printed, as the response that it says.
+    pub fn console_output(&self, line: usize) -> Option<Response>
+        ensures { option_map text_of result ≡ slice_get self.now.equipped.machine.output line }
+    {
+        self.machine.console_output(line)
+    }
+    /// The parts of its devices.
+    pub fn devices(&self) -> &Devices
+        ensures { result.now ≡ self.now.equipped.devices }
+    {
+        &self.devices
+    }
+
+    /// Its disks, in the order in which they were attached.
+    pub fn disks(&self) -> &[AttachedDisk]
+        ensures { result.now ≡ self.now.equipped.disks }
+    {
+        self.channels.disks()
+    }
+
+    /// What each file was so far: the one with number 1 stands first.
+    pub fn files(&self) -> &[FileKind]
+        ensures { result.now ≡ self.now.files }
+    {
+        self.files.as_slice()
+    }
+}
+
+/// Whatever happens to a machine with its devices: it is what its own events leave, in order, with each message and each deck
+/// for its own user right after the line that sent or closed it.
+pub fn each_is_life()
+    ensures { EachIsLife }
+{}
+
+/// Whatever happens to a machine with its devices, attention goes on agreeing with the lines that wait
+/// ([`cp_devices::attention_agrees`]).
+pub fn attention_agrees_throughout()
+    ensures { AttentionAgreesThroughout }
+{}
+
+/// The same cards once more.
+fn copy_of(alloc: Global, cards: &[Card]) -> Result<Vec<Card>, AllocError>
+    ensures { IfOk result (λ copy. copy.items ≡ cards.now) }
+{
+    let copy = cards.to_vec(alloc)?;
+    Ok(copy)
+}
+
+/// Whether the user of a machine in this mode is logged on.
+fn is_logged_on(mode: Mode) -> bool
+    ensures { result ≡ is_logged_on mode }
+{
+    match mode {
+        Mode::Off => false,
+        Mode::Stopped | Mode::Running => true,
+    }
+}

@@ -1,0 +1,126 @@
+//! IPL, which the owner of a machine with disks of its own does for it.
+ghost use Rattle.std.specs.Prelude.{◌≡◌, ◌<◌, ◌≤◌, ℕ, false, Err, IfOk, length, map, slice_get};
+ghost use Rattle.cp_channels.specs.Disks.{reset_disk};
+ghost use Rattle.cp_channels.specs.Own.{disks_of};
+ghost use Rattle.cp_devices.specs.Equipped.{equipped};
+ghost use Rattle.cp_devices.specs.Lines.{IsIpl, LoadsDisk, LoadsReader, ipl_told};
+
+use crate::devices::Devices;
+use crate::line::Told;
+use crate::loading::{load, start_loaded};
+use crate::places::Kind;
+use cp_channels::{Channels, Own};
+use cp_console::responses::Response;
+use cp_panel::{LineError, Machine};
+use s370_channel::ChannelError;
+use s370_num::DevAddr;
+use s370_store::Storage;
+
+/// What an IPL tells.
+fn loaded(well: bool) -> Told
+    ensures { result ≡ ipl_told well }
+{
+    if well {
+        Told::Silent
+    } else {
+        Told::Said(Response::IplFailed)
+    }
+}
+
+/// Why a line is not obeyed whose program of loading stopped.
+fn line_error(error: ChannelError) -> LineError {
+    match error {
+        ChannelError::Memory => LineError::Memory,
+        ChannelError::Absent(_) => LineError::FramesOut,
+    }
+}
+
+impl Devices {
+    /// The machine is loaded from the device of this address, a reader or a disk. Where it is not obeyed, nothing is said of the
+    /// machine.
+    pub fn ipl<S: Storage>(
+        &mut self,
+        machine: &mut Machine,
+        storage: &mut S,
+        channels: &mut Own,
+        device: DevAddr,
+    ) -> Result<Told, LineError>
+        requires size { 8192 ≤ length (S.bytes storage.old) }
+        ensures ok { let before = equipped machine.old self.old (disks_of channels.old) (S.bytes storage.old) (S.keys storage.old) in
+            let after = equipped machine.new self.new (disks_of channels.new) (S.bytes storage.new) (S.keys storage.new) in
+            IfOk result (λ told. IsIpl device before told after) }
+        ensures frames { result ≡ Err LineError.FramesOut → ((page : ℕ) × (S.present storage.old page ≡ false)) }
+        ensures size { length (S.bytes storage.new) ≡ length (S.bytes storage.old) }
+    {
+        match self.kind_at::<S, Own>(channels, device.get()) {
+            Some(Kind::Reader) => self.load_reader(machine, storage, channels, device),
+            Some(Kind::Disk(index)) => self.load_disk(machine, storage, channels, device, index),
+            _ => Ok(Told::Said(Response::DeviceNotFound)),
+        }
+    }
+
+    /// The machine is loaded from the reader.
+    fn load_reader<S: Storage>(
+        &mut self,
+        machine: &mut Machine,
+        storage: &mut S,
+        channels: &mut Own,
+        device: DevAddr,
+    ) -> Result<Told, LineError>
+        requires size { 8192 ≤ length (S.bytes storage.old) }
+        ensures ok { let before = equipped machine.old self.old (disks_of channels.old) (S.bytes storage.old) (S.keys storage.old) in
+            let after = equipped machine.new self.new (disks_of channels.new) (S.bytes storage.new) (S.keys storage.new) in
+            IfOk result (λ told. LoadsReader device before told after) }
+        ensures frames { result ≡ Err LineError.FramesOut → ((page : ℕ) × (S.present storage.old page ≡ false)) }
+        ensures size { length (S.bytes storage.new) ≡ length (S.bytes storage.old) }
+    {
+        match machine.make_room(1) {
+            Ok(()) => {}
+            Err(_) => return Err(LineError::Memory),
+        }
+        self.reset();
+        channels.reset();
+        match load(machine, storage, device, &mut self.reader) {
+            Ok(well) => Ok(loaded(well)),
+            // A command of a reader is never refused memory.
+            Err(ChannelError::Memory) => unreachable!(),
+            Err(ChannelError::Absent(_)) => Err(LineError::FramesOut),
+        }
+    }
+
+    /// The machine is loaded from the disk of this index.
+    fn load_disk<S: Storage>(
+        &mut self,
+        machine: &mut Machine,
+        storage: &mut S,
+        channels: &mut Own,
+        device: DevAddr,
+        index: usize,
+    ) -> Result<Told, LineError>
+        requires size { 8192 ≤ length (S.bytes storage.old) }
+        requires inside { index < length (disks_of channels.old) }
+        ensures ok { let before = equipped machine.old self.old (disks_of channels.old) (S.bytes storage.old) (S.keys storage.old) in
+            let after = equipped machine.new self.new (disks_of channels.new) (S.bytes storage.new) (S.keys storage.new) in
+            IfOk result (λ told. LoadsDisk index (slice_get (map reset_disk (disks_of channels.old)) index) device before told after) }
+        ensures frames { result ≡ Err LineError.FramesOut → ((page : ℕ) × (S.present storage.old page ≡ false)) }
+        ensures size { length (S.bytes storage.new) ≡ length (S.bytes storage.old) }
+    {
+        match machine.make_room(1) {
+            Ok(()) => {}
+            Err(_) => return Err(LineError::Memory),
+        }
+        self.reset();
+        channels.reset();
+        machine.reset();
+        let ending = match channels.load_disk(storage, index) {
+            Ok(ending) => ending,
+            // A command of a disk is never refused memory.
+            Err(ChannelError::Memory) => unreachable!(),
+            Err(ChannelError::Absent(_)) => return Err(LineError::FramesOut),
+        };
+        match start_loaded(machine, storage, device, &ending) {
+            Ok(well) => Ok(loaded(well)),
+            Err(error) => Err(line_error(error)),
+        }
+    }
+}
