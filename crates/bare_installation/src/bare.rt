@@ -198,9 +198,10 @@ impl Bare {
         ensures line { IfOk result (λ told. IsWholeLine (world_of self.old) typed.now self.old.equipped told self.new.equipped) }
         ensures files { self.new.files ≡ self.old.files }
     {
-        match self.answer(alloc, typed)? {
-            Told::Loads(device) => self.ipl(device),
-            other => Ok(other),
+        let first = self.answer(alloc, typed)?;
+        match first.loads_from() {
+            Some(device) => self.ipl(device),
+            None => Ok(first),
         }
     }
 

@@ -43,7 +43,7 @@ use Rattle.cp_devices.specs.Attention.{AttentionAgrees, AttentionAgreesAtFirst, 
 use Rattle.cp_devices.specs.Devices.{DevicesValue, is_there, kind_at, part_at, part_or_disk}
 use Rattle.cp_devices.specs.Equipped.{Equipped}
 use Rattle.cp_devices.specs.Life.{Event, Units, Serve, Line, Tick, Deck, Message, Leaves}
-use Rattle.cp_devices.specs.Lines.{IsAnswered, IsFollowed, IsObeyed, IsWholeLine, LoadsDisk, LoadsKind, LoadsReader, LoadsUnit, Outcome, close_answered, closed_where, logged_off, logged_on, outcome, requested, spool_answered, spooled_to, target_of, typed_at, typed_where, was_reset, with_closed}
+use Rattle.cp_devices.specs.Lines.{IsAnswered, IsFollowed, IsObeyed, IsWholeLine, LoadsDisk, LoadsKind, LoadsReader, LoadsUnit, Outcome, close_answered, closed_where, loads_from, logged_off, logged_on, outcome, requested, spool_answered, spooled_to, target_of, typed_at, typed_where, was_reset, with_closed}
 use Rattle.cp_devices.specs.Loading.{is_good, left_by}
 use Rattle.cp_devices.specs.Requests.{asked_request, command_request, off_request, request_in}
 use Rattle.cp_devices.specs.Serve.{IsServedAt, RunsConsole, Serves, program_over}
@@ -332,7 +332,7 @@ answers (Asks command) w typed old told new is a h = obeys w command old told ne
 answers Elsewhere w typed old told new is a h =
     left_alone old new told _ a (same old (record old { machine = (line typed old.machine).machine }) refl refl (line_same old.machine.mode (is_some old.devices.places.console) (cleaned typed) old.machine (elsewhere (requested typed old) is)) h)
 
-follows : (first : Told) (old : Equipped) (told : Told) (new : Equipped) → IsFollowed first old told new → AttentionAgrees old → AttentionAgrees new
+follows : (first : Told) (old : Equipped) (told : Told) (new : Equipped) → IsFollowed (loads_from first) first old told new → AttentionAgrees old → AttentionAgrees new
 follows (Loads device) old told new f h = loaded (kind_at old.devices old.disks device) device old told new f h
 follows Silent old told new f h = left_alone old new told _ f h
 follows (Said response) old told new f h = left_alone old new told _ f h

@@ -206,17 +206,26 @@ requested typed e = request_in e.machine.mode (is_some e.devices.places.console)
 abbrev pub IsLine : World → List ℕ → Equipped → Told → Equipped → Type 0
 IsLine w typed old told new = IsAnswered (requested typed old) w typed old told new
 
--- where it tells of an IPL, the owner does that at once
-abbrev pub IsFollowed : Told → Equipped → Told → Equipped → Type 0
-IsFollowed (Loads device) old told new = IsIpl device old told new
-IsFollowed other old told new = outcome new told ≡ outcome old other
+-- the device from which the owner is to load the machine
+abbrev pub loads_from : Told → Option ℕ
+loads_from (Loads device) = Some device
+loads_from Silent = None
+loads_from (Said response) = None
+loads_from Files = None
+loads_from (Sent user line) = None
+loads_from Closed = None
+
+-- where a line tells of an IPL, the owner does that at once
+abbrev pub IsFollowed : Option ℕ → Told → Equipped → Told → Equipped → Type 0
+IsFollowed (Some device) first old told new = IsIpl device old told new
+IsFollowed None first old told new = outcome new told ≡ outcome old first
 
 -- a line with what follows it
 pub record IsWholeLine (w : World) (typed : List ℕ) (old : Equipped) (told : Told) (new : Equipped) : Type 0 where
   pub first : Told
   pub next : Equipped
   pub line : IsLine w typed old first next
-  pub followed : IsFollowed first next told new
+  pub followed : IsFollowed (loads_from first) first next told new
 
 -- ---- where there is no room for a page
 

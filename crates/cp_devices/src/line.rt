@@ -4,7 +4,7 @@ ghost use Rattle.s370_store.specs.Access.{Touches};
 ghost use Rattle.cp_channels.specs.Disks.{DiskAt};
 ghost use Rattle.cp_panel.specs.Panel.{line_needs};
 ghost use Rattle.cp_devices.specs.Equipped.{equipped};
-ghost use Rattle.cp_devices.specs.Lines.{IsLine, LacksPage, logged_off, outcome, said, typed_at, was_reset};
+ghost use Rattle.cp_devices.specs.Lines.{IsLine, LacksPage, loads_from, logged_off, outcome, said, typed_at, was_reset};
 
 use crate::devices::Devices;
 use crate::request::{Request, request_of};
@@ -34,6 +34,18 @@ pub enum Told {
     Loads(DevAddr),
     /// That a file was closed, the last of its device: its owner gives it a number.
     Closed,
+}
+
+impl Told {
+    /// The device from which its owner is to load the machine, where that is told.
+    pub fn loads_from(&self) -> Option<DevAddr>
+        ensures { result ≡ loads_from self.now }
+    {
+        match self {
+            Told::Loads(device) => Some(*device),
+            Told::Silent | Told::Said(_) | Told::Files | Told::Sent(_, _) | Told::Closed => None,
+        }
+    }
 }
 
 /// What the machine alone answers.
