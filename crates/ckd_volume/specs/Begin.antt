@@ -19,16 +19,16 @@ pub record Begun : Type 0 where
 
 -- Unit status: unit check, unit exception, status modifier.
 abbrev pub no_status : UnitStatus
-no_status = record { bits = 0 }
+no_status = record { bits = 0x00 }
 
 abbrev pub unit_check : UnitStatus
-unit_check = record { bits = 2 }
+unit_check = record { bits = 0x02 }
 
 abbrev pub unit_exception : UnitStatus
-unit_exception = record { bits = 1 }
+unit_exception = record { bits = 0x01 }
 
 abbrev pub status_modifier : UnitStatus
-status_modifier = record { bits = 64 }
+status_modifier = record { bits = 0x40 }
 
 -- A program starts at the index, with file mask 00 and no index points; a command starts without the right to write.
 abbrev pub starting : Front → Bool → Front
@@ -51,7 +51,7 @@ refused f first second = record { answer = Refused unit_check; front = record f 
 
 -- command reject
 abbrev pub rejected : Front → Begun
-rejected f = refused f 128 0
+rejected f = refused f 0x80 0
 
 -- the record was not found; the arm keeps the head that it came to
 abbrev pub lost : Front → ℕ → ℕ → Begun

@@ -13,11 +13,12 @@ abbrev pub sense_bytes : Sense → List ℕ
 sense_bytes s = s.first ∷ s.second ∷ replicate 22 0
 
 abbrev pub begin_sense : Front → Order → Begun
-begin_sense f order = if order.first && (bit_and order.flags.bits 192 == 0) then gives f no_status (sense_bytes f.sense) else rejected f
+begin_sense f order =
+    if order.first && (bit_and order.flags.bits 0xC0 == 0) then gives f no_status (sense_bytes f.sense) else rejected f
 
 -- 07 Seek: file protected where mask bits 3-4 are not 00
 abbrev pub begin_seek : Front → Begun
-begin_seek f = if bit_and f.mask 24 == 0 then takes f 6 jobs.Seek else refused f 0 4
+begin_seek f = if bit_and f.mask 0x18 == 0 then takes f 6 jobs.Seek else refused f 0 0x04
 
 -- The place that a seek names: 0000 CCCC HHHH, a track of the disk.
 abbrev pub halfword : List ℕ → ℕ → ℕ
@@ -33,5 +34,5 @@ sought cylinders bytes =
 
 -- 1F Set File Mask: bits 2, 5, 6 and 7 are zero
 abbrev pub mask_set : Front → List ℕ → Ended
-mask_set f [] = fails f 128 0
-mask_set f (b ∷ bs) = if bit_and b 39 == 0 then ends (record f { mask = b }) no_status else fails f 128 0
+mask_set f [] = fails f 0x80 0
+mask_set f (b ∷ bs) = if bit_and b 0x27 == 0 then ends (record f { mask = b }) no_status else fails f 0x80 0

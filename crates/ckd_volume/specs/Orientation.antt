@@ -9,13 +9,13 @@ use Rattle.ckd_volume.specs.Front.{Front, Cylinder, records_at}
 
 -- Second sense byte: no record found, file protected, end of cylinder.
 abbrev pub no_record_found : ℕ
-no_record_found = 8
+no_record_found = 0x08
 
 abbrev pub file_protected : ℕ
-file_protected = 4
+file_protected = 0x04
 
 abbrev pub end_of_cylinder : ℕ
-end_of_cylinder = 32
+end_of_cylinder = 0x20
 
 -- the first of these records that is looked for; k numbers the first of them
 abbrev pub first_of : (Record → Bool) → ℕ → List Record → Option ℕ
@@ -40,7 +40,7 @@ on_track wanted records head points None = past_index wanted records head points
 
 -- mask bits 3-4 of 11 forbid a switch of heads
 abbrev pub bars_switch : ℕ → Bool
-bars_switch mask = bit_and mask 24 == 24
+bars_switch mask = bit_and mask 0x18 == 0x18
 
 -- A multitrack search goes on over the heads after this one, of which there are so many; the arm keeps the head that it
 -- came to.
@@ -56,7 +56,7 @@ switched wanted cylinder mask head (suc more) =
 
 -- a search is multitrack where bit 0 of its code is one
 abbrev pub is_multitrack : ℕ → Bool
-is_multitrack code = nat_le 128 code
+is_multitrack code = nat_le 0x80 code
 
 abbrev pub across : (Record → Bool) → Cylinder → ℕ → ℕ → ℕ → Option ℕ → Found
 across wanted cylinder mask head points (Some i) = There head i points

@@ -21,24 +21,29 @@ use Rattle.ckd_volume.specs.Write.{if_writes, data_written, both_written, whole_
 abbrev pub begun : Front → Right → Cylinder → Order → Begun
 begun f right c order =
     let code : ℕ = order.command.code in
-    if code == 3 then record { answer = Immediate; front = f }
-    else if code == 4 then begin_sense f order
-    else if code == 7 then begin_seek f
-    else if code == 31 then takes f 1 jobs.SetMask
-    else if code == 26 then home_read f c (to_index 26 f f.place)
-    else if code == 57 || code == 185 then home_searched f (to_index code f f.place)
-    else if code == 49 || code == 177 then id_searched f comparisons.Equal (found code (wants wanted.Any) c f (next_at f.place))
-    else if code == 81 || code == 209 then id_searched f comparisons.High (found code (wants wanted.Any) c f (next_at f.place))
-    else if code == 113 || code == 241 then id_searched f comparisons.EqualOrHigh (found code (wants wanted.Any) c f (next_at f.place))
-    else if code == 41 || code == 169 then key_searched f c (found code (wants wanted.Keyed) c f (counted_at f.place))
-    else if code == 18 then count_read f c (found 18 (wants wanted.Any) c f (next_at f.place))
-    else if code == 6 then data_read f c (found 6 (wants wanted.Any) c f (here_at f.place))
-    else if code == 14 then both_read f c (found 14 (wants wanted.Any) c f (counted_at f.place))
-    else if code == 30 then whole_read f c (found 30 (wants wanted.Any) c f (next_at f.place))
-    else if code == 2 then ipl_read f c order (once_round f.head 0 (first_from (wants wanted.First) (records_at c f.head) 0))
-    else if code == 5 then if_writes f right 5 (data_written f c (here_at f.place))
-    else if code == 13 then if_writes f right 13 (both_written f c (here_at f.place))
-    else if code == 29 then if_writes f right 29 (whole_written f (next_at f.place))
+    if code == 0x03 then record { answer = Immediate; front = f }
+    else if code == 0x04 then begin_sense f order
+    else if code == 0x07 then begin_seek f
+    else if code == 0x1F then takes f 1 jobs.SetMask
+    else if code == 0x1A then home_read f c (to_index 0x1A f f.place)
+    else if code == 0x39 || code == 0xB9 then home_searched f (to_index code f f.place)
+    else if code == 0x31 || code == 0xB1
+    then id_searched f comparisons.Equal (found code (wants wanted.Any) c f (next_at f.place))
+    else if code == 0x51 || code == 0xD1
+    then id_searched f comparisons.High (found code (wants wanted.Any) c f (next_at f.place))
+    else if code == 0x71 || code == 0xF1
+    then id_searched f comparisons.EqualOrHigh (found code (wants wanted.Any) c f (next_at f.place))
+    else if code == 0x29 || code == 0xA9
+    then key_searched f c (found code (wants wanted.Keyed) c f (counted_at f.place))
+    else if code == 0x12 then count_read f c (found 0x12 (wants wanted.Any) c f (next_at f.place))
+    else if code == 0x06 then data_read f c (found 0x06 (wants wanted.Any) c f (here_at f.place))
+    else if code == 0x0E then both_read f c (found 0x0E (wants wanted.Any) c f (counted_at f.place))
+    else if code == 0x1E then whole_read f c (found 0x1E (wants wanted.Any) c f (next_at f.place))
+    else if code == 0x02
+    then ipl_read f c order (once_round f.head 0 (first_from (wants wanted.First) (records_at c f.head) 0))
+    else if code == 0x05 then if_writes f right 0x05 (data_written f c (here_at f.place))
+    else if code == 0x0D then if_writes f right 0x0D (both_written f c (here_at f.place))
+    else if code == 0x1D then if_writes f right 0x1D (whole_written f (next_at f.place))
     else rejected f
 
 -- What a command does with its bytes. A seek is the arm's (Unit).
@@ -46,7 +51,7 @@ abbrev pub ended : Front → Cylinder → Job → Ended
 ended f c jobs.Nothing = ends f no_status
 ended f c (jobs.Give status) = ends f status
 ended f c jobs.SetMask = mask_set f f.bytes
-ended f c jobs.Seek = fails f 128 0
+ended f c jobs.Seek = fails f 0x80 0
 ended f c jobs.SearchHome = satisfied f rights.Home (fits comparisons.Equal f.bytes (drop 1 (track_at c f.head).home))
 ended f c (jobs.SearchId comparison i) = satisfied f (id_right comparison) (fits comparison f.bytes (record_at c f.head i).id)
 ended f c (jobs.SearchKey i) = satisfied f rights.Key (fits comparisons.Equal f.bytes (record_at c f.head i).key)

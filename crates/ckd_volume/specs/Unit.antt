@@ -34,7 +34,7 @@ under d = slice_index_or d.cylinders d.cylinder []
 
 -- Read IPL moves the arm to the first track before all else.
 abbrev pub is_ipl : Order → Bool
-is_ipl order = order.first && (order.command.code == 2)
+is_ipl order = order.first && (order.command.code == 0x02)
 
 abbrev pub aimed : Disk → Bool → Disk
 aimed d true = record { volser = d.volser; cylinders = d.cylinders; cylinder = d.home; home = d.home; front = record (d.front) { head = 0 } }
@@ -67,7 +67,7 @@ after d e =
 
 -- A seek moves the arm to the index of the track that it names; a bad one is command reject, and the arm stays.
 abbrev pub moved : Disk → Option Seek → Disk
-moved d None = keeps d (fails d.front 128 0).front
+moved d None = keeps d (fails d.front 0x80 0).front
 moved d (Some s) =
     record {
       volser = d.volser;

@@ -13,20 +13,20 @@ use Rattle.ckd_volume.specs.End.{Ended, fails, writes, padded}
 
 -- File mask bits 0-1 of 01 forbid all writes, 10 forbids 1D.
 abbrev pub mask_bars : ℕ → ℕ → Bool
-mask_bars mask code = (bit_and mask 192 == 64) || ((bit_and mask 192 == 128) && (code == 29))
+mask_bars mask code = (bit_and mask 0xC0 == 0x40) || ((bit_and mask 0xC0 == 0x80) && (code == 0x1D))
 
 -- What the command before gives the right to.
 abbrev pub grants : Right → ℕ → Bool
 grants rights.Nothing code = false
-grants rights.Home code = code == 29
+grants rights.Home code = code == 0x1D
 grants rights.Id code = true
-grants rights.Key code = not (code == 13)
-grants rights.Record code = code == 29
+grants rights.Key code = not (code == 0x0D)
+grants rights.Record code = code == 0x1D
 
 -- In this order: a disk that is only read is write inhibited; the mask, and a wrong command before, are command reject.
 abbrev pub if_writes : Front → Right → ℕ → Begun → Begun
 if_writes f right code begun =
-    if not f.writable then refused f 0 2 else if mask_bars f.mask code || not (grants right code) then rejected f else begun
+    if not f.writable then refused f 0 0x02 else if mask_bars f.mask code || not (grants right code) then rejected f else begun
 
 abbrev pub takes_data : Front → ℕ → Job → Begun
 takes_data f count job = if count == 0 then record { answer = Refused unit_exception; front = f } else takes f count job
@@ -64,7 +64,7 @@ with_both r bytes =
     record { id = r.id; key = take (length r.key) (padded (both_length r) bytes); content = drop (length r.key) (padded (both_length r) bytes) }
 
 abbrev pub if_on : Front → TrackFormat → ℕ → Ended → Ended
-if_on f t i ended = if nat_lt i (length t.records) then ended else fails f 128 0
+if_on f t i ended = if nat_lt i (length t.records) then ended else fails f 0x80 0
 
 abbrev pub data_ended : Front → TrackFormat → ℕ → Record → Ended
 data_ended f t i r = if_on f t i (writes f no_status (with_record t i (with_data r f.bytes)))
@@ -94,9 +94,9 @@ abbrev pub record_written : Front → TrackFormat → ℕ → Record → Ended
 record_written f t i r =
     if nat_le i (length t.records) && has_room t i (length r.key) (length r.content)
     then writes (record f { place = Gap (i + 1); points = 0; right = rights.Record }) no_status (with_last t i r)
-    else fails f 0 64
+    else fails f 0 0x40
 
 abbrev pub whole_ended : Front → TrackFormat → ℕ → Ended
 whole_ended f t i =
-    if nat_lt (length f.bytes) 8 then fails f 128 0
+    if nat_lt (length f.bytes) 8 then fails f 0x80 0
     else record_written f t i (record_of (key_length f.bytes) (padded (whole_length f.bytes) f.bytes))
