@@ -26,7 +26,8 @@ grants rights.Record code = code == 0x1D
 -- In this order: a disk that is only read is write inhibited; the mask, and a wrong command before, are command reject.
 abbrev pub if_writes : Front → Right → ℕ → Begun → Begun
 if_writes f right code begun =
-    if not f.writable then refused f 0 0x02 else if mask_bars f.mask code || not (grants right code) then rejected f else begun
+    if not f.writable then refused f 0 0x02
+    else if mask_bars f.mask code || not (grants right code) then rejected f else begun
 
 abbrev pub takes_data : Front → ℕ → Job → Begun
 takes_data f count job = if count == 0 then record { answer = Refused unit_exception; front = f } else takes f count job

@@ -26,18 +26,22 @@ abbrev pub csw_of : List ℕ → Csw
 csw_of bytes =
     record {
       key = slice_index bytes 0 / 16;
-      address = storage_address (big_number 3 (drop 1 bytes));
+      address = big_number 3 (drop 1 bytes);
       unit = record { bits = slice_index bytes 4 };
       channel = record { bits = slice_index bytes 5 };
       count = big_number 2 (drop 6 bytes);
     }
 
+-- Of the command address the low 24 bits are stored, which are what a storage address has.
 abbrev pub csw_bytes : Csw → List ℕ
-csw_bytes w = (w.key * 16 ∷ []) ++ big_bytes 3 w.address ++ (w.unit.bits ∷ w.channel.bits ∷ []) ++ big_bytes 2 w.count
+csw_bytes w =
+    (w.key * 16 ∷ []) ++ big_bytes 3 (storage_address w.address) ++ (w.unit.bits ∷ w.channel.bits ∷ [])
+    ++ big_bytes 2 w.count
 
--- the status word of a program: the command address is that of the last word used, or of the failing one, plus 8
+-- the status word of a program: the command address, of 32 bits, is that of the last word used or the failing one, plus 8
 abbrev pub ending_word : ℕ → Ending → Csw
-ending_word key e = record { key = key; address = storage_address (e.at + 8); unit = e.unit; channel = e.channel; count = e.count }
+ending_word key e =
+    record { key = key; address = (e.at + 8) % 2 ^ 32; unit = e.unit; channel = e.channel; count = e.count }
 
 -- key 0-3, zeros 4-7, address 8-31 on a doubleword
 abbrev pub caw_of : ℕ → Option Caw

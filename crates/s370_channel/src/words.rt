@@ -51,8 +51,9 @@ impl Ccw {
 pub struct Csw {
     /// The key of the program.
     pub key: AccessKey,
-    /// Eight bytes past the last word that was used, or the one that failed.
-    pub address: Addr24,
+    /// Eight bytes past the last word that was used, or the one that failed. A program over real storage has words past 24
+    /// bits; of this address the low 24 are stored.
+    pub address: u32,
     /// The status of the device.
     pub unit: UnitStatus,
     /// The status of the channel.
@@ -68,7 +69,7 @@ impl Csw {
     {
         Csw {
             key,
-            address: Addr24::wrapping(ending.at.wrapping_add(8)),
+            address: ending.at.wrapping_add(8),
             unit: ending.unit,
             channel: ending.channel,
             count: ending.count,
@@ -81,7 +82,7 @@ impl Csw {
     {
         Csw {
             key: AccessKey::new(bytes[0] / 16),
-            address: Addr24::wrapping(BigEndian::read_u24(&bytes[1..])),
+            address: BigEndian::read_u24(&bytes[1..]),
             unit: UnitStatus { bits: bytes[4] },
             channel: ChannelStatus { bits: bytes[5] },
             count: BigEndian::read_u16(&bytes[6..]),
@@ -94,7 +95,7 @@ impl Csw {
     {
         let mut bytes = [0; 8];
         bytes[0] = self.key.get() * 16;
-        BigEndian::write_u24(&mut bytes[1..], self.address.get());
+        BigEndian::write_u24(&mut bytes[1..], Addr24::wrapping(self.address).get());
         bytes[4] = self.unit.bits;
         bytes[5] = self.channel.bits;
         BigEndian::write_u16(&mut bytes[6..], self.count);
