@@ -1,7 +1,7 @@
 //! The script of a machine of its own: events, decks of cards, and turns.
 ghost use Rattle.std.specs.Prelude.{◌≤◌, IfOk, length};
 
-use bare_installation::{BARE, Event, Bare, Reply};
+use bare_installation::{BARE, Bare, Event, Reply};
 use cp_script::{ScriptError, ScriptEvent, ScriptUser, read_script};
 use cp_text::lines::cut_line;
 use cp_text::numbers::decimal_of;

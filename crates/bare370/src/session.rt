@@ -43,11 +43,7 @@ const FIRST_CYLINDER: Arm = Arm {
 
 /// A machine that is off, with a storage of so many blocks of 2048 bytes, console, reader, punch and printer, and a disk for
 /// each of these volumes, of which there are at most [`MOST_DISKS`].
-pub fn machine_of(
-    alloc: Global,
-    blocks: u32,
-    volumes: Vec<Volume>,
-) -> Result<Bare, AllocError>
+pub fn machine_of(alloc: Global, blocks: u32, volumes: Vec<Volume>) -> Result<Bare, AllocError>
     requires least { 4 ≤ blocks }
     requires most { blocks ≤ 2048 }
 {

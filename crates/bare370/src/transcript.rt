@@ -7,7 +7,7 @@ ghost use Rattle.bare370.specs.Transcript.{queue_line, queue_lines, said_lines, 
 
 use crate::dealer::{Dealer, SLICE_UNITS};
 use crate::script::Happening;
-use bare_installation::{BARE, FileKind, Bare, Reply};
+use bare_installation::{BARE, Bare, FileKind, Reply};
 use cp_console::printing;
 use cp_console::responses::Response;
 use cp_devices::{Told, deck_line};

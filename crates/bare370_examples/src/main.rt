@@ -74,11 +74,7 @@ fn volumes<R: AllocGlobal + Files>(rt: &R, folder: &str) -> Result<Vec<Volume>> 
 }
 
 /// Whether each disk of which that is told has the image that it has to have at the end.
-fn compare_disks<R: AllocGlobal + Files>(
-    rt: &R,
-    folder: &str,
-    machine: &Bare,
-) -> Result<()> {
+fn compare_disks<R: AllocGlobal + Files>(rt: &R, folder: &str, machine: &Bare) -> Result<()> {
     let alloc = rt.alloc();
     for address in FIRST_DISK..FIRST_DISK + MOST_DISKS {
         let name = format!(in alloc; "{address:X}-saved")?;

@@ -11,8 +11,8 @@ ghost use Rattle.cp_devices.specs.Spooling.{with_deck_purged};
 
 use crate::devices::Devices;
 use crate::line::Told;
-use crate::world::World;
 use crate::places::Kind;
+use crate::world::World;
 use cp_console::console_line::ConsoleLine;
 use cp_console::device_commands::DeviceCommand;
 use cp_console::printing::message_line;
