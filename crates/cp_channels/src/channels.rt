@@ -45,9 +45,7 @@ pub trait Channels<S: Storage> {
         ensures away { IfErr result (TellsAway (S.present storage.old)) }
         ensures stopped { is_whole ≡ false → IfErr result (IsStopped D.machine D.needs_memory (S.present storage.old) start (memory_of (S.bytes storage.old) (S.keys storage.old)) device.old) }
         ensures whole { is_whole ≡ true → IfErr result (WhereAbsent ((S.bytes storage.new ≡ S.bytes storage.old) × (device.new ≡ device.old) × (disks self.new ≡ disks self.old))) }
-        ensures present { S.present storage.new ≡ S.present storage.old }
         ensures keys { S.keys storage.new ≡ S.keys storage.old }
-        ensures size { length (S.bytes storage.new) ≡ length (S.bytes storage.old) }
         ensures rest { S.Keeps storage.old storage.new };
 
     /// The same for the disk of this index, which is at rest after its program.
@@ -62,9 +60,7 @@ pub trait Channels<S: Storage> {
         ensures away { IfErr result (TellsAway (S.present storage.old)) }
         ensures stopped { is_whole ≡ false → IfErr result (StopsDisk (S.present storage.old) start (memory_of (S.bytes storage.old) (S.keys storage.old)) (slice_get (disks self.old) index)) }
         ensures whole { is_whole ≡ true → IfErr result (WhereAbsent ((S.bytes storage.new ≡ S.bytes storage.old) × (disks self.new ≡ disks self.old))) }
-        ensures present { S.present storage.new ≡ S.present storage.old }
         ensures keys { S.keys storage.new ≡ S.keys storage.old }
-        ensures size { length (S.bytes storage.new) ≡ length (S.bytes storage.old) }
         ensures rest { S.Keeps storage.old storage.new };
 
     /// A system reset of the disks: the arms stay.

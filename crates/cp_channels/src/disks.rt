@@ -61,9 +61,7 @@ impl AttachedDisk {
         ensures walk { IfOk result (λ ending. RestsAfter as_reached start (memory_of (S.bytes storage.old) (S.keys storage.old)) self.old ending (memory_of (S.bytes storage.new) (S.keys storage.new)) self.new) }
         ensures away { IfErr result (TellsAway (S.present storage.old)) }
         ensures stopped { IfErr result (StopsForPage disk_machine (S.present storage.old) start (memory_of (S.bytes storage.old) (S.keys storage.old)) self.old.unit) }
-        ensures present { S.present storage.new ≡ S.present storage.old }
         ensures keys { S.keys storage.new ≡ S.keys storage.old }
-        ensures size { length (S.bytes storage.new) ≡ length (S.bytes storage.old) }
         ensures rest { S.Keeps storage.old storage.new }
     {
         let ending = run_live(storage, start, &mut self.unit)?;
@@ -76,9 +74,7 @@ impl AttachedDisk {
     pub(crate) fn load<S: Storage>(&mut self, storage: &mut S) -> Result<Ending, ChannelError>
         ensures walk { IfOk result (λ ending. RestsLoaded (memory_of (S.bytes storage.old) (S.keys storage.old)) self.old ending (memory_of (S.bytes storage.new) (S.keys storage.new)) self.new) }
         ensures stopped { IfErr result (StopsLoadingDisk (S.present storage.old) (memory_of (S.bytes storage.old) (S.keys storage.old)) (Some self.old)) }
-        ensures present { S.present storage.new ≡ S.present storage.old }
         ensures keys { S.keys storage.new ≡ S.keys storage.old }
-        ensures size { length (S.bytes storage.new) ≡ length (S.bytes storage.old) }
         ensures rest { S.Keeps storage.old storage.new }
     {
         let ending = run_ipl(&Guest, storage, &mut self.unit)?;

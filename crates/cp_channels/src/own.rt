@@ -42,9 +42,7 @@ impl Own {
         requires { index < length (disks_of self.old) }
         ensures walk { IfOk result (λ ending. LoadsDisk (memory_of (S.bytes storage.old) (S.keys storage.old)) (disks_of self.old) index ending (memory_of (S.bytes storage.new) (S.keys storage.new)) (disks_of self.new)) }
         ensures stopped { IfErr result (StopsLoadingDisk (S.present storage.old) (memory_of (S.bytes storage.old) (S.keys storage.old)) (slice_get (disks_of self.old) index)) }
-        ensures present { S.present storage.new ≡ S.present storage.old }
         ensures keys { S.keys storage.new ≡ S.keys storage.old }
-        ensures size { length (S.bytes storage.new) ≡ length (S.bytes storage.old) }
         ensures rest { S.Keeps storage.old storage.new }
     {
         self.disks[index].load(storage)

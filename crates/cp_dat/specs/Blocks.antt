@@ -20,10 +20,10 @@ pub record IsInFrame (d : Dat) (block : Block) : Type 0 where
   pub low : first_place block < 2 ^ 28
 
 -- where no page moves it stays there
-pub in_frame_kept : (s t : Dat) (block : Block) → length (lent_bytes t) ≡ length (lent_bytes s) → KeepsRest s t → IsInFrame s block → IsInFrame t block
-in_frame_kept s t block e k h = record {
+pub in_frame_kept : (s t : Dat) (block : Block) → KeepsRest s t → IsInFrame s block → IsInFrame t block
+in_frame_kept s t block k h = record {
   aligned = h.aligned;
-  inside = rw e h.inside;
+  inside = rw k.same_size h.inside;
   frame = ap (λ (supply : FrameSupply). frame_of supply.owners t.user (block.first / 4096)) k.same_supply ∙ (ap (λ (user : ℕ). frame_of s.frames.now.supply.owners user (block.first / 4096)) k.same_user ∙ h.frame);
   offset = h.offset;
   low = h.low;

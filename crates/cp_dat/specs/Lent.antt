@@ -1,8 +1,8 @@
 -- What is seen of one user's lent pages, and what is kept of those who lent them.
-use Rattle.std.specs.Prelude.{◌≡◌, ℕ, List, [], ◌∷◌, zero, suc, Bool, Option, slice_set, slice_index_or, refl}
+use Rattle.std.specs.Prelude.{◌≡◌, ℕ, List, [], ◌∷◌, zero, suc, Bool, Option, length, slice_set, slice_index_or, refl}
 use Rattle.std.proofs.Common.{◌∙◌, ap}
 use Rattle.cp_dat.specs.declared.dat.Dat.{Dat}
-use Rattle.cp_frames.specs.Layout.{Pool, bytes_of, frame_of, is_there}
+use Rattle.cp_frames.specs.Layout.{FrameSupply, Pool, bytes_of, frame_of, is_there}
 
 -- the number of the user
 abbrev pub user_of : Dat → ℕ
@@ -28,11 +28,12 @@ lent_keys d = d.keys.now
 abbrev pub is_lent_page : Dat → ℕ → Bool
 is_lent_page d = is_there d.frames.now.supply.owners d.user
 
--- the same user of the same frames, where no page has moved, and each other user has the bytes he had
+-- the same user of the same frames, with as many bytes, where no page has moved, and each other user has the bytes he had
 pub record KeepsRest (old new : Dat) : Type 0 where
   pub same_frames : new.frames.ghost_name ≡ old.frames.ghost_name
   pub same_keys : new.keys.ghost_name ≡ old.keys.ghost_name
   pub same_user : new.user ≡ old.user
+  pub same_size : length (lent_bytes new) ≡ length (lent_bytes old)
   pub same_supply : new.frames.now.supply ≡ old.frames.now.supply
   pub others : new.frames.now.storages ≡ slice_set old.frames.now.storages old.user (bytes_of new.frames.now old.user)
 
@@ -63,16 +64,21 @@ others_on before middle after user other same one two =
     two ∙ (own ∙ (first ∙ set_again before.storages user (bytes_of middle user) (bytes_of after user)))
 
 pub keeps_rest_same : (s : Dat) → KeepsRest s s
-keeps_rest_same s = record { same_frames = refl; same_keys = refl; same_user = refl; same_supply = refl; others = set_own s.frames.now.storages s.user [] }
+keeps_rest_same s = record { same_frames = refl; same_keys = refl; same_user = refl; same_size = refl; same_supply = refl; others = set_own s.frames.now.storages s.user [] }
 
 pub keeps_rest_on : (s t u : Dat) → KeepsRest s t → KeepsRest t u → KeepsRest s u
 keeps_rest_on s t u a b = record {
   same_frames = b.same_frames ∙ a.same_frames;
   same_keys = b.same_keys ∙ a.same_keys;
   same_user = b.same_user ∙ a.same_user;
+  same_size = b.same_size ∙ a.same_size;
   same_supply = b.same_supply ∙ a.same_supply;
   others = others_on s.frames.now t.frames.now u.frames.now s.user t.user a.same_user a.others b.others;
 }
+
+pub keeps_rest_present : (s t : Dat) → KeepsRest s t → is_lent_page t ≡ is_lent_page s
+keeps_rest_present s t k =
+    ap (λ (supply : FrameSupply). is_there supply.owners t.user) k.same_supply ∙ ap (λ (user : ℕ). is_there s.frames.now.supply.owners user) k.same_user
 
 -- what callers say of many steps
 pub keeps_frames : (s t : Dat) → KeepsRest s t → KeepsFrames s t

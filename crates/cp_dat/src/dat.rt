@@ -160,7 +160,7 @@ fn page_of(address: u32) -> Page
 }
 
 impl<'a> Storage for Dat<'a> {
-    ghost use Rattle.cp_dat.specs.Lent.{lent_bytes, lent_keys, is_lent_page, KeepsRest, keeps_rest_same, keeps_rest_on};
+    ghost use Rattle.cp_dat.specs.Lent.{lent_bytes, lent_keys, is_lent_page, KeepsRest, keeps_rest_same, keeps_rest_on, keeps_rest_present};
     ghost use Rattle.cp_dat.specs.Blocks.{IsInFrame, in_frame_kept};
 
     ghost bytes = { lent_bytes };
@@ -275,6 +275,10 @@ impl<'a> Storage for Dat<'a> {
     }
 
     ghost keeps_same = { keeps_rest_same };
+
+    ghost keeps_size = { λ s t k. k.same_size };
+
+    ghost keeps_present = { keeps_rest_present };
 
     ghost keeps_on = { keeps_rest_on };
 

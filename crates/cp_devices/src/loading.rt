@@ -33,9 +33,7 @@ pub(crate) fn load<S: Storage, D: Device>(
     ensures away { IfErr result (TellsAway (S.present storage.old)) }
     ensures stopped { let before = machine_of machine.old (S.bytes storage.old) (S.keys storage.old) in
         IfErr result (StopsLoading D.machine D.needs_memory (S.present storage.old) before part.old) }
-    ensures size { length (S.bytes storage.new) ≡ length (S.bytes storage.old) }
     ensures keys { S.keys storage.new ≡ S.keys storage.old }
-    ensures present { S.present storage.new ≡ S.present storage.old }
     ensures rest { S.Keeps storage.old storage.new }
 {
     machine.reset();
@@ -58,9 +56,7 @@ pub(crate) fn start_loaded<S: Storage>(
         let after = machine_of machine.new (S.bytes storage.new) (S.keys storage.new) in
         IfOk result (λ well. after ≡ left_by (is_good ending.now) device before (S.bytes storage.old)) }
     ensures stopped { IfErr result (LacksPsw (S.present storage.old)) }
-    ensures size { length (S.bytes storage.new) ≡ length (S.bytes storage.old) }
     ensures keys { S.keys storage.new ≡ S.keys storage.old }
-    ensures present { S.present storage.new ≡ S.present storage.old }
     ensures rest { S.Keeps storage.old storage.new }
 {
     if !is_good(ending) {

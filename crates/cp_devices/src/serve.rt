@@ -39,9 +39,7 @@ impl Devices {
         ensures stopped { let before = equipped machine.old self.old (C.disks channels.old) (S.bytes storage.old) (S.keys storage.old) in
             C.is_whole ≡ false → IfErr result (StopsAt C.reads (S.present storage.old) device before) }
         ensures away { IfErr result (TellsAway (S.present storage.old)) }
-        ensures size { length (S.bytes storage.new) ≡ length (S.bytes storage.old) }
         ensures keys { S.keys storage.new ≡ S.keys storage.old }
-        ensures present { S.present storage.new ≡ S.present storage.old }
         ensures rest { S.Keeps storage.old storage.new }
     {
         let Some(kind) = self.kind_at::<S, C>(channels, device.get()) else {
@@ -76,9 +74,7 @@ impl Devices {
         ensures stopped { let before = equipped machine.old self.old (C.disks channels.old) (S.bytes storage.old) (S.keys storage.old) in
             C.is_whole ≡ false → IfErr result (StopsKind C.reads (S.present storage.old) kind start before) }
         ensures away { IfErr result (TellsAway (S.present storage.old)) }
-        ensures size { length (S.bytes storage.new) ≡ length (S.bytes storage.old) }
         ensures keys { S.keys storage.new ≡ S.keys storage.old }
-        ensures present { S.present storage.new ≡ S.present storage.old }
         ensures rest { S.Keeps storage.old storage.new }
     {
         let key = start.key;
@@ -116,9 +112,7 @@ impl Devices {
         ensures stopped { let before = equipped machine.old self.old (C.disks channels.old) (S.bytes storage.old) (S.keys storage.old) in
             C.is_whole ≡ false → IfErr result (StopsConsole C.reads (S.present storage.old) start before) }
         ensures away { IfErr result (TellsAway (S.present storage.old)) }
-        ensures size { length (S.bytes storage.new) ≡ length (S.bytes storage.old) }
         ensures keys { S.keys storage.new ≡ S.keys storage.old }
-        ensures present { S.present storage.new ≡ S.present storage.old }
         ensures rest { S.Keeps storage.old storage.new }
     {
         let key = start.key;

@@ -63,8 +63,6 @@ pub fn change<S: Storage>(change: Change, cpu: &mut Cpu, storage: &mut S) -> Res
     ensures change { let before = state_of cpu.old (S.bytes storage.old) (S.keys storage.old) in
         let after = state_of cpu.new (S.bytes storage.new) (S.keys storage.new) in
         Changes change (S.present storage.old) before result after }
-    ensures size { length (S.bytes storage.new) ≡ length (S.bytes storage.old) }
-    ensures present { S.present storage.new ≡ S.present storage.old }
     ensures rest { S.Keeps storage.old storage.new }
 {
     match change {
@@ -90,8 +88,6 @@ fn change_storage<S: Storage>(
     ensures change { let before = state_of cpu.now (S.bytes storage.old) (S.keys storage.old) in
         let after = state_of cpu.now (S.bytes storage.new) (S.keys storage.new) in
         Changes (Change.Storage address stored) (S.present storage.old) before result after }
-    ensures size { length (S.bytes storage.new) ≡ length (S.bytes storage.old) }
-    ensures present { S.present storage.new ≡ S.present storage.old }
     ensures rest { S.Keeps storage.old storage.new }
 {
     let bytes = stored.as_slice();

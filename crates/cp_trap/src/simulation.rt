@@ -39,8 +39,6 @@ pub fn simulate<S: Keyed>(
         let after = state_of cpu.new (S.Storage.bytes storage.new) (S.Storage.keys storage.new) in
         MeetsUnit (supervised before instruction ilc) (S.Storage.present storage.old) before (stop_of result ilc) after }
     ensures refused { (result ≡ Simulated.Refused ProgramCode.PrivilegedOperation) ↔ IsTrue cpu.old.psw.problem }
-    ensures size { length (S.Storage.bytes storage.new) ≡ length (S.Storage.bytes storage.old) }
-    ensures present { S.Storage.present storage.new ≡ S.Storage.present storage.old }
     ensures rest { S.Storage.Keeps storage.old storage.new }
 {
     match supervise(cpu, storage, instruction, ilc) {

@@ -140,9 +140,7 @@ fn combine_at<S: Storage>(
     requires source { IsGranted (length (S.bytes storage.old)) (S.present storage.old) from (length made.old) }
     ensures bytes { S.bytes storage.new ≡ put (S.bytes storage.old) to (made_of operation (S.bytes storage.old) to from (length made.old)) }
     ensures made { made.new ≡ made_of operation (S.bytes storage.old) to from (length made.old) }
-    ensures size { length (S.bytes storage.new) ≡ length (S.bytes storage.old) }
     ensures keys { S.keys storage.new ≡ S.keys storage.old }
-    ensures present { S.present storage.new ≡ S.present storage.old }
     ensures rest { S.Keeps storage.old storage.new }
 {
     storage.load(to, made);
@@ -162,8 +160,6 @@ pub fn combine_row<S: Storage>(
     ensures row { let before = state_of cpu.old (S.bytes storage.old) (S.keys storage.old) in
         let after = state_of cpu.new (S.bytes storage.new) (S.keys storage.new) in
         MeetsRow (string_combined operation before i) (S.present storage.old) before result after }
-    ensures size { length (S.bytes storage.new) ≡ length (S.bytes storage.old) }
-    ensures present { S.present storage.new ≡ S.present storage.old }
     ensures rest { S.Keeps storage.old storage.new }
 {
     let to = cpu.based(i.second_half).get();
@@ -195,9 +191,7 @@ fn move_through<S: Storage>(storage: &mut S, to: u32, from: u32, bytes: &mut [u8
     requires target { IsGranted (length (S.bytes storage.old)) (S.present storage.old) to (length bytes.old) }
     requires source { IsGranted (length (S.bytes storage.old)) (S.present storage.old) from (length bytes.old) }
     ensures bytes { S.bytes storage.new ≡ put (S.bytes storage.old) to (made_of Combine.Move (S.bytes storage.old) to from (length bytes.old)) }
-    ensures size { length (S.bytes storage.new) ≡ length (S.bytes storage.old) }
     ensures keys { S.keys storage.new ≡ S.keys storage.old }
-    ensures present { S.present storage.new ≡ S.present storage.old }
     ensures rest { S.Keeps storage.old storage.new }
 {
     storage.load(from, bytes);
@@ -214,9 +208,7 @@ fn move_near<S: Storage>(storage: &mut S, to: u32, from: u32, count: u32)
     requires target { IsGranted (length (S.bytes storage.old)) (S.present storage.old) to count }
     requires source { IsGranted (length (S.bytes storage.old)) (S.present storage.old) from count }
     ensures bytes { S.bytes storage.new ≡ put (S.bytes storage.old) to (made_of Combine.Move (S.bytes storage.old) to from count) }
-    ensures size { length (S.bytes storage.new) ≡ length (S.bytes storage.old) }
     ensures keys { S.keys storage.new ≡ S.keys storage.old }
-    ensures present { S.present storage.new ≡ S.present storage.old }
     ensures rest { S.Keeps storage.old storage.new }
 {
     let mut bytes = [0u8; 256];
@@ -231,9 +223,7 @@ fn move_at<S: Storage>(storage: &mut S, to: u32, from: u32, count: u32)
     requires target { IsGranted (length (S.bytes storage.old)) (S.present storage.old) to count }
     requires source { IsGranted (length (S.bytes storage.old)) (S.present storage.old) from count }
     ensures bytes { S.bytes storage.new ≡ put (S.bytes storage.old) to (made_of Combine.Move (S.bytes storage.old) to from count) }
-    ensures size { length (S.bytes storage.new) ≡ length (S.bytes storage.old) }
     ensures keys { S.keys storage.new ≡ S.keys storage.old }
-    ensures present { S.present storage.new ≡ S.present storage.old }
     ensures rest { S.Keeps storage.old storage.new }
 {
     if lag_of(to, from, count) < count {
@@ -254,8 +244,6 @@ pub fn move_row<S: Storage>(
     ensures row { let before = state_of cpu.old (S.bytes storage.old) (S.keys storage.old) in
         let after = state_of cpu.new (S.bytes storage.new) (S.keys storage.new) in
         MeetsRow (string_combined Combine.Move before i) (S.present storage.old) before result after }
-    ensures size { length (S.bytes storage.new) ≡ length (S.bytes storage.old) }
-    ensures present { S.present storage.new ≡ S.present storage.old }
     ensures rest { S.Keeps storage.old storage.new }
 {
     let to = cpu.based(i.second_half).get();

@@ -107,9 +107,7 @@ fn lay_out_at<S: Storage>(
     requires target { IsGranted (length (S.bytes storage.old)) (S.present storage.old) to (length target.old) }
     requires source { IsGranted (length (S.bytes storage.old)) (S.present storage.old) from (length source.old) }
     ensures bytes { S.bytes storage.new ≡ put (S.bytes storage.old) to (string_of (length target.old) (laid_out layout (slice_range (S.bytes storage.old) to (to + length target.old)) (slice_range (S.bytes storage.old) from (from + length source.old)))) }
-    ensures size { length (S.bytes storage.new) ≡ length (S.bytes storage.old) }
     ensures keys { S.keys storage.new ≡ S.keys storage.old }
-    ensures present { S.present storage.new ≡ S.present storage.old }
     ensures rest { S.Keeps storage.old storage.new }
 {
     storage.load(to, target);
@@ -128,8 +126,6 @@ pub fn layout_row<S: Storage>(
     ensures row { let before = state_of cpu.now (S.bytes storage.old) (S.keys storage.old) in
         let after = state_of cpu.now (S.bytes storage.new) (S.keys storage.new) in
         MeetsRow (digits_laid_out layout before i) (S.present storage.old) before result after }
-    ensures size { length (S.bytes storage.new) ≡ length (S.bytes storage.old) }
-    ensures present { S.present storage.new ≡ S.present storage.old }
     ensures rest { S.Keeps storage.old storage.new }
 {
     let to = cpu.based(i.second_half).get();

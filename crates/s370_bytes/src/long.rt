@@ -139,9 +139,7 @@ fn move_through<S: Storage>(
     requires target { IsGranted (length (S.bytes storage.old)) (S.present storage.old) to (length made.old) }
     requires source { 0 < count → IsGranted (length (S.bytes storage.old)) (S.present storage.old) from count }
     ensures bytes { S.bytes storage.new ≡ put (S.bytes storage.old) to (padded (slice_range (S.bytes storage.old) from (from + count)) pad (length made.old)) }
-    ensures size { length (S.bytes storage.new) ≡ length (S.bytes storage.old) }
     ensures keys { S.keys storage.new ≡ S.keys storage.old }
-    ensures present { S.present storage.new ≡ S.present storage.old }
     ensures rest { S.Keeps storage.old storage.new }
 {
     load_padded(storage, from, pad, made, count);
@@ -156,9 +154,7 @@ fn move_pads<S: Storage>(storage: &mut S, to: u32, from: u32, pad: u8, count: u3
     requires target { IsGranted (length (S.bytes storage.old)) (S.present storage.old) to count }
     requires source { 0 < moved → IsGranted (length (S.bytes storage.old)) (S.present storage.old) from moved }
     ensures bytes { S.bytes storage.new ≡ put (S.bytes storage.old) to (padded (slice_range (S.bytes storage.old) from (from + moved)) pad count) }
-    ensures size { length (S.bytes storage.new) ≡ length (S.bytes storage.old) }
     ensures keys { S.keys storage.new ≡ S.keys storage.old }
-    ensures present { S.present storage.new ≡ S.present storage.old }
     ensures rest { S.Keeps storage.old storage.new }
 {
     let mut made = [0u8; 256];
@@ -174,9 +170,7 @@ fn move_padded<S: Storage>(storage: &mut S, to: u32, from: u32, pad: u8, count: 
     requires target { IsGranted (length (S.bytes storage.old)) (S.present storage.old) to count }
     requires source { 0 < moved → IsGranted (length (S.bytes storage.old)) (S.present storage.old) from moved }
     ensures bytes { S.bytes storage.new ≡ put (S.bytes storage.old) to (padded (slice_range (S.bytes storage.old) from (from + moved)) pad count) }
-    ensures size { length (S.bytes storage.new) ≡ length (S.bytes storage.old) }
     ensures keys { S.keys storage.new ≡ S.keys storage.old }
-    ensures present { S.present storage.new ≡ S.present storage.old }
     ensures rest { S.Keeps storage.old storage.new }
 {
     if moved < count {
@@ -199,8 +193,6 @@ fn move_part<S: Storage>(
     ensures row { let before = state_of cpu.old (S.bytes storage.old) (S.keys storage.old) in
         let after = state_of cpu.new (S.bytes storage.new) (S.keys storage.new) in
         MeetsRow (part_moved before r1 r2) (S.present storage.old) before result after }
-    ensures size { length (S.bytes storage.new) ≡ length (S.bytes storage.old) }
-    ensures present { S.present storage.new ≡ S.present storage.old }
     ensures rest { S.Keeps storage.old storage.new }
 {
     let first = Operand::of(cpu, r1);
@@ -235,8 +227,6 @@ pub fn move_long_row<S: Storage>(
     ensures row { let before = state_of cpu.old (S.bytes storage.old) (S.keys storage.old) in
         let after = state_of cpu.new (S.bytes storage.new) (S.keys storage.new) in
         MeetsRow (long_moved before i) (S.present storage.old) before result after }
-    ensures size { length (S.bytes storage.new) ≡ length (S.bytes storage.old) }
-    ensures present { S.present storage.new ≡ S.present storage.old }
     ensures rest { S.Keeps storage.old storage.new }
 {
     let r1 = i.r1();
@@ -325,8 +315,6 @@ fn move_whole_parts<S: Storage>(
         let after = state_of cpu.new (S.bytes storage.new) (S.keys storage.new) in
         (i : Instruction) → r1_of i ≡ r1 → r2_of i ≡ r2 → AreParts result start (S.present storage.old) i before after }
     ensures within { result ≤ parts }
-    ensures size { length (S.bytes storage.new) ≡ length (S.bytes storage.old) }
-    ensures present { S.present storage.new ≡ S.present storage.old }
     ensures rest { S.Keeps storage.old storage.new }
 {
     let count = 256 * parts;
@@ -362,8 +350,6 @@ pub fn move_long_quickly<S: Storage>(
         let after = state_of cpu.new (S.bytes storage.new) (S.keys storage.new) in
         AreParts result start (S.present storage.old) i before after }
     ensures within { result ≤ limit }
-    ensures size { length (S.bytes storage.new) ≡ length (S.bytes storage.old) }
-    ensures present { S.present storage.new ≡ S.present storage.old }
     ensures rest { S.Keeps storage.old storage.new }
 {
     let r1 = Register::new(second_byte >> 4);

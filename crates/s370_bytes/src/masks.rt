@@ -149,8 +149,6 @@ pub fn store_characters_row<S: Storage>(
     ensures row { let before = state_of cpu.now (S.bytes storage.old) (S.keys storage.old) in
         let after = state_of cpu.now (S.bytes storage.new) (S.keys storage.new) in
         MeetsRow (characters_stored before i) (S.present storage.old) before result after }
-    ensures size { length (S.bytes storage.new) ≡ length (S.bytes storage.old) }
-    ensures present { S.present storage.new ≡ S.present storage.old }
     ensures rest { S.Keeps storage.old storage.new }
 {
     let start = cpu.based(i.second_half).get();

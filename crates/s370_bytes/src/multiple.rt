@@ -55,9 +55,7 @@ pub fn store_registers<S: Storage>(
 )
     requires { IsGranted (length (S.bytes storage.old)) (S.present storage.old) address (4 * register_count (r1_of i) (r2_of i)) }
     ensures bytes { S.bytes storage.new ≡ put (S.bytes storage.old) address (words_from registers.now (r1_of i) (register_count (r1_of i) (r2_of i))) }
-    ensures size { length (S.bytes storage.new) ≡ length (S.bytes storage.old) }
     ensures keys { S.keys storage.new ≡ S.keys storage.old }
-    ensures present { S.present storage.new ≡ S.present storage.old }
     ensures rest { S.Keeps storage.old storage.new }
 {
     let count = count_of(i.r1(), i.r2());
@@ -94,8 +92,6 @@ pub fn store_multiple_row<S: Storage>(
     ensures row { let before = state_of cpu.now (S.bytes storage.old) (S.keys storage.old) in
         let after = state_of cpu.now (S.bytes storage.new) (S.keys storage.new) in
         MeetsRow (multiple_stored before i) (S.present storage.old) before result after }
-    ensures size { length (S.bytes storage.new) ≡ length (S.bytes storage.old) }
-    ensures present { S.present storage.new ≡ S.present storage.old }
     ensures rest { S.Keeps storage.old storage.new }
 {
     let address = cpu.based(i.second_half);

@@ -29,9 +29,7 @@ pub fn move_straight<S: Storage>(
     requires target_ends { to + count ≤ target.first + 2048 }
     ensures moved { result ≡ true → S.bytes storage.new ≡ put (S.bytes storage.old) to (made_of combines.Move (S.bytes storage.old) to from count) }
     ensures still { result ≡ false → S.bytes storage.new ≡ S.bytes storage.old }
-    ensures size { length (S.bytes storage.new) ≡ length (S.bytes storage.old) }
     ensures keys { S.keys storage.new ≡ S.keys storage.old }
-    ensures present { S.present storage.new ≡ S.present storage.old }
     ensures rest { S.Keeps storage.old storage.new }
 {
     if lag_of(to, from, count) < count {

@@ -55,9 +55,7 @@ fn translate_apart<S: Storage>(
     requires target { IsGranted (length (S.bytes storage.old)) (S.present storage.old) to (length bytes.old) }
     requires table { IsGranted (length (S.bytes storage.old)) (S.present storage.old) from 256 }
     ensures bytes { S.bytes storage.new ≡ put (S.bytes storage.old) to (translation (S.bytes storage.old) to from (length bytes.old)) }
-    ensures size { length (S.bytes storage.new) ≡ length (S.bytes storage.old) }
     ensures keys { S.keys storage.new ≡ S.keys storage.old }
-    ensures present { S.present storage.new ≡ S.present storage.old }
     ensures rest { S.Keeps storage.old storage.new }
 {
     storage.load(to, bytes);
@@ -74,9 +72,7 @@ fn translate_each<S: Storage>(storage: &mut S, to: u32, table: u32, count: u32)
     requires target { IsGranted (length (S.bytes storage.old)) (S.present storage.old) to count }
     requires table { IsGranted (length (S.bytes storage.old)) (S.present storage.old) table 256 }
     ensures bytes { S.bytes storage.new ≡ put (S.bytes storage.old) to (translation (S.bytes storage.old) to table count) }
-    ensures size { length (S.bytes storage.new) ≡ length (S.bytes storage.old) }
     ensures keys { S.keys storage.new ≡ S.keys storage.old }
-    ensures present { S.present storage.new ≡ S.present storage.old }
     ensures rest { S.Keeps storage.old storage.new }
 {
     for k in 0..count {
@@ -95,8 +91,6 @@ pub fn translate_row<S: Storage>(
     ensures row { let before = state_of cpu.now (S.bytes storage.old) (S.keys storage.old) in
         let after = state_of cpu.now (S.bytes storage.new) (S.keys storage.new) in
         MeetsRow (string_translated before i) (S.present storage.old) before result after }
-    ensures size { length (S.bytes storage.new) ≡ length (S.bytes storage.old) }
-    ensures present { S.present storage.new ≡ S.present storage.old }
     ensures rest { S.Keeps storage.old storage.new }
 {
     let to = cpu.based(i.second_half).get();

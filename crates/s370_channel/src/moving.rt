@@ -94,9 +94,7 @@ fn give_byte<F: WordForm, S: Storage, D: Device>(
     requires within { p.now.count ≤ p.now.word.count }
     ensures next { IfOk result (λ r. next (live (F.written program.now)) (setting D.machine limits.now) (Moving p.now (memory_of (S.bytes storage.old) (S.keys storage.old)) device.old) ≡ moved_state r (memory_of (S.bytes storage.new) (S.keys storage.new)) device.new) }
     ensures on { IfOk result (IsOneOn p.now) }
-    ensures present { S.present storage.new ≡ S.present storage.old }
     ensures keys { S.keys storage.new ≡ S.keys storage.old }
-    ensures size { length (S.bytes storage.new) ≡ length (S.bytes storage.old) }
     ensures rest { S.Keeps storage.old storage.new }
     ensures stuck { IfErr result (λ page. IsStuck (F.written program.now) (setting D.machine limits.now) (S.present storage.old) (Moving p.now (memory_of (S.bytes storage.old) (S.keys storage.old)) device.old) page.0) }
 {
@@ -192,9 +190,7 @@ fn move_byte<F: WordForm, S: Storage, D: Device>(
     requires within { p.now.count ≤ p.now.word.count }
     ensures next { IfOk result (λ r. next (live (F.written program.now)) (setting D.machine limits.now) (Moving p.now (memory_of (S.bytes storage.old) (S.keys storage.old)) device.old) ≡ moved_state r (memory_of (S.bytes storage.new) (S.keys storage.new)) device.new) }
     ensures on { IfOk result (IsOneOn p.now) }
-    ensures present { S.present storage.new ≡ S.present storage.old }
     ensures keys { S.keys storage.new ≡ S.keys storage.old }
-    ensures size { length (S.bytes storage.new) ≡ length (S.bytes storage.old) }
     ensures rest { S.Keeps storage.old storage.new }
     ensures stuck { IfErr result (λ page. IsStuck (F.written program.now) (setting D.machine limits.now) (S.present storage.old) (Moving p.now (memory_of (S.bytes storage.old) (S.keys storage.old)) device.old) page.0) }
 {
@@ -219,9 +215,7 @@ fn move_on<F: WordForm, S: Storage, D: Device>(
     requires within { p.now.count ≤ p.now.word.count }
     ensures reaches { IfOk result (λ r. Reaches (live (F.written program.now)) (setting D.machine limits.now) (Moving p.now (memory_of (S.bytes storage.old) (S.keys storage.old)) device.old) (moved_state r (memory_of (S.bytes storage.new) (S.keys storage.new)) device.new)) }
     ensures on { IfOk result (IsFurther p.now) }
-    ensures present { S.present storage.new ≡ S.present storage.old }
     ensures keys { S.keys storage.new ≡ S.keys storage.old }
-    ensures size { length (S.bytes storage.new) ≡ length (S.bytes storage.old) }
     ensures rest { S.Keeps storage.old storage.new }
     ensures stuck { IfErr result (λ page. IsStuck (F.written program.now) (setting D.machine limits.now) (S.present storage.old) (Moving p.now (memory_of (S.bytes storage.old) (S.keys storage.old)) device.old) page.0) }
 {
@@ -243,9 +237,7 @@ pub(crate) fn transfer<F: WordForm, S: Storage, D: Device>(
     requires { position.count ≤ position.word.count }
     ensures reaches { IfOk result (λ r. Reaches (live (F.written program.now)) (setting D.machine limits.now) (Moving position (memory_of (S.bytes storage.old) (S.keys storage.old)) device.old) (moved_state r (memory_of (S.bytes storage.new) (S.keys storage.new)) device.new)) }
     ensures out { IfOk result (IsOut D.machine position device.new) }
-    ensures present { S.present storage.new ≡ S.present storage.old }
     ensures keys { S.keys storage.new ≡ S.keys storage.old }
-    ensures size { length (S.bytes storage.new) ≡ length (S.bytes storage.old) }
     ensures rest { S.Keeps storage.old storage.new }
     ensures stuck { IfErr result (λ page. IsStuck (F.written program.now) (setting D.machine limits.now) (S.present storage.old) (Moving position (memory_of (S.bytes storage.old) (S.keys storage.old)) device.old) page.0) }
 {

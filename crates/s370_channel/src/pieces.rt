@@ -61,9 +61,7 @@ fn give_piece<S: Storage, D: Device>(storage: &mut S, device: &mut D, address: u
     requires short { n ≤ 256 }
     ensures bytes { S.bytes storage.new ≡ put (S.bytes storage.old) address (given D.machine device.old n) }
     ensures device { device.new ≡ after_giving D.machine device.old n }
-    ensures present { S.present storage.new ≡ S.present storage.old }
     ensures keys { S.keys storage.new ≡ S.keys storage.old }
-    ensures size { length (S.bytes storage.new) ≡ length (S.bytes storage.old) }
     ensures rest { S.Keeps storage.old storage.new }
 {
     let mut buffer = [0u8; 256];
@@ -98,9 +96,7 @@ fn give_many<S: Storage, D: Device>(
     ensures on { IfSome result (HasMoved p.now) }
     ensures none { IfNone result (S.bytes storage.new ≡ S.bytes storage.old) }
     ensures idle { IfNone result (device.new ≡ device.old) }
-    ensures present { S.present storage.new ≡ S.present storage.old }
     ensures keys { S.keys storage.new ≡ S.keys storage.old }
-    ensures size { length (S.bytes storage.new) ≡ length (S.bytes storage.old) }
     ensures rest { S.Keeps storage.old storage.new }
 {
     if p.word.flags.has(Flags::SKIP) {
@@ -166,9 +162,7 @@ pub(crate) fn move_many<F: WordForm, S: Storage, D: Device>(
     ensures on { IfSome result (HasMoved p.now) }
     ensures none { IfNone result (S.bytes storage.new ≡ S.bytes storage.old) }
     ensures idle { IfNone result (device.new ≡ device.old) }
-    ensures present { S.present storage.new ≡ S.present storage.old }
     ensures keys { S.keys storage.new ≡ S.keys storage.old }
-    ensures size { length (S.bytes storage.new) ≡ length (S.bytes storage.old) }
     ensures rest { S.Keeps storage.old storage.new }
 {
     let Ok(Some(address)) = place(program, storage, p) else {

@@ -29,9 +29,7 @@ fn obey<F: WordForm, S: Storage, D: Device>(
     requires within { position.count ≤ position.word.count }
     ensures reaches { IfOk result (λ r. Reaches (live (F.written program.now)) (setting D.machine limits.now) (Moving position (memory_of (S.bytes storage.old) (S.keys storage.old)) device.old) (state_of r (memory_of (S.bytes storage.new) (S.keys storage.new)) device.new)) }
     ensures followed { IfOk result (IsFollowed limits.now.commands position) }
-    ensures present { S.present storage.new ≡ S.present storage.old }
     ensures keys { S.keys storage.new ≡ S.keys storage.old }
-    ensures size { length (S.bytes storage.new) ≡ length (S.bytes storage.old) }
     ensures rest { S.Keeps storage.old storage.new }
     ensures stuck { IfErr result (λ page. IsStuck (F.written program.now) (setting D.machine limits.now) (S.present storage.old) (Moving position (memory_of (S.bytes storage.old) (S.keys storage.old)) device.old) page.0) }
 {
@@ -70,9 +68,7 @@ pub(crate) fn begin<F: WordForm, S: Storage, D: Device>(
     requires count { 0 < word.count }
     ensures reaches { IfOk result (λ r. Reaches (live (F.written program.now)) (setting D.machine limits.now) (entered (setting D.machine limits.now) spot.now word None (memory_of (S.bytes storage.old) (S.keys storage.old)) device.old) (state_of r (memory_of (S.bytes storage.new) (S.keys storage.new)) device.new)) }
     ensures lighter { IfOk result (IsLighter limits.now.commands spot.now) }
-    ensures present { S.present storage.new ≡ S.present storage.old }
     ensures keys { S.keys storage.new ≡ S.keys storage.old }
-    ensures size { length (S.bytes storage.new) ≡ length (S.bytes storage.old) }
     ensures rest { S.Keeps storage.old storage.new }
     ensures stuck { IfErr result (MatchBegun (F.written program.now) (setting D.machine limits.now) D.needs_memory (S.present storage.old) spot.now word (memory_of (S.bytes storage.old) (S.keys storage.old)) device.old) }
 {
@@ -143,9 +139,7 @@ fn resume<F: WordForm, S: Storage, D: Device>(
     requires text { (F.written program.now).text (memory_of (S.bytes storage.old) (S.keys storage.old)) spot.now.at ≡ Some word }
     ensures reaches { IfOk result (λ r. Reaches (live (F.written program.now)) (setting D.machine limits.now) (Fetching spot.now (memory_of (S.bytes storage.old) (S.keys storage.old)) device.old) (state_of r (memory_of (S.bytes storage.new) (S.keys storage.new)) device.new)) }
     ensures lighter { IfOk result (IsLighter limits.now.commands spot.now) }
-    ensures present { S.present storage.new ≡ S.present storage.old }
     ensures keys { S.keys storage.new ≡ S.keys storage.old }
-    ensures size { length (S.bytes storage.new) ≡ length (S.bytes storage.old) }
     ensures rest { S.Keeps storage.old storage.new }
     ensures stuck { IfErr result (MatchStuck (F.written program.now) (setting D.machine limits.now) D.needs_memory (S.present storage.old) (Fetching spot.now (memory_of (S.bytes storage.old) (S.keys storage.old)) device.old)) }
 {
@@ -172,9 +166,7 @@ fn one_word<F: WordForm, S: Storage, D: Device>(
 ) -> Result<Progress, ChannelError>
     ensures reaches { IfOk result (λ r. Reaches (live (F.written program.now)) (setting D.machine limits.now) (Fetching spot.now (memory_of (S.bytes storage.old) (S.keys storage.old)) device.old) (state_of r (memory_of (S.bytes storage.new) (S.keys storage.new)) device.new)) }
     ensures lighter { IfOk result (IsLighter limits.now.commands spot.now) }
-    ensures present { S.present storage.new ≡ S.present storage.old }
     ensures keys { S.keys storage.new ≡ S.keys storage.old }
-    ensures size { length (S.bytes storage.new) ≡ length (S.bytes storage.old) }
     ensures rest { S.Keeps storage.old storage.new }
     ensures stuck { IfErr result (MatchStuck (F.written program.now) (setting D.machine limits.now) D.needs_memory (S.present storage.old) (Fetching spot.now (memory_of (S.bytes storage.old) (S.keys storage.old)) device.old)) }
 {
@@ -221,9 +213,7 @@ pub(crate) fn go_on<F: WordForm, S: Storage, D: Device>(
     from: Spot,
 ) -> Result<Ending, ChannelError>
     ensures reaches { IfOk result (λ ending. Reaches (live (F.written program.now)) (setting D.machine limits.now) (Fetching from (memory_of (S.bytes storage.old) (S.keys storage.old)) device.old) (Over ending (memory_of (S.bytes storage.new) (S.keys storage.new)) device.new)) }
-    ensures present { S.present storage.new ≡ S.present storage.old }
     ensures keys { S.keys storage.new ≡ S.keys storage.old }
-    ensures size { length (S.bytes storage.new) ≡ length (S.bytes storage.old) }
     ensures rest { S.Keeps storage.old storage.new }
     ensures stuck { IfErr result (MatchStuck (F.written program.now) (setting D.machine limits.now) D.needs_memory (S.present storage.old) (Fetching from (memory_of (S.bytes storage.old) (S.keys storage.old)) device.old)) }
 {
@@ -246,9 +236,7 @@ pub fn run<F: WordForm, S: Storage, D: Device>(
     device: &mut D,
 ) -> Result<Ending, ChannelError>
     ensures reaches { IfOk result (λ ending. Reaches (live (F.written program.now)) (setting D.machine limits.now) (Fetching (start_spot start) (memory_of (S.bytes storage.old) (S.keys storage.old)) device.old) (Over ending (memory_of (S.bytes storage.new) (S.keys storage.new)) device.new)) }
-    ensures present { S.present storage.new ≡ S.present storage.old }
     ensures keys { S.keys storage.new ≡ S.keys storage.old }
-    ensures size { length (S.bytes storage.new) ≡ length (S.bytes storage.old) }
     ensures rest { S.Keeps storage.old storage.new }
     ensures stuck { IfErr result (MatchStuck (F.written program.now) (setting D.machine limits.now) D.needs_memory (S.present storage.old) (Fetching (start_spot start) (memory_of (S.bytes storage.old) (S.keys storage.old)) device.old)) }
 {

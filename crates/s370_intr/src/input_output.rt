@@ -22,8 +22,6 @@ pub fn answer_asked<S: Storage>(
     ensures answer { let before = configuration_of (state_of cpu.old (S.bytes storage.old) (S.keys storage.old)) subchannels.old in
         let after = configuration_of (state_of cpu.new (S.bytes storage.new) (S.keys storage.new)) subchannels.new in
         Meets (answered operation device before) (AskNeeds operation device before) (S.present storage.old) before result after }
-    ensures size { length (S.bytes storage.new) ≡ length (S.bytes storage.old) }
-    ensures present { S.present storage.new ≡ S.present storage.old }
     ensures rest { S.Keeps storage.old storage.new }
 {
     match answer(subchannels, storage, operation, device) {

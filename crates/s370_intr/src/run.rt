@@ -46,8 +46,6 @@ fn try_unit<P: Processor, S: Keyed>(
     ensures unit { let before = core_of (state_of cpu.old (S.Storage.bytes storage.old) (S.Storage.keys storage.old)) pending.old subchannels.old in
         let after = core_of (state_of cpu.new (S.Storage.bytes storage.new) (S.Storage.keys storage.new)) pending.new subchannels.new in
         MeetsUnitAt said (S.Storage.present storage.old) before result after }
-    ensures size { length (S.Storage.bytes storage.new) ≡ length (S.Storage.bytes storage.old) }
-    ensures present { S.Storage.present storage.new ≡ S.Storage.present storage.old }
     ensures rest { S.Storage.Keeps storage.old storage.new }
 {
     match said {
@@ -244,7 +242,6 @@ fn move_parts<S: Storage>(
         let after = state_of cpu.new (S.bytes storage.new) (S.keys storage.new) in
         DoesInstructions result before after }
     ensures within { result ≤ limit }
-    ensures size { length (S.bytes storage.new) ≡ length (S.bytes storage.old) }
     ensures rest { S.Keeps storage.old storage.new }
 {
     let mut units = 0;
@@ -277,7 +274,6 @@ fn move_parts_in<S: Storage>(
         let after = state_of cpu.new (S.bytes storage.new) (S.keys storage.new) in
         DoesInstructions result before after }
     ensures within { result ≤ limit }
-    ensures size { length (S.bytes storage.new) ≡ length (S.bytes storage.old) }
     ensures rest { S.Keeps storage.old storage.new }
 {
     if load_byte_in(storage, block, start.get()) != LONG_MOVE {
@@ -296,7 +292,6 @@ fn instruct_quickly<S: Storage>(cpu: &mut Cpu, storage: &mut S, limit: u32) -> u
         let after = state_of cpu.new (S.bytes storage.new) (S.keys storage.new) in
         DoesInstructions result before after }
     ensures within { result ≤ limit }
-    ensures size { length (S.bytes storage.new) ≡ length (S.bytes storage.old) }
     ensures rest { S.Keeps storage.old storage.new }
 {
     let mut next = cpu.psw.address();
@@ -331,7 +326,6 @@ fn go_quickly<S: Storage>(is_plain: bool, cpu: &mut Cpu, storage: &mut S, limit:
         let after = core_of (state_of cpu.new (S.bytes storage.new) (S.keys storage.new)) pending list in
         (is_plain ≡ true → look before ≡ next.Instructs) → (run result before ≡ record { core = after; units = result; reason = reasons.Count }) × (is_plain ≡ true → look after ≡ next.Instructs) }
     ensures within { result ≤ limit }
-    ensures size { length (S.bytes storage.new) ≡ length (S.bytes storage.old) }
     ensures rest { S.Keeps storage.old storage.new }
 {
     if is_plain {

@@ -22,8 +22,6 @@ pub fn tick<S: Storage>(pending: &mut Pending, storage: &mut S) -> Result<(), Pa
     requires { 8192 ≤ length (S.bytes storage.old) }
     ensures tick { MeetsTick (S.present storage.old) (timed (S.bytes storage.old) pending.old) result (timed (S.bytes storage.new) pending.new) }
     ensures keys { S.keys storage.new ≡ S.keys storage.old }
-    ensures size { length (S.bytes storage.new) ≡ length (S.bytes storage.old) }
-    ensures present { S.present storage.new ≡ S.present storage.old }
     ensures rest { S.Keeps storage.old storage.new }
 {
     match storage.check(TIMER, Access::Store, AccessKey::ZERO) {

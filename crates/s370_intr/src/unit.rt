@@ -30,8 +30,6 @@ pub trait Processor {
         ensures unit { let before = state_of cpu.old (S.Storage.bytes storage.old) (S.Storage.keys storage.old) in
             let after = state_of cpu.new (S.Storage.bytes storage.new) (S.Storage.keys storage.new) in
             MeetsUnit (supervised before i ilc) (S.Storage.present storage.old) before result after }
-        ensures size { length (S.Storage.bytes storage.new) ≡ length (S.Storage.bytes storage.old) }
-        ensures present { S.Storage.present storage.new ≡ S.Storage.present storage.old }
         ensures rest { S.Storage.Keeps storage.old storage.new };
 
     /// Interrupts the processor, with this interruption code and length code. Page 0 is the error where it is not
@@ -47,8 +45,6 @@ pub trait Processor {
         ensures swap { let before = state_of cpu.old (S.Storage.bytes storage.old) (S.Storage.keys storage.old) in
             let after = state_of cpu.new (S.Storage.bytes storage.new) (S.Storage.keys storage.new) in
             MeetsSwap (swapped before class code ilc) (S.Storage.present storage.old) before result after }
-        ensures size { length (S.Storage.bytes storage.new) ≡ length (S.Storage.bytes storage.old) }
-        ensures present { S.Storage.present storage.new ≡ S.Storage.present storage.old }
         ensures rest { S.Storage.Keeps storage.old storage.new };
 }
 
@@ -89,8 +85,6 @@ fn instruct_control<P: Processor, S: Keyed>(
     ensures instruction { let before = configuration_of (state_of cpu.old (S.Storage.bytes storage.old) (S.Storage.keys storage.old)) subchannels.old in
         let after = configuration_of (state_of cpu.new (S.Storage.bytes storage.new) (S.Storage.keys storage.new)) subchannels.new in
         MeetsInstruction (S.Storage.present storage.old) before result after }
-    ensures size { length (S.Storage.bytes storage.new) ≡ length (S.Storage.bytes storage.old) }
-    ensures present { S.Storage.present storage.new ≡ S.Storage.present storage.old }
     ensures rest { S.Storage.Keeps storage.old storage.new }
 {
     let spare = *cpu;
@@ -120,8 +114,6 @@ pub fn instruct<P: Processor, S: Keyed>(
     ensures instruction { let before = configuration_of (state_of cpu.old (S.Storage.bytes storage.old) (S.Storage.keys storage.old)) subchannels.old in
         let after = configuration_of (state_of cpu.new (S.Storage.bytes storage.new) (S.Storage.keys storage.new)) subchannels.new in
         MeetsInstruction (S.Storage.present storage.old) before result after }
-    ensures size { length (S.Storage.bytes storage.new) ≡ length (S.Storage.bytes storage.old) }
-    ensures present { S.Storage.present storage.new ≡ S.Storage.present storage.old }
     ensures rest { S.Storage.Keeps storage.old storage.new }
 {
     let mut spare = *cpu;
@@ -140,8 +132,6 @@ pub(crate) fn instruct_saving<P: Processor, S: Keyed>(
     ensures instruction { let before = configuration_of (state_of cpu.old (S.Storage.bytes storage.old) (S.Storage.keys storage.old)) subchannels.old in
         let after = configuration_of (state_of cpu.new (S.Storage.bytes storage.new) (S.Storage.keys storage.new)) subchannels.new in
         MeetsInstruction (S.Storage.present storage.old) before result after }
-    ensures size { length (S.Storage.bytes storage.new) ≡ length (S.Storage.bytes storage.old) }
-    ensures present { S.Storage.present storage.new ≡ S.Storage.present storage.old }
     ensures rest { S.Storage.Keeps storage.old storage.new }
 {
     save(cpu, spare, storage);
@@ -189,8 +179,6 @@ fn follow<P: Processor, S: Keyed>(
     ensures followed { let before = configuration_of (state_of cpu.old (S.Storage.bytes storage.old) (S.Storage.keys storage.old)) subchannels.old in
         let after = configuration_of (state_of cpu.new (S.Storage.bytes storage.new) (S.Storage.keys storage.new)) subchannels.new in
         MeetsFollowed stop (S.Storage.present storage.old) before result after }
-    ensures size { length (S.Storage.bytes storage.new) ≡ length (S.Storage.bytes storage.old) }
-    ensures present { S.Storage.present storage.new ≡ S.Storage.present storage.old }
     ensures rest { S.Storage.Keeps storage.old storage.new }
 {
     match stop {
@@ -219,8 +207,6 @@ pub fn accept<P: Processor, S: Keyed>(
     ensures unit { let before = core_of (state_of cpu.old (S.Storage.bytes storage.old) (S.Storage.keys storage.old)) pending.old _subchannels.now in
         let after = core_of (state_of cpu.new (S.Storage.bytes storage.new) (S.Storage.keys storage.new)) pending.new _subchannels.now in
         MeetsUnitAt (next.Accepts taken) (S.Storage.present storage.old) before result after }
-    ensures size { length (S.Storage.bytes storage.new) ≡ length (S.Storage.bytes storage.old) }
-    ensures present { S.Storage.present storage.new ≡ S.Storage.present storage.old }
     ensures rest { S.Storage.Keeps storage.old storage.new }
 {
     P::interrupt(cpu, storage, Class::External, taken.code(), Ilc::ZERO)?;
@@ -241,8 +227,6 @@ pub fn accept_status<P: Processor, S: Keyed>(
     ensures status { let before = configuration_of (state_of cpu.old (S.Storage.bytes storage.old) (S.Storage.keys storage.old)) subchannels.old in
         let after = configuration_of (state_of cpu.new (S.Storage.bytes storage.new) (S.Storage.keys storage.new)) subchannels.new in
         MeetsPresented status (S.Storage.present storage.old) before result after }
-    ensures size { length (S.Storage.bytes storage.new) ≡ length (S.Storage.bytes storage.old) }
-    ensures present { S.Storage.present storage.new ≡ S.Storage.present storage.old }
     ensures rest { S.Storage.Keeps storage.old storage.new }
 {
     match store_csw(storage, status.csw) {

@@ -62,8 +62,6 @@ pub fn step_quickly<S: Storage>(
     ensures rights { let before = state_of cpu.old (S.bytes storage.old) (S.keys storage.old) in
         let after = state_of cpu.new (S.bytes storage.new) (S.keys storage.new) in
         rights_of after ≡ rights_of before }
-    ensures size { length (S.bytes storage.new) ≡ length (S.bytes storage.old) }
-    ensures present { S.present storage.new ≡ S.present storage.old }
     ensures rest { S.Keeps storage.old storage.new }
     ensures operands { AreHeld (S.IsPlaced storage.old) (length (S.bytes storage.old)) (S.keys storage.old) (S.present storage.old) cpu.old.psw.key held.new }
 {
@@ -96,8 +94,6 @@ fn step_found_quickly<S: Storage>(
     ensures rights { let before = state_of cpu.old (S.bytes storage.old) (S.keys storage.old) in
         let after = state_of cpu.new (S.bytes storage.new) (S.keys storage.new) in
         rights_of after ≡ rights_of before }
-    ensures size { length (S.bytes storage.new) ≡ length (S.bytes storage.old) }
-    ensures present { S.present storage.new ≡ S.present storage.old }
     ensures rest { S.Keeps storage.old storage.new }
     ensures operands { AreHeld (S.IsPlaced storage.old) (length (S.bytes storage.old)) (S.keys storage.old) (S.present storage.old) cpu.old.psw.key held.new }
 {
@@ -150,8 +146,6 @@ pub fn move_parts_quickly<S: Storage>(
     ensures within { result ≤ limit }
     ensures here { start ≡ cpu.new.psw.address }
     ensures stands { IsLongMoveAt (state_of cpu.new (S.bytes storage.new) (S.keys storage.new)) (S.present storage.new) start second_byte }
-    ensures size { length (S.bytes storage.new) ≡ length (S.bytes storage.old) }
-    ensures present { S.present storage.new ≡ S.present storage.old }
     ensures rest { S.Keeps storage.old storage.new }
 {
     move_long_quickly(cpu, storage, start, second_byte, limit)
@@ -184,8 +178,6 @@ fn carry_quickly<S: Storage, const CODE: u8>(
     ensures rights { let before = state_of cpu.old (S.bytes storage.old) (S.keys storage.old) in
         let after = state_of cpu.new (S.bytes storage.new) (S.keys storage.new) in
         rights_of after ≡ rights_of before }
-    ensures size { length (S.bytes storage.new) ≡ length (S.bytes storage.old) }
-    ensures present { S.present storage.new ≡ S.present storage.old }
     ensures rest { S.Keeps storage.old storage.new }
     ensures operands { AreHeld (S.IsPlaced storage.old) (length (S.bytes storage.old)) (S.keys storage.old) (S.present storage.old) cpu.old.psw.key held.new }
 {
@@ -222,8 +214,6 @@ fn finish_quickly<S: Storage, const CODE: u8>(
     ensures rights { let before = state_of cpu.old (S.bytes storage.old) (S.keys storage.old) in
         let after = state_of cpu.new (S.bytes storage.new) (S.keys storage.new) in
         rights_of after ≡ rights_of before }
-    ensures size { length (S.bytes storage.new) ≡ length (S.bytes storage.old) }
-    ensures present { S.present storage.new ≡ S.present storage.old }
     ensures rest { S.Keeps storage.old storage.new }
     ensures operands { AreHeld (S.IsPlaced storage.old) (length (S.bytes storage.old)) (S.keys storage.old) (S.present storage.old) cpu.old.psw.key held.new }
 {
@@ -269,8 +259,6 @@ fn perform_quickly<S: Storage, const CODE: u8>(
     ensures row { let before = state_of cpu.old (S.bytes storage.old) (S.keys storage.old) in
         let after = state_of cpu.new (S.bytes storage.new) (S.keys storage.new) in
         MeetsQuick (row_of before place i) (S.present storage.old) before result after }
-    ensures size { length (S.bytes storage.new) ≡ length (S.bytes storage.old) }
-    ensures present { S.present storage.new ≡ S.present storage.old }
     ensures rest { S.Keeps storage.old storage.new }
     ensures operands { AreHeld (S.IsPlaced storage.old) (length (S.bytes storage.old)) (S.keys storage.old) (S.present storage.old) cpu.old.psw.key held.new }
 {
@@ -321,8 +309,6 @@ fn store_quickly<S: Storage>(
     ensures row { let before = state_of cpu.now (S.bytes storage.old) (S.keys storage.old) in
         let after = state_of cpu.now (S.bytes storage.new) (S.keys storage.new) in
         MeetsQuick (word_stored before i) (S.present storage.old) before result after }
-    ensures size { length (S.bytes storage.new) ≡ length (S.bytes storage.old) }
-    ensures present { S.present storage.new ≡ S.present storage.old }
     ensures rest { S.Keeps storage.old storage.new }
     ensures operands { AreHeld (S.IsPlaced storage.old) (length (S.bytes storage.old)) (S.keys storage.old) (S.present storage.old) cpu.now.psw.key held.new }
 {
@@ -417,8 +403,6 @@ fn move_held<S: Storage>(cpu: &Cpu, storage: &mut S, i: Instruction, held: &mut 
     ensures still { let before = state_of cpu.now (S.bytes storage.old) (S.keys storage.old) in
         let after = state_of cpu.now (S.bytes storage.new) (S.keys storage.new) in
         result ≡ false → after ≡ before }
-    ensures size { length (S.bytes storage.new) ≡ length (S.bytes storage.old) }
-    ensures present { S.present storage.new ≡ S.present storage.old }
     ensures rest { S.Keeps storage.old storage.new }
     ensures operands { AreHeld (S.IsPlaced storage.old) (length (S.bytes storage.old)) (S.keys storage.old) (S.present storage.old) cpu.now.psw.key held.new }
 {
@@ -449,8 +433,6 @@ fn move_quickly<S: Storage>(cpu: &mut Cpu, storage: &mut S, i: Instruction, held
     ensures still { let before = state_of cpu.old (S.bytes storage.old) (S.keys storage.old) in
         let after = state_of cpu.new (S.bytes storage.new) (S.keys storage.new) in
         result ≡ false → after ≡ before }
-    ensures size { length (S.bytes storage.new) ≡ length (S.bytes storage.old) }
-    ensures present { S.present storage.new ≡ S.present storage.old }
     ensures rest { S.Keeps storage.old storage.new }
     ensures operands { AreHeld (S.IsPlaced storage.old) (length (S.bytes storage.old)) (S.keys storage.old) (S.present storage.old) cpu.old.psw.key held.new }
 {
@@ -477,8 +459,6 @@ fn move_apart<S: Storage>(
     ensures still { let before = state_of cpu.old (S.bytes storage.old) (S.keys storage.old) in
         let after = state_of cpu.new (S.bytes storage.new) (S.keys storage.new) in
         result ≡ false → after ≡ before }
-    ensures size { length (S.bytes storage.new) ≡ length (S.bytes storage.old) }
-    ensures present { S.present storage.new ≡ S.present storage.old }
     ensures rest { S.Keeps storage.old storage.new }
 {
     let i = Instruction {

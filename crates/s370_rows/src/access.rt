@@ -58,9 +58,7 @@ pub fn copy_granted<S: Storage>(cpu: &Cpu, storage: &mut S, from: u32, to: u32, 
         result ≡ true → Grants m (S.present storage.old) (test_of Store to count ∷ test_of Fetch from count ∷ []) (Ok tt) }
     ensures moved { result ≡ true → S.bytes storage.new ≡ put (S.bytes storage.old) to (slice_range (S.bytes storage.old) from (from + count)) }
     ensures still { result ≡ false → S.bytes storage.new ≡ S.bytes storage.old }
-    ensures size { length (S.bytes storage.new) ≡ length (S.bytes storage.old) }
     ensures keys { S.keys storage.new ≡ S.keys storage.old }
-    ensures present { S.present storage.new ≡ S.present storage.old }
     ensures rest { S.Keeps storage.old storage.new }
 {
     storage.copy_at_once(from, to, count, cpu.psw.key())

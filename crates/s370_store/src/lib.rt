@@ -143,9 +143,7 @@ pub trait Storage {
         requires begins { block.first ≤ start }
         requires ends { start + length from.now ≤ block.first + 2048 }
         ensures bytes { bytes self.new ≡ put (bytes self.old) start from.now }
-        ensures size { length (bytes self.new) ≡ length (bytes self.old) }
         ensures keys { keys self.new ≡ keys self.old }
-        ensures present { present self.new ≡ present self.old }
         ensures rest { Keeps self.old self.new };
 
     /// Copies at most 256 bytes, one at least, from one block that was found into another or the same, as if all were read before
@@ -161,9 +159,7 @@ pub trait Storage {
         requires target_begins { target.first ≤ to }
         requires target_ends { to + count ≤ target.first + 2048 }
         ensures bytes { bytes self.new ≡ put (bytes self.old) to (slice_range (bytes self.old) from (from + count)) }
-        ensures size { length (bytes self.new) ≡ length (bytes self.old) }
         ensures keys { keys self.new ≡ keys self.old }
-        ensures present { present self.new ≡ present self.old }
         ensures rest { Keeps self.old self.new }
     {
         let mut buffer = [0u8; 256];
@@ -183,9 +179,7 @@ pub trait Storage {
         requires granted { IsGranted (length (bytes self.old)) (present self.old) start (length from.now) }
         requires short { length from.now ≤ 256 }
         ensures bytes { bytes self.new ≡ put (bytes self.old) start from.now }
-        ensures size { length (bytes self.new) ≡ length (bytes self.old) }
         ensures keys { keys self.new ≡ keys self.old }
-        ensures present { present self.new ≡ present self.old }
         ensures rest { Keeps self.old self.new };
 
     /// Copies at most 256 bytes from one place to another, which `check` has granted, as if all were read before any is
@@ -195,9 +189,7 @@ pub trait Storage {
         requires target { IsGranted (length (bytes self.old)) (present self.old) to count }
         requires short { count ≤ 256 }
         ensures bytes { bytes self.new ≡ put (bytes self.old) to (slice_range (bytes self.old) from (from + count)) }
-        ensures size { length (bytes self.new) ≡ length (bytes self.old) }
         ensures keys { keys self.new ≡ keys self.old }
-        ensures present { present self.new ≡ present self.old }
         ensures rest { Keeps self.old self.new }
     {
         let mut buffer = [0u8; 256];
@@ -214,9 +206,7 @@ pub trait Storage {
         ensures granted { result ≡ true → IsVerdict (length (bytes self.old)) (keys self.old) (present self.old) key (test_of Store to count ∷ test_of Fetch from count ∷ []) (Ok tt) }
         ensures moved { result ≡ true → bytes self.new ≡ put (bytes self.old) to (slice_range (bytes self.old) from (from + count)) }
         ensures still { result ≡ false → bytes self.new ≡ bytes self.old }
-        ensures size { length (bytes self.new) ≡ length (bytes self.old) }
         ensures keys { keys self.new ≡ keys self.old }
-        ensures present { present self.new ≡ present self.old }
         ensures rest { Keeps self.old self.new }
     {
         if count == 0 || count > 256 {
@@ -241,11 +231,17 @@ pub trait Storage {
     /// All is kept where nothing changes.
     ghost keeps_same: { (s : Self) → Keeps s s };
 
+    /// What is kept has as many bytes.
+    ghost keeps_size: { (s t : Self) → Keeps s t → length (bytes t) ≡ length (bytes s) };
+
+    /// What is kept has the same pages present.
+    ghost keeps_present: { (s t : Self) → Keeps s t → present t ≡ present s };
+
     /// What is kept twice is kept.
     ghost keeps_on: { (s t u : Self) → Keeps s t → Keeps t u → Keeps s u };
 
     /// What is stored moves no block.
-    ghost placed_kept: { (s t : Self) (block : Block) → length (bytes t) ≡ length (bytes s) → Keeps s t → IsPlaced s block → IsPlaced t block };
+    ghost placed_kept: { (s t : Self) (block : Block) → Keeps s t → IsPlaced s block → IsPlaced t block };
 }
 
 /// A storage whose keys can be read and set one by one, as a storage with fixed keys can't.
@@ -260,6 +256,5 @@ pub trait Keyed: Storage {
         requires { block < length (Self.keys self.old) }
         ensures bytes { Self.bytes self.new ≡ Self.bytes self.old }
         ensures keys { Self.keys self.new ≡ slice_set (Self.keys self.old) block key }
-        ensures present { Self.present self.new ≡ Self.present self.old }
         ensures rest { Self.Keeps self.old self.new };
 }

@@ -53,7 +53,8 @@ impl PagedStorage {
 }
 
 impl Storage for PagedStorage {
-    ghost use Rattle.s370_store.specs.Paged.{paged_bytes, paged_keys, is_present, paged_placed_kept};
+    ghost use Rattle.std.specs.Prelude.{refl};
+    ghost use Rattle.s370_store.specs.Paged.{paged_bytes, paged_keys, is_present, PagedKeeps, paged_keeps_on, paged_keeps_present, paged_placed_kept};
 
     ghost bytes = { paged_bytes };
 
@@ -61,7 +62,7 @@ impl Storage for PagedStorage {
 
     ghost present = { is_present };
 
-    ghost Keeps = { λ _ _. Unit {0} };
+    ghost Keeps = { PagedKeeps };
 
     ghost IsPlaced = { λ s block. block.first + 2048 ≤ length (paged_bytes s) };
 
@@ -122,9 +123,13 @@ impl Storage for PagedStorage {
         put_at(&mut self.bytes, start as usize, from);
     }
 
-    ghost keeps_same = { λ s. tt };
+    ghost keeps_same = { λ s. record { size = refl; flags = refl } };
 
-    ghost keeps_on = { λ s t u a b. tt };
+    ghost keeps_size = { λ s t kept. kept.size };
+
+    ghost keeps_present = { paged_keeps_present };
+
+    ghost keeps_on = { paged_keeps_on };
 
     ghost placed_kept = { paged_placed_kept };
 }

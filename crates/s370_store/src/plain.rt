@@ -57,7 +57,8 @@ impl PlainStorage {
 }
 
 impl Storage for PlainStorage {
-    ghost use Rattle.s370_store.specs.Plain.{plain_bytes, plain_keys, plain_placed_kept};
+    ghost use Rattle.std.specs.Prelude.{refl};
+    ghost use Rattle.s370_store.specs.Plain.{plain_bytes, plain_keys, PlainKeeps, plain_keeps_on, plain_placed_kept};
 
     ghost bytes = { plain_bytes };
 
@@ -65,7 +66,7 @@ impl Storage for PlainStorage {
 
     ghost present = { λ _ _. true };
 
-    ghost Keeps = { λ _ _. Unit {0} };
+    ghost Keeps = { PlainKeeps };
 
     ghost IsPlaced = { λ s block. block.first + 2048 ≤ length (plain_bytes s) };
 
@@ -151,9 +152,13 @@ impl Storage for PlainStorage {
         copy_at(&mut self.bytes, from as usize, to as usize, count as usize);
     }
 
-    ghost keeps_same = { λ s. tt };
+    ghost keeps_same = { λ s. refl };
 
-    ghost keeps_on = { λ s t u a b. tt };
+    ghost keeps_size = { λ s t kept. kept };
+
+    ghost keeps_present = { λ s t kept. refl };
+
+    ghost keeps_on = { plain_keeps_on };
 
     ghost placed_kept = { plain_placed_kept };
 }

@@ -84,9 +84,7 @@ pub fn load_doubleword<S: Storage>(storage: &S, start: u32) -> u64
 pub fn store_byte<S: Storage>(storage: &mut S, start: u32, byte: u8)
     requires { IsGranted (length (S.bytes storage.old)) (S.present storage.old) start 1 }
     ensures bytes { S.bytes storage.new ≡ put (S.bytes storage.old) start (byte ∷ []) }
-    ensures size { length (S.bytes storage.new) ≡ length (S.bytes storage.old) }
     ensures keys { S.keys storage.new ≡ S.keys storage.old }
-    ensures present { S.present storage.new ≡ S.present storage.old }
     ensures rest { S.Keeps storage.old storage.new }
 {
     storage.store(start, &[byte]);
@@ -97,9 +95,7 @@ pub fn store_byte<S: Storage>(storage: &mut S, start: u32, byte: u8)
 pub fn store_halfword<S: Storage>(storage: &mut S, start: u32, halfword: u16)
     requires { IsGranted (length (S.bytes storage.old)) (S.present storage.old) start 2 }
     ensures bytes { S.bytes storage.new ≡ put (S.bytes storage.old) start (to_be_bytes w16 halfword) }
-    ensures size { length (S.bytes storage.new) ≡ length (S.bytes storage.old) }
     ensures keys { S.keys storage.new ≡ S.keys storage.old }
-    ensures present { S.present storage.new ≡ S.present storage.old }
     ensures rest { S.Keeps storage.old storage.new }
 {
     storage.store(start, &halfword.to_be_bytes());
@@ -110,9 +106,7 @@ pub fn store_halfword<S: Storage>(storage: &mut S, start: u32, halfword: u16)
 pub fn store_word<S: Storage>(storage: &mut S, start: u32, word: u32)
     requires { IsGranted (length (S.bytes storage.old)) (S.present storage.old) start 4 }
     ensures bytes { S.bytes storage.new ≡ put (S.bytes storage.old) start (to_be_bytes w32 word) }
-    ensures size { length (S.bytes storage.new) ≡ length (S.bytes storage.old) }
     ensures keys { S.keys storage.new ≡ S.keys storage.old }
-    ensures present { S.present storage.new ≡ S.present storage.old }
     ensures rest { S.Keeps storage.old storage.new }
 {
     storage.store(start, &word.to_be_bytes());
@@ -125,9 +119,7 @@ pub fn store_word_in<S: Storage>(storage: &mut S, block: Block, start: u32, word
     requires begins { block.first ≤ start }
     requires ends { start + 4 ≤ block.first + 2048 }
     ensures bytes { S.bytes storage.new ≡ put (S.bytes storage.old) start (to_be_bytes w32 word) }
-    ensures size { length (S.bytes storage.new) ≡ length (S.bytes storage.old) }
     ensures keys { S.keys storage.new ≡ S.keys storage.old }
-    ensures present { S.present storage.new ≡ S.present storage.old }
     ensures rest { S.Keeps storage.old storage.new }
 {
     storage.store_in(block, start, &word.to_be_bytes());
@@ -138,9 +130,7 @@ pub fn store_word_in<S: Storage>(storage: &mut S, block: Block, start: u32, word
 pub fn store_doubleword<S: Storage>(storage: &mut S, start: u32, doubleword: u64)
     requires { IsGranted (length (S.bytes storage.old)) (S.present storage.old) start 8 }
     ensures bytes { S.bytes storage.new ≡ put (S.bytes storage.old) start (to_be_bytes w64 doubleword) }
-    ensures size { length (S.bytes storage.new) ≡ length (S.bytes storage.old) }
     ensures keys { S.keys storage.new ≡ S.keys storage.old }
-    ensures present { S.present storage.new ≡ S.present storage.old }
     ensures rest { S.Keeps storage.old storage.new }
 {
     storage.store(start, &doubleword.to_be_bytes());

@@ -94,7 +94,7 @@ impl<'a> Storage for Lent<'a> {
 
     ghost present = { λ _ _. true };
 
-    ghost Keeps = { λ old new. (new.shared.ghost_name ≡ old.shared.ghost_name) × (new.user ≡ old.user) × ((other : ℕ) → other ≢ old.user → slice_index_or new.shared.now.bytes other [] ≡ slice_index_or old.shared.now.bytes other []) × ((other : ℕ) → other ≢ old.user → slice_index_or new.shared.now.keys other [] ≡ slice_index_or old.shared.now.keys other []) };
+    ghost Keeps = { λ old new. (new.shared.ghost_name ≡ old.shared.ghost_name) × (new.user ≡ old.user) × ((other : ℕ) → other ≢ old.user → slice_index_or new.shared.now.bytes other [] ≡ slice_index_or old.shared.now.bytes other []) × ((other : ℕ) → other ≢ old.user → slice_index_or new.shared.now.keys other [] ≡ slice_index_or old.shared.now.keys other []) × (length (slice_index_or new.shared.now.bytes new.user []) ≡ length (slice_index_or old.shared.now.bytes old.user [])) };
 
     ghost IsPlaced = { λ s block. block.first + 2048 ≤ 4096 };
 
@@ -144,11 +144,15 @@ impl<'a> Storage for Lent<'a> {
         self.shared.put(self.user, start, from);
     }
 
-    ghost keeps_same = { λ s. (refl, refl, λ other ne. refl, λ other ne. refl) };
+    ghost keeps_same = { λ s. (refl, refl, λ other ne. refl, λ other ne. refl, refl) };
 
-    ghost placed_kept = { λ s t block e k h. h };
+    ghost keeps_size = { λ s t k. k.4 };
 
-    ghost keeps_on = { λ s t u a b. (b.0 ∙ a.0, b.1 ∙ a.1, λ other ne. b.2 other (λ e. ne (e ∙ a.1)) ∙ a.2 other ne, λ other ne. b.3 other (λ e. ne (e ∙ a.1)) ∙ a.3 other ne) };
+    ghost keeps_present = { λ s t k. refl };
+
+    ghost placed_kept = { λ s t block k h. h };
+
+    ghost keeps_on = { λ s t u a b. (b.0 ∙ a.0, b.1 ∙ a.1, λ other ne. b.2 other (λ e. ne (e ∙ a.1)) ∙ a.2 other ne, λ other ne. b.3 other (λ e. ne (e ∙ a.1)) ∙ a.3 other ne, b.4 ∙ a.4) };
 }
 
 impl<'a> Keyed for Lent<'a> {

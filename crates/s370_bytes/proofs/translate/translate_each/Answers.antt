@@ -5,24 +5,22 @@ use Rattle.s370_bytes.proofs.translate.translate_each.Goals as goal
 
 pub load_byte-name-requires : goal.load_byte-name-requires
 load_byte-name-requires g c =
-    rw (c.loop-k.invariant.size, c.loop-k.invariant.present) (granted_one _ _ _ _ c.loop-k.k c.requires.target (omega arith))
+    rw (g.met.S.Storage.keeps_size _ _ c.loop-k.invariant.rest, g.met.S.Storage.keeps_present _ _ c.loop-k.invariant.rest) (granted_one _ _ _ _ c.loop-k.k c.requires.target (omega arith))
 
 pub load_byte-byte-requires : goal.load_byte-byte-requires
 load_byte-byte-requires g c =
-    rw (c.loop-k.invariant.size, c.loop-k.invariant.present) (granted_one _ _ _ _ c.load_byte-name.result c.requires.table (omega arith))
+    rw (g.met.S.Storage.keeps_size _ _ c.loop-k.invariant.rest, g.met.S.Storage.keeps_present _ _ c.loop-k.invariant.rest) (granted_one _ _ _ _ c.load_byte-name.result c.requires.table (omega arith))
 
 pub store_byte-requires : goal.store_byte-requires
 store_byte-requires g c =
-    rw (c.loop-k.invariant.size, c.loop-k.invariant.present) (granted_one _ _ _ _ c.loop-k.k c.requires.target (omega arith))
+    rw (g.met.S.Storage.keeps_size _ _ c.loop-k.invariant.rest, g.met.S.Storage.keeps_present _ _ c.loop-k.invariant.rest) (granted_one _ _ _ _ c.loop-k.k c.requires.target (omega arith))
 
 pub loop-k-preserved : goal.loop-k-preserved
 loop-k-preserved g c =
-    let inside : c.args.to + c.loop-k.k < length (g.S.Storage.bytes c.loop-k.storage) = rw c.loop-k.invariant.size (omega (arith, c.requires.target.inside)) in
+    let inside : c.args.to + c.loop-k.k < length (g.S.Storage.bytes c.loop-k.storage) = rw g.met.S.Storage.keeps_size _ _ c.loop-k.invariant.rest (omega (arith, c.requires.target.inside)) in
     record {
       bytes = c.store_byte.ensures.bytes ∙ one_translated _ _ _ _ _ _ _ inside c.loop-k.invariant.bytes c.load_byte-name.ensures c.load_byte-byte.ensures;
-      size = c.store_byte.ensures.size ∙ c.loop-k.invariant.size;
       keys = c.store_byte.ensures.keys ∙ c.loop-k.invariant.keys;
-      present = c.store_byte.ensures.present ∙ c.loop-k.invariant.present;
       rest = g.met.S.Storage.keeps_on _ _ _ c.loop-k.invariant.rest c.store_byte.ensures.rest;
     }
 

@@ -1,12 +1,10 @@
-use Rattle.std.proofs.Common.{◌≡◌, length}
+use Rattle.std.proofs.Common.{◌≡◌}
 use Rattle.s370_bytes.specs.Translate.{translated}
 use Rattle.s370_bytes.proofs.translate.translate_each.Given as goal
 
 abbrev pub invariant-loop-k : goal.invariant-loop-k
 invariant-loop-k g l = record {
   bytes : g.S.Storage.bytes l.storage ≡ translated (g.S.Storage.bytes l.fn.storage) l.to l.table l.k;
-  size : length (g.S.Storage.bytes l.storage) ≡ length (g.S.Storage.bytes l.fn.storage);
   keys : g.S.Storage.keys l.storage ≡ g.S.Storage.keys l.fn.storage;
-  present : g.S.Storage.present l.storage ≡ g.S.Storage.present l.fn.storage;
   rest : g.S.Storage.Keeps l.fn.storage l.storage;
 }

@@ -24,4 +24,4 @@ returns-in-At-clause-stuck g c =
     let m = memory_of (g.S.Storage.bytes c.args.storage.now) (g.S.Storage.keys c.args.storage.now) in
     let n = memory_of (g.S.Storage.bytes c.begin.new.storage) (g.S.Storage.keys c.begin.new.storage) in
     let P : Spot → Type 0 = λ s. Reaches form h (entered h s implied_word None m c.args.device.now) (Fetching c.in-At.spot n c.begin.new.device) in
-    then_stuck (g.F.WordForm.written c.args.program.now) g.D.Device.machine g.D.Device.needs_memory m c.args.device.now c.go_on.result (subst P c.first_spot.ensures (reach_word c.in-At.is c.in_ok-spot.ensures.reaches)) c.in_ok-spot.ensures.present c.go_on.ensures.stuck
+    then_stuck (g.F.WordForm.written c.args.program.now) g.D.Device.machine g.D.Device.needs_memory m c.args.device.now c.go_on.result (subst P c.first_spot.ensures (reach_word c.in-At.is c.in_ok-spot.ensures.reaches)) (g.met.S.Storage.keeps_present _ _ c.in_ok-spot.ensures.rest) c.go_on.ensures.stuck

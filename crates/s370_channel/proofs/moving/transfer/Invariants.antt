@@ -9,7 +9,6 @@ invariant-bytes g l = record {
   reaches : Reaches (live (g.F.WordForm.written l.fn.program)) (setting g.D.Device.machine l.fn.limits) (Moving l.fn.position (memory_of (g.S.Storage.bytes l.fn.storage) (g.S.Storage.keys l.fn.storage)) l.fn.device) (Moving l.p (memory_of (g.S.Storage.bytes l.storage) (g.S.Storage.keys l.storage)) l.device);
   present : g.S.Storage.present l.storage ≡ g.S.Storage.present l.fn.storage;
   keys : g.S.Storage.keys l.storage ≡ g.S.Storage.keys l.fn.storage;
-  size : length (g.S.Storage.bytes l.storage) ≡ length (g.S.Storage.bytes l.fn.storage);
   rest : g.S.Storage.Keeps l.fn.storage l.storage;
   started : l.p.started ≡ l.fn.position.started;
   step : l.p.count + l.fn.position.transfer.left ≡ l.fn.position.count + l.p.transfer.left;

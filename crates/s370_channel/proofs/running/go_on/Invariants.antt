@@ -7,9 +7,7 @@ use Rattle.s370_channel.proofs.running.go_on.Given as goal
 abbrev pub invariant-words : goal.invariant-words
 invariant-words g l = record {
   reaches : Reaches (live (g.F.WordForm.written l.fn.program)) (setting g.D.Device.machine l.fn.limits) (Fetching l.fn.from (memory_of (g.S.Storage.bytes l.fn.storage) (g.S.Storage.keys l.fn.storage)) l.fn.device) (Fetching l.spot (memory_of (g.S.Storage.bytes l.storage) (g.S.Storage.keys l.storage)) l.device);
-  present : g.S.Storage.present l.storage ≡ g.S.Storage.present l.fn.storage;
   keys : g.S.Storage.keys l.storage ≡ g.S.Storage.keys l.fn.storage;
-  size : length (g.S.Storage.bytes l.storage) ≡ length (g.S.Storage.bytes l.fn.storage);
   rest : g.S.Storage.Keeps l.fn.storage l.storage;
 }
 

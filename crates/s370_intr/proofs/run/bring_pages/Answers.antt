@@ -32,7 +32,7 @@ loop-page-preserved g c =
         all_needed _ s.0 (page ∷ []) s.2 (need, tt),
         distinct_more s.0 page s.3 is_new,
       );
-      size = ap length c.bring.ensures.bytes ∙ c.try_unit.ensures.size ∙ c.loop-page.invariant.size;
+      size = ap length c.bring.ensures.bytes ∙ g.met.S.Storage.keeps_size _ _ c.try_unit.ensures.rest ∙ c.loop-page.invariant.size;
     }
 
 pub returns-in_err-bring-in-Err-clause-supply : goal.returns-in_err-bring-in-Err-clause-supply

@@ -14,14 +14,13 @@ loop-units-preserved g c =
       here = c.in-Some-step_quickly.ensures.next;
       key = c.loop-units.invariant.key ∙ sym (ap (λ (r : Rights). r.key) c.step_quickly.ensures.rights);
       low = c.in-Some-block_of.ensures.low;
-      may_fetch = still_accesses c.key-key.result c.in-Some-block_of.found.first (c.step_quickly.ensures.size) (ap (λ (r : Rights). r.keys) c.step_quickly.ensures.rights) c.step_quickly.ensures.present c.in-Some-block_of.ensures.may_fetch;
-      placed = g.met.S.Storage.placed_kept _ _ c.in-Some-block_of.found c.step_quickly.ensures.size c.step_quickly.ensures.rest c.in-Some-block_of.ensures.placed;
-      operands = still_held c.key-key.result c.step_quickly.new.held (λ block kept. g.met.S.Storage.placed_kept _ _ block c.step_quickly.ensures.size c.step_quickly.ensures.rest kept) (c.step_quickly.ensures.size) (ap (λ (r : Rights). r.keys) c.step_quickly.ensures.rights) c.step_quickly.ensures.present (rw (sym c.loop-units.invariant.key) at c.step_quickly.ensures.operands);
+      may_fetch = still_accesses c.key-key.result c.in-Some-block_of.found.first (g.met.S.Storage.keeps_size _ _ c.step_quickly.ensures.rest) (ap (λ (r : Rights). r.keys) c.step_quickly.ensures.rights) (g.met.S.Storage.keeps_present _ _ c.step_quickly.ensures.rest) c.in-Some-block_of.ensures.may_fetch;
+      placed = g.met.S.Storage.placed_kept _ _ c.in-Some-block_of.found c.step_quickly.ensures.rest c.in-Some-block_of.ensures.placed;
+      operands = still_held c.key-key.result c.step_quickly.new.held (λ block kept. g.met.S.Storage.placed_kept _ _ block c.step_quickly.ensures.rest kept) (g.met.S.Storage.keeps_size _ _ c.step_quickly.ensures.rest) (ap (λ (r : Rights). r.keys) c.step_quickly.ensures.rights) (g.met.S.Storage.keeps_present _ _ c.step_quickly.ensures.rest) (rw (sym c.loop-units.invariant.key) at c.step_quickly.ensures.operands);
       done = λ pending list e.
           (let before = c.loop-units.invariant.done pending list e in
           let step : core_of m' pending list ≡ unit_at (look (core_of m pending list)) (core_of m pending list) = rw before.1 (done_unit m m' pending list (c.in-Some-step_quickly.ensures.done)) in
           (does_more c.loop-units.units (core_of m0 pending list) (core_of m pending list) (core_of m' pending list) before.0 (subst Goes (sym before.1) tt) step, looks_same m m' pending list c.step_quickly.ensures.rights ∙ before.1));
-      size = c.step_quickly.ensures.size ∙ c.loop-units.invariant.size;
       rest = g.met.S.Storage.keeps_on _ _ _ c.loop-units.invariant.rest c.step_quickly.ensures.rest;
     }
 

@@ -17,6 +17,5 @@ invariant-loop-units g l =
       placed : g.S.Storage.IsPlaced l.storage l.block;
       operands : AreHeld (g.S.Storage.IsPlaced l.storage) (length (g.S.Storage.bytes l.storage)) (g.S.Storage.keys l.storage) (g.S.Storage.present l.storage) l.key l.held;
       done : DoesInstructions l.units m0 m;
-      size : length (g.S.Storage.bytes l.storage) ≡ length (g.S.Storage.bytes l.fn.storage);
       rest : g.S.Storage.Keeps l.fn.storage l.storage;
     }

@@ -1,4 +1,4 @@
-use Rattle.std.proofs.Common.{◌∙◌, arith}
+use Rattle.std.proofs.Common.{arith}
 use Rattle.s370_rows.specs.State.{state_of}
 use Rattle.s370_intr.specs.Units.{core_of}
 use Rattle.s370_intr.proofs.Runs.{does_many, units_done}
@@ -17,6 +17,5 @@ loop-units-preserved g c =
           (let before = c.loop-units.invariant.done pending list e in
           let parts = units_done c.move_parts_quickly-parts.result (g.S.Storage.present c.loop-units.storage) m m' pending list c.move_parts_quickly-parts.ensures.done before.1 in
           (does_many c.loop-units.units c.move_parts_quickly-parts.result (core_of m0 pending list) (core_of m pending list) (core_of m' pending list) before.0 parts.0, parts.1));
-      size = c.move_parts_quickly-parts.ensures.size ∙ c.loop-units.invariant.size;
       rest = g.met.S.Storage.keeps_on _ _ _ c.loop-units.invariant.rest c.move_parts_quickly-parts.ensures.rest;
     }

@@ -1,4 +1,4 @@
-use Rattle.std.proofs.Common.{◌≡◌, ◌-◌, ◌≤◌, length}
+use Rattle.std.proofs.Common.{◌≡◌, ◌-◌, ◌≤◌}
 use Rattle.s370_rows.specs.State.{state_of}
 use Rattle.s370_quick.specs.Quick.{IsLongMoveAt}
 use Rattle.s370_intr.specs.Run.{DoesInstructions}
@@ -13,7 +13,6 @@ invariant-loop-units g l =
       here : l.fn.start ≡ m.cpu.psw.address;
       stands : IsLongMoveAt m (g.S.Storage.present l.storage) l.fn.start l.fn.second_byte;
       done : DoesInstructions l.units m0 m;
-      size : length (g.S.Storage.bytes l.storage) ≡ length (g.S.Storage.bytes l.fn.storage);
       rest : g.S.Storage.Keeps l.fn.storage l.storage;
     }
 

@@ -39,7 +39,7 @@ loop-units-init g c =
       supply = (replicate n [], g.met.S.UnitSupply.came_none _ _ n c.requires.between c.go_quickly-units.ensures.rest, each_none first 0 n, length-replicate n []);
       between = g.met.S.UnitSupply.between_kept _ _ c.go_quickly-units.ensures.rest c.requires.between;
       plain = λ bytes keys is_it. quick.1 is_it;
-      size = c.go_quickly-units.ensures.size;
+      size = g.met.S.Storage.keeps_size _ _ c.go_quickly-units.ensures.rest;
     }
 
 pub returns-in-Stops-clause-told : goal.returns-in-Stops-clause-told
@@ -110,5 +110,5 @@ loop-units-preserved g c =
       );
       between = g.met.S.UnitSupply.between_kept _ _ c.go_quickly-units-in-loop-units.ensures.rest c.in-Ok.ensures.between;
       plain = λ bytes keys is_it. quick.1 is_it;
-      size = c.go_quickly-units-in-loop-units.ensures.size ∙ (c.in-Ok.ensures.size ∙ c.loop-units.invariant.size);
+      size = g.met.S.Storage.keeps_size _ _ c.go_quickly-units-in-loop-units.ensures.rest ∙ (c.in-Ok.ensures.size ∙ c.loop-units.invariant.size);
     }

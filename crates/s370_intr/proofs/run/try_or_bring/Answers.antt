@@ -12,7 +12,7 @@ returns-in-Ok-clause-between g c = g.met.S.UnitSupply.between_kept _ _ c.try_uni
 
 pub bring_for_unit-requires : goal.bring_for_unit-requires
 bring_for_unit-requires g c = record {
-  large = rw c.try_unit.ensures.size c.requires.large;
+  large = rw (g.met.S.Storage.keeps_size _ _ c.try_unit.ensures.rest) c.requires.large;
   between = g.met.S.UnitSupply.between_kept _ _ c.try_unit.ensures.rest c.requires.between;
 }
 

@@ -1,4 +1,3 @@
-use Rattle.std.proofs.Common.{◌∙◌}
 use Rattle.s370_rows.specs.State.{state_of}
 use Rattle.s370_cpu.specs.Unit.{MeetsUnit}
 use Rattle.s370_cpu.specs.Table.{unit}
@@ -17,8 +16,6 @@ returns-in-Err g c =
     let after = g.S.Storage.present c.control-stop.new.storage in
     let whole : MeetsUnit (unit m) before m c.control-stop.result m1 = handed_back m m m1 c.args.i c.args.ilc c.control-stop.result before c.requires.handed c.control-stop.ensures.unit in
     record {
-      instruction = following_misses m m1 devices (configuration_of m2 c.follow.new.subchannels) before after c.control-stop.result c.in-Err.page whole c.control-stop.ensures.present c.in-Err.ensures.followed;
-      size = c.follow.ensures.size ∙ c.control-stop.ensures.size;
-      present = c.follow.ensures.present ∙ c.control-stop.ensures.present;
+      instruction = following_misses m m1 devices (configuration_of m2 c.follow.new.subchannels) before after c.control-stop.result c.in-Err.page whole (g.met.S.Storage.keeps_present _ _ c.control-stop.ensures.rest) c.in-Err.ensures.followed;
       rest = g.met.S.Storage.keeps_on _ _ _ c.control-stop.ensures.rest c.follow.ensures.rest;
     }
