@@ -1,5 +1,5 @@
 -- What an instruction may answer that is done only where nothing keeps it from being done.
-use Rattle.std.specs.Prelude.{◌≡◌, ℕ, zero, suc, ◌+◌, ◌%◌, ◌<◌, ◌≤◌, Bool, true, false, List, length, slice_index, Option, Some, None, Ok}
+use Rattle.std.specs.Prelude.{◌≡◌, ℕ, zero, suc, ◌+◌, ◌%◌, ◌<◌, ◌≤◌, Bool, true, false, List, length, slice_index, Option, Some, None, Ok, IfSome, IfNone}
 use Rattle.s370_store.specs.Blocks.{MayAccess, MayFetch}
 use Rattle.s370_store.specs.declared.Access.{Access}
 use Rattle.s370_store.specs.declared.Access.TheVariants.{Fetch, Store}
@@ -38,6 +38,13 @@ abbrev pub MeetsQuick : Row → (ℕ → Bool) → State → Option Ending → S
 MeetsQuick r present old None new = new ≡ old
 MeetsQuick r present old (Some ending) new =
     MeetsRow r present old (Ok ending) new × GoesOn ending × (rights_of new ≡ rights_of old)
+
+-- a step that was done is the unit, and answers where the next one begins; else nothing is changed; and nobody's rights change
+pub record StepsQuickly (present : ℕ → Bool) (old : State) (result : Option ℕ) (new : State) : Type 0 where
+  pub done : IfSome result (λ _. MeetsUnit (unit old) present old DoneStop new)
+  pub next : IfSome result (λ next. next ≡ new.cpu.psw.address)
+  pub still : IfNone result (new ≡ old)
+  pub rights : rights_of new ≡ rights_of old
 
 -- an MVCL with this second byte stands at an address, and the key of the PSW lets it be fetched there
 pub record IsLongMoveAt (m : State) (present : ℕ → Bool) (start second_byte : ℕ) : Type 0 where

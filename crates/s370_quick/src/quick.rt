@@ -1,5 +1,5 @@
 //! The most frequent instructions, each done in one go where nothing keeps it from being done.
-ghost use Rattle.std.specs.Prelude.{◌≡◌, ℕ, ◌+◌, ◌%◌, ◌<◌, ◌≤◌, [], ◌∷◌, Ok, IfSome, IfNone, true, false, length, slice_index};
+ghost use Rattle.std.specs.Prelude.{◌≡◌, ℕ, ◌+◌, ◌%◌, ◌<◌, ◌≤◌, [], ◌∷◌, Ok, true, false, length, slice_index};
 ghost use Rattle.s370_store.specs.Blocks.{MayFetch};
 ghost use Rattle.s370_rows.specs.State.{state_of};
 ghost use Rattle.s370_cpu.specs.declared.conclude.Stop.TheVariants as stops;
@@ -11,10 +11,9 @@ ghost use Rattle.s370_bytes.specs.declared.combine.Combine.TheVariants as combin
 ghost use Rattle.s370_rows.specs.Rows.{Grants, MeetsRow};
 ghost use Rattle.s370_rows.specs.declared.instruction.Instruction.{Instruction};
 ghost use Rattle.s370_rows.specs.declared.ending.Ending.TheVariants as endings;
-ghost use Rattle.s370_cpu.specs.Laws.{rights_of};
-ghost use Rattle.s370_quick.specs.Quick.{AreHeld, DoesUnits, GoesOn, IsHeld, IsLongMoveAt, MeetsAtOnce, MeetsQuick, whole_of};
-ghost use Rattle.s370_cpu.specs.Table.{row_of, unit};
-ghost use Rattle.s370_cpu.specs.Unit.{Carries, MeetsUnit, place_at, stopped};
+ghost use Rattle.s370_quick.specs.Quick.{AreHeld, DoesUnits, GoesOn, IsHeld, IsLongMoveAt, MeetsAtOnce, MeetsQuick, StepsQuickly, whole_of};
+ghost use Rattle.s370_cpu.specs.Table.{row_of};
+ghost use Rattle.s370_cpu.specs.Unit.{Carries, place_at, stopped};
 ghost use Rattle.s370_rows.specs.declared.arithmetic.Arithmetic.TheVariants as operations;
 
 use crate::held::{Held, operand_block};
@@ -52,16 +51,9 @@ pub fn step_quickly<S: Storage>(
     requires ends { start ≤ block.first + 2042 }
     requires even { start % 2 ≡ 0 }
     requires operands { AreHeld (S.IsPlaced storage.old) (length (S.bytes storage.old)) (S.keys storage.old) (S.present storage.old) cpu.old.psw.key held.old }
-    ensures done { let before = state_of cpu.old (S.bytes storage.old) (S.keys storage.old) in
+    ensures step { let before = state_of cpu.old (S.bytes storage.old) (S.keys storage.old) in
         let after = state_of cpu.new (S.bytes storage.new) (S.keys storage.new) in
-        IfSome result (λ _. MeetsUnit (unit before) (S.present storage.old) before stops.Done after) }
-    ensures next { IfSome result (λ next. next ≡ cpu.new.psw.address) }
-    ensures still { let before = state_of cpu.old (S.bytes storage.old) (S.keys storage.old) in
-        let after = state_of cpu.new (S.bytes storage.new) (S.keys storage.new) in
-        IfNone result (after ≡ before) }
-    ensures rights { let before = state_of cpu.old (S.bytes storage.old) (S.keys storage.old) in
-        let after = state_of cpu.new (S.bytes storage.new) (S.keys storage.new) in
-        rights_of after ≡ rights_of before }
+        StepsQuickly (S.present storage.old) before result after }
     ensures rest { S.Keeps storage.old storage.new }
     ensures operands { AreHeld (S.IsPlaced storage.old) (length (S.bytes storage.old)) (S.keys storage.old) (S.present storage.old) cpu.old.psw.key held.new }
 {
@@ -84,16 +76,9 @@ fn step_found_quickly<S: Storage>(
     requires begins { block.first ≤ start }
     requires ends { start ≤ block.first + 2042 }
     requires operands { AreHeld (S.IsPlaced storage.old) (length (S.bytes storage.old)) (S.keys storage.old) (S.present storage.old) cpu.old.psw.key held.old }
-    ensures done { let before = state_of cpu.old (S.bytes storage.old) (S.keys storage.old) in
+    ensures step { let before = state_of cpu.old (S.bytes storage.old) (S.keys storage.old) in
         let after = state_of cpu.new (S.bytes storage.new) (S.keys storage.new) in
-        IfSome result (λ _. MeetsUnit (unit before) (S.present storage.old) before stops.Done after) }
-    ensures next { IfSome result (λ next. next ≡ cpu.new.psw.address) }
-    ensures still { let before = state_of cpu.old (S.bytes storage.old) (S.keys storage.old) in
-        let after = state_of cpu.new (S.bytes storage.new) (S.keys storage.new) in
-        IfNone result (after ≡ before) }
-    ensures rights { let before = state_of cpu.old (S.bytes storage.old) (S.keys storage.old) in
-        let after = state_of cpu.new (S.bytes storage.new) (S.keys storage.new) in
-        rights_of after ≡ rights_of before }
+        StepsQuickly (S.present storage.old) before result after }
     ensures rest { S.Keeps storage.old storage.new }
     ensures operands { AreHeld (S.IsPlaced storage.old) (length (S.bytes storage.old)) (S.keys storage.old) (S.present storage.old) cpu.old.psw.key held.new }
 {
@@ -168,16 +153,9 @@ fn carry_quickly<S: Storage, const CODE: u8>(
     requires ends { start ≤ block.first + 2042 }
     requires known { CODE ≡ slice_index (S.bytes storage.old) start }
     requires operands { AreHeld (S.IsPlaced storage.old) (length (S.bytes storage.old)) (S.keys storage.old) (S.present storage.old) cpu.old.psw.key held.old }
-    ensures done { let before = state_of cpu.old (S.bytes storage.old) (S.keys storage.old) in
+    ensures step { let before = state_of cpu.old (S.bytes storage.old) (S.keys storage.old) in
         let after = state_of cpu.new (S.bytes storage.new) (S.keys storage.new) in
-        IfSome result (λ _. MeetsUnit (unit before) (S.present storage.old) before stops.Done after) }
-    ensures next { IfSome result (λ next. next ≡ cpu.new.psw.address) }
-    ensures still { let before = state_of cpu.old (S.bytes storage.old) (S.keys storage.old) in
-        let after = state_of cpu.new (S.bytes storage.new) (S.keys storage.new) in
-        IfNone result (after ≡ before) }
-    ensures rights { let before = state_of cpu.old (S.bytes storage.old) (S.keys storage.old) in
-        let after = state_of cpu.new (S.bytes storage.new) (S.keys storage.new) in
-        rights_of after ≡ rights_of before }
+        StepsQuickly (S.present storage.old) before result after }
     ensures rest { S.Keeps storage.old storage.new }
     ensures operands { AreHeld (S.IsPlaced storage.old) (length (S.bytes storage.old)) (S.keys storage.old) (S.present storage.old) cpu.old.psw.key held.new }
 {
@@ -204,16 +182,9 @@ fn finish_quickly<S: Storage, const CODE: u8>(
     requires next { let m = state_of cpu.old (S.bytes storage.old) (S.keys storage.old) in
         place ≡ place_at m place.ilc }
     requires operands { AreHeld (S.IsPlaced storage.old) (length (S.bytes storage.old)) (S.keys storage.old) (S.present storage.old) cpu.old.psw.key held.old }
-    ensures done { let before = state_of cpu.old (S.bytes storage.old) (S.keys storage.old) in
+    ensures step { let before = state_of cpu.old (S.bytes storage.old) (S.keys storage.old) in
         let after = state_of cpu.new (S.bytes storage.new) (S.keys storage.new) in
-        IfSome result (λ _. MeetsUnit (unit before) (S.present storage.old) before stops.Done after) }
-    ensures next { IfSome result (λ next. next ≡ cpu.new.psw.address) }
-    ensures still { let before = state_of cpu.old (S.bytes storage.old) (S.keys storage.old) in
-        let after = state_of cpu.new (S.bytes storage.new) (S.keys storage.new) in
-        IfNone result (after ≡ before) }
-    ensures rights { let before = state_of cpu.old (S.bytes storage.old) (S.keys storage.old) in
-        let after = state_of cpu.new (S.bytes storage.new) (S.keys storage.new) in
-        rights_of after ≡ rights_of before }
+        StepsQuickly (S.present storage.old) before result after }
     ensures rest { S.Keeps storage.old storage.new }
     ensures operands { AreHeld (S.IsPlaced storage.old) (length (S.bytes storage.old)) (S.keys storage.old) (S.present storage.old) cpu.old.psw.key held.new }
 {
