@@ -10,9 +10,8 @@ use cp_users::UserNo;
 use s370_num::{AccessKey, StorageKey};
 use s370_store::{
     Access, BLOCK_SIZE, Block, Fault, FramesOut, Keyed, Listed, PAGE_SIZE, Page, Range, Storage,
-    Supply, may_access_block, passes_in_block, test_range,
+    Supply, UnitSupply, may_access_block, passes_in_block, test_range,
 };
-use s370_supply::UnitSupply;
 
 /// One user's pages, of which those that stand in frames are present, and his storage keys.
 ///

@@ -8,7 +8,7 @@ ghost use Rattle.cp_panel.specs.Run.{TellsRun, halted, notice_of};
 use crate::machine::{Machine, Mode};
 use cp_console::responses::Response;
 use s370_intr::{Processor, Ran, Reason, run_units};
-use s370_supply::UnitSupply;
+use s370_store::UnitSupply;
 
 /// What a run of a machine tells: how many units it did, why it did no more, and the notice that it printed, if it
 /// stopped.

@@ -7,8 +7,7 @@ ghost use Rattle.cp_panel.specs.Tick.{TickNeeds, ticked};
 
 use crate::machine::{Machine, Mode};
 use s370_intr::{Pending, tick};
-use s370_store::{FramesOut, Supply};
-use s370_supply::UnitSupply;
+use s370_store::{FramesOut, Supply, UnitSupply};
 
 impl Machine {
     /// A tick of the interval timer, which steps where the machine runs. Where there is no room for page 0, nothing has

@@ -18,9 +18,8 @@ use s370_num::{AccessKey, Addr24};
 use s370_psw::Psw;
 use s370_quick::{Held, move_parts_quickly, step_quickly};
 use s370_rows::Cpu;
-use s370_store::{Access, Block, FramesOut, Keyed, Page, Storage, load_byte_in};
+use s370_store::{Access, Block, FramesOut, Keyed, Page, Storage, UnitSupply, load_byte_in};
 use s370_subchannels::Subchannels;
-use s370_supply::UnitSupply;
 
 /// 0E MVCL.
 const LONG_MOVE: u8 = 0x0E;

@@ -7,7 +7,8 @@
 //!
 //! All code above is written over the trait [`Storage`]: [`PlainStorage`] is the whole storage of a bare machine, and a
 //! control program has bodies of its own, lent from the frames that its users share. What has to go on where a page is
-//! absent is written over [`Supply`], a storage that brings its absent pages.
+//! absent is written over [`Supply`], a storage that brings its absent pages, and over [`UnitSupply`] where that goes on
+//! for one unit of operation after another.
 #![tactic(auto)]
 
 mod block;
@@ -16,6 +17,7 @@ mod place;
 mod plain;
 mod protection;
 mod supply;
+mod unit_supply;
 mod words;
 
 ghost use Rattle.std.specs.Prelude.{◌≡◌, ℕ, ◌+◌, ◌*◌, ◌/◌, ◌<◌, ◌≤◌, List, [], ◌∷◌, Bool, true, false, Ok, IfSome, length, slice_index, slice_range, slice_set};
@@ -32,6 +34,7 @@ pub use protection::{Keyring, Listed, Open, may_access_block, passes_in_block, t
 use s370_num::{AccessKey, StorageKey};
 pub use supply::{FramesOut, Supply};
 use thiserror::Error;
+pub use unit_supply::UnitSupply;
 pub use words::{
     check_two, load_byte, load_byte_in, load_doubleword, load_halfword, load_word, load_word_in,
     store_byte, store_doubleword, store_halfword, store_word, store_word_in,

@@ -4,13 +4,11 @@
 //! page but once, since what is held is present; and then it lets go. So a unit brings no more pages than it needs, and a
 //! storage that can hold nine tells that there is no room only where there is none for any unit.
 //!
-//! Its one theorem: whatever was brought from a state between units on, letting go leads to such a state again, and just
+//! Whatever was brought from a state between units on, letting go leads to such a state again, and just
 //! the pages that were brought came from one to the other, as those of one unit.
-#![tactic(auto)]
-
 ghost use Rattle.std.specs.Prelude.{◌≡◌, ◌≤◌, ℕ, List, [], ◌∷◌, ◌++◌, length, replicate, true, Contains};
 
-use s370_store::{PlainStorage, Supply};
+use crate::{PlainStorage, Supply};
 
 /// A storage whose absent pages are brought for a unit, and held until it ends.
 ///
