@@ -7,7 +7,7 @@ use Rattle.s370_walk.specs.declared.parts.Progress.{Progress}
 use Rattle.s370_walk.specs.declared.parts.Progress.TheVariants.{At}
 use Rattle.s370_walk.specs.declared.parts.Spot.{Spot}
 use Rattle.s370_walk.specs.Hardware.{Memory, Machine}
-use Rattle.s370_walk.specs.Reaching.{reach_on, short_on}
+use Rattle.s370_walk.proofs.Reaching.{reach_on, short_on}
 use Rattle.s370_walk.specs.Walk.{Form, Setting, State, Fetching, Over, Written, Reaches, live, state_of}
 use Rattle.s370_channel.specs.declared.running.ChannelError.{ChannelError}
 use Rattle.s370_channel.specs.declared.running.ChannelError.TheVariants as errors

@@ -17,8 +17,8 @@ use Rattle.s370_walk.specs.declared.parts.Kind.{Kind}
 use Rattle.s370_channel.specs.declared.moving.Moved.{Moved}
 use Rattle.s370_channel.specs.declared.moving.Moved.TheVariants.{Done}
 use Rattle.s370_channel.specs.Progress.{onward, IsFurther, HasMoved, moved_state}
-use Rattle.s370_walk.specs.Moved.{length-given}
-use Rattle.s370_walk.specs.Reaching.{reach_here, reach_from}
+use Rattle.s370_walk.proofs.Moved.{length-given}
+use Rattle.s370_walk.proofs.Reaching.{reach_here, reach_from}
 
 -- where the last of n bytes from a lies, or what was before where there is none
 abbrev pub last_of : Option ℕ → ℕ → ℕ → Option ℕ

@@ -24,7 +24,7 @@ use Rattle.s370_store.specs.declared.Fault.{Fault}
 use Rattle.s370_store.specs.declared.Fault.TheVariants.{Absent}
 use Rattle.s370_store.specs.declared.Page.{Page}
 use Rattle.std.specs.Prelude.{Result, Err, ⊤}
-use Rattle.s370_walk.specs.Reaching.{reach_here, reach_on, reach_then, reach_next, short_on}
+use Rattle.s370_walk.proofs.Reaching.{reach_here, reach_on, reach_then, reach_next, short_on}
 
 takes_all : (p : Position) (k : Kind) → k ≢ Gives → is_skipped p k ≡ false
 takes_all p Gives ne = absurd (ne refl)

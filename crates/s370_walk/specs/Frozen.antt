@@ -8,7 +8,7 @@ use Rattle.s370_walk.specs.Stuck.{moves}
 
 -- the bytes that go out are those of a seek argument
 abbrev pub is_seek : Position → Bool
-is_seek p = p.transfer.command.code == 7
+is_seek p = p.transfer.command.code == 0x07
 
 abbrev pub frozen : Form → Memory → Form
 frozen form m0 =

@@ -3,7 +3,5 @@ pub mod Blocks
 pub mod Hardware
 pub mod Walk
 pub mod Stuck
-pub mod Moved
-pub mod Reaching
 pub mod Short
 pub mod Frozen

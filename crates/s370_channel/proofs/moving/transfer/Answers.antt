@@ -1,7 +1,7 @@
 use Rattle.std.proofs.Common.{arith, ◌∙◌, ap, ◌≡◌}
 use Rattle.s370_walk.specs.Hardware.{memory_of}
 use Rattle.s370_walk.specs.Walk.{Moving, live}
-use Rattle.s370_walk.specs.Reaching.{reach_on}
+use Rattle.s370_walk.proofs.Reaching.{reach_on}
 use Rattle.s370_channel.specs.Progress.{setting}
 use Rattle.s370_channel.proofs.Slices.{further_done, reach_done}
 use Rattle.s370_channel.proofs.moving.transfer.Goals as goal

@@ -1,7 +1,7 @@
 use Rattle.std.proofs.Common.{◌∙◌, refl}
 use Rattle.s370_walk.specs.Hardware.{memory_of}
 use Rattle.s370_walk.specs.Walk.{live}
-use Rattle.s370_walk.specs.Reaching.{reach_from}
+use Rattle.s370_walk.proofs.Reaching.{reach_from}
 use Rattle.s370_channel.specs.Progress.{setting}
 use Rattle.s370_channel.proofs.Stuck.{stuck_next, next_continued}
 use Rattle.s370_channel.proofs.running.resume.Goals as goal

@@ -1,4 +1,4 @@
-use Rattle.s370_walk.specs.Reaching.{one_end}
+use Rattle.s370_walk.proofs.Reaching.{one_end}
 use Rattle.s370_walk.proofs.laws.a_walk_comes_to_one_end.Goals as goal
 
 pub returns : goal.returns

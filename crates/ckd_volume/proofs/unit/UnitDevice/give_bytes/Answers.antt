@@ -1,5 +1,5 @@
 use Rattle.std.proofs.Common.{◌∙◌, ap, sym, arith}
-use Rattle.s370_walk.specs.Moved.{one_given, after_giving-one}
+use Rattle.s370_walk.proofs.Moved.{one_given, after_giving-one}
 use Rattle.ckd_volume.specs.Unit.{disk_machine}
 use Rattle.ckd_volume.proofs.unit.UnitDevice.give_bytes.Goals as goal
 

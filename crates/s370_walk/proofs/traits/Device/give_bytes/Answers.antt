@@ -1,5 +1,5 @@
 use Rattle.std.proofs.Common.{◌∙◌, ap, sym, arith}
-use Rattle.s370_walk.specs.Moved.{one_given, after_giving-one}
+use Rattle.s370_walk.proofs.Moved.{one_given, after_giving-one}
 use Rattle.s370_walk.proofs.traits.Device.give_bytes.Goals as goal
 
 pub bytes-preserved : goal.bytes-preserved

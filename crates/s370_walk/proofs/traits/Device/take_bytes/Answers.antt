@@ -1,4 +1,4 @@
-use Rattle.s370_walk.specs.Moved.{one_taken}
+use Rattle.s370_walk.proofs.Moved.{one_taken}
 use Rattle.s370_walk.proofs.traits.Device.take_bytes.Goals as goal
 
 pub bytes-preserved : goal.bytes-preserved
