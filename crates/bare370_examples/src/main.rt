@@ -1,10 +1,11 @@
 //! Runs the examples of one machine of its own: each script has to give the transcript that is stored beside it.
 //!
-//! The words of the program are the folders of the examples, each of which has the files `script` and `transcript`; it may have
-//! `storage`, with the size of the machine's storage, the text of a volume for each of its disks, `190` and so on, and the text of
-//! what such a disk has at the end, `190-saved`, whose image has to be the disk's, byte for byte. The transcripts go to standard
-//! output, in the order of the words. `hello` and `compute` are whole guests, loaded from cards, and an independent System/370
-//! printed the same lines.
+//! The words of the program are the folders of the examples, each of which has the files `script` and `transcript`; it
+//! may have
+//! `storage`, with the size of the machine's storage, the text of a volume for each of its disks, `190` and so on, and
+//! the text of what such a disk has at the end, `190-saved`, whose image has to be the disk's, byte for byte. The
+//! transcripts go to standard output, in the order of the words. `hello` and `compute` are whole guests, loaded from
+//! cards, and an independent System/370 printed the same lines.
 #![tactic(auto)]
 
 use anyhow::{Context, Result, bail};

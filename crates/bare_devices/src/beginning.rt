@@ -37,8 +37,8 @@ fn tell<R: Print>(rt: &R, machine: &Bare) -> Result<()> {
     Ok(())
 }
 
-/// Whether storage, keys, general registers, control registers but the first, and the address of the next instruction are zero,
-/// and whether there is no fifth key.
+/// Whether storage, keys, general registers, control registers but the first, and the address of the next instruction
+/// are zero, and whether there is no fifth key.
 fn has_zeros(machine: &Bare) -> bool {
     machine.storage().iter().all(|byte| *byte == 0)
         && (0..4).all(|block| machine.key(block) == Some(StorageKey::ZERO))

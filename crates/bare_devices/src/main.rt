@@ -1,9 +1,9 @@
-//! A card reader and a line printer of a bare machine: both are started, both are served, and their statuses interrupt in the
-//! order of their addresses. What is printed was worked out by hand.
+//! A card reader and a line printer of a bare machine: both are started, both are served, and their statuses interrupt
+//! in the order of their addresses. What is printed was worked out by hand.
 //!
-//! The guest has the channel address word of the printer at 48 and that of the reader at 4C. It starts the printer, moves the
-//! second word over the first, starts the reader, and waits with channel 0 enabled; each interruption leads to 300, where it
-//! goes on waiting.
+//! The guest has the channel address word of the printer at 48 and that of the reader at 4C. It starts the printer,
+//! moves the second word over the first, starts the reader, and waits with channel 0 enabled; each interruption leads
+//! to 300, where it goes on waiting.
 //!
 //! Before that it is told what a machine has at its beginning.
 #![tactic(auto)]

@@ -98,7 +98,8 @@ fn on_bare(machine: &mut Bare, units: u32) -> u64 {
     u64::from(machine.units(units).ran.units)
 }
 
-/// Units of a user: how many were done, if the system lives. It makes no error, whose place would be a part of each turn.
+/// Units of a user: how many were done, if the system lives. It makes no error, whose place would be a part of each
+/// turn.
 fn of_user(system: &mut System, user: UserNo, units: u32) -> Option<u64> {
     let reply = match system.apply(Event::Run(user, units)) {
         Ok(reply) => reply,

@@ -1,9 +1,9 @@
 //! Measures how many units a second machines do that run a guest loop, and claims nothing.
 //!
-//! `bench` runs each loop on a bare machine, as one user of the control program, as eight users in turns of 100 units, and on
-//! eight bare machines in such turns: 8,000 units each time. `bench 20000` does 20 million units each time, `bench 20000 mvc` does one loop, and `bench 20000
-//! mvc one` one of them in one place. Each is done five times. What was done goes to standard output, and the best rate, by
-//! processor time, to standard error.
+//! `bench` runs each loop on a bare machine, as one user of the control program, as eight users in turns of 100 units,
+//! and on eight bare machines in such turns: 8,000 units each time. `bench 20000` does 20 million units each time,
+//! `bench 20000 mvc` does one loop, and `bench 20000 mvc one` one of them in one place. Each is done five times. What
+//! was done goes to standard output, and the best rate, by processor time, to standard error.
 #![tactic(auto)]
 
 mod guests;

@@ -1,8 +1,8 @@
 //! Measures how fast channel programs move bytes and how fast the image of a volume is read, and claims nothing.
 //!
-//! `bench_channels` runs each program 40 times, and reads an image of two cylinders; `bench_channels 10000 808` runs each
-//! 10,000 times, and reads one of 808. Each is done five times. What was done goes to standard output, and the best time, by
-//! processor time, to standard error.
+//! `bench_channels` runs each program 40 times, and reads an image of two cylinders; `bench_channels 10000 808` runs
+//! each 10,000 times, and reads one of 808. Each is done five times. What was done goes to standard output, and the
+//! best time, by processor time, to standard error.
 #![tactic(auto)]
 
 mod exchange;

@@ -1,7 +1,9 @@
-//! Measures what an installation costs, and claims nothing: its boot, a LOGON, a page that comes into a frame, and turns.
+//! Measures what an installation costs, and claims nothing: its boot, a LOGON, a page that comes into a frame, and
+//! turns.
 //!
-//! `bench_installation` boots four users of 4 MiB each on 64 frames, and `bench_installation 64 4096 1024` boots 64 of them on
-//! 4096 frames and 1024 slots. What was done goes to standard output, and what each part took, by processor time, to standard error.
+//! `bench_installation` boots four users of 4 MiB each on 64 frames, and `bench_installation 64 4096 1024` boots 64 of
+//! them on 4096 frames and 1024 slots. What was done goes to standard output, and what each part took, by processor
+//! time, to standard error.
 #![tactic(auto)]
 
 mod users;

@@ -19,8 +19,8 @@ use std::alloc::AllocError;
 /// | 7 | refuses, with n as unit status |
 /// | B, F | takes exactly n bytes, as a control command; F ends with status modifier |
 ///
-/// To command 02 it does what another code asks for, since an initial program loading has that command alone. It gives bytes
-/// that count up, from the first command of a program to the last, and keeps the first 64 bytes that it takes.
+/// To command 02 it does what another code asks for, since an initial program loading has that command alone. It gives
+/// bytes that count up, from the first command of a program to the last, and keeps the first 64 bytes that it takes.
 #[derive(Drop)]
 pub struct Obedient {
     read: u8,

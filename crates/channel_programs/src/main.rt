@@ -1,8 +1,8 @@
-//! Runs channel programs on a device that does what its command codes ask for, and compares what they leave with what was
-//! worked out by hand.
+//! Runs channel programs on a device that does what its command codes ask for, and compares what they leave with what
+//! was worked out by hand.
 //!
-//! `cases.txt` has one program a line; its first lines tell the fields. Each that does not agree is told by its line, its
-//! name and what differs.
+//! `cases.txt` has one program a line; its first lines tell the fields. Each that does not agree is told by its line,
+//! its name and what differs.
 #![tactic(auto)]
 
 mod case;

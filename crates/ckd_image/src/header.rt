@@ -95,7 +95,8 @@ fn is_volser(bytes: &[u8]) -> bool
 /// What 12 bytes say as a header, if they are one.
 fn header_of(bytes: &[u8]) -> Option<Header>
     requires { 12 ≤ length bytes.now }
-    ensures some { IfSome result (λ header. IsHeader (take 12 bytes.now) header.version header.volser header.cylinders) }
+    ensures some { IfSome result
+        (λ header. IsHeader (take 12 bytes.now) header.version header.volser header.cylinders) }
     ensures none { IfNone result (HasNoHeader bytes.now) }
 {
     let version = version_of(&bytes[..4])?;

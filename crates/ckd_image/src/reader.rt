@@ -19,7 +19,9 @@ use std::alloc::Global;
 
 /// The record at the beginning of the bytes, and the bytes behind it; none where they end before it is whole.
 fn read_record(bytes: &[u8]) -> Option<(Record<'_>, &[u8])>
-    ensures some { IfSome result (λ found. parts.BeginsRecord bytes.now (parts.record_with found.0.id found.0.key.now found.0.content.now) found.1.now) }
+    ensures some { IfSome result
+        (λ found. parts.BeginsRecord bytes.now
+        (parts.record_with found.0.id found.0.key.now found.0.content.now) found.1.now) }
     ensures none { IfNone result (parts.IsCutRecord bytes.now) }
 {
     if bytes.len() < 8 {
@@ -68,7 +70,8 @@ pub enum TrackFault {
 /// Reads a track over one that has no records, and tells the bytes behind it.
 fn read_track<'a>(track: &mut Track, bytes: &'a [u8]) -> Result<&'a [u8], TrackFault>
     requires { track.old.records ≡ [] }
-    ensures ok { IfOk result (λ rest. image.IsGood track.new × (bytes.now ≡ writing.track_bytes track.new ++ rest.now)) }
+    ensures ok { IfOk result (λ rest. image.IsGood track.new
+        × (bytes.now ≡ writing.track_bytes track.new ++ rest.now)) }
     ensures err { IfErr result (parts.IsTrackFault bytes.now) }
 {
     if bytes.len() < 6 {
@@ -105,7 +108,8 @@ fn read_track_of<'a>(
 /// Reads all tracks of a volume, which have no records yet, and tells the bytes behind them.
 fn read_tracks<'a>(volume: &mut Volume, bytes: &'a [u8]) -> Result<&'a [u8], ImageError>
     requires { volume.old.cylinders ≡ blank_cylinders 0 (length volume.old.cylinders) }
-    ensures ok { IfOk result (λ rest. parts.ReadTracks volume.old volume.new (19 * length volume.old.cylinders) bytes.now rest.now) }
+    ensures ok { IfOk result (λ rest.
+        parts.ReadTracks volume.old volume.new (19 * length volume.old.cylinders) bytes.now rest.now) }
     ensures err { IfErr result (parts.IsTracksFault (length volume.old.cylinders) bytes.now) }
 {
     let mut rest = bytes;
@@ -152,8 +156,8 @@ fn check_end(version: Version, total: u32, bytes: &[u8]) -> Result<(), ImageErro
     Ok(())
 }
 
-/// The volume of which these bytes are an image of version 1 or 2, or the first fault of the bytes. Memory is taken, and can
-/// be refused, only where their header is good.
+/// The volume of which these bytes are an image of version 1 or 2, or the first fault of the bytes. Memory is taken,
+/// and can be refused, only where their header is good.
 pub fn volume_of(alloc: Global, bytes: &[u8]) -> Result<Volume, ImageError>
     ensures { IsReadingOrMemory bytes.now result }
 {

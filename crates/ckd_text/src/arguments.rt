@@ -37,7 +37,8 @@ pub enum UsageError {
     /// A growth was refused.
     #[error("no memory for the words of the program")]
     Memory,
-    /// The words are not those of the program, or ask for its help: the text for the person who wrote them, of whole lines.
+    /// The words are not those of the program, or ask for its help: the text for the person who wrote them, of whole
+    /// lines.
     #[error("{0}")]
     Usage(String),
 }
@@ -50,15 +51,18 @@ impl From<AllocError> for UsageError {
     }
 }
 
-/// The two files of `mkvol`. The first word is the name that it was started by; words are read as `clap` reads them: `--`
-/// before the paths is allowed, and `--help` is a request for the text of [`UsageError::Usage`].
+/// The two files of `mkvol`. The first word is the name that it was started by; words are read as `clap` reads them:
+/// `--` before the paths is allowed, and `--help` is a request for the text of [`UsageError::Usage`].
 pub fn volume_paths<'a, S: AsStr>(
     alloc: Global,
     words: &'a [S],
 ) -> Result<VolumePaths<'a>, UsageError>
     ensures ok { IfOk result (AreNamed (rows_named tools.Mkvol (map S.text words.entry.now))) }
     ensures taken { OnOk result (HasNoFault tools.Mkvol (map S.text words.entry.now)) }
-    ensures err { is_taken tools.Mkvol (map S.text words.entry.now) ≡ true → gives (codes "OUT") (rows_named tools.Mkvol (map S.text words.entry.now)) ≡ true → gives (codes "TEXT") (rows_named tools.Mkvol (map S.text words.entry.now)) ≡ true → IfErr result (λ error. error ≡ UsageError.Memory) }
+    ensures err { is_taken tools.Mkvol (map S.text words.entry.now) ≡ true
+        → gives (codes "OUT") (rows_named tools.Mkvol (map S.text words.entry.now)) ≡ true
+        → gives (codes "TEXT") (rows_named tools.Mkvol (map S.text words.entry.now)) ≡ true
+        → IfErr result (λ error. error ≡ UsageError.Memory) }
 {
     let matches = matched(alloc, Tool::Mkvol, words)?;
     match paths_in(&matches) {
@@ -69,9 +73,12 @@ pub fn volume_paths<'a, S: AsStr>(
 
 /// The image of `trackmap`. Words are read as those of `mkvol`.
 pub fn image_path<'a, S: AsStr>(alloc: Global, words: &'a [S]) -> Result<&'a str, UsageError>
-    ensures ok { IfOk result (λ path. first_of (codes "IMAGE") (rows_named tools.Trackmap (map S.text words.entry.now)) ≡ Some path.now) }
+    ensures ok { IfOk result (λ path. first_of (codes "IMAGE") (rows_named tools.Trackmap (map S.text words.entry.now))
+        ≡ Some path.now) }
     ensures taken { OnOk result (HasNoFault tools.Trackmap (map S.text words.entry.now)) }
-    ensures err { is_taken tools.Trackmap (map S.text words.entry.now) ≡ true → gives (codes "IMAGE") (rows_named tools.Trackmap (map S.text words.entry.now)) ≡ true → IfErr result (λ error. error ≡ UsageError.Memory) }
+    ensures err { is_taken tools.Trackmap (map S.text words.entry.now) ≡ true
+        → gives (codes "IMAGE") (rows_named tools.Trackmap (map S.text words.entry.now)) ≡ true
+        → IfErr result (λ error. error ≡ UsageError.Memory) }
 {
     let matches = matched(alloc, Tool::Trackmap, words)?;
     match text_of(&matches, "IMAGE") {
@@ -83,7 +90,8 @@ pub fn image_path<'a, S: AsStr>(alloc: Global, words: &'a [S]) -> Result<&'a str
 /// The paths of `mkvol`, where both are given.
 fn paths_in<'a>(matches: &ArgMatches<'a>) -> Option<VolumePaths<'a>>
     ensures some { IfSome result (AreNamed (rows_of (found_of matches.now))) }
-    ensures none { gives (codes "OUT") (rows_of (found_of matches.now)) ≡ true → gives (codes "TEXT") (rows_of (found_of matches.now)) ≡ true → IsSome result }
+    ensures none { gives (codes "OUT") (rows_of (found_of matches.now)) ≡ true
+        → gives (codes "TEXT") (rows_of (found_of matches.now)) ≡ true → IsSome result }
 {
     let out = text_of(matches, "OUT")?;
     let text = text_of(matches, "TEXT")?;
@@ -105,7 +113,8 @@ fn matched<'a, S: AsStr>(
 ) -> Result<ArgMatches<'a>, UsageError>
     ensures ok { IfOk result (λ m. rows_of (found_of m) ≡ rows_named tool (map S.text words.entry.now)) }
     ensures taken { OnOk result (HasNoFault tool (map S.text words.entry.now)) }
-    ensures err { is_taken tool (map S.text words.entry.now) ≡ true → IfErr result (λ error. error ≡ UsageError.Memory) }
+    ensures err { is_taken tool (map S.text words.entry.now) ≡ true
+        → IfErr result (λ error. error ≡ UsageError.Memory) }
 {
     let command = command(alloc, tool)?;
     match command.try_get_matches_from(words) {

@@ -65,7 +65,8 @@ impl From<AllocError> for Failure {
     }
 }
 
-/// The line that is printed for a failure, without its end: `fault:`, what failed, the name of the refusal and its numbers.
+/// The line that is printed for a failure, without its end: `fault:`, what failed, the name of the refusal and its
+/// numbers.
 pub fn fault_line(alloc: Global, failure: &Failure) -> Result<String, AllocError>
     ensures { IfOk result (λ line. string_bytes line ≡ fault_text failure.now) }
 {
@@ -95,8 +96,8 @@ fn image_line(alloc: Global, error: ImageError) -> Result<String, AllocError>
     }
 }
 
-/// The exit status of a failure: 1 where input was refused, 2 for a wrong use, 3 where a file of the host failed, 4 where
-/// memory did.
+/// The exit status of a failure: 1 where input was refused, 2 for a wrong use, 3 where a file of the host failed, 4
+/// where memory did.
 pub fn status(failure: &Failure) -> u8
     ensures { result ≡ status_of failure.now }
 {

@@ -9,8 +9,8 @@ use std::process::{ExitCode, Termination};
 use std::rt::{Env, Files};
 use std::{env, fs, io};
 
-/// How a program ended. Only a program of this crate makes one, so that a `main` which returns it has no other exit status
-/// to give.
+/// How a program ended. Only a program of this crate makes one, so that a `main` which returns it has no other exit
+/// status to give.
 #[derive(Drop)]
 pub struct Ended {
     ended: Result<(), Failure>,
@@ -43,8 +43,8 @@ pub(crate) fn wrong_use<R: Eprint>(rt: &R, usage: &str, note: &str) -> Failure {
     Failure::Usage
 }
 
-/// The words that the program was started with, of which the first is its name. Words that are no UTF-8 are a wrong use,
-/// which is told here: no file can be opened by such a name.
+/// The words that the program was started with, of which the first is its name. Words that are no UTF-8 are a wrong
+/// use, which is told here: no file can be opened by such a name.
 pub(crate) fn words<R: AllocGlobal + Env + Eprint>(
     rt: &R,
     program: &str,

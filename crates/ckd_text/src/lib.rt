@@ -1,8 +1,9 @@
 //! Volumes as texts.
 //!
-//! A text states a volume (docs/FORMATS.md, "Volume texts"), and [`make_volume`] makes exactly the volume that it states, or
-//! tells its first wrong line ([`reads_grammar`] says so of the grammar); [`mkvol`] is the program that does so with files. [`track_map`] tells what a volume has
-//! (docs/FORMATS.md, "Track maps"), and [`trackmap`] is its program.
+//! A text states a volume (docs/FORMATS.md, "Volume texts"), and [`make_volume`] makes exactly the volume that it
+//! states, or tells its first wrong line ([`reads_grammar`] says so of the grammar); [`mkvol`] is the program that does
+//! so with files. [`track_map`] tells what a volume has (docs/FORMATS.md, "Track maps"), and [`trackmap`] is its
+//! program.
 //!
 //! ```
 //! let volume = make_volume(alloc, b"VOLUME WORK01 10\nREC 0 0 0000000001 - C1C2\n")?;

@@ -31,8 +31,8 @@ A fault is one line on standard error. Exit statuses:
   4  there was not memory enough
 ";
 
-/// The whole program: what it is started with names an image and a text, and the image of the volume that the text states
-/// is written. A failure is told on standard error.
+/// The whole program: what it is started with names an image and a text, and the image of the volume that the text
+/// states is written. A failure is told on standard error.
 pub fn program<R: AllocGlobal + Files + Env + Eprint>(rt: &R) -> Ended {
     ended_of(rt, run(rt))
 }
@@ -68,8 +68,8 @@ pub trait Output {
         ensures { IfOk result (λ writer. makes self.old writer) };
 }
 
-/// Makes the image of the volume that a text states, of which nothing is held back then, and gives what it was written to.
-/// The text is judged first: where it is refused, the output is not asked for anything.
+/// Makes the image of the volume that a text states, of which nothing is held back then, and gives what it was written
+/// to. The text is judged first: where it is refused, the output is not asked for anything.
 pub fn make_image<O: Output>(
     alloc: Global,
     text: &[u8],

@@ -44,8 +44,8 @@ pub fn make_volume(alloc: Global, text: &[u8]) -> Result<Volume, TextError>
     filled(alloc, volume, lines)
 }
 
-/// What is made is what the grammar of volume texts says, nothing else is accepted, and the line that is told is the first
-/// wrong one.
+/// What is made is what the grammar of volume texts says, nothing else is accepted, and the line that is told is the
+/// first wrong one.
 pub fn reads_grammar()
     ensures { ReadsGrammar }
 {}
@@ -117,7 +117,8 @@ fn set_home(volume: &mut Volume, cylinder: u32, head: u32, home: [u8; 5]) -> Res
 
 /// Adds a record to a track.
 fn add(volume: &mut Volume, cylinder: u32, head: u32, wanted: &StatedRecord) -> Result<(), NoPlace>
-    ensures ok { OnOk result (with_stated volume.old (said.Add cylinder head (record_in wanted.now)) ≡ Some volume.new) }
+    ensures ok { OnOk result (with_stated volume.old (said.Add cylinder head (record_in wanted.now))
+        ≡ Some volume.new) }
     ensures err { OnErr result (with_stated volume.old (said.Add cylinder head (record_in wanted.now)) ≡ None) }
 {
     match volume.track_mut(cylinder as usize, head as usize) {

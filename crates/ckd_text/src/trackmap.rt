@@ -32,8 +32,8 @@ The map goes to standard output, a fault as one line to standard error. Exit sta
   4  there was not memory enough
 ";
 
-/// The whole program: what it is started with names an image, and the map of its volume is written. A failure is told on
-/// standard error.
+/// The whole program: what it is started with names an image, and the map of its volume is written. A failure is told
+/// on standard error.
 pub fn program<R: AllocGlobal + Files + Env + Print + Eprint>(rt: &R) -> Ended {
     ended_of(rt, run(rt))
 }

@@ -68,7 +68,8 @@ pub fn start_of(entries: &[Entry], i: usize) -> usize
 pub fn has_room(entries: &[Entry], i: usize, key: usize, content: usize) -> bool
     requires fits { total_cost entries.now ≤ 13165 }
     requires within { i ≤ length entries.now }
-    ensures { result ≡ (nat_le key 255 && nat_le (total_cost (take i entries.now) + track.record_cost key content) 13165) }
+    ensures { result ≡ (nat_le key 255 && nat_le
+        (total_cost (take i entries.now) + track.record_cost key content) 13165) }
 {
     if key > 255 {
         return false;
@@ -85,7 +86,8 @@ pub fn append(entries: &mut Vec<Entry>, area: &mut Vec<u8>, id: [u8; 5], key: &[
     requires content { length content.now ≤ 13030 }
     requires entries { length entries.old.items < vec_capacity entries.old }
     requires area { length area.old.items + (length key.now + length content.now) ≤ vec_capacity area.old }
-    ensures entries { entries.new.items ≡ entries.old.items ++ (record { id = id; key = length key.now; content = length content.now }) ∷ [] }
+    ensures entries { entries.new.items ≡ entries.old.items
+        ++ (record { id = id; key = length key.now; content = length content.now }) ∷ [] }
     ensures area { area.new.items ≡ area.old.items ++ (key.now ++ content.now) }
     ensures more_entries { vec_capacity entries.old ≤ vec_capacity entries.new }
     ensures more_text { vec_capacity area.old ≤ vec_capacity area.new }
@@ -173,11 +175,13 @@ pub fn replace_after(
     requires laid { IsLaid entries.old.items area.old.items }
     requires within { i ≤ length entries.old.items }
     requires key { length key.now ≤ 255 }
-    requires room { total_cost (take i entries.old.items) + track.record_cost (length key.now) (length content.now) ≤ 13165 }
+    requires room { total_cost (take i entries.old.items) + track.record_cost (length key.now)
+        (length content.now) ≤ 13165 }
     requires entries { 97 ≤ vec_capacity entries.old }
     requires area { 13030 ≤ vec_capacity area.old }
     ensures laid { IsLaid entries.new.items area.new.items }
-    ensures records { records_of entries.new.items area.new.items ≡ take i (records_of entries.old.items area.old.items) ++ (record { id = id; key = key.now; content = content.now }) ∷ [] }
+    ensures records { records_of entries.new.items area.new.items ≡ take i (records_of entries.old.items area.old.items)
+        ++ (record { id = id; key = key.now; content = content.now }) ∷ [] }
     ensures number { i < 97 }
     ensures more_entries { 97 ≤ vec_capacity entries.new }
     ensures more_text { 13030 ≤ vec_capacity area.new }
@@ -193,7 +197,13 @@ pub fn put_content(entries: &[Entry], area: &mut [u8], i: usize, bytes: &[u8])
     requires laid { IsLaid entries.now area.old }
     requires within { i < length entries.now }
     requires long { length bytes.now ≡ (entry_at entries.now i).content }
-    ensures records { records_of entries.now area.new ≡ slice_set (records_of entries.now area.old) i (record { id = (slice_index_or (records_of entries.now area.old) i no_record).id; key = (slice_index_or (records_of entries.now area.old) i no_record).key; content = bytes.now }) }
+    ensures records { records_of entries.now area.new
+        ≡ slice_set (records_of entries.now area.old) i
+        (record {
+          id = (slice_index_or (records_of entries.now area.old) i no_record).id;
+          key = (slice_index_or (records_of entries.now area.old) i no_record).key;
+          content = bytes.now;
+        }) }
     ensures length { length area.new ≡ length area.old }
 {
     let span = span_of(entries, i);
@@ -205,7 +215,13 @@ pub fn put_both(entries: &[Entry], area: &mut [u8], i: usize, bytes: &[u8])
     requires laid { IsLaid entries.now area.old }
     requires within { i < length entries.now }
     requires long { length bytes.now ≡ (entry_at entries.now i).key + (entry_at entries.now i).content }
-    ensures records { records_of entries.now area.new ≡ slice_set (records_of entries.now area.old) i (record { id = (slice_index_or (records_of entries.now area.old) i no_record).id; key = take (length (slice_index_or (records_of entries.now area.old) i no_record).key) bytes.now; content = drop (length (slice_index_or (records_of entries.now area.old) i no_record).key) bytes.now }) }
+    ensures records { records_of entries.now area.new
+        ≡ slice_set (records_of entries.now area.old) i
+        (record {
+          id = (slice_index_or (records_of entries.now area.old) i no_record).id;
+          key = take (length (slice_index_or (records_of entries.now area.old) i no_record).key) bytes.now;
+          content = drop (length (slice_index_or (records_of entries.now area.old) i no_record).key) bytes.now;
+        }) }
     ensures length { length area.new ≡ length area.old }
 {
     let span = span_of(entries, i);

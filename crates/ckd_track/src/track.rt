@@ -38,7 +38,8 @@ impl Model for Track {
 
     ghost view = { λ t. record { home = t.home; records = records_of t.entries.items t.area.items } };
 
-    ghost invariant = { λ t. IsLaid t.entries.items t.area.items × (97 ≤ vec_capacity t.entries) × (13030 ≤ vec_capacity t.area) };
+    ghost invariant = { λ t. IsLaid t.entries.items t.area.items × (97 ≤ vec_capacity t.entries)
+        × (13030 ≤ vec_capacity t.area) };
 }
 
 impl Track {
@@ -93,8 +94,10 @@ impl Track {
 
     /// Writes a record after all others.
     pub fn push(&mut self, id: [u8; 5], key: &[u8], content: &[u8]) -> Result<(), TrackFull>
-        ensures cases { is_ok result ≡ room.has_room self.old (length self.old.records) (length key.now) (length content.now) }
-        ensures ok { OnOk result (self.new ≡ with_last self.old (length self.old.records) (record { id = id; key = key.now; content = content.now })) }
+        ensures cases { is_ok result
+            ≡ room.has_room self.old (length self.old.records) (length key.now) (length content.now) }
+        ensures ok { OnOk result (self.new
+            ≡ with_last self.old (length self.old.records) (record { id = id; key = key.now; content = content.now })) }
         ensures err { OnErr result (self.new ≡ self.old) }
     {
         let last = self.len();
@@ -112,7 +115,8 @@ impl Track {
         requires { i ≤ length self.old.records }
         ensures cases { is_ok result ≡ room.has_room self.old i (length key.now) (length content.now) }
         ensures number { OnOk result (i < 97) }
-        ensures ok { OnOk result (self.new ≡ with_last self.old i (record { id = id; key = key.now; content = content.now })) }
+        ensures ok { OnOk result (self.new
+            ≡ with_last self.old i (record { id = id; key = key.now; content = content.now })) }
         ensures err { OnErr result (self.new ≡ self.old) }
     {
         if !has_room(&self.entries, i, key.len(), content.len()) {
@@ -126,7 +130,8 @@ impl Track {
     pub fn write_content(&mut self, i: usize, bytes: &[u8])
         requires inside { i < length self.old.records }
         requires whole { length bytes.now ≡ length (record_in self.old i).content }
-        ensures { self.new ≡ with_record self.old i (record { id = (record_in self.old i).id; key = (record_in self.old i).key; content = bytes.now }) }
+        ensures { self.new ≡ with_record self.old i
+            (record { id = (record_in self.old i).id; key = (record_in self.old i).key; content = bytes.now }) }
     {
         put_content(&self.entries, &mut self.area, i, bytes);
     }
@@ -135,7 +140,12 @@ impl Track {
     pub fn write_key_and_content(&mut self, i: usize, bytes: &[u8])
         requires inside { i < length self.old.records }
         requires whole { length bytes.now ≡ length (record_in self.old i).key + length (record_in self.old i).content }
-        ensures { self.new ≡ with_record self.old i (record { id = (record_in self.old i).id; key = take (length (record_in self.old i).key) bytes.now; content = drop (length (record_in self.old i).key) bytes.now }) }
+        ensures { self.new ≡ with_record self.old i
+            (record {
+              id = (record_in self.old i).id;
+              key = take (length (record_in self.old i).key) bytes.now;
+              content = drop (length (record_in self.old i).key) bytes.now;
+            }) }
     {
         put_both(&self.entries, &mut self.area, i, bytes);
     }

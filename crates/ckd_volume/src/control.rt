@@ -97,7 +97,8 @@ impl Panel {
     pub(crate) fn end_seek(&mut self, head: usize) -> UnitStatus
         requires { head < 19 }
         ensures status { result ≡ begin.no_status }
-        ensures after { self.new ≡ table_end.resting (record (self.old) { head = head; place = places.Index; points = 0 }) }
+        ensures after { self.new ≡ table_end.resting
+            (record (self.old) { head = head; place = places.Index; points = 0 }) }
     {
         self.go(head, 0, Place::Index);
         self.end(UnitStatus::NONE)

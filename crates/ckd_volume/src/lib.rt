@@ -1,12 +1,13 @@
 //! A disk volume, and the control unit that reads and writes it.
 //!
-//! Its one theorem: a [`Unit`] is the device that `specs/Table.antt` and `specs/Unit.antt` define, for every command, every
-//! place of the head and every file mask: how each command begins, which bytes it gives or wants, and what it leaves of
-//! volume, arm and sense (docs/MACHINE.md, "Disks"). A command changes no other track than the one under its head.
+//! Its one theorem: a [`Unit`] is the device that `specs/Table.antt` and `specs/Unit.antt` define, for every command,
+//! every place of the head and every file mask: how each command begins, which bytes it gives or wants, and what it
+//! leaves of volume, arm and sense (docs/MACHINE.md, "Disks"). A command changes no other track than the one under its
+//! head.
 //!
-//! A [`Volume`] is its serial number and the list of its cylinders, each of 19 tracks, all allotted by [`Volume::blank`]:
-//! what is written later takes no memory. Each group of commands has a file of its own, here and in `specs/`, with the
-//! commands in the same order.
+//! A [`Volume`] is its serial number and the list of its cylinders, each of 19 tracks, all allotted by
+//! [`Volume::blank`]: what is written later takes no memory. Each group of commands has a file of its own, here and in
+//! `specs/`, with the commands in the same order.
 //!
 //! ```
 //! let mut volume = Volume::blank(alloc, *b"SYSRES", 404)?;

@@ -58,7 +58,8 @@ pub(crate) fn counted_at(place: Place) -> usize
 /// Whether a record is looked for.
 fn is_wanted(wanted: Wanted, there: Record<'_>) -> bool
     requires { length there.id ≡ 5 }
-    ensures { result ≡ front.wants wanted (record { id = there.entry.id; key = there.entry.key.now; content = there.entry.content.now }) }
+    ensures { result ≡ front.wants wanted
+        (record { id = there.entry.id; key = there.entry.key.now; content = there.entry.content.now }) }
 {
     match wanted {
         Wanted::Any => true,
@@ -83,7 +84,8 @@ fn first_from(wanted: Wanted, track: &Track, start: usize) -> Option<usize>
 /// The record that a command finds on one track, from this one on: a second index point is no record found.
 fn on_track(wanted: Wanted, cylinder: &Cylinder, head: usize, points: u8, start: usize) -> Found
     requires { head < 19 }
-    ensures found { result ≡ orientation.on_track (front.wants wanted) (front.records_at cylinder.now head) head points (orientation.first_from (front.wants wanted) (front.records_at cylinder.now head) start) }
+    ensures found { result ≡ orientation.on_track (front.wants wanted) (front.records_at cylinder.now head) head points
+        (orientation.first_from (front.wants wanted) (front.records_at cylinder.now head) start) }
     ensures there { IsIn cylinder.now result }
 {
     let track = cylinder.track(head);
@@ -123,7 +125,8 @@ fn over_heads(wanted: Wanted, cylinder: &Cylinder, mask: u8, head: usize, more: 
 /// The first record with the number 1 on the track under this head.
 pub(crate) fn first_numbered_one(cylinder: &Cylinder, head: usize) -> Found
     requires { head < 19 }
-    ensures found { result ≡ orientation.once_round head 0 (orientation.first_from (front.wants wanted.First) (front.records_at cylinder.now head) 0) }
+    ensures found { result ≡ orientation.once_round head 0
+        (orientation.first_from (front.wants wanted.First) (front.records_at cylinder.now head) 0) }
     ensures there { IsIn cylinder.now result }
 {
     match first_from(Wanted::First, cylinder.track(head), 0) {

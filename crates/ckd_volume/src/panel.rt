@@ -1,4 +1,5 @@
-//! What a control unit keeps beside the volume: where its head stands, its mask, its sense, and the bytes of the command.
+//! What a control unit keeps beside the volume: where its head stands, its mask, its sense, and the bytes of the
+//! command.
 ghost use Rattle.std.specs.Prelude.{◌≡◌, ◌≤◌, ◌<◌, ◌+◌, ◌++◌, ◌∷◌, [], length, slice_index, true, IfOk};
 ghost use Rattle.s370_walk.specs.declared.parts.Answer.TheVariants as answers;
 ghost use Rattle.ckd_volume.specs.declared.parts.Job.TheVariants as jobs;
@@ -39,9 +40,21 @@ impl Model for Panel {
 
     ghost Value = { Front };
 
-    ghost view = { λ p. record { writable = p.writable; head = p.head; place = p.place; mask = p.mask; points = p.points; right = p.right; sense = p.sense; job = p.job; bytes = p.bytes.items; given = p.given } };
+    ghost view = { λ p. record {
+      writable = p.writable;
+      head = p.head;
+      place = p.place;
+      mask = p.mask;
+      points = p.points;
+      right = p.right;
+      sense = p.sense;
+      job = p.job;
+      bytes = p.bytes.items;
+      given = p.given;
+    } };
 
-    ghost invariant = { λ p. (65798 ≤ vec_capacity p.bytes) × (length p.bytes.items ≤ 65798) × (p.head < 19) × (next_at p.place ≤ 97) };
+    ghost invariant = { λ p. (65798 ≤ vec_capacity p.bytes) × (length p.bytes.items ≤ 65798) × (p.head < 19)
+        × (next_at p.place ≤ 97) };
 }
 
 impl Panel {
@@ -53,7 +66,19 @@ impl Panel {
         sense: Sense,
     ) -> Result<Panel, AllocError>
         requires { head < 19 }
-        ensures { IfOk result (λ p. p ≡ record { writable = writable; head = head; place = places.Index; mask = 0; points = 0; right = rights.Nothing; sense = sense; job = jobs.Nothing; bytes = []; given = 0 }) }
+        ensures { IfOk result (λ p. p
+            ≡ record {
+              writable = writable;
+              head = head;
+              place = places.Index;
+              mask = 0;
+              points = 0;
+              right = rights.Nothing;
+              sense = sense;
+              job = jobs.Nothing;
+              bytes = [];
+              given = 0;
+            }) }
     {
         let bytes = Vec::with_capacity(alloc, LONGEST)?;
         Ok(Panel {

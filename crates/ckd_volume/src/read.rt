@@ -26,7 +26,8 @@ pub(crate) fn exception(content: &[u8]) -> UnitStatus
 fn lengths(there: Record<'_>) -> [u8; 3]
     requires key { length there.key.now ≤ 255 }
     requires content { length there.content.now ≤ 65535 }
-    ensures { result ≡ length there.entry.key.now ∷ length there.entry.content.now / 256 ∷ length there.entry.content.now % 256 ∷ [] }
+    ensures { result ≡ length there.entry.key.now ∷ length there.entry.content.now / 256
+        ∷ length there.entry.content.now % 256 ∷ [] }
 {
     let content = there.content.len();
     [

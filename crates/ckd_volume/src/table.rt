@@ -19,7 +19,8 @@ use s370_walk::{Answer, Order, UnitStatus};
 impl Panel {
     /// The record that is next.
     fn next(&self, code: u8, cylinder: &Cylinder) -> Found
-        ensures found { result ≡ orientation.found code (front.wants wanted.Any) cylinder.now self.now (front.next_at self.now.place) }
+        ensures found { result ≡ orientation.found code (front.wants wanted.Any) cylinder.now self.now
+            (front.next_at self.now.place) }
         ensures there { front.IsIn cylinder.now result }
     {
         let i = next_at(self.place);
@@ -28,7 +29,8 @@ impl Panel {
 
     /// The record whose count or key was just passed, else the next.
     fn here(&self, code: u8, cylinder: &Cylinder) -> Found
-        ensures found { result ≡ orientation.found code (front.wants wanted.Any) cylinder.now self.now (front.here_at self.now.place) }
+        ensures found { result ≡ orientation.found code (front.wants wanted.Any) cylinder.now self.now
+            (front.here_at self.now.place) }
         ensures there { front.IsIn cylinder.now result }
     {
         let i = here_at(self.place);
@@ -37,7 +39,8 @@ impl Panel {
 
     /// The record whose count was just passed, else the next, of those that are looked for.
     fn counted(&self, code: u8, looked_for: Wanted, cylinder: &Cylinder) -> Found
-        ensures found { result ≡ orientation.found code (front.wants looked_for) cylinder.now self.now (front.counted_at self.now.place) }
+        ensures found { result ≡ orientation.found code (front.wants looked_for) cylinder.now self.now
+            (front.counted_at self.now.place) }
         ensures there { front.IsIn cylinder.now result }
     {
         let i = counted_at(self.place);
@@ -46,15 +49,20 @@ impl Panel {
 
     /// Begins a command, over the cylinder under the arm.
     pub(crate) fn begin(&mut self, cylinder: &Cylinder, order: Order) -> Answer
-        ensures answer { result ≡ (table.begun (begin.starting self.old order.first) (begin.right_found self.old order.first) cylinder.now order).answer }
-        ensures after { self.new ≡ (table.begun (begin.starting self.old order.first) (begin.right_found self.old order.first) cylinder.now order).front }
+        ensures answer { result ≡
+            (table.begun (begin.starting self.old order.first)
+            (begin.right_found self.old order.first) cylinder.now order).answer }
+        ensures after { self.new ≡
+            (table.begun (begin.starting self.old order.first)
+            (begin.right_found self.old order.first) cylinder.now order).front }
     {
         let right = self.right_found(order.first);
         self.start(order.first);
         self.obey(right, cylinder, order)
     }
 
-    /// The right to write that a command finds: what the command before gave, but nothing where it is the first of its program.
+    /// The right to write that a command finds: what the command before gave, but nothing where it is the first of its
+    /// program.
     fn right_found(&self, is_first: bool) -> Right
         ensures { result ≡ begin.right_found self.now is_first }
     {
@@ -147,7 +155,8 @@ impl Panel {
     pub(crate) fn finish(&mut self, cylinder: &mut Cylinder) -> UnitStatus
         ensures status { result ≡ (table.ended self.old cylinder.old self.old.job).status }
         ensures after { self.new ≡ (table.ended self.old cylinder.old self.old.job).front }
-        ensures written { cylinder.new ≡ stands cylinder.old self.old.head (table.ended self.old cylinder.old self.old.job).written }
+        ensures written { cylinder.new
+            ≡ stands cylinder.old self.old.head (table.ended self.old cylinder.old self.old.job).written }
     {
         match self.job {
             Job::Nothing => self.end(UnitStatus::NONE),

@@ -44,7 +44,13 @@ impl Model for Unit {
 
     ghost Value = { Disk };
 
-    ghost view = { λ u. record { volser = u.volume.volser; cylinders = u.volume.cylinders; cylinder = u.cylinder; home = u.home; front = u.panel } };
+    ghost view = { λ u. record {
+      volser = u.volume.volser;
+      cylinders = u.volume.cylinders;
+      cylinder = u.cylinder;
+      home = u.home;
+      front = u.panel;
+    } };
 
     ghost invariant = { λ u. (u.cylinder < length u.volume.cylinders) × (u.home < length u.volume.cylinders) };
 }

@@ -62,7 +62,8 @@ impl Volume {
 
     /// A volume with so many cylinders, whose tracks have no record; their home addresses are 00, cylinder and head.
     pub fn blank(alloc: Global, volser: [u8; 6], cylinders: u16) -> Result<Volume, VolumeError>
-        ensures volume { IfOk result (λ made. made ≡ record { volser = volser; cylinders = blank_cylinders 0 cylinders }) }
+        ensures volume { IfOk result
+            (λ made. made ≡ record { volser = volser; cylinders = blank_cylinders 0 cylinders }) }
         ensures ok { IfOk result (λ made. IsCount cylinders) }
         ensures cylinders { OnErr result (IsCount cylinders → result ≡ Err errors.Memory) }
         ensures refused { (IsCount cylinders → ⊥) → result ≡ Err errors.Cylinders }
@@ -113,7 +114,8 @@ impl Volume {
     pub fn track_mut(&mut self, cylinder: usize, head: usize) -> Option<&mut Track>
         ensures* writes_back { sem 𝓛 (LendsTrackOf self.entry cylinder head result) }
         ensures some { IsSome result ↔ ((cylinder < length self.old.cylinders) × (head < 19)) }
-        ensures value { IfSome result (λ track. track.now ≡ track_at (slice_index_or self.old.cylinders cylinder []) head) }
+        ensures value { IfSome result
+            (λ track. track.now ≡ track_at (slice_index_or self.old.cylinders cylinder []) head) }
     {
         let there = self.cylinders.get_mut(cylinder)?;
         there.head_mut(head)

@@ -52,8 +52,10 @@ impl Panel {
 
     /// 05 Write Data begins.
     pub(crate) fn begin_write_data(&mut self, right: Right, cylinder: &Cylinder, i: usize) -> Answer
-        ensures answer { result ≡ (table.if_writes self.old right 5 (table.data_written self.old cylinder.now i)).answer }
-        ensures after { self.new ≡ (table.if_writes self.old right 5 (table.data_written self.old cylinder.now i)).front }
+        ensures answer { result ≡
+            (table.if_writes self.old right 5 (table.data_written self.old cylinder.now i)).answer }
+        ensures after { self.new ≡
+            (table.if_writes self.old right 5 (table.data_written self.old cylinder.now i)).front }
     {
         if !self.writable {
             return self.refuse(0, 0x02);
@@ -76,8 +78,10 @@ impl Panel {
 
     /// 0D Write Key and Data begins.
     pub(crate) fn begin_write_both(&mut self, right: Right, cylinder: &Cylinder, i: usize) -> Answer
-        ensures answer { result ≡ (table.if_writes self.old right 13 (table.both_written self.old cylinder.now i)).answer }
-        ensures after { self.new ≡ (table.if_writes self.old right 13 (table.both_written self.old cylinder.now i)).front }
+        ensures answer { result ≡
+            (table.if_writes self.old right 13 (table.both_written self.old cylinder.now i)).answer }
+        ensures after { self.new ≡
+            (table.if_writes self.old right 13 (table.both_written self.old cylinder.now i)).front }
     {
         if !self.writable {
             return self.refuse(0, 0x02);
@@ -115,9 +119,16 @@ impl Panel {
 
     /// 05 Write Data, when its bytes are there.
     pub(crate) fn end_write_data(&mut self, cylinder: &mut Cylinder, i: usize) -> UnitStatus
-        ensures status { result ≡ (table.data_ended self.old (front.track_at cylinder.old self.old.head) i (front.record_at cylinder.old self.old.head i)).status }
-        ensures after { self.new ≡ (table.data_ended self.old (front.track_at cylinder.old self.old.head) i (front.record_at cylinder.old self.old.head i)).front }
-        ensures written { cylinder.new ≡ stands cylinder.old self.old.head (table.data_ended self.old (front.track_at cylinder.old self.old.head) i (front.record_at cylinder.old self.old.head i)).written }
+        ensures status { result ≡
+            (table.data_ended self.old (front.track_at cylinder.old self.old.head) i
+            (front.record_at cylinder.old self.old.head i)).status }
+        ensures after { self.new ≡
+            (table.data_ended self.old (front.track_at cylinder.old self.old.head) i
+            (front.record_at cylinder.old self.old.head i)).front }
+        ensures written { cylinder.new
+            ≡ stands cylinder.old self.old.head
+            (table.data_ended self.old (front.track_at cylinder.old self.old.head) i
+            (front.record_at cylinder.old self.old.head i)).written }
     {
         if i >= cylinder.track(self.head).len() {
             return self.fail(0x80, 0);
@@ -130,9 +141,16 @@ impl Panel {
 
     /// 0D Write Key and Data, when its bytes are there.
     pub(crate) fn end_write_both(&mut self, cylinder: &mut Cylinder, i: usize) -> UnitStatus
-        ensures status { result ≡ (table.both_ended self.old (front.track_at cylinder.old self.old.head) i (front.record_at cylinder.old self.old.head i)).status }
-        ensures after { self.new ≡ (table.both_ended self.old (front.track_at cylinder.old self.old.head) i (front.record_at cylinder.old self.old.head i)).front }
-        ensures written { cylinder.new ≡ stands cylinder.old self.old.head (table.both_ended self.old (front.track_at cylinder.old self.old.head) i (front.record_at cylinder.old self.old.head i)).written }
+        ensures status { result ≡
+            (table.both_ended self.old (front.track_at cylinder.old self.old.head) i
+            (front.record_at cylinder.old self.old.head i)).status }
+        ensures after { self.new ≡
+            (table.both_ended self.old (front.track_at cylinder.old self.old.head) i
+            (front.record_at cylinder.old self.old.head i)).front }
+        ensures written { cylinder.new
+            ≡ stands cylinder.old self.old.head
+            (table.both_ended self.old (front.track_at cylinder.old self.old.head) i
+            (front.record_at cylinder.old self.old.head i)).written }
     {
         if i >= cylinder.track(self.head).len() {
             return self.fail(0x80, 0);
@@ -162,7 +180,9 @@ impl Panel {
     pub(crate) fn end_write_record(&mut self, cylinder: &mut Cylinder, i: usize) -> UnitStatus
         ensures status { result ≡ (table.whole_ended self.old (front.track_at cylinder.old self.old.head) i).status }
         ensures after { self.new ≡ (table.whole_ended self.old (front.track_at cylinder.old self.old.head) i).front }
-        ensures written { cylinder.new ≡ stands cylinder.old self.old.head (table.whole_ended self.old (front.track_at cylinder.old self.old.head) i).written }
+        ensures written { cylinder.new
+            ≡ stands cylinder.old self.old.head
+            (table.whole_ended self.old (front.track_at cylinder.old self.old.head) i).written }
     {
         if self.bytes.len() < 8 {
             return self.fail(0x80, 0);
@@ -189,7 +209,8 @@ impl Panel {
     fn end_written(&mut self, next: usize) -> UnitStatus
         requires { next ≤ 97 }
         ensures status { result ≡ begin.no_status }
-        ensures after { self.new ≡ table_end.resting (record (self.old) { place = places.Gap next; points = 0; right = rights.Record }) }
+        ensures after { self.new ≡ table_end.resting
+            (record (self.old) { place = places.Gap next; points = 0; right = rights.Record }) }
     {
         self.place = Place::Gap(next);
         self.points = 0;

@@ -22,7 +22,8 @@ pub(crate) fn ended<'a>(
 
 /// The operand at this place, and what follows it; a missing one is told by its place.
 pub(crate) fn operand(place: u64, operands: &[u8]) -> Result<(&[u8], &[u8]), CommandError>
-    ensures words { MatchResult result (λ cut. words_of operands.now ≡ cut.0.now ∷ words_of cut.1.now) (λ error. (words_of operands.now ≡ []) × (error ≡ CommandError.Operand place)) }
+    ensures words { MatchResult result (λ cut. words_of operands.now ≡ cut.0.now ∷ words_of cut.1.now)
+        (λ error. (words_of operands.now ≡ []) × (error ≡ CommandError.Operand place)) }
     ensures rest { IfOk result (λ cut. cut.1.now ≡ after_first_word operands.now) }
 {
     next_word(operands).ok_or(CommandError::Operand(place))

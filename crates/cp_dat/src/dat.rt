@@ -15,9 +15,9 @@ use s370_store::{
 
 /// One user's pages, of which those that stand in frames are present, and his storage keys.
 ///
-/// As a `Supply` it brings a page that is absent and pins it, so that it is not given up again before the pins are taken
-/// away, as `UnitSupply::let_go` does at the end of a unit. Where each frame is taken, the page longest in its frame among
-/// those not pinned is given up; where there is none, or no slot for it, it answers `FramesOut`.
+/// As a `Supply` it brings a page that is absent and pins it, so that it is not given up again before the pins are
+/// taken away, as `UnitSupply::let_go` does at the end of a unit. Where each frame is taken, the page longest in its
+/// frame among those not pinned is given up; where there is none, or no slot for it, it answers `FramesOut`.
 #[derive(Drop)]
 pub struct Dat<'a> {
     frames: &'a mut Frames,
@@ -54,7 +54,9 @@ impl<'a> Dat<'a> {
     pub fn frame_of(&self, page: Page) -> Option<FrameNo>
         requires { page.0 * 4096 < length (lent_bytes self.now) }
         ensures frame { number_of result ≡ lent_frame self.now page.0 }
-        ensures zero { IfNone result (frame_of (lent_pool self.now).supply.slots (user_of self.now) page.0 ≡ None → IsZeroPage (lent_bytes self.now) page.0) }
+        ensures zero { IfNone result
+            (frame_of (lent_pool self.now).supply.slots (user_of self.now) page.0 ≡ None
+            → IsZeroPage (lent_bytes self.now) page.0) }
     {
         self.frames.frame_of(self.user, page)
     }
@@ -97,8 +99,11 @@ impl<'a> Dat<'a> {
         ensures storages { (lent_pool self.new).storages ≡ (lent_pool self.old).storages }
         ensures keys { lent_keys self.new ≡ lent_keys self.old }
         ensures there { IfOk result (λ frame. lent_frame self.new page.0 ≡ Some frame.0) }
-        ensures brought { IfOk result (λ frame. IsBrought (lent_pool self.old).supply (lent_pool self.new).supply (user_of self.old) page.0 frame.0) }
-        ensures unpinned { is_lent_page self.old page.0 ≡ false → IfOk result (λ frame. IsOpen (lent_pool self.old).supply.pins frame.0) }
+        ensures brought { IfOk result
+            (λ frame. IsBrought (lent_pool self.old).supply (lent_pool self.new).supply
+            (user_of self.old) page.0 frame.0) }
+        ensures unpinned { is_lent_page self.old page.0 ≡ false
+            → IfOk result (λ frame. IsOpen (lent_pool self.old).supply.pins frame.0) }
         ensures refused { OnErr result (IsRefused (lent_pool self.old).supply (user_of self.old) page.0) }
         ensures err { OnErr result ((lent_pool self.new).supply ≡ (lent_pool self.old).supply) }
     {
@@ -110,7 +115,11 @@ impl<'a> Dat<'a> {
         ensures rest { KeepsFrames self.old self.new }
         ensures storages { (lent_pool self.new).storages ≡ (lent_pool self.old).storages }
         ensures keys { lent_keys self.new ≡ lent_keys self.old }
-        ensures supply { (lent_pool self.new).supply ≡ record (lent_pool self.old).supply { pins = slice_set (lent_pool self.old).supply.pins frame.0 (is_some (slice_index_or (lent_pool self.old).supply.owners frame.0 None)) } }
+        ensures supply { (lent_pool self.new).supply
+            ≡ record (lent_pool self.old).supply {
+              pins = slice_set (lent_pool self.old).supply.pins frame.0
+                  (is_some (slice_index_or (lent_pool self.old).supply.owners frame.0 None));
+            } }
     {
         self.frames.pin(frame);
     }
@@ -120,18 +129,21 @@ impl<'a> Dat<'a> {
         ensures rest { KeepsFrames self.old self.new }
         ensures storages { (lent_pool self.new).storages ≡ (lent_pool self.old).storages }
         ensures keys { lent_keys self.new ≡ lent_keys self.old }
-        ensures supply { (lent_pool self.new).supply ≡ record (lent_pool self.old).supply { pins = replicate (length (lent_pool self.old).supply.pins) false } }
+        ensures supply { (lent_pool self.new).supply
+            ≡ record (lent_pool self.old).supply { pins = replicate (length (lent_pool self.old).supply.pins) false } }
     {
         self.frames.unpin_all();
     }
 
-    /// The place among the bytes of all frames of an access within one block that one look grants: size and key pass it, and its
-    /// page stands in a frame.
+    /// The place among the bytes of all frames of an access within one block that one look grants: size and key pass
+    /// it, and its page stands in a frame.
     #[inline(always)]
     fn open_place(&self, range: Range, access: Access, key: AccessKey) -> Option<usize>
         requires some { 0 < range.count }
         requires one_block { range.start % 2048 + range.count ≤ 2048 }
-        ensures granted { IsSome result → IsVerdict (length (lent_bytes self.now)) (lent_keys self.now) (is_lent_page self.now) key (tested access range ∷ []) (Ok tt) }
+        ensures granted { IsSome result
+            → IsVerdict (length (lent_bytes self.now)) (lent_keys self.now) (is_lent_page self.now) key
+            (tested access range ∷ []) (Ok tt) }
         ensures inside { IsSome result → range.start + range.count ≤ length (lent_bytes self.now) }
         ensures frame { IfSome result (λ place. lent_frame self.now (range.start / 4096) ≡ Some (place / 4096)) }
         ensures offset { IfSome result (λ place. place % 4096 ≡ range.start % 4096) }
@@ -149,8 +161,8 @@ impl<'a> Dat<'a> {
 
 /// The page of an address, for a page that is absent.
 ///
-/// It is out of line so that the page's number is needed for nothing but the slot's place where the page is present: then
-/// the place has one form in the test and in the access that follows it, and the slot is looked at once.
+/// It is out of line so that the page's number is needed for nothing but the slot's place where the page is present:
+/// then the place has one form in the test and in the access that follows it, and the slot is looked at once.
 #[inline(never)]
 fn page_of(address: u32) -> Page
     ensures { result.0 ≡ address / 4096 }
@@ -334,8 +346,8 @@ impl<'a> Supply for Dat<'a> {
     ghost spare_kept = { λ s t k. ap (λ (supply : FrameSupply). unpinned_count supply.pins) k.same_supply };
 }
 
-/// What is brought for a unit is held by pins. With 16 frames, and none of them pinned before it, a unit of nine pages finds
-/// one to give up as long as there is a slot for it.
+/// What is brought for a unit is held by pins. With 16 frames, and none of them pinned before it, a unit of nine pages
+/// finds one to give up as long as there is a slot for it.
 impl<'a> UnitSupply for Dat<'a> {
     ghost use Rattle.cp_dat.specs.Lent.{lent_pool, user_of};
     ghost use Rattle.cp_dat.specs.Supplied.{HasNoRoom, IsBetweenUnits, SuppliedUnits, TakesPins};

@@ -1,7 +1,7 @@
 //! The dispatcher: which user has the next slice of the processor, and which program of a channel is served next.
 //!
-//! Its one theorem: nobody who is ready waits for ever. Users stand in a queue by their logging on, started programs in a
-//! line by their starts. A turn takes the first who is ready, who then goes to the end ([`Policy::slice`],
+//! Its one theorem: nobody who is ready waits for ever. Users stand in a queue by their logging on, started programs in
+//! a line by their starts. A turn takes the first who is ready, who then goes to the end ([`Policy::slice`],
 //! [`Policy::serve`]); so whoever has j others before has one of the next j + 1 turns, whoever comes or goes meanwhile
 //! ([`is_fair`] carries that law).
 //!

@@ -29,16 +29,23 @@ impl Model for Policy {
 
     ghost Value = { Lines };
 
-    ghost view = { λ p. record { users = p.users.items; programs = p.programs.items; most_users = p.most_users; most_programs = p.most_programs } };
+    ghost view = { λ p. record {
+      users = p.users.items;
+      programs = p.programs.items;
+      most_users = p.most_users;
+      most_programs = p.most_programs;
+    } };
 
-    ghost invariant = { λ p. IsQueue p.users.items p.most_users × (p.most_users ≤ vec_capacity p.users) × (p.most_programs ≤ vec_capacity p.programs) };
+    ghost invariant = { λ p. IsQueue p.users.items p.most_users × (p.most_users ≤ vec_capacity p.users)
+        × (p.most_programs ≤ vec_capacity p.programs) };
 }
 
 impl Policy {
-    /// A policy for so many users, of whom nobody is logged on, and so many programs, of which none was started. No other
-    /// call takes memory.
+    /// A policy for so many users, of whom nobody is logged on, and so many programs, of which none was started. No
+    /// other call takes memory.
     pub fn new(alloc: Global, users: usize, programs: usize) -> Result<Policy, AllocError>
-        ensures { IfOk result (λ policy. policy ≡ record { users = []; programs = []; most_users = users; most_programs = programs }) }
+        ensures { IfOk result (λ policy. policy
+            ≡ record { users = []; programs = []; most_users = users; most_programs = programs }) }
     {
         Ok(Policy {
             users: Vec::with_capacity(alloc, users)?,
@@ -66,7 +73,10 @@ impl Policy {
     /// The program of a user's device is started, and stands at the end of the line, also where it stood in it before.
     pub fn started(&mut self, user: UserNo, device: DevAddr)
         requires { length (without (is_of user device) self.old.programs) < self.old.most_programs }
-        ensures { self.new ≡ record self.old { programs = at_end (is_of user device) (record { user = user; device = device }) self.old.programs } }
+        ensures { self.new ≡ record self.old {
+          programs = at_end (is_of user device)
+              (record { user = user; device = device }) self.old.programs;
+        } }
     {
         put_program(&mut self.programs, user, device);
     }
@@ -78,8 +88,8 @@ impl Policy {
         take_out_program(&mut self.programs, user, device);
     }
 
-    /// Deals a slice: to the first user in the queue who is ready, if there is one. Those before go to the end in order, and
-    /// behind them the user who has the slice.
+    /// Deals a slice: to the first user in the queue who is ready, if there is one. Those before go to the end in
+    /// order, and behind them the user who has the slice.
     pub fn slice(&mut self, ready: &Ready) -> Option<UserNo>
         ensures dealt { IsDealt (is_ready ready.now) self.old.users result self.new.users }
         ensures forward { BringsForward (is_ready ready.now) self.old.users result self.new.users }
@@ -164,7 +174,8 @@ fn take_out_program(programs: &mut Vec<Program>, user: UserNo, device: DevAddr)
 /// Puts the program of a user's device at the end of the line.
 fn put_program(programs: &mut Vec<Program>, user: UserNo, device: DevAddr)
     requires { length (without (is_of user device) programs.old.items) < vec_capacity programs.old }
-    ensures items { programs.new.items ≡ at_end (is_of user device) (record { user = user; device = device }) programs.old.items }
+    ensures items { programs.new.items
+        ≡ at_end (is_of user device) (record { user = user; device = device }) programs.old.items }
     ensures capacity { vec_capacity programs.old ≤ vec_capacity programs.new }
 {
     take_out_program(programs, user, device);
@@ -189,8 +200,8 @@ fn place_of_program(programs: &[Program], user: UserNo, device: DevAddr) -> Opti
         .position(|program| program.is_of(user, device))
 }
 
-/// Whoever is ready throughout has a turn, of the slices and of the serves: with j others before, one of the next j + 1. So of as
-/// many slices as there are users logged on each who is ready has one.
+/// Whoever is ready throughout has a turn, of the slices and of the serves: with j others before, one of the next j +
+/// 1. So of as many slices as there are users logged on each who is ready has one.
 pub fn is_fair()
     ensures { IsFairPolicy }
 {}

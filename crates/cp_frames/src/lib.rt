@@ -1,14 +1,14 @@
 //! Real storage: frames of 4096 bytes, slots for pages that are given up, and which page of which user stands in each.
 //!
 //! Its one theorem: each user has a storage of his own. A store changes the bytes that it names of the storage of the
-//! user who makes it, and no other byte of any user; bringing a page into a frame, and giving up another for it, changes
-//! no byte of anyone; and a page that stands nowhere is all zero, so whoever is given a frame finds nothing of the one who
-//! had it before.
+//! user who makes it, and no other byte of any user; bringing a page into a frame, and giving up another for it,
+//! changes no byte of anyone; and a page that stands nowhere is all zero, so whoever is given a frame finds nothing of
+//! the one who had it before.
 //!
-//! [`Frames`] is all of real storage, allotted once by [`Frames::new`]: no call after it takes memory. A contract sees it
-//! as the storage of each user, a list of bytes, and as its supply: the page in each frame and in each slot, which frames
-//! are pinned, the order in which their pages came, and how many have come. Where no frame is free for a page that is
-//! wanted, the page longest in its frame among those not pinned is given up for it.
+//! [`Frames`] is all of real storage, allotted once by [`Frames::new`]: no call after it takes memory. A contract sees
+//! it as the storage of each user, a list of bytes, and as its supply: the page in each frame and in each slot, which
+//! frames are pinned, the order in which their pages came, and how many have come. Where no frame is free for a page
+//! that is wanted, the page longest in its frame among those not pinned is given up for it.
 //!
 //! ```
 //! let mut frames = Frames::new(alloc, 64, 256, sizes)?;

@@ -19,8 +19,8 @@ pub fn all_frames(alloc: Global, frames: u16) -> Result<Vec<u16>, AllocError>
     Ok(order)
 }
 
-/// The last turn whose frame is free, where each frame that has the turn `end` or a later one is taken: the turn that has the
-/// fewest frames after it, which move up when it is put last.
+/// The last turn whose frame is free, where each frame that has the turn `end` or a later one is taken: the turn that
+/// has the fewest frames after it, which move up when it is put last.
 pub fn free_turn(order: &[u16], owners: &[Option<UserPage>], end: usize) -> Option<usize>
     requires frames { All (λ frame. frame < length owners.now) order.now }
     requires end { end ≤ length order.now }

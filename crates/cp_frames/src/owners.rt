@@ -48,7 +48,8 @@ pub fn first_free(owners: &[Option<UserPage>], low: usize) -> Option<usize>
 
 /// Before which slot each is still taken, where this one has another owner, or none.
 pub fn low_after(low: usize, slot: usize, owner: Option<UserPage>) -> usize
-    ensures { (owners : List (Option UserPage)) → All IsSome (take low owners) → All IsSome (take result (slice_set owners slot owner)) }
+    ensures { (owners : List (Option UserPage)) → All IsSome (take low owners)
+        → All IsSome (take result (slice_set owners slot owner)) }
 {
     if owner.is_none() && slot < low {
         slot
@@ -99,7 +100,8 @@ fn pages_of(sizes: &[u32], user: UserNo) -> u32
 /// Takes each page of a user out of its slot. Where there are no slots nothing is looked at.
 pub fn leave_slots(owners: &mut Vec<Option<UserPage>>, table: &mut Vec<u32>, user: UserNo)
     ensures owners { owners.new.items ≡ cleared_of user owners.old.items }
-    ensures tabled { (sizes : List ℕ) → IsTabled slot_entry owners.old.items sizes table.old.items → IsTabled slot_entry owners.new.items sizes table.new.items }
+    ensures tabled { (sizes : List ℕ) → IsTabled slot_entry owners.old.items sizes table.old.items
+        → IsTabled slot_entry owners.new.items sizes table.new.items }
 {
     if owners.is_empty() {
         return;

@@ -17,15 +17,16 @@ impl Frames {
 
     /// Brings a page into a frame, where it stands in none. No byte of any user changes.
     ///
-    /// Where no frame is free, the page longest in its frame among those not pinned is given up. It takes a free slot, or the
-    /// slot that the wanted page leaves.
+    /// Where no frame is free, the page longest in its frame among those not pinned is given up. It takes a free slot,
+    /// or the slot that the wanted page leaves.
     pub fn bring(&mut self, user: UserNo, page: Page) -> Result<FrameNo, FramesOut>
         requires { page.0 * 4096 < length (bytes_of self.old user) }
         ensures storages { self.new.storages ≡ self.old.storages }
         ensures there { IfOk result (λ frame. frame_of self.new.supply.owners user page.0 ≡ Some frame.0) }
         ensures within { IfOk result (λ frame. frame.0 < length self.new.supply.owners) }
         ensures brought { IfOk result (λ frame. IsBrought self.old.supply self.new.supply user page.0 frame.0) }
-        ensures unpinned { frame_of self.old.supply.owners user page.0 ≡ None → IfOk result (λ frame. IsOpen self.old.supply.pins frame.0) }
+        ensures unpinned { frame_of self.old.supply.owners user page.0 ≡ None
+            → IfOk result (λ frame. IsOpen self.old.supply.pins frame.0) }
         ensures refused { OnErr result (IsRefused self.old.supply user page.0) }
         ensures err { OnErr result (self.new ≡ self.old) }
     {
@@ -51,8 +52,10 @@ impl Frames {
     fn next_turn(&self) -> Option<usize>
         ensures within { IfSome result (λ turn. turn < length self.now.supply.order) }
         ensures chosen { IfSome result (λ turn. IsChosen self.now.supply turn) }
-        ensures later { IfSome result (λ turn. AreTaken self.now.supply.owners (drop (turn + 1) self.now.supply.order)) }
-        ensures unpinned { IfSome result (λ turn. slice_index_or self.now.supply.pins (slice_index self.now.supply.order turn) false ≡ false) }
+        ensures later { IfSome result
+            (λ turn. AreTaken self.now.supply.owners (drop (turn + 1) self.now.supply.order)) }
+        ensures unpinned { IfSome result
+            (λ turn. slice_index_or self.now.supply.pins (slice_index self.now.supply.order turn) false ≡ false) }
         ensures full { IfNone result (All IsSome self.now.supply.owners) }
         ensures pinned { IfNone result (All (λ pinned. pinned ≡ true) self.now.supply.pins) }
     {
@@ -80,7 +83,9 @@ impl Frames {
         requires chosen { IsChosen self.now.supply turn }
         requires later { AreTaken self.now.supply.owners (drop (turn + 1) self.now.supply.order) }
         ensures within { result ≤ turn }
-        ensures taken { (page : UserPage) → AreTaken (slice_set self.now.supply.owners (slice_index self.now.supply.order turn) (Some page)) (drop result self.now.supply.order) }
+        ensures taken { (page : UserPage)
+            → AreTaken (slice_set self.now.supply.owners (slice_index self.now.supply.order turn) (Some page))
+            (drop result self.now.supply.order) }
     {
         if self.owners[self.order[turn] as usize].is_none() {
             turn
@@ -181,8 +186,8 @@ impl Frames {
         );
     }
 
-    /// Notes that a page has come into the frame that has this turn, and that the frames of the turn `end` and later ones are
-    /// taken.
+    /// Notes that a page has come into the frame that has this turn, and that the frames of the turn `end` and later
+    /// ones are taken.
     fn come(&mut self, turn: usize, end: usize)
         requires turn { turn < length self.old.supply.order }
         requires end { end ≤ turn }

@@ -52,7 +52,13 @@ impl Model for Frames {
 
     ghost view = { λ f. record {
       storages = storages_of (f.frames.items ++ f.slots.items) (f.owners.items ++ f.slot_owners.items) f.sizes.items;
-      supply = record { owners = f.owners.items; slots = f.slot_owners.items; pins = f.pins.items; order = f.order.items; page_ins = f.page_ins };
+      supply = record {
+        owners = f.owners.items;
+        slots = f.slot_owners.items;
+        pins = f.pins.items;
+        order = f.order.items;
+        page_ins = f.page_ins;
+      };
     } };
 
     ghost invariant = { λ f. IsSound f.frames.items f.slots.items f.owners.items f.slot_owners.items f.sizes.items f.tables.items f.looks.items f.slot_table.items f.pins.items f.is_marked f.order.items f.end f.low };
@@ -155,7 +161,8 @@ impl Frames {
         ensures frame { number_of result ≡ frame_of self.now.supply.owners user page.0 }
         ensures within { IfSome result (λ frame. frame.0 < length self.now.supply.owners) }
         ensures apart { IsSome result → frame_of self.now.supply.slots user page.0 ≡ None }
-        ensures zero { IfNone result (frame_of self.now.supply.slots user page.0 ≡ None → IsZeroPage (bytes_of self.now user) page.0) }
+        ensures zero { IfNone result
+            (frame_of self.now.supply.slots user page.0 ≡ None → IsZeroPage (bytes_of self.now user) page.0) }
     {
         let entry = self.looks[entry_of(user, page.0)];
         if entry == ABSENT {
@@ -182,7 +189,8 @@ impl Frames {
         ensures slot { result ≡ frame_of self.now.supply.slots user page.0 }
         ensures within { IfSome result (λ slot. slot < length self.now.supply.slots) }
         ensures apart { IsSome result → frame_of self.now.supply.owners user page.0 ≡ None }
-        ensures zero { IfNone result (frame_of self.now.supply.owners user page.0 ≡ None → IsZeroPage (bytes_of self.now user) page.0) }
+        ensures zero { IfNone result
+            (frame_of self.now.supply.owners user page.0 ≡ None → IsZeroPage (bytes_of self.now user) page.0) }
     {
         let entry = self.slot_table[entry_of(user, page.0)];
         if entry == NO_SLOT {
@@ -192,12 +200,13 @@ impl Frames {
         }
     }
 
-    /// The place of a user's byte among the bytes of all frames, one after another: the one look that each access makes. None
-    /// where its page stands in no frame.
+    /// The place of a user's byte among the bytes of all frames, one after another: the one look that each access
+    /// makes. None where its page stands in no frame.
     #[inline(always)]
     pub fn place_at(&self, user: UserNo, start: u32) -> Option<usize>
         requires { start < length (bytes_of self.now user) }
-        ensures there { IfSome result (λ place. frame_of self.now.supply.owners user (start / 4096) ≡ Some (place / 4096)) }
+        ensures there { IfSome result
+            (λ place. frame_of self.now.supply.owners user (start / 4096) ≡ Some (place / 4096)) }
         ensures offset { IfSome result (λ place. place % 4096 ≡ start % 4096) }
         ensures within { IfSome result (λ place. place / 4096 < length self.now.supply.owners) }
         ensures few { length self.now.supply.owners ≤ 4096 }
@@ -223,7 +232,8 @@ impl Frames {
     /// The bytes of the segment and page tables of all users, one after another: 2304 for each.
     pub fn tables(&self) -> &[u8]
         ensures size { length result.now ≡ 2304 * length self.now.storages }
-        ensures map { (user page : ℕ) → user < length self.now.storages → page < 1024 → walk result.now user page ≡ frame_of self.now.supply.owners user page }
+        ensures map { (user page : ℕ) → user < length self.now.storages → page < 1024
+            → walk result.now user page ≡ frame_of self.now.supply.owners user page }
     {
         &self.tables
     }
@@ -255,7 +265,8 @@ impl Frames {
     /// The page that stands in a frame.
     pub fn page_in(&self, frame: FrameNo) -> Option<UserPage>
         ensures page { result ≡ slice_index_or self.now.supply.owners frame.0 None }
-        ensures once { (p : UserPage) → (result ≡ Some p) ↔ (frame_of self.now.supply.owners p.user p.page.0 ≡ Some frame.0) }
+        ensures once { (p : UserPage) → (result ≡ Some p)
+            ↔ (frame_of self.now.supply.owners p.user p.page.0 ≡ Some frame.0) }
         ensures inside { IfSome result (λ p. p.page.0 * 4096 < length (bytes_of self.now p.user)) }
     {
         let frame = frame.0 as usize;
@@ -266,9 +277,14 @@ impl Frames {
         }
     }
 
-    /// Marks a frame: the page in it is not to be given up for another. Nothing is done to a free frame, or past the frames.
+    /// Marks a frame: the page in it is not to be given up for another. Nothing is done to a free frame, or past the
+    /// frames.
     pub fn pin(&mut self, frame: FrameNo)
-        ensures supply { self.new.supply ≡ record self.old.supply { pins = slice_set self.old.supply.pins frame.0 (is_some (slice_index_or self.old.supply.owners frame.0 None)) } }
+        ensures supply { self.new.supply
+            ≡ record self.old.supply {
+              pins = slice_set self.old.supply.pins frame.0
+                  (is_some (slice_index_or self.old.supply.owners frame.0 None));
+            } }
         ensures storages { self.new.storages ≡ self.old.storages }
     {
         let frame = frame.0 as usize;
@@ -280,7 +296,8 @@ impl Frames {
 
     /// Takes the mark from a frame. Nothing is done past the frames.
     pub fn unpin(&mut self, frame: FrameNo)
-        ensures supply { self.new.supply ≡ record self.old.supply { pins = slice_set self.old.supply.pins frame.0 false } }
+        ensures supply { self.new.supply
+            ≡ record self.old.supply { pins = slice_set self.old.supply.pins frame.0 false } }
         ensures storages { self.new.storages ≡ self.old.storages }
     {
         let frame = frame.0 as usize;
@@ -292,7 +309,8 @@ impl Frames {
 
     /// Takes the marks from all frames.
     pub fn unpin_all(&mut self)
-        ensures supply { self.new.supply ≡ record self.old.supply { pins = replicate (length self.old.supply.pins) false } }
+        ensures supply { self.new.supply
+            ≡ record self.old.supply { pins = replicate (length self.old.supply.pins) false } }
         ensures storages { self.new.storages ≡ self.old.storages }
     {
         if self.is_marked {
@@ -313,10 +331,17 @@ impl Frames {
         }
     }
 
-    /// Takes all pages of a user out of their frames and slots, after which its storage is all zero, and all marks away.
+    /// Takes all pages of a user out of their frames and slots, after which its storage is all zero, and all marks
+    /// away.
     pub fn release(&mut self, user: UserNo)
-        ensures storages { self.new.storages ≡ slice_set self.old.storages user (replicate (length (bytes_of self.old user)) 0) }
-        ensures supply { self.new.supply ≡ record self.old.supply { owners = cleared_of user self.old.supply.owners; slots = cleared_of user self.old.supply.slots; pins = replicate (length self.old.supply.pins) false } }
+        ensures storages { self.new.storages
+            ≡ slice_set self.old.storages user (replicate (length (bytes_of self.old user)) 0) }
+        ensures supply { self.new.supply
+            ≡ record self.old.supply {
+              owners = cleared_of user self.old.supply.owners;
+              slots = cleared_of user self.old.supply.slots;
+              pins = replicate (length self.old.supply.pins) false;
+            } }
         ensures gone { (page : ℕ) → frame_of self.new.supply.owners user page ≡ None }
         ensures gone_slots { (page : ℕ) → frame_of self.new.supply.slots user page ≡ None }
     {
@@ -333,7 +358,8 @@ impl Frames {
         leave_slots(&mut self.slot_owners, &mut self.slot_table, user);
     }
 
-    /// A frame's bytes; None past the frames. What is written there is from then on the content of the page in the frame.
+    /// A frame's bytes; None past the frames. What is written there is from then on the content of the page in the
+    /// frame.
     pub fn frame_mut(&mut self, frame: FrameNo) -> Option<&mut [u8; FRAME_SIZE]>
         ensures* writes_back { sem 𝓛 (LendsFrame self.entry frame.0 result) }
         ensures some { IsSome result ↔ (frame.0 < length self.old.supply.owners) }
@@ -364,7 +390,8 @@ impl Frames {
     /// Copies bytes of a user out, whose pages stand in frames.
     #[inline(always)]
     pub fn load(&self, user: UserNo, start: u32, into: &mut [u8])
-        requires granted { IsGranted (length (bytes_of self.now user)) (is_there self.now.supply.owners user) start (length into.old) }
+        requires granted { IsGranted (length (bytes_of self.now user)) (is_there self.now.supply.owners user) start
+            (length into.old) }
         requires short { length into.old ≤ 256 }
         ensures { into.new ≡ slice_range (bytes_of self.now user) start (start + length into.old) }
     {
@@ -412,7 +439,8 @@ impl Frames {
     /// Copies bytes out that may lie in two pages.
     #[inline(never)]
     fn load_apart(&self, user: UserNo, start: u32, into: &mut [u8])
-        requires granted { IsGranted (length (bytes_of self.now user)) (is_there self.now.supply.owners user) start (length into.old) }
+        requires granted { IsGranted (length (bytes_of self.now user)) (is_there self.now.supply.owners user) start
+            (length into.old) }
         requires short { length into.old ≤ 256 }
         requires some { 0 < length into.old }
         ensures { into.new ≡ slice_range (bytes_of self.now user) start (start + length into.old) }
@@ -426,7 +454,8 @@ impl Frames {
 
     /// Copies bytes of two pages out.
     fn load_across(&self, user: UserNo, start: u32, into: &mut [u8])
-        requires granted { IsGranted (length (bytes_of self.now user)) (is_there self.now.supply.owners user) start (length into.old) }
+        requires granted { IsGranted (length (bytes_of self.now user)) (is_there self.now.supply.owners user) start
+            (length into.old) }
         requires short { length into.old ≤ 256 }
         requires across { 4096 - start % 4096 < length into.old }
         ensures { into.new ≡ slice_range (bytes_of self.now user) start (start + length into.old) }
@@ -440,7 +469,8 @@ impl Frames {
     /// Copies bytes of a user in, whose pages stand in frames. No other byte of any user changes.
     #[inline(always)]
     pub fn store(&mut self, user: UserNo, start: u32, from: &[u8])
-        requires granted { IsGranted (length (bytes_of self.old user)) (is_there self.old.supply.owners user) start (length from.now) }
+        requires granted { IsGranted (length (bytes_of self.old user)) (is_there self.old.supply.owners user) start
+            (length from.now) }
         requires short { length from.now ≤ 256 }
         ensures bytes { bytes_of self.new user ≡ put (bytes_of self.old user) start from.now }
         ensures size { length (bytes_of self.new user) ≡ length (bytes_of self.old user) }
@@ -509,7 +539,8 @@ impl Frames {
         requires page_of_target { to % 4096 + count ≤ 4096 }
         requires source_present { IsSome (frame_of self.old.supply.owners user (from / 4096)) }
         requires target_present { IsSome (frame_of self.old.supply.owners user (to / 4096)) }
-        ensures bytes { bytes_of self.new user ≡ put (bytes_of self.old user) to (slice_range (bytes_of self.old user) from (from + count)) }
+        ensures bytes { bytes_of self.new user
+            ≡ put (bytes_of self.old user) to (slice_range (bytes_of self.old user) from (from + count)) }
         ensures size { length (bytes_of self.new user) ≡ length (bytes_of self.old user) }
         ensures others { self.new.storages ≡ slice_set self.old.storages user (bytes_of self.new user) }
         ensures supply { self.new.supply ≡ self.old.supply }
@@ -519,8 +550,8 @@ impl Frames {
         self.copy_placed(user, source, from, target, to, count);
     }
 
-    /// Copies at most 2048 bytes of one page of a user into one page, of which the first have these places among the bytes of all
-    /// frames.
+    /// Copies at most 2048 bytes of one page of a user into one page, of which the first have these places among the
+    /// bytes of all frames.
     #[inline(always)]
     pub fn copy_placed(
         &mut self,
@@ -541,7 +572,8 @@ impl Frames {
         requires target_there { frame_of self.old.supply.owners _user (to / 4096) ≡ Some (target / 4096) }
         requires source_offset { source % 4096 ≡ from % 4096 }
         requires target_offset { target % 4096 ≡ to % 4096 }
-        ensures bytes { bytes_of self.new _user ≡ put (bytes_of self.old _user) to (slice_range (bytes_of self.old _user) from (from + count)) }
+        ensures bytes { bytes_of self.new _user
+            ≡ put (bytes_of self.old _user) to (slice_range (bytes_of self.old _user) from (from + count)) }
         ensures size { length (bytes_of self.new _user) ≡ length (bytes_of self.old _user) }
         ensures others { self.new.storages ≡ slice_set self.old.storages _user (bytes_of self.new _user) }
         ensures supply { self.new.supply ≡ self.old.supply }
@@ -559,10 +591,12 @@ impl Frames {
     /// Copies bytes that may lie in two pages, through a buffer.
     #[inline(never)]
     fn copy_across(&mut self, user: UserNo, from: u32, to: u32, count: u32)
-        requires source { IsGranted (length (bytes_of self.old user)) (is_there self.old.supply.owners user) from count }
+        requires source { IsGranted (length (bytes_of self.old user))
+            (is_there self.old.supply.owners user) from count }
         requires target { IsGranted (length (bytes_of self.old user)) (is_there self.old.supply.owners user) to count }
         requires short { count ≤ 256 }
-        ensures bytes { bytes_of self.new user ≡ put (bytes_of self.old user) to (slice_range (bytes_of self.old user) from (from + count)) }
+        ensures bytes { bytes_of self.new user
+            ≡ put (bytes_of self.old user) to (slice_range (bytes_of self.old user) from (from + count)) }
         ensures size { length (bytes_of self.new user) ≡ length (bytes_of self.old user) }
         ensures others { self.new.storages ≡ slice_set self.old.storages user (bytes_of self.new user) }
         ensures supply { self.new.supply ≡ self.old.supply }
@@ -573,14 +607,16 @@ impl Frames {
         self.store(user, to, part);
     }
 
-    /// Copies bytes of a user, whose pages stand in frames, from one place to another, as if all were read before any is
-    /// written. No other byte of any user changes.
+    /// Copies bytes of a user, whose pages stand in frames, from one place to another, as if all were read before any
+    /// is written. No other byte of any user changes.
     #[inline(always)]
     pub fn copy(&mut self, user: UserNo, from: u32, to: u32, count: u32)
-        requires source { IsGranted (length (bytes_of self.old user)) (is_there self.old.supply.owners user) from count }
+        requires source { IsGranted (length (bytes_of self.old user))
+            (is_there self.old.supply.owners user) from count }
         requires target { IsGranted (length (bytes_of self.old user)) (is_there self.old.supply.owners user) to count }
         requires short { count ≤ 256 }
-        ensures bytes { bytes_of self.new user ≡ put (bytes_of self.old user) to (slice_range (bytes_of self.old user) from (from + count)) }
+        ensures bytes { bytes_of self.new user
+            ≡ put (bytes_of self.old user) to (slice_range (bytes_of self.old user) from (from + count)) }
         ensures size { length (bytes_of self.new user) ≡ length (bytes_of self.old user) }
         ensures others { self.new.storages ≡ slice_set self.old.storages user (bytes_of self.new user) }
         ensures supply { self.new.supply ≡ self.old.supply }
@@ -598,7 +634,8 @@ impl Frames {
     /// Copies bytes in that may lie in two pages.
     #[inline(never)]
     fn store_apart(&mut self, user: UserNo, start: u32, from: &[u8])
-        requires granted { IsGranted (length (bytes_of self.old user)) (is_there self.old.supply.owners user) start (length from.now) }
+        requires granted { IsGranted (length (bytes_of self.old user)) (is_there self.old.supply.owners user) start
+            (length from.now) }
         requires short { length from.now ≤ 256 }
         requires some { 0 < length from.now }
         ensures bytes { bytes_of self.new user ≡ put (bytes_of self.old user) start from.now }
@@ -615,7 +652,8 @@ impl Frames {
 
     /// Copies bytes into two pages.
     fn store_across(&mut self, user: UserNo, start: u32, from: &[u8])
-        requires granted { IsGranted (length (bytes_of self.old user)) (is_there self.old.supply.owners user) start (length from.now) }
+        requires granted { IsGranted (length (bytes_of self.old user)) (is_there self.old.supply.owners user) start
+            (length from.now) }
         requires short { length from.now ≤ 256 }
         requires across { 4096 - start % 4096 < length from.now }
         ensures bytes { bytes_of self.new user ≡ put (bytes_of self.old user) start from.now }

@@ -1,11 +1,12 @@
 //! The tables of the frame and of the slot of each page.
 //!
-//! That of the frames is bytes: 2304 for each user, the segment table and 64 page tables of the architecture, with segments of
-//! 64K and pages of 4K (GA22-7000, "Dynamic Address Translation"). That of the slots is a list, 1024 entries for each user.
+//! That of the frames is bytes: 2304 for each user, the segment table and 64 page tables of the architecture, with
+//! segments of 64K and pages of 4K (GA22-7000, "Dynamic Address Translation"). That of the slots is a list, 1024
+//! entries for each user.
 //!
-//! Beside the bytes stands such a list of the frames too: of a page it tells how far the places of its bytes, among those of all
-//! frames, are beyond their addresses, so that an access finds the place of a byte by one load and one addition. No entry of
-//! the one is written without that of the other, by [`note`] and [`forget`].
+//! Beside the bytes stands such a list of the frames too: of a page it tells how far the places of its bytes, among
+//! those of all frames, are beyond their addresses, so that an access finds the place of a byte by one load and one
+//! addition. No entry of the one is written without that of the other, by [`note`] and [`forget`].
 ghost use Rattle.std.specs.Prelude.{◌≡◌, ◌≢◌, ℕ, ◌+◌, ◌*◌, ◌/◌, ◌%◌, ◌<◌, ◌≤◌, length, slice_index, IfOk, IfSome, Some, None, replicate};
 ghost use Rattle.cp_frames.specs.Layout.{frame_entry, slot_entry, told};
 ghost use Rattle.cp_frames.specs.Tables.{half_at, word_at, page_place, segment_entry, segment_place, first_half, put_half, noted};
@@ -83,7 +84,8 @@ fn put_half(tables: &mut Vec<u8>, place: usize, half: u16)
 /// The place of an address among the bytes of all frames, by the entry of its page, which stands in one.
 #[inline(always)]
 pub fn place_in(entry: u32, address: u32) -> usize
-    ensures { (frame : ℕ) → frame < 65536 → address < 4194304 → entry ≡ frame_entry (Some frame) (address / 4096) → result ≡ frame * 4096 + address % 4096 }
+    ensures { (frame : ℕ) → frame < 65536 → address < 4194304 → entry ≡ frame_entry (Some frame) (address / 4096)
+        → result ≡ frame * 4096 + address % 4096 }
 {
     entry.wrapping_add(address) as usize
 }
@@ -147,7 +149,10 @@ fn first_half(user: usize, pages: u32, half: usize) -> u16
 pub fn new_tables(alloc: Global, sizes: &[u32]) -> Result<Vec<u8>, AllocError>
     requires { length sizes.now ≤ 64 }
     ensures size { IfOk result (λ tables. length tables.items ≡ 2304 * length sizes.now) }
-    ensures halves { IfOk result (λ tables. (half : ℕ) → half < 1152 * length sizes.now → half_at tables.items (half * 2) ≡ first_half (half / 1152) (slice_index sizes.now (half / 1152)) (half % 1152)) }
+    ensures halves { IfOk result
+        (λ tables. (half : ℕ) → half < 1152 * length sizes.now
+        → half_at tables.items (half * 2)
+        ≡ first_half (half / 1152) (slice_index sizes.now (half / 1152)) (half % 1152)) }
 {
     let mut tables = vec![in alloc; 0; TABLES * sizes.len()]?;
     for half in 0..HALVES * sizes.len() {
@@ -241,8 +246,10 @@ pub fn forget_slot(table: &mut Vec<u32>, owner: Option<UserPage>)
 /// Makes a user's entries say that his pages stand in no slot.
 pub fn forget_slots(table: &mut Vec<u32>, user: usize)
     requires { user < 256 }
-    ensures own { (page : ℕ) → page < 1024 → user * 1024 + 1024 ≤ length table.old.items → slice_index table.new.items (user * 1024 + page) ≡ 4294967295 }
-    ensures others { (entry : ℕ) → entry / 1024 ≢ user → slice_index table.new.items entry ≡ slice_index table.old.items entry }
+    ensures own { (page : ℕ) → page < 1024 → user * 1024 + 1024 ≤ length table.old.items
+        → slice_index table.new.items (user * 1024 + page) ≡ 4294967295 }
+    ensures others { (entry : ℕ) → entry / 1024 ≢ user
+        → slice_index table.new.items entry ≡ slice_index table.old.items entry }
     ensures size { length table.new.items ≡ length table.old.items }
 {
     let first = user * PAGES;

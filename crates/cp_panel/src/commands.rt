@@ -23,8 +23,11 @@ use std::alloc::AllocError;
 impl Machine {
     /// BEGIN: the machine runs, and the room for the notice of its stop is made.
     pub(crate) fn begin(&mut self, address: Option<Addr24>) -> Result<(), AllocError>
-        ensures ok { (bytes keys : List ℕ) → OnOk result (obeyed (commands.Begin address) (machine_of self.old bytes keys) ≡ record { machine = machine_of self.new bytes keys; reply = None }) }
-        ensures err { (bytes keys : List ℕ) → OnErr result (machine_of self.new bytes keys ≡ machine_of self.old bytes keys) }
+        ensures ok { (bytes keys : List ℕ)
+            → OnOk result (obeyed (commands.Begin address) (machine_of self.old bytes keys)
+            ≡ record { machine = machine_of self.new bytes keys; reply = None }) }
+        ensures err { (bytes keys : List ℕ)
+            → OnErr result (machine_of self.new bytes keys ≡ machine_of self.old bytes keys) }
         ensures memory { OnErr result (self.old.room < 1) }
     {
         self.output.make_room(1)?;
@@ -38,8 +41,11 @@ impl Machine {
 
     /// SYSTEM RESET: general registers, storage, keys and what was printed stay.
     pub fn system_reset(&mut self) -> Result<(), AllocError>
-        ensures ok { (bytes keys : List ℕ) → OnOk result (obeyed commands.SystemReset (machine_of self.old bytes keys) ≡ record { machine = machine_of self.new bytes keys; reply = Some SystemReset }) }
-        ensures err { (bytes keys : List ℕ) → OnErr result (machine_of self.new bytes keys ≡ machine_of self.old bytes keys) }
+        ensures ok { (bytes keys : List ℕ)
+            → OnOk result (obeyed commands.SystemReset (machine_of self.old bytes keys)
+            ≡ record { machine = machine_of self.new bytes keys; reply = Some SystemReset }) }
+        ensures err { (bytes keys : List ℕ)
+            → OnErr result (machine_of self.new bytes keys ≡ machine_of self.old bytes keys) }
         ensures memory { OnErr result (self.old.room < 1) }
     {
         let answer = 1;
@@ -51,7 +57,9 @@ impl Machine {
 
     /// EXTERNAL: the interrupt key is pressed.
     pub(crate) fn external(&mut self)
-        ensures { (bytes keys : List ℕ) → obeyed commands.External (machine_of self.old bytes keys) ≡ record { machine = machine_of self.new bytes keys; reply = None } }
+        ensures { (bytes keys : List ℕ)
+            → obeyed commands.External (machine_of self.old bytes keys)
+            ≡ record { machine = machine_of self.new bytes keys; reply = None } }
     {
         self.pending.key = true;
     }
@@ -69,8 +77,10 @@ impl Machine {
             let after = machine_of self.new (S.Storage.bytes storage.new) (S.Storage.keys storage.new) in
             OnErr result (after ≡ before) }
         ensures memory { result ≡ Err LineError.Memory → self.old.room < 2 }
-        ensures frames { result ≡ Err LineError.FramesOut → IsLacking (Touches (shown place)) (length (S.Storage.bytes storage.old)) (S.IsShort storage.new) }
-        ensures supply { (pages : List ℕ) × S.Brought storage.old pages storage.new × AllNeeded (Touches (shown place)) pages }
+        ensures frames { result ≡ Err LineError.FramesOut
+            → IsLacking (Touches (shown place)) (length (S.Storage.bytes storage.old)) (S.IsShort storage.new) }
+        ensures supply { (pages : List ℕ) × S.Brought storage.old pages storage.new
+            × AllNeeded (Touches (shown place)) pages }
         ensures size { length (S.Storage.bytes storage.new) ≡ length (S.Storage.bytes storage.old) }
     {
         match self.output.make_room(2) {
@@ -99,8 +109,10 @@ impl Machine {
             let after = machine_of self.new (S.Storage.bytes storage.new) (S.Storage.keys storage.new) in
             OnErr result (after ≡ before) }
         ensures memory { result ≡ Err LineError.Memory → self.old.room < 2 }
-        ensures frames { result ≡ Err LineError.FramesOut → IsLacking (Touches (touched change)) (length (S.Storage.bytes storage.old)) (S.IsShort storage.new) }
-        ensures supply { (pages : List ℕ) × S.Brought storage.old pages storage.new × AllNeeded (Touches (touched change)) pages }
+        ensures frames { result ≡ Err LineError.FramesOut
+            → IsLacking (Touches (touched change)) (length (S.Storage.bytes storage.old)) (S.IsShort storage.new) }
+        ensures supply { (pages : List ℕ) × S.Brought storage.old pages storage.new
+            × AllNeeded (Touches (touched change)) pages }
         ensures size { length (S.Storage.bytes storage.new) ≡ length (S.Storage.bytes storage.old) }
     {
         match self.output.make_room(2) {
@@ -126,8 +138,10 @@ fn display_supplied<S: Supply>(
     ensures ok { let s = state_of cpu.now (S.Storage.bytes storage.old) (S.Storage.keys storage.old) in
         IfOk result (λ response. response ≡ displayed place.now s) }
     ensures kept { IfOk result (λ response. is_panel response ≡ true) }
-    ensures err { OnErr result (IsLacking (Touches (shown place.now)) (length (S.Storage.bytes storage.old)) (S.IsShort storage.new)) }
-    ensures supply { (pages : List ℕ) × S.Brought storage.old pages storage.new × AllNeeded (Touches (shown place.now)) pages }
+    ensures err { OnErr result
+        (IsLacking (Touches (shown place.now)) (length (S.Storage.bytes storage.old)) (S.IsShort storage.new)) }
+    ensures supply { (pages : List ℕ) × S.Brought storage.old pages storage.new
+        × AllNeeded (Touches (shown place.now)) pages }
     ensures bytes { S.Storage.bytes storage.new ≡ S.Storage.bytes storage.old }
     ensures keys { S.Storage.keys storage.new ≡ S.Storage.keys storage.old }
 {
@@ -154,8 +168,10 @@ fn change_supplied<S: Supply>(
     ensures unchanged { let before = state_of cpu.old (S.Storage.bytes storage.old) (S.Storage.keys storage.old) in
         let after = state_of cpu.new (S.Storage.bytes storage.new) (S.Storage.keys storage.new) in
         OnErr result (after ≡ before) }
-    ensures err { OnErr result (IsLacking (Touches (touched change_of.now)) (length (S.Storage.bytes storage.old)) (S.IsShort storage.new)) }
-    ensures supply { (pages : List ℕ) × S.Brought storage.old pages storage.new × AllNeeded (Touches (touched change_of.now)) pages }
+    ensures err { OnErr result
+        (IsLacking (Touches (touched change_of.now)) (length (S.Storage.bytes storage.old)) (S.IsShort storage.new)) }
+    ensures supply { (pages : List ℕ) × S.Brought storage.old pages storage.new
+        × AllNeeded (Touches (touched change_of.now)) pages }
     ensures size { length (S.Storage.bytes storage.new) ≡ length (S.Storage.bytes storage.old) }
 {
     loop {

@@ -58,7 +58,8 @@ impl Machine {
     /// Prints a line on the console, for which there is room beside that for the notice of the machine's stop.
     pub fn print(&mut self, response: &Response)
         requires { 1 < self.old.room }
-        ensures printed { self.new ≡ record self.old { output = self.old.output ++ text_of response.now ∷ []; room = self.new.room } }
+        ensures printed { self.new
+            ≡ record self.old { output = self.old.output ++ text_of response.now ∷ []; room = self.new.room } }
         ensures room { self.new.room + 1 ≡ self.old.room }
     {
         self.output.print(response);
@@ -66,7 +67,12 @@ impl Machine {
 
     /// A system reset: general registers and what was printed stay. The machine is stopped.
     pub fn reset(&mut self)
-        ensures { self.new ≡ record self.old { cpu = reset_cpu self.old.cpu.general; pending = nothing_pending; subchannels = reset_devices self.old.subchannels; mode = Stopped } }
+        ensures { self.new ≡ record self.old {
+          cpu = reset_cpu self.old.cpu.general;
+          pending = nothing_pending;
+          subchannels = reset_devices self.old.subchannels;
+          mode = Stopped;
+        } }
     {
         self.cpu = reset_cpu(self.cpu.general);
         self.pending = Pending::NOTHING;

@@ -1,5 +1,5 @@
-//! The machine with its operator's panel, but for its storage: what both a bare machine and a user of the control program
-//! have, written once.
+//! The machine with its operator's panel, but for its storage: what both a bare machine and a user of the control
+//! program have, written once.
 //!
 //! Its one theorem: what a [`Machine`] does when it is let run ([`Machine::run`]), when a line is typed
 //! ([`Machine::line`]) and at a tick of its timer ([`Machine::tick`]) is what `specs/` defines (docs/MACHINE.md,

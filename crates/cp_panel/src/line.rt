@@ -41,11 +41,15 @@ impl Machine {
         ensures memory { let before = machine_of self.old (S.Storage.bytes storage.old) (S.Storage.keys storage.old) in
             result ≡ Err LineError.Memory → self.old.room < line_room typed.now before }
         ensures frames { let before = machine_of self.old (S.Storage.bytes storage.old) (S.Storage.keys storage.old) in
-            result ≡ Err LineError.FramesOut → IsLacking (Touches (line_needs typed.now before)) (length (S.Storage.bytes storage.old)) (S.IsShort storage.new) }
+            result ≡ Err LineError.FramesOut
+            → IsLacking (Touches (line_needs typed.now before)) (length (S.Storage.bytes storage.old))
+            (S.IsShort storage.new) }
         ensures cleared { let before = machine_of self.old (S.Storage.bytes storage.old) (S.Storage.keys storage.old) in
             switches typed.now before ≡ true → S.Cleared storage.old storage.new }
         ensures supply { let before = machine_of self.old (S.Storage.bytes storage.old) (S.Storage.keys storage.old) in
-            switches typed.now before ≡ false → ((pages : List ℕ) × S.Brought storage.old pages storage.new × AllNeeded (Touches (line_needs typed.now before)) pages) }
+            switches typed.now before ≡ false
+            → ((pages : List ℕ) × S.Brought storage.old pages storage.new
+            × AllNeeded (Touches (line_needs typed.now before)) pages) }
         ensures size { length (S.Storage.bytes storage.new) ≡ length (S.Storage.bytes storage.old) }
     {
         let text = ConsoleText::new(typed);
@@ -88,9 +92,13 @@ impl Machine {
             let after = machine_of self.new (S.Storage.bytes storage.new) (S.Storage.keys storage.new) in
             OnErr result (after ≡ before) }
         ensures memory { result ≡ Err LineError.Memory → self.old.room < asked_room mode (asked_of text.now) }
-        ensures frames { result ≡ Err LineError.FramesOut → IsLacking (Touches (asked_needs mode (asked_of text.now))) (length (S.Storage.bytes storage.old)) (S.IsShort storage.new) }
+        ensures frames { result ≡ Err LineError.FramesOut
+            → IsLacking (Touches (asked_needs mode (asked_of text.now))) (length (S.Storage.bytes storage.old))
+            (S.IsShort storage.new) }
         ensures cleared { asked_switches mode (asked_of text.now) ≡ true → S.Cleared storage.old storage.new }
-        ensures supply { asked_switches mode (asked_of text.now) ≡ false → ((pages : List ℕ) × S.Brought storage.old pages storage.new × AllNeeded (Touches (asked_needs mode (asked_of text.now))) pages) }
+        ensures supply { asked_switches mode (asked_of text.now) ≡ false
+            → ((pages : List ℕ) × S.Brought storage.old pages storage.new
+            × AllNeeded (Touches (asked_needs mode (asked_of text.now))) pages) }
         ensures size { length (S.Storage.bytes storage.new) ≡ length (S.Storage.bytes storage.old) }
     {
         match asked_of(text) {
@@ -120,9 +128,13 @@ impl Machine {
             let after = machine_of self.new (S.Storage.bytes storage.new) (S.Storage.keys storage.new) in
             OnErr result (after ≡ before) }
         ensures memory { result ≡ Err LineError.Memory → self.old.room < command_room (command_of text.now) }
-        ensures frames { result ≡ Err LineError.FramesOut → IsLacking (Touches (command_needs (command_of text.now))) (length (S.Storage.bytes storage.old)) (S.IsShort storage.new) }
+        ensures frames { result ≡ Err LineError.FramesOut
+            → IsLacking (Touches (command_needs (command_of text.now))) (length (S.Storage.bytes storage.old))
+            (S.IsShort storage.new) }
         ensures cleared { is_logoff (command_of text.now) ≡ true → S.Cleared storage.old storage.new }
-        ensures supply { is_logoff (command_of text.now) ≡ false → ((pages : List ℕ) × S.Brought storage.old pages storage.new × AllNeeded (Touches (command_needs (command_of text.now))) pages) }
+        ensures supply { is_logoff (command_of text.now) ≡ false
+            → ((pages : List ℕ) × S.Brought storage.old pages storage.new
+            × AllNeeded (Touches (command_needs (command_of text.now))) pages) }
         ensures size { length (S.Storage.bytes storage.new) ≡ length (S.Storage.bytes storage.old) }
     {
         match read_command(text) {

@@ -44,7 +44,14 @@ impl Model for Machine {
 
     ghost Value = { Parts };
 
-    ghost view = { λ m. record { cpu = m.cpu; pending = m.pending; subchannels = m.subchannels; mode = m.mode; output = m.output.lines; room = m.output.room } };
+    ghost view = { λ m. record {
+      cpu = m.cpu;
+      pending = m.pending;
+      subchannels = m.subchannels;
+      mode = m.mode;
+      output = m.output.lines;
+      room = m.output.room;
+    } };
 
     ghost invariant = { λ m. m.mode ≡ Running → 1 ≤ m.output.room };
 }
@@ -65,7 +72,9 @@ pub(crate) fn reset_cpu(general: [u32; 16]) -> Cpu
 impl Machine {
     /// A machine with these devices that is off and was never on.
     pub fn new(alloc: Global, mut subchannels: Subchannels) -> Machine
-        ensures machine { (bytes keys : List ℕ) → machine_of result (replicate (length bytes) 0) (replicate (length keys) 0) ≡ unused bytes keys subchannels }
+        ensures machine { (bytes keys : List ℕ)
+            → machine_of result (replicate (length bytes) 0) (replicate (length keys) 0)
+            ≡ unused bytes keys subchannels }
     {
         subchannels.reset();
         Machine {
@@ -79,7 +88,8 @@ impl Machine {
 
     /// LOGON: a reset machine with zeros everywhere; what was printed stays.
     pub fn clear<S: Supply>(&mut self, storage: &mut S)
-        ensures machine { machine_of self.new (S.Storage.bytes storage.new) (S.Storage.keys storage.new) ≡ cleared (machine_of self.old (S.Storage.bytes storage.old) (S.Storage.keys storage.old)) }
+        ensures machine { machine_of self.new (S.Storage.bytes storage.new) (S.Storage.keys storage.new)
+            ≡ cleared (machine_of self.old (S.Storage.bytes storage.old) (S.Storage.keys storage.old)) }
         ensures cleared { S.Cleared storage.old storage.new }
         ensures size { length (S.Storage.bytes storage.new) ≡ length (S.Storage.bytes storage.old) }
         ensures keys { length (S.Storage.keys storage.new) ≡ length (S.Storage.keys storage.old) }
@@ -93,7 +103,8 @@ impl Machine {
 
     /// LOGOFF: as after LOGON, but off.
     pub fn switch_off<S: Supply>(&mut self, storage: &mut S)
-        ensures machine { machine_of self.new (S.Storage.bytes storage.new) (S.Storage.keys storage.new) ≡ switched_off (machine_of self.old (S.Storage.bytes storage.old) (S.Storage.keys storage.old)) }
+        ensures machine { machine_of self.new (S.Storage.bytes storage.new) (S.Storage.keys storage.new)
+            ≡ switched_off (machine_of self.old (S.Storage.bytes storage.old) (S.Storage.keys storage.old)) }
         ensures cleared { S.Cleared storage.old storage.new }
         ensures size { length (S.Storage.bytes storage.new) ≡ length (S.Storage.bytes storage.old) }
         ensures keys { length (S.Storage.keys storage.new) ≡ length (S.Storage.keys storage.old) }

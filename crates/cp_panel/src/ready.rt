@@ -29,8 +29,8 @@ fn has_work(next: Next) -> bool
 }
 
 impl Machine {
-    /// Whether the machine is ready for a unit: it is, unless a run of one unit would tell that it waits for an interruption or
-    /// is stopped. Nothing is done.
+    /// Whether the machine is ready for a unit: it is, unless a run of one unit would tell that it waits for an
+    /// interruption or is stopped. Nothing is done.
     pub fn is_ready(&self) -> bool
         ensures { (bytes keys : List ℕ) → result ≡ is_ready (machine_of self.now bytes keys) }
     {

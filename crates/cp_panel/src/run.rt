@@ -44,16 +44,19 @@ impl MachineRan {
 }
 
 impl Machine {
-    /// Lets the machine run for at most so many units. This takes no memory. What it printed, if it stopped, is [`notice_of`]
-    /// the reason: a run that goes on carries no room for it.
+    /// Lets the machine run for at most so many units. This takes no memory. What it printed, if it stopped, is
+    /// [`notice_of`] the reason: a run that goes on carries no room for it.
     pub fn run<P: Processor, S: UnitSupply>(&mut self, storage: &mut S, count: u32) -> Ran
         requires large { 8192 ≤ length (S.Storage.bytes storage.old) }
         requires between { S.IsBetween storage.old }
         ensures told { let before = machine_of self.old (S.Storage.bytes storage.old) (S.Storage.keys storage.old) in
             let after = machine_of self.new (S.Storage.bytes storage.new) (S.Storage.keys storage.new) in
-            TellsRun count before (record { machine = after; units = result.units; reason = result.reason; notice = notice_of result.reason }) (S.IsOut storage.new) }
+            TellsRun count before
+            (record { machine = after; units = result.units; reason = result.reason; notice = notice_of result.reason })
+            (S.IsOut storage.new) }
         ensures supply { let before = machine_of self.old (S.Storage.bytes storage.old) (S.Storage.keys storage.old) in
-            (units : List (List ℕ)) × S.Came storage.old units storage.new × EachBrings before.core 0 units × (length units ≤ begun result.units result.reason) }
+            (units : List (List ℕ)) × S.Came storage.old units storage.new × EachBrings before.core 0 units
+            × (length units ≤ begun result.units result.reason) }
         ensures between { S.IsBetween storage.new }
         ensures size { length (S.Storage.bytes storage.new) ≡ length (S.Storage.bytes storage.old) }
         ensures room { length self.new.output + self.new.room ≡ length self.old.output + self.old.room }
@@ -81,7 +84,8 @@ impl Machine {
     /// Stops the machine with a notice, where there is one.
     fn halt(&mut self, notice: Option<Response>)
         requires { 1 ≤ self.old.room }
-        ensures machine { (bytes keys : List ℕ) → machine_of self.new bytes keys ≡ halted notice (machine_of self.old bytes keys) }
+        ensures machine { (bytes keys : List ℕ)
+            → machine_of self.new bytes keys ≡ halted notice (machine_of self.old bytes keys) }
         ensures room { length self.new.output + self.new.room ≡ length self.old.output + self.old.room }
     {
         match notice {

@@ -24,7 +24,8 @@ impl Machine {
         ensures frames { let before = machine_of self.old (S.Storage.bytes storage.old) (S.Storage.keys storage.old) in
             OnErr result (IsLacking (TickNeeds before) (length (S.Storage.bytes storage.old)) (S.IsOut storage.new)) }
         ensures supply { let before = machine_of self.old (S.Storage.bytes storage.old) (S.Storage.keys storage.old) in
-            (pages : List ℕ) × S.Came storage.old (pages ∷ []) storage.new × AllNeeded (TickNeeds before) pages × (length pages ≤ 1) }
+            (pages : List ℕ) × S.Came storage.old (pages ∷ []) storage.new × AllNeeded (TickNeeds before) pages
+            × (length pages ≤ 1) }
         ensures between { S.IsBetween storage.new }
         ensures size { length (S.Storage.bytes storage.new) ≡ length (S.Storage.bytes storage.old) }
         ensures room { length self.new.output + self.new.room ≡ length self.old.output + self.old.room }
@@ -40,11 +41,15 @@ impl Machine {
 fn tick_supplied<S: UnitSupply>(pending: &mut Pending, storage: &mut S) -> Result<(), FramesOut>
     requires large { 8192 ≤ length (S.Storage.bytes storage.old) }
     requires between { S.IsBetween storage.old }
-    ensures ok { OnOk result (timed (S.Storage.bytes storage.new) pending.new ≡ tick (timed (S.Storage.bytes storage.old) pending.old)) }
-    ensures err { OnErr result (timed (S.Storage.bytes storage.new) pending.new ≡ timed (S.Storage.bytes storage.old) pending.old) }
+    ensures ok { OnOk result (timed (S.Storage.bytes storage.new) pending.new
+        ≡ tick (timed (S.Storage.bytes storage.old) pending.old)) }
+    ensures err { OnErr result
+        (timed (S.Storage.bytes storage.new) pending.new ≡ timed (S.Storage.bytes storage.old) pending.old) }
     ensures keys { S.Storage.keys storage.new ≡ S.Storage.keys storage.old }
-    ensures frames { OnErr result (IsLacking (λ page. page ≡ 0) (length (S.Storage.bytes storage.old)) (S.IsOut storage.new)) }
-    ensures supply { (pages : List ℕ) × S.Came storage.old (pages ∷ []) storage.new × AllNeeded (λ page. page ≡ 0) pages × (length pages ≤ 1) }
+    ensures frames { OnErr result
+        (IsLacking (λ page. page ≡ 0) (length (S.Storage.bytes storage.old)) (S.IsOut storage.new)) }
+    ensures supply { (pages : List ℕ) × S.Came storage.old (pages ∷ []) storage.new × AllNeeded (λ page. page ≡ 0) pages
+        × (length pages ≤ 1) }
     ensures between { S.IsBetween storage.new }
     ensures size { length (S.Storage.bytes storage.new) ≡ length (S.Storage.bytes storage.old) }
 {
@@ -56,11 +61,15 @@ fn tick_supplied<S: UnitSupply>(pending: &mut Pending, storage: &mut S) -> Resul
 /// A tick, after page 0 was brought where it was not present.
 fn bring_and_tick<S: UnitSupply>(pending: &mut Pending, storage: &mut S) -> Result<(), FramesOut>
     requires { 8192 ≤ length (S.Storage.bytes storage.old) }
-    ensures ok { OnOk result (timed (S.Storage.bytes storage.new) pending.new ≡ tick (timed (S.Storage.bytes storage.old) pending.old)) }
-    ensures err { OnErr result (timed (S.Storage.bytes storage.new) pending.new ≡ timed (S.Storage.bytes storage.old) pending.old) }
+    ensures ok { OnOk result (timed (S.Storage.bytes storage.new) pending.new
+        ≡ tick (timed (S.Storage.bytes storage.old) pending.old)) }
+    ensures err { OnErr result
+        (timed (S.Storage.bytes storage.new) pending.new ≡ timed (S.Storage.bytes storage.old) pending.old) }
     ensures keys { S.Storage.keys storage.new ≡ S.Storage.keys storage.old }
-    ensures frames { OnErr result (IsLacking (λ page. page ≡ 0) (length (S.Storage.bytes storage.old)) (S.Supply.IsShort storage.new)) }
-    ensures supply { (pages : List ℕ) × S.Supply.Brought storage.old pages storage.new × AllNeeded (λ page. page ≡ 0) pages × (length pages ≤ 1) }
+    ensures frames { OnErr result
+        (IsLacking (λ page. page ≡ 0) (length (S.Storage.bytes storage.old)) (S.Supply.IsShort storage.new)) }
+    ensures supply { (pages : List ℕ) × S.Supply.Brought storage.old pages storage.new
+        × AllNeeded (λ page. page ≡ 0) pages × (length pages ≤ 1) }
     ensures size { length (S.Storage.bytes storage.new) ≡ length (S.Storage.bytes storage.old) }
 {
     loop {

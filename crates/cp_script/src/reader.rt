@@ -72,9 +72,12 @@ fn read_line<'a>(
     events: &mut Vec<ScriptEvent<'a>>,
 ) -> Result<(), ScriptError>
     requires { length users.now ≤ MOST_USERS }
-    ensures ok { OnOk result (line_step users.now number (map said events.old.items) line.now ≡ Ok (map said events.new.items)) }
-    ensures users { All (IsOfUser users.now) events.old.items → OnOk result (All (IsOfUser users.now) events.new.items) }
-    ensures devices { All (IsOfDevice users.now) events.old.items → OnOk result (All (IsOfDevice users.now) events.new.items) }
+    ensures ok { OnOk result (line_step users.now number (map said events.old.items) line.now
+        ≡ Ok (map said events.new.items)) }
+    ensures users { All (IsOfUser users.now) events.old.items
+        → OnOk result (All (IsOfUser users.now) events.new.items) }
+    ensures devices { All (IsOfDevice users.now) events.old.items
+        → OnOk result (All (IsOfDevice users.now) events.new.items) }
     ensures err { IfErr result (IsRefusal (line_step users.now number (map said events.old.items) line.now)) }
 {
     if is_ignored(line) {

@@ -21,7 +21,8 @@ pub fn cut_word(line: &[u8]) -> (&[u8], Option<&[u8]>)
 /// The first word of a line whose words are separated by any number of blanks, and what stands
 /// after the blank that ends it; none where the line has only blanks.
 pub fn next_word(line: &[u8]) -> Option<(&[u8], &[u8])>
-    ensures words { MatchOption result (words_of line.now ≡ []) (λ cut. words_of line.now ≡ cut.0.now ∷ words_of cut.1.now) }
+    ensures words { MatchOption result (words_of line.now ≡ [])
+        (λ cut. words_of line.now ≡ cut.0.now ∷ words_of cut.1.now) }
     ensures rest { IfSome result (λ cut. cut.1.now ≡ after_first_word line.now) }
 {
     let line = unindented(line);

@@ -18,8 +18,8 @@ pub enum Simulated {
     Done,
     /// It is refused: the guest is to be interrupted with this code, and has the next address already.
     Refused(ProgramCode),
-    /// The guest's own device of this address, or its channel, is asked, and the guest has the next address already; the
-    /// condition code is still to be set.
+    /// The guest's own device of this address, or its channel, is asked, and the guest has the next address already;
+    /// the condition code is still to be set.
     InputOutput(IoOperation, u16),
     /// It has to access this page, which is not present. Nothing is changed.
     Absent(Page),
@@ -37,7 +37,8 @@ pub fn simulate<S: Keyed>(
     requires { is_supervised (opcode_at instruction.opcode) ≡ true }
     ensures simulated { let before = state_of cpu.old (S.Storage.bytes storage.old) (S.Storage.keys storage.old) in
         let after = state_of cpu.new (S.Storage.bytes storage.new) (S.Storage.keys storage.new) in
-        MeetsUnit (supervised before instruction ilc) (S.Storage.present storage.old) before (stop_of result ilc) after }
+        MeetsUnit (supervised before instruction ilc)
+        (S.Storage.present storage.old) before (stop_of result ilc) after }
     ensures refused { (result ≡ Simulated.Refused ProgramCode.PrivilegedOperation) ↔ IsTrue cpu.old.psw.problem }
     ensures rest { S.Storage.Keeps storage.old storage.new }
 {

@@ -29,7 +29,8 @@ fn codes(alloc: Global, digit: u8) -> Result<String> {
     Ok(told)
 }
 
-/// How an instruction ends at address 100 whose operands stand at address 200, where a branch stands that is never taken.
+/// How an instruction ends at address 100 whose operands stand at address 200, where a branch stands that is never
+/// taken.
 fn end_of(alloc: Global, first: u8, problem: bool) -> Result<Stop> {
     let mut storage = PlainStorage::new(alloc, 1)?;
     place(&mut storage, 0x100, [first, 0x00, 0x02, 0x00])?;
@@ -47,8 +48,8 @@ fn code_of(end: Stop) -> u16 {
     }
 }
 
-/// `A` where both states end alike and know the operation, `S` where only the supervisor state is not refused as privileged,
-/// and a dot where there is no such operation.
+/// `A` where both states end alike and know the operation, `S` where only the supervisor state is not refused as
+/// privileged, and a dot where there is no such operation.
 fn letter(supervisor: u16, problem: u16) -> &'static str {
     match (supervisor, problem) {
         (1, 1) => ".",
@@ -70,8 +71,8 @@ fn ask(alloc: Global, opcode: u8) -> Result<String> {
     Ok(told)
 }
 
-/// What is asked by the first instruction, at 300, where the other is at 400. Register 8 has 123400, so that the operand's
-/// address is 123491, of which the last two bytes are the device's.
+/// What is asked by the first instruction, at 300, where the other is at 400. Register 8 has 123400, so that the
+/// operand's address is 123491, of which the last two bytes are the device's.
 fn asked(alloc: Global, first: [u8; 4], target: [u8; 4]) -> Result<String> {
     let mut storage = PlainStorage::new(alloc, 4)?;
     place(&mut storage, 0x300, first)?;
@@ -89,8 +90,8 @@ fn asked(alloc: Global, first: [u8; 4], target: [u8; 4]) -> Result<String> {
     Ok(format!(in alloc; "{name} {device:X} {next}")?)
 }
 
-/// `keys`: what ISK 3,2 leaves in register 3 after SSK 1,2, where register 2 has the last block of a page that is absent; and the
-/// next address. A key belongs to its block, whether the page is present or not.
+/// `keys`: what ISK 3,2 leaves in register 3 after SSK 1,2, where register 2 has the last block of a page that is
+/// absent; and the next address. A key belongs to its block, whether the page is present or not.
 fn keys(alloc: Global) -> Result<String> {
     let mut storage = PagedStorage::new(alloc, 2)?;
     storage.set_present(Page(0), true);

@@ -26,8 +26,8 @@ pub const FIRST_TRACK: Arm = Arm {
 /// The blocks of 2048 bytes of storage: 16K.
 const BLOCKS: u32 = 8;
 
-/// What stands in storage: the channel programs, the new PSW of an input or output interruption, and where that leads to an
-/// instruction that does nothing.
+/// What stands in storage: the channel programs, the new PSW of an input or output interruption, and where that leads
+/// to an instruction that does nothing.
 const STORED: [(&str, &str); 6] = [
     ("2000", "0300000020000001"),
     ("2040", "1A00300020000005"),

@@ -1,5 +1,5 @@
-//! Does the steps of a table over a processor, its channels, its devices and images of volumes, and compares what comes of each
-//! with what the table says.
+//! Does the steps of a table over a processor, its channels, its devices and images of volumes, and compares what comes
+//! of each with what the table says.
 //!
 //! `steps.txt` has one step a line, with what comes of it behind an equals sign; its first lines tell the steps.
 #![tactic(auto)]

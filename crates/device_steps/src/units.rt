@@ -17,7 +17,8 @@ pub struct Units {
     printer: Printer,
 }
 
-/// A command, `CODE`, first in its program and with no flags; or with flags, `CODE/FLAGS`, and a later one, `CODE/FLAGS/later`.
+/// A command, `CODE`, first in its program and with no flags; or with flags, `CODE/FLAGS`, and a later one,
+/// `CODE/FLAGS/later`.
 pub fn order_of(word: &str) -> Result<Order> {
     let (code, rest) = word.split_once('/').unwrap_or((word, "00"));
     let (flags, later) = rest.split_once('/').unwrap_or((rest, ""));

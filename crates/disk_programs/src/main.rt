@@ -1,8 +1,8 @@
 //! Runs channel programs of a disk that an independent System/370 executed, and prints how many it agrees with.
 //!
-//! `programs.txt` has one program a line, with the disk, the storage and the keys that it finds, and all that it leaves:
-//! status word, storage, sense, arm and tracks; its first lines tell the fields. A line that does not agree is told by its
-//! number and what differs.
+//! `programs.txt` has one program a line, with the disk, the storage and the keys that it finds, and all that it
+//! leaves: status word, storage, sense, arm and tracks; its first lines tell the fields. A line that does not agree is
+//! told by its number and what differs.
 #![tactic(auto)]
 
 mod case;

@@ -1,8 +1,8 @@
-//! Carries out instructions at the edges of the table, on a bare machine and by a user of the control program, and compares
-//! what they leave with what was worked out by hand.
+//! Carries out instructions at the edges of the table, on a bare machine and by a user of the control program, and
+//! compares what they leave with what was worked out by hand.
 //!
-//! `cases.txt` has one instruction a line; its first lines tell the fields. Each that does not agree is told by its line,
-//! its name and what differs: from what was worked out, or between the two machines.
+//! `cases.txt` has one instruction a line; its first lines tell the fields. Each that does not agree is told by its
+//! line, its name and what differs: from what was worked out, or between the two machines.
 #![tactic(auto)]
 
 mod case;

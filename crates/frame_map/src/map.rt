@@ -9,8 +9,8 @@ use cp_users::name_of;
 use s370_store::PAGE_SIZE;
 use std::alloc::{AllocError, Global};
 
-/// The map of a system that has so many frames and slots, as lines that are ended by LF: frames, slots, and how many pages have
-/// come into frames so far.
+/// The map of a system that has so many frames and slots, as lines that are ended by LF: frames, slots, and how many
+/// pages have come into frames so far.
 pub fn frame_map(alloc: Global, system: &System, sizes: Sizes) -> Result<Vec<u8>, AllocError> {
     let places = Places::of_system(alloc, system, sizes)?;
     let users = system.directory().users();
@@ -22,7 +22,8 @@ pub fn frame_map(alloc: Global, system: &System, sizes: Sizes) -> Result<Vec<u8>
     Ok(text)
 }
 
-/// Adds the lines of these places, which are frames or slots by this word: those that have pages, and how many are free.
+/// Adds the lines of these places, which are frames or slots by this word: those that have pages, and how many are
+/// free.
 fn print_places(
     alloc: Global,
     out: &mut Vec<u8>,

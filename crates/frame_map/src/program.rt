@@ -1,5 +1,5 @@
-//! The program `framemap [--frames N] [--slots N] DIRECTORY SCRIPT`: the script is done as `vm370` does it, and then the map of
-//! frames and slots is printed.
+//! The program `framemap [--frames N] [--slots N] DIRECTORY SCRIPT`: the script is done as `vm370` does it, and then
+//! the map of frames and slots is printed.
 //!
 //! Its words, its refusals and its exit statuses are those of `vm370`; what that would print is not kept.
 use crate::map::frame_map;
@@ -32,8 +32,8 @@ The map goes to standard output, a fault as one line to standard error. Exit sta
   4  there was not memory enough
 ";
 
-/// The whole program: what it is started with names a directory and a script, and the map of what that leaves is written. A
-/// failure is told on standard error.
+/// The whole program: what it is started with names a directory and a script, and the map of what that leaves is
+/// written. A failure is told on standard error.
 pub fn program<R: AllocGlobal + Files + Env + Print + Eprint>(rt: &R) -> Ended {
     finish(rt, run(rt))
 }

@@ -1,5 +1,5 @@
-//! Carries out each first halfword of an instruction, followed by zeros, in the supervisor state and in the problem state,
-//! on a bare machine and by a user of the control program who has a neighbour.
+//! Carries out each first halfword of an instruction, followed by zeros, in the supervisor state and in the problem
+//! state, on a bare machine and by a user of the control program who has a neighbour.
 //!
 //! After each unit all views of the user have to be those of the bare machine, and those of the neighbour have to stay.
 //! It prints how many halfwords agree, and the first that do not.
@@ -79,7 +79,8 @@ fn type_all(
     Ok(())
 }
 
-/// A user beside a neighbour, both with bytes in their storage. The neighbour's machine is running, and is never let run.
+/// A user beside a neighbour, both with bytes in their storage. The neighbour's machine is running, and is never let
+/// run.
 fn two_users(alloc: Global) -> Result<SideBySide> {
     let Some(sizes) = Sizes::new(16, 0) else {
         bail!("16 frames are too many");
@@ -115,8 +116,8 @@ fn set(
     )
 }
 
-/// Carries out an instruction, and tells how many units were done. All views of the user are compared after each of them, and
-/// at the end those of the neighbour.
+/// Carries out an instruction, and tells how many units were done. All views of the user are compared after each of
+/// them, and at the end those of the neighbour.
 fn carry_out(
     alloc: Global,
     machines: &mut SideBySide,

@@ -62,7 +62,9 @@ fn combine_all(operation: Combine, target: &mut [u8], source: &[u8], lag: usize)
     requires some { 0 < lag }
     requires within { lag ≤ length target.old }
     ensures size { length target.new ≡ length target.old }
-    ensures each { (k : ℕ) → k < length target.old → slice_index target.new k ≡ combined operation (slice_index target.old k) (lagged source.now target.new lag k) }
+    ensures each { (k : ℕ) → k < length target.old
+        → slice_index target.new k
+        ≡ combined operation (slice_index target.old k) (lagged source.now target.new lag k) }
 {
     for k in 0..lag {
         target[k] = operation.byte(target[k], source[k]);
@@ -138,7 +140,8 @@ fn combine_at<S: Storage>(
     requires same { length made.old ≡ length source.old }
     requires target { IsGranted (length (S.bytes storage.old)) (S.present storage.old) to (length made.old) }
     requires source { IsGranted (length (S.bytes storage.old)) (S.present storage.old) from (length made.old) }
-    ensures bytes { S.bytes storage.new ≡ put (S.bytes storage.old) to (made_of operation (S.bytes storage.old) to from (length made.old)) }
+    ensures bytes { S.bytes storage.new
+        ≡ put (S.bytes storage.old) to (made_of operation (S.bytes storage.old) to from (length made.old)) }
     ensures made { made.new ≡ made_of operation (S.bytes storage.old) to from (length made.old) }
     ensures keys { S.keys storage.new ≡ S.keys storage.old }
     ensures rest { S.Keeps storage.old storage.new }
@@ -190,7 +193,8 @@ fn move_through<S: Storage>(storage: &mut S, to: u32, from: u32, bytes: &mut [u8
     requires short { length bytes.old ≤ 256 }
     requires target { IsGranted (length (S.bytes storage.old)) (S.present storage.old) to (length bytes.old) }
     requires source { IsGranted (length (S.bytes storage.old)) (S.present storage.old) from (length bytes.old) }
-    ensures bytes { S.bytes storage.new ≡ put (S.bytes storage.old) to (made_of Combine.Move (S.bytes storage.old) to from (length bytes.old)) }
+    ensures bytes { S.bytes storage.new
+        ≡ put (S.bytes storage.old) to (made_of Combine.Move (S.bytes storage.old) to from (length bytes.old)) }
     ensures keys { S.keys storage.new ≡ S.keys storage.old }
     ensures rest { S.Keeps storage.old storage.new }
 {
@@ -207,7 +211,8 @@ fn move_near<S: Storage>(storage: &mut S, to: u32, from: u32, count: u32)
     requires short { count ≤ 256 }
     requires target { IsGranted (length (S.bytes storage.old)) (S.present storage.old) to count }
     requires source { IsGranted (length (S.bytes storage.old)) (S.present storage.old) from count }
-    ensures bytes { S.bytes storage.new ≡ put (S.bytes storage.old) to (made_of Combine.Move (S.bytes storage.old) to from count) }
+    ensures bytes { S.bytes storage.new
+        ≡ put (S.bytes storage.old) to (made_of Combine.Move (S.bytes storage.old) to from count) }
     ensures keys { S.keys storage.new ≡ S.keys storage.old }
     ensures rest { S.Keeps storage.old storage.new }
 {
@@ -222,7 +227,8 @@ fn move_at<S: Storage>(storage: &mut S, to: u32, from: u32, count: u32)
     requires short { count ≤ 256 }
     requires target { IsGranted (length (S.bytes storage.old)) (S.present storage.old) to count }
     requires source { IsGranted (length (S.bytes storage.old)) (S.present storage.old) from count }
-    ensures bytes { S.bytes storage.new ≡ put (S.bytes storage.old) to (made_of Combine.Move (S.bytes storage.old) to from count) }
+    ensures bytes { S.bytes storage.new
+        ≡ put (S.bytes storage.old) to (made_of Combine.Move (S.bytes storage.old) to from count) }
     ensures keys { S.keys storage.new ≡ S.keys storage.old }
     ensures rest { S.Keeps storage.old storage.new }
 {

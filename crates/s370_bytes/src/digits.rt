@@ -106,7 +106,11 @@ fn lay_out_at<S: Storage>(
     requires source_short { length source.old ≤ 16 }
     requires target { IsGranted (length (S.bytes storage.old)) (S.present storage.old) to (length target.old) }
     requires source { IsGranted (length (S.bytes storage.old)) (S.present storage.old) from (length source.old) }
-    ensures bytes { S.bytes storage.new ≡ put (S.bytes storage.old) to (string_of (length target.old) (laid_out layout (slice_range (S.bytes storage.old) to (to + length target.old)) (slice_range (S.bytes storage.old) from (from + length source.old)))) }
+    ensures bytes { S.bytes storage.new
+        ≡ put (S.bytes storage.old) to
+        (string_of (length target.old)
+        (laid_out layout (slice_range (S.bytes storage.old) to (to + length target.old))
+        (slice_range (S.bytes storage.old) from (from + length source.old)))) }
     ensures keys { S.keys storage.new ≡ S.keys storage.old }
     ensures rest { S.Keeps storage.old storage.new }
 {

@@ -58,8 +58,8 @@ impl Operand {
         }
     }
 
-    /// Sets the pair that names an operand to this, which is what is left of it after some bytes: no more are taken than its
-    /// count has, so the byte above the count stays as it is.
+    /// Sets the pair that names an operand to this, which is what is left of it after some bytes: no more are taken
+    /// than its count has, so the byte above the count stays as it is.
     #[inline(always)]
     fn set_left(self, cpu: &mut Cpu, register: Register, count: u32)
         requires register { register < 15 }
@@ -138,7 +138,9 @@ fn move_through<S: Storage>(
     requires short { length made.old ≤ 256 }
     requires target { IsGranted (length (S.bytes storage.old)) (S.present storage.old) to (length made.old) }
     requires source { 0 < count → IsGranted (length (S.bytes storage.old)) (S.present storage.old) from count }
-    ensures bytes { S.bytes storage.new ≡ put (S.bytes storage.old) to (padded (slice_range (S.bytes storage.old) from (from + count)) pad (length made.old)) }
+    ensures bytes { S.bytes storage.new
+        ≡ put (S.bytes storage.old) to
+        (padded (slice_range (S.bytes storage.old) from (from + count)) pad (length made.old)) }
     ensures keys { S.keys storage.new ≡ S.keys storage.old }
     ensures rest { S.Keeps storage.old storage.new }
 {
@@ -153,7 +155,8 @@ fn move_pads<S: Storage>(storage: &mut S, to: u32, from: u32, pad: u8, count: u3
     requires short { count ≤ 256 }
     requires target { IsGranted (length (S.bytes storage.old)) (S.present storage.old) to count }
     requires source { 0 < moved → IsGranted (length (S.bytes storage.old)) (S.present storage.old) from moved }
-    ensures bytes { S.bytes storage.new ≡ put (S.bytes storage.old) to (padded (slice_range (S.bytes storage.old) from (from + moved)) pad count) }
+    ensures bytes { S.bytes storage.new
+        ≡ put (S.bytes storage.old) to (padded (slice_range (S.bytes storage.old) from (from + moved)) pad count) }
     ensures keys { S.keys storage.new ≡ S.keys storage.old }
     ensures rest { S.Keeps storage.old storage.new }
 {
@@ -169,7 +172,8 @@ fn move_padded<S: Storage>(storage: &mut S, to: u32, from: u32, pad: u8, count: 
     requires short { count ≤ 256 }
     requires target { IsGranted (length (S.bytes storage.old)) (S.present storage.old) to count }
     requires source { 0 < moved → IsGranted (length (S.bytes storage.old)) (S.present storage.old) from moved }
-    ensures bytes { S.bytes storage.new ≡ put (S.bytes storage.old) to (padded (slice_range (S.bytes storage.old) from (from + moved)) pad count) }
+    ensures bytes { S.bytes storage.new
+        ≡ put (S.bytes storage.old) to (padded (slice_range (S.bytes storage.old) from (from + moved)) pad count) }
     ensures keys { S.keys storage.new ≡ S.keys storage.old }
     ensures rest { S.Keeps storage.old storage.new }
 {
@@ -261,8 +265,8 @@ fn is_apart(to: u32, count: u32, start: u32) -> bool
     start + 1 < to || to + count <= start
 }
 
-/// How many whole parts, at most so many and none of them the last, can be one copy: as many as lie in one block at each place,
-/// or one.
+/// How many whole parts, at most so many and none of them the last, can be one copy: as many as lie in one block at
+/// each place, or one.
 #[inline(always)]
 fn parts_at_once(first: &Operand, second: &Operand, limit: u32) -> u32
     ensures within { result ≤ limit }
@@ -290,8 +294,8 @@ fn parts_at_once(first: &Operand, second: &Operand, limit: u32) -> u32
     at_most(parts, room / 256)
 }
 
-/// Parts of the long move that have all their bytes, as one copy that changes none of the two bytes at an address: so many, or
-/// none where they can't be moved, and then nothing changes.
+/// Parts of the long move that have all their bytes, as one copy that changes none of the two bytes at an address: so
+/// many, or none where they can't be moved, and then nothing changes.
 #[inline(always)]
 fn move_whole_parts<S: Storage>(
     cpu: &mut Cpu,
@@ -333,8 +337,8 @@ fn move_whole_parts<S: Storage>(
     parts
 }
 
-/// 0E MVCL with this second byte: parts of 256 bytes that have none of the two bytes at an address, one after another and at
-/// most so many, after each of which more are left. How many there were; where there is none, nothing changes.
+/// 0E MVCL with this second byte: parts of 256 bytes that have none of the two bytes at an address, one after another
+/// and at most so many, after each of which more are left. How many there were; where there is none, nothing changes.
 ///
 /// Those that lie in one block are one copy.
 #[inline(always)]
@@ -345,7 +349,12 @@ pub fn move_long_quickly<S: Storage>(
     second_byte: u8,
     limit: u32,
 ) -> u32
-    ensures parts { let i : Instruction = record { opcode = 0x0E; second_byte = second_byte; second_half = 0; third_half = 0 } in
+    ensures parts { let i : Instruction = record {
+      opcode = 0x0E;
+      second_byte = second_byte;
+      second_half = 0;
+      third_half = 0;
+    } in
         let before = state_of cpu.old (S.bytes storage.old) (S.keys storage.old) in
         let after = state_of cpu.new (S.bytes storage.new) (S.keys storage.new) in
         AreParts result start (S.present storage.old) i before after }
@@ -418,7 +427,8 @@ fn conclude(
     requires right { length right.now ≡ count }
     requires count_1 { count_1 ≤ (operand_of cpu.old r1).count }
     requires count_2 { count_2 ≤ (operand_of cpu.old r2).count }
-    ensures { part_ordered cpu.old r1 r2 count count_1 count_2 left.now right.now ≡ record { ending = result; cpu = cpu.new } }
+    ensures { part_ordered cpu.old r1 r2 count count_1 count_2 left.now right.now
+        ≡ record { ending = result; cpu = cpu.new } }
 {
     let first = Operand::of(cpu, r1);
     let second = Operand::of(cpu, r2);
@@ -453,8 +463,12 @@ fn compare_at<S: Storage>(
     requires short { count ≤ 256 }
     requires left { length left.old ≡ count }
     requires right { length right.old ≡ count }
-    requires source { 0 < min count (operand_of cpu.old r1).count → IsGranted (length (S.bytes storage.now)) (S.present storage.now) (operand_of cpu.old r1).address (min count (operand_of cpu.old r1).count) }
-    requires source_2 { 0 < min count (operand_of cpu.old r2).count → IsGranted (length (S.bytes storage.now)) (S.present storage.now) (operand_of cpu.old r2).address (min count (operand_of cpu.old r2).count) }
+    requires source { 0 < min count (operand_of cpu.old r1).count
+        → IsGranted (length (S.bytes storage.now)) (S.present storage.now) (operand_of cpu.old r1).address
+        (min count (operand_of cpu.old r1).count) }
+    requires source_2 { 0 < min count (operand_of cpu.old r2).count
+        → IsGranted (length (S.bytes storage.now)) (S.present storage.now) (operand_of cpu.old r2).address
+        (min count (operand_of cpu.old r2).count) }
     ensures { pairs_ordered (S.bytes storage.now) cpu.old r1 r2 count ≡ record { ending = result; cpu = cpu.new } }
 {
     let first = Operand::of(cpu, r1);

@@ -101,7 +101,8 @@ fn insert_at<S: Storage>(
     requires count { length from.old ≡ chosen_count mask }
     requires short { length from.old ≤ 4 }
     requires granted { IsGranted (length (S.bytes storage.now)) (S.present storage.now) start (length from.old) }
-    ensures { cpu.new ≡ with_inserted cpu.old register mask (slice_range (S.bytes storage.now) start (start + length from.old)) }
+    ensures { cpu.new ≡ with_inserted cpu.old register mask
+        (slice_range (S.bytes storage.now) start (start + length from.old)) }
 {
     storage.load(start, from);
     let mut bytes = cpu.general[register.index()].to_be_bytes();
@@ -178,7 +179,8 @@ fn order_at<S: Storage>(
     requires count { length right.old ≡ chosen_count mask }
     requires short { length right.old ≤ 4 }
     requires granted { IsGranted (length (S.bytes storage.now)) (S.present storage.now) start (length right.old) }
-    ensures { result ≡ string_order (chosen mask (bytes_of cpu.now register)) (slice_range (S.bytes storage.now) start (start + length right.old)) }
+    ensures { result ≡ string_order (chosen mask (bytes_of cpu.now register))
+        (slice_range (S.bytes storage.now) start (start + length right.old)) }
 {
     let mut left = [0u8; 4];
     gather(

@@ -53,8 +53,10 @@ pub fn store_registers<S: Storage>(
     address: Addr24,
     i: Instruction,
 )
-    requires { IsGranted (length (S.bytes storage.old)) (S.present storage.old) address (4 * register_count (r1_of i) (r2_of i)) }
-    ensures bytes { S.bytes storage.new ≡ put (S.bytes storage.old) address (words_from registers.now (r1_of i) (register_count (r1_of i) (r2_of i))) }
+    requires { IsGranted (length (S.bytes storage.old)) (S.present storage.old) address
+        (4 * register_count (r1_of i) (r2_of i)) }
+    ensures bytes { S.bytes storage.new
+        ≡ put (S.bytes storage.old) address (words_from registers.now (r1_of i) (register_count (r1_of i) (r2_of i))) }
     ensures keys { S.keys storage.new ≡ S.keys storage.old }
     ensures rest { S.Keeps storage.old storage.new }
 {
@@ -72,8 +74,10 @@ pub fn load_registers<S: Storage>(
     address: Addr24,
     i: Instruction,
 )
-    requires { IsGranted (length (S.bytes storage.now)) (S.present storage.now) address (4 * register_count (r1_of i) (r2_of i)) }
-    ensures { registers.new ≡ loaded_from (S.bytes storage.now) registers.old address (r1_of i) (register_count (r1_of i) (r2_of i)) }
+    requires { IsGranted (length (S.bytes storage.now)) (S.present storage.now) address
+        (4 * register_count (r1_of i) (r2_of i)) }
+    ensures { registers.new ≡ loaded_from (S.bytes storage.now) registers.old address (r1_of i)
+        (register_count (r1_of i) (r2_of i)) }
 {
     let start = address.get();
     let first = i.r1();

@@ -1,4 +1,5 @@
-//! A move of characters that is one copy: each operand lies in a block that was found, and no byte is read after it was written.
+//! A move of characters that is one copy: each operand lies in a block that was found, and no byte is read after it was
+//! written.
 ghost use Rattle.std.specs.Prelude.{◌≡◌, ◌<◌, ◌≤◌, ◌+◌, true, false, length};
 ghost use Rattle.s370_store.specs.Access.{put};
 ghost use Rattle.s370_bytes.specs.declared.combine.Combine.TheVariants as combines;
@@ -27,7 +28,9 @@ pub fn move_straight<S: Storage>(
     requires target_inside { to + count ≤ length (S.bytes storage.old) }
     requires target_begins { target.first ≤ to }
     requires target_ends { to + count ≤ target.first + 2048 }
-    ensures moved { result ≡ true → S.bytes storage.new ≡ put (S.bytes storage.old) to (made_of combines.Move (S.bytes storage.old) to from count) }
+    ensures moved { result ≡ true
+        → S.bytes storage.new ≡ put (S.bytes storage.old) to
+        (made_of combines.Move (S.bytes storage.old) to from count) }
     ensures still { result ≡ false → S.bytes storage.new ≡ S.bytes storage.old }
     ensures keys { S.keys storage.new ≡ S.keys storage.old }
     ensures rest { S.Keeps storage.old storage.new }

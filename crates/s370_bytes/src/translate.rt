@@ -33,7 +33,8 @@ fn is_apart(to: u32, count: u32, table: u32) -> bool
 fn translate_all(bytes: &mut [u8], table: &[u8])
     requires whole { length table.now ≡ 256 }
     ensures size { length bytes.new ≡ length bytes.old }
-    ensures each { (k : ℕ) → k < length bytes.old → slice_index bytes.new k ≡ slice_index table.now (slice_index bytes.old k) }
+    ensures each { (k : ℕ) → k < length bytes.old
+        → slice_index bytes.new k ≡ slice_index table.now (slice_index bytes.old k) }
 {
     for k in 0..bytes.len() {
         bytes[k] = table[bytes[k] as usize];
@@ -54,7 +55,8 @@ fn translate_apart<S: Storage>(
     requires apart { is_apart to (length bytes.old) from ≡ true }
     requires target { IsGranted (length (S.bytes storage.old)) (S.present storage.old) to (length bytes.old) }
     requires table { IsGranted (length (S.bytes storage.old)) (S.present storage.old) from 256 }
-    ensures bytes { S.bytes storage.new ≡ put (S.bytes storage.old) to (translation (S.bytes storage.old) to from (length bytes.old)) }
+    ensures bytes { S.bytes storage.new
+        ≡ put (S.bytes storage.old) to (translation (S.bytes storage.old) to from (length bytes.old)) }
     ensures keys { S.keys storage.new ≡ S.keys storage.old }
     ensures rest { S.Keeps storage.old storage.new }
 {
@@ -71,7 +73,8 @@ fn translate_each<S: Storage>(storage: &mut S, to: u32, table: u32, count: u32)
     requires short { count ≤ 256 }
     requires target { IsGranted (length (S.bytes storage.old)) (S.present storage.old) to count }
     requires table { IsGranted (length (S.bytes storage.old)) (S.present storage.old) table 256 }
-    ensures bytes { S.bytes storage.new ≡ put (S.bytes storage.old) to (translation (S.bytes storage.old) to table count) }
+    ensures bytes { S.bytes storage.new
+        ≡ put (S.bytes storage.old) to (translation (S.bytes storage.old) to table count) }
     ensures keys { S.keys storage.new ≡ S.keys storage.old }
     ensures rest { S.Keeps storage.old storage.new }
 {

@@ -97,7 +97,8 @@ pub(crate) fn left_of<D: Device>(device: &D, p: &Position) -> u32
 #[tactic(auto, unfolding(crate::specs::Progress::weight))]
 pub(crate) fn finish<D: Device>(device: &mut D, limits: &Limits, p: &Position) -> Progress
     requires { (p.now.count ≡ 0) ⊎ (rest D.machine p.now device.old ≡ 0) }
-    ensures next { (form : Form) (m : Memory) → next form (setting D.machine limits.now) (Moving p.now m device.old) ≡ state_of result m device.new }
+    ensures next { (form : Form) (m : Memory)
+        → next form (setting D.machine limits.now) (Moving p.now m device.old) ≡ state_of result m device.new }
     ensures lighter { IsBehind limits.now.commands p.now result }
 {
     let wrong = minds_length(p);

@@ -74,7 +74,8 @@ fn linked(at: u32, ccw: Ccw) -> Word
 
 /// A word of a list of addresses, or None past storage.
 fn fetch_list_word<S: Storage>(storage: &S, at: u32) -> Result<Option<u32>, Page>
-    ensures { FetchTells (length (S.bytes storage.now)) (S.present storage.now) (area access.Fetch at 4 ∷ []) (list_word (memory_of (S.bytes storage.now) (S.keys storage.now)) at) result }
+    ensures { FetchTells (length (S.bytes storage.now)) (S.present storage.now) (area access.Fetch at 4 ∷ [])
+        (list_word (memory_of (S.bytes storage.now) (S.keys storage.now)) at) result }
 {
     match storage.check(
         Range {
@@ -119,7 +120,8 @@ fn block_start(address: u32, number: u32) -> Option<u32>
 
 /// The guest's word at an address, or None past storage. The places of the words after it have 24 bits.
 pub fn fetch_word<S: Storage>(storage: &S, at: u32) -> Result<Option<Word>, Page>
-    ensures word { FetchTells (length (S.bytes storage.now)) (S.present storage.now) (area access.Fetch at 8 ∷ []) (guest_text (memory_of (S.bytes storage.now) (S.keys storage.now)) at) result }
+    ensures word { FetchTells (length (S.bytes storage.now)) (S.present storage.now) (area access.Fetch at 8 ∷ [])
+        (guest_text (memory_of (S.bytes storage.now) (S.keys storage.now)) at) result }
     ensures next { IfOk result (λ found. IfSome found (λ word. word.next < 2 ^ 24)) }
     ensures skipped { IfOk result (λ found. IfSome found (λ word. word.skipped < 2 ^ 24)) }
 {
@@ -145,7 +147,8 @@ pub fn fetch_word<S: Storage>(storage: &S, at: u32) -> Result<Option<Word>, Page
 /// Where the block of a number begins of the area of a guest's word, or None where that cannot be found out.
 pub fn fetch_block<S: Storage>(storage: &S, word: &Word, number: u32) -> Result<Option<u32>, Page>
     requires { number ≤ 64 }
-    ensures { FetchTells (length (S.bytes storage.now)) (S.present storage.now) (block_asks word.now number) (area_block (memory_of (S.bytes storage.now) (S.keys storage.now)) word.now number) result }
+    ensures { FetchTells (length (S.bytes storage.now)) (S.present storage.now) (block_asks word.now number)
+        (area_block (memory_of (S.bytes storage.now) (S.keys storage.now)) word.now number) result }
 {
     if !word.flags.has(Flags::INDIRECT) {
         return Ok(block_start(word.address, number));

@@ -36,10 +36,15 @@ pub fn run_ipl<F: WordForm, S: Storage, D: Device>(
     storage: &mut S,
     device: &mut D,
 ) -> Result<Ending, ChannelError>
-    ensures reaches { IfOk result (λ ending. Reaches (live (F.written program.now)) (setting D.machine loading_limits) (loading D.machine (memory_of (S.bytes storage.old) (S.keys storage.old)) device.old) (Over ending (memory_of (S.bytes storage.new) (S.keys storage.new)) device.new)) }
+    ensures reaches { IfOk result
+        (λ ending. Reaches (live (F.written program.now)) (setting D.machine loading_limits)
+        (loading D.machine (memory_of (S.bytes storage.old) (S.keys storage.old)) device.old)
+        (Over ending (memory_of (S.bytes storage.new) (S.keys storage.new)) device.new)) }
     ensures keys { S.keys storage.new ≡ S.keys storage.old }
     ensures rest { S.Keeps storage.old storage.new }
-    ensures stuck { IfErr result (MatchLoading (F.written program.now) D.machine D.needs_memory (S.present storage.old) (memory_of (S.bytes storage.old) (S.keys storage.old)) device.old) }
+    ensures stuck { IfErr result
+        (MatchLoading (F.written program.now) D.machine D.needs_memory (S.present storage.old)
+        (memory_of (S.bytes storage.old) (S.keys storage.old)) device.old) }
 {
     match begin(program, storage, device, &LIMITS, &first_spot(0), IMPLIED)? {
         Progress::At(spot) => go_on(program, storage, device, &LIMITS, spot),

@@ -49,7 +49,9 @@ pub(crate) fn place<F: WordForm, S: Storage>(
     p: &Position,
 ) -> Result<Option<u32>, Page>
     requires { p.now.count ≤ p.now.word.count }
-    ensures { FetchTells (length (S.bytes storage.now)) (S.present storage.now) (place_asks (F.written program.now) p.now) (place_in (F.written program.now) (memory_of (S.bytes storage.now) (S.keys storage.now)) p.now) result }
+    ensures { FetchTells (length (S.bytes storage.now)) (S.present storage.now)
+        (place_asks (F.written program.now) p.now)
+        (place_in (F.written program.now) (memory_of (S.bytes storage.now) (S.keys storage.now)) p.now) result }
 {
     if is_first_of_block(p.before) {
         let index = (p.word.count - p.count) as u32;
@@ -92,11 +94,16 @@ fn give_byte<F: WordForm, S: Storage, D: Device>(
     requires left { 0 < rest D.machine p.now device.old }
     requires gives { p.now.transfer.kind ≡ Gives }
     requires within { p.now.count ≤ p.now.word.count }
-    ensures next { IfOk result (λ r. next (live (F.written program.now)) (setting D.machine limits.now) (Moving p.now (memory_of (S.bytes storage.old) (S.keys storage.old)) device.old) ≡ moved_state r (memory_of (S.bytes storage.new) (S.keys storage.new)) device.new) }
+    ensures next { IfOk result
+        (λ r. next (live (F.written program.now)) (setting D.machine limits.now)
+        (Moving p.now (memory_of (S.bytes storage.old) (S.keys storage.old)) device.old)
+        ≡ moved_state r (memory_of (S.bytes storage.new) (S.keys storage.new)) device.new) }
     ensures on { IfOk result (IsOneOn p.now) }
     ensures keys { S.keys storage.new ≡ S.keys storage.old }
     ensures rest { S.Keeps storage.old storage.new }
-    ensures stuck { IfErr result (λ page. IsStuck (F.written program.now) (setting D.machine limits.now) (S.present storage.old) (Moving p.now (memory_of (S.bytes storage.old) (S.keys storage.old)) device.old) page.0) }
+    ensures stuck { IfErr result
+        (λ page. IsStuck (F.written program.now) (setting D.machine limits.now) (S.present storage.old)
+        (Moving p.now (memory_of (S.bytes storage.old) (S.keys storage.old)) device.old) page.0) }
 {
     if p.word.flags.has(Flags::SKIP) {
         let _ = device.give();
@@ -144,9 +151,14 @@ fn take_byte<F: WordForm, S: Storage, D: Device>(
     requires left { 0 < rest D.machine p.now device.old }
     requires takes { p.now.transfer.kind ≢ Gives }
     requires within { p.now.count ≤ p.now.word.count }
-    ensures next { IfOk result (λ r. next (live (F.written program.now)) (setting D.machine limits.now) (Moving p.now (memory_of (S.bytes storage.now) (S.keys storage.now)) device.old) ≡ moved_state r (memory_of (S.bytes storage.now) (S.keys storage.now)) device.new) }
+    ensures next { IfOk result
+        (λ r. next (live (F.written program.now)) (setting D.machine limits.now)
+        (Moving p.now (memory_of (S.bytes storage.now) (S.keys storage.now)) device.old)
+        ≡ moved_state r (memory_of (S.bytes storage.now) (S.keys storage.now)) device.new) }
     ensures on { IfOk result (IsOneOn p.now) }
-    ensures stuck { IfErr result (λ page. IsStuck (F.written program.now) (setting D.machine limits.now) (S.present storage.now) (Moving p.now (memory_of (S.bytes storage.now) (S.keys storage.now)) device.old) page.0) }
+    ensures stuck { IfErr result
+        (λ page. IsStuck (F.written program.now) (setting D.machine limits.now) (S.present storage.now)
+        (Moving p.now (memory_of (S.bytes storage.now) (S.keys storage.now)) device.old) page.0) }
 {
     let Some(address) = place(program, storage, p)? else {
         return Ok(Moved::Stopped(stop(device, p.at, ChannelStatus::PROGRAM_CHECK, p.count)));
@@ -188,11 +200,16 @@ fn move_byte<F: WordForm, S: Storage, D: Device>(
     requires count { 0 < p.now.count }
     requires left { 0 < rest D.machine p.now device.old }
     requires within { p.now.count ≤ p.now.word.count }
-    ensures next { IfOk result (λ r. next (live (F.written program.now)) (setting D.machine limits.now) (Moving p.now (memory_of (S.bytes storage.old) (S.keys storage.old)) device.old) ≡ moved_state r (memory_of (S.bytes storage.new) (S.keys storage.new)) device.new) }
+    ensures next { IfOk result
+        (λ r. next (live (F.written program.now)) (setting D.machine limits.now)
+        (Moving p.now (memory_of (S.bytes storage.old) (S.keys storage.old)) device.old)
+        ≡ moved_state r (memory_of (S.bytes storage.new) (S.keys storage.new)) device.new) }
     ensures on { IfOk result (IsOneOn p.now) }
     ensures keys { S.keys storage.new ≡ S.keys storage.old }
     ensures rest { S.Keeps storage.old storage.new }
-    ensures stuck { IfErr result (λ page. IsStuck (F.written program.now) (setting D.machine limits.now) (S.present storage.old) (Moving p.now (memory_of (S.bytes storage.old) (S.keys storage.old)) device.old) page.0) }
+    ensures stuck { IfErr result
+        (λ page. IsStuck (F.written program.now) (setting D.machine limits.now) (S.present storage.old)
+        (Moving p.now (memory_of (S.bytes storage.old) (S.keys storage.old)) device.old) page.0) }
 {
     match p.transfer.kind {
         Kind::Gives => give_byte(program, storage, device, limits, p),
@@ -202,7 +219,7 @@ fn move_byte<F: WordForm, S: Storage, D: Device>(
 }
 
 /// Moves as many bytes as can move in one piece, or one.
-#[tactic(auto, using(s370_walk::specs::Reaching::reach_next))]
+#[tactic(auto, using(s370_walk::proofs::Reaching::reach_next))]
 fn move_on<F: WordForm, S: Storage, D: Device>(
     program: &F,
     storage: &mut S,
@@ -213,11 +230,16 @@ fn move_on<F: WordForm, S: Storage, D: Device>(
     requires count { 0 < p.now.count }
     requires left { 0 < rest D.machine p.now device.old }
     requires within { p.now.count ≤ p.now.word.count }
-    ensures reaches { IfOk result (λ r. Reaches (live (F.written program.now)) (setting D.machine limits.now) (Moving p.now (memory_of (S.bytes storage.old) (S.keys storage.old)) device.old) (moved_state r (memory_of (S.bytes storage.new) (S.keys storage.new)) device.new)) }
+    ensures reaches { IfOk result
+        (λ r. Reaches (live (F.written program.now)) (setting D.machine limits.now)
+        (Moving p.now (memory_of (S.bytes storage.old) (S.keys storage.old)) device.old)
+        (moved_state r (memory_of (S.bytes storage.new) (S.keys storage.new)) device.new)) }
     ensures on { IfOk result (IsFurther p.now) }
     ensures keys { S.keys storage.new ≡ S.keys storage.old }
     ensures rest { S.Keeps storage.old storage.new }
-    ensures stuck { IfErr result (λ page. IsStuck (F.written program.now) (setting D.machine limits.now) (S.present storage.old) (Moving p.now (memory_of (S.bytes storage.old) (S.keys storage.old)) device.old) page.0) }
+    ensures stuck { IfErr result
+        (λ page. IsStuck (F.written program.now) (setting D.machine limits.now) (S.present storage.old)
+        (Moving p.now (memory_of (S.bytes storage.old) (S.keys storage.old)) device.old) page.0) }
 {
     match move_many(program, storage, device, limits, p) {
         Some(then) => Ok(Moved::Done(then)),
@@ -226,7 +248,7 @@ fn move_on<F: WordForm, S: Storage, D: Device>(
 }
 
 /// Moves bytes until the count or the device has run out, or to a check.
-#[tactic(auto, using(s370_walk::specs::Reaching::reach_on, crate::proofs::Stuck::stuck_later))]
+#[tactic(auto, using(s370_walk::proofs::Reaching::reach_on, crate::proofs::Stuck::stuck_later))]
 pub(crate) fn transfer<F: WordForm, S: Storage, D: Device>(
     program: &F,
     storage: &mut S,
@@ -235,11 +257,16 @@ pub(crate) fn transfer<F: WordForm, S: Storage, D: Device>(
     position: Position,
 ) -> Result<Moved, Page>
     requires { position.count ≤ position.word.count }
-    ensures reaches { IfOk result (λ r. Reaches (live (F.written program.now)) (setting D.machine limits.now) (Moving position (memory_of (S.bytes storage.old) (S.keys storage.old)) device.old) (moved_state r (memory_of (S.bytes storage.new) (S.keys storage.new)) device.new)) }
+    ensures reaches { IfOk result
+        (λ r. Reaches (live (F.written program.now)) (setting D.machine limits.now)
+        (Moving position (memory_of (S.bytes storage.old) (S.keys storage.old)) device.old)
+        (moved_state r (memory_of (S.bytes storage.new) (S.keys storage.new)) device.new)) }
     ensures out { IfOk result (IsOut D.machine position device.new) }
     ensures keys { S.keys storage.new ≡ S.keys storage.old }
     ensures rest { S.Keeps storage.old storage.new }
-    ensures stuck { IfErr result (λ page. IsStuck (F.written program.now) (setting D.machine limits.now) (S.present storage.old) (Moving position (memory_of (S.bytes storage.old) (S.keys storage.old)) device.old) page.0) }
+    ensures stuck { IfErr result
+        (λ page. IsStuck (F.written program.now) (setting D.machine limits.now) (S.present storage.old)
+        (Moving position (memory_of (S.bytes storage.old) (S.keys storage.old)) device.old) page.0) }
 {
     let mut p = position;
     'bytes: while p.count > 0 && left_of(device, &p) > 0 {

@@ -12,7 +12,8 @@ use crate::moving::place;
 use s370_store::{Access, Range, Storage};
 use s370_walk::{Device, Flags, Kind, Position, Transfer, WordForm};
 
-/// How many bytes from an address on can move in one piece: of the same block, counted, and wanted or had by the device.
+/// How many bytes from an address on can move in one piece: of the same block, counted, and wanted or had by the
+/// device.
 fn piece<D: Device>(device: &D, p: &Position, address: u32) -> u32
     requires going { D.machine.done device.now ≡ false }
     ensures short { result ≤ 256 }
@@ -20,7 +21,8 @@ fn piece<D: Device>(device: &D, p: &Position, address: u32) -> u32
     ensures left { result ≤ p.now.transfer.left }
     ensures block { address % 2048 + result ≤ 2048 }
     ensures giving { (n : ℕ) → n < result → D.machine.done (after_giving D.machine device.now n) ≡ false }
-    ensures taking { (bytes : List ℕ) → length bytes < result → D.machine.done (after_taking D.machine device.now bytes) ≡ false }
+    ensures taking { (bytes : List ℕ) → length bytes < result
+        → D.machine.done (after_taking D.machine device.now bytes) ≡ false }
 {
     let counted = least(p.count as u32, p.transfer.left);
     let inside = least(2048 - address % 2048, 256);
@@ -92,7 +94,11 @@ fn give_many<S: Storage, D: Device>(
 ) -> Option<Position>
     requires going { D.machine.done device.old ≡ false }
     requires gives { p.now.transfer.kind ≡ Gives }
-    ensures reaches { IfSome result (λ then. (w : Written) → place_in w (memory_of (S.bytes storage.old) (S.keys storage.old)) p.now ≡ Some address → Reaches (live w) (setting D.machine limits.now) (Moving p.now (memory_of (S.bytes storage.old) (S.keys storage.old)) device.old) (Moving then (memory_of (S.bytes storage.new) (S.keys storage.new)) device.new)) }
+    ensures reaches { IfSome result
+        (λ then. (w : Written) → place_in w (memory_of (S.bytes storage.old) (S.keys storage.old)) p.now ≡ Some address
+        → Reaches (live w) (setting D.machine limits.now)
+        (Moving p.now (memory_of (S.bytes storage.old) (S.keys storage.old)) device.old)
+        (Moving then (memory_of (S.bytes storage.new) (S.keys storage.new)) device.new)) }
     ensures on { IfSome result (HasMoved p.now) }
     ensures none { IfNone result (S.bytes storage.new ≡ S.bytes storage.old) }
     ensures idle { IfNone result (device.new ≡ device.old) }
@@ -128,7 +134,11 @@ fn take_many<S: Storage, D: Device>(
 ) -> Option<Position>
     requires going { D.machine.done device.old ≡ false }
     requires takes { p.now.transfer.kind ≢ Gives }
-    ensures reaches { IfSome result (λ then. (w : Written) → place_in w (memory_of (S.bytes storage.now) (S.keys storage.now)) p.now ≡ Some address → Reaches (live w) (setting D.machine limits.now) (Moving p.now (memory_of (S.bytes storage.now) (S.keys storage.now)) device.old) (Moving then (memory_of (S.bytes storage.now) (S.keys storage.now)) device.new)) }
+    ensures reaches { IfSome result
+        (λ then. (w : Written) → place_in w (memory_of (S.bytes storage.now) (S.keys storage.now)) p.now ≡ Some address
+        → Reaches (live w) (setting D.machine limits.now)
+        (Moving p.now (memory_of (S.bytes storage.now) (S.keys storage.now)) device.old)
+        (Moving then (memory_of (S.bytes storage.now) (S.keys storage.now)) device.new)) }
     ensures on { IfSome result (HasMoved p.now) }
     ensures idle { IfNone result (device.new ≡ device.old) }
 {
@@ -158,7 +168,10 @@ pub(crate) fn move_many<F: WordForm, S: Storage, D: Device>(
 ) -> Option<Position>
     requires going { D.machine.done device.old ≡ false }
     requires within { p.now.count ≤ p.now.word.count }
-    ensures reaches { IfSome result (λ then. Reaches (live (F.written program.now)) (setting D.machine limits.now) (Moving p.now (memory_of (S.bytes storage.old) (S.keys storage.old)) device.old) (Moving then (memory_of (S.bytes storage.new) (S.keys storage.new)) device.new)) }
+    ensures reaches { IfSome result
+        (λ then. Reaches (live (F.written program.now)) (setting D.machine limits.now)
+        (Moving p.now (memory_of (S.bytes storage.old) (S.keys storage.old)) device.old)
+        (Moving then (memory_of (S.bytes storage.new) (S.keys storage.new)) device.new)) }
     ensures on { IfSome result (HasMoved p.now) }
     ensures none { IfNone result (S.bytes storage.new ≡ S.bytes storage.old) }
     ensures idle { IfNone result (device.new ≡ device.old) }

@@ -27,11 +27,16 @@ fn obey<F: WordForm, S: Storage, D: Device>(
 ) -> Result<Progress, Page>
     requires count { 0 < position.count }
     requires within { position.count ≤ position.word.count }
-    ensures reaches { IfOk result (λ r. Reaches (live (F.written program.now)) (setting D.machine limits.now) (Moving position (memory_of (S.bytes storage.old) (S.keys storage.old)) device.old) (state_of r (memory_of (S.bytes storage.new) (S.keys storage.new)) device.new)) }
+    ensures reaches { IfOk result
+        (λ r. Reaches (live (F.written program.now)) (setting D.machine limits.now)
+        (Moving position (memory_of (S.bytes storage.old) (S.keys storage.old)) device.old)
+        (state_of r (memory_of (S.bytes storage.new) (S.keys storage.new)) device.new)) }
     ensures followed { IfOk result (IsFollowed limits.now.commands position) }
     ensures keys { S.keys storage.new ≡ S.keys storage.old }
     ensures rest { S.Keeps storage.old storage.new }
-    ensures stuck { IfErr result (λ page. IsStuck (F.written program.now) (setting D.machine limits.now) (S.present storage.old) (Moving position (memory_of (S.bytes storage.old) (S.keys storage.old)) device.old) page.0) }
+    ensures stuck { IfErr result
+        (λ page. IsStuck (F.written program.now) (setting D.machine limits.now) (S.present storage.old)
+        (Moving position (memory_of (S.bytes storage.old) (S.keys storage.old)) device.old) page.0) }
 {
     match transfer(program, storage, device, limits, position)? {
         Moved::Stopped(ending) => Ok(Progress::Ended(ending)),
@@ -66,11 +71,17 @@ pub(crate) fn begin<F: WordForm, S: Storage, D: Device>(
     requires started { spot.now.started < limits.now.commands }
     requires role { spot.now.role ≡ None }
     requires count { 0 < word.count }
-    ensures reaches { IfOk result (λ r. Reaches (live (F.written program.now)) (setting D.machine limits.now) (entered (setting D.machine limits.now) spot.now word None (memory_of (S.bytes storage.old) (S.keys storage.old)) device.old) (state_of r (memory_of (S.bytes storage.new) (S.keys storage.new)) device.new)) }
+    ensures reaches { IfOk result
+        (λ r. Reaches (live (F.written program.now)) (setting D.machine limits.now)
+        (entered (setting D.machine limits.now) spot.now word None
+        (memory_of (S.bytes storage.old) (S.keys storage.old)) device.old)
+        (state_of r (memory_of (S.bytes storage.new) (S.keys storage.new)) device.new)) }
     ensures lighter { IfOk result (IsLighter limits.now.commands spot.now) }
     ensures keys { S.keys storage.new ≡ S.keys storage.old }
     ensures rest { S.Keeps storage.old storage.new }
-    ensures stuck { IfErr result (MatchBegun (F.written program.now) (setting D.machine limits.now) D.needs_memory (S.present storage.old) spot.now word (memory_of (S.bytes storage.old) (S.keys storage.old)) device.old) }
+    ensures stuck { IfErr result
+        (MatchBegun (F.written program.now) (setting D.machine limits.now) D.needs_memory
+        (S.present storage.old) spot.now word (memory_of (S.bytes storage.old) (S.keys storage.old)) device.old) }
 {
     let order = Order {
         command: word.command,
@@ -124,7 +135,7 @@ pub(crate) fn begin<F: WordForm, S: Storage, D: Device>(
 }
 
 /// Goes on with a command in its next word.
-#[tactic(auto, using(s370_walk::specs::Reaching::reach_from), unfolding(crate::specs::Progress::weight))]
+#[tactic(auto, using(s370_walk::proofs::Reaching::reach_from), unfolding(crate::specs::Progress::weight))]
 fn resume<F: WordForm, S: Storage, D: Device>(
     program: &F,
     storage: &mut S,
@@ -136,12 +147,18 @@ fn resume<F: WordForm, S: Storage, D: Device>(
 ) -> Result<Progress, ChannelError>
     requires good { judged limits.now.commands spot.now word ≡ Good }
     requires role { spot.now.role ≡ Some wanted }
-    requires text { (F.written program.now).text (memory_of (S.bytes storage.old) (S.keys storage.old)) spot.now.at ≡ Some word }
-    ensures reaches { IfOk result (λ r. Reaches (live (F.written program.now)) (setting D.machine limits.now) (Fetching spot.now (memory_of (S.bytes storage.old) (S.keys storage.old)) device.old) (state_of r (memory_of (S.bytes storage.new) (S.keys storage.new)) device.new)) }
+    requires text { (F.written program.now).text (memory_of (S.bytes storage.old) (S.keys storage.old)) spot.now.at
+        ≡ Some word }
+    ensures reaches { IfOk result
+        (λ r. Reaches (live (F.written program.now)) (setting D.machine limits.now)
+        (Fetching spot.now (memory_of (S.bytes storage.old) (S.keys storage.old)) device.old)
+        (state_of r (memory_of (S.bytes storage.new) (S.keys storage.new)) device.new)) }
     ensures lighter { IfOk result (IsLighter limits.now.commands spot.now) }
     ensures keys { S.keys storage.new ≡ S.keys storage.old }
     ensures rest { S.Keeps storage.old storage.new }
-    ensures stuck { IfErr result (MatchStuck (F.written program.now) (setting D.machine limits.now) D.needs_memory (S.present storage.old) (Fetching spot.now (memory_of (S.bytes storage.old) (S.keys storage.old)) device.old)) }
+    ensures stuck { IfErr result
+        (MatchStuck (F.written program.now) (setting D.machine limits.now) D.needs_memory (S.present storage.old)
+        (Fetching spot.now (memory_of (S.bytes storage.old) (S.keys storage.old)) device.old)) }
 {
     match obey(
         program,
@@ -156,7 +173,7 @@ fn resume<F: WordForm, S: Storage, D: Device>(
 }
 
 /// Fetches one word and obeys it.
-#[tactic(auto, using(s370_walk::specs::Reaching::reach_from, s370_walk::specs::Reaching::reach_next, crate::proofs::Stuck::stuck_next, crate::proofs::Stuck::stuck_word), unfolding(crate::specs::Progress::weight))]
+#[tactic(auto, using(s370_walk::proofs::Reaching::reach_from, s370_walk::proofs::Reaching::reach_next, crate::proofs::Stuck::stuck_next, crate::proofs::Stuck::stuck_word), unfolding(crate::specs::Progress::weight))]
 fn one_word<F: WordForm, S: Storage, D: Device>(
     program: &F,
     storage: &mut S,
@@ -164,11 +181,16 @@ fn one_word<F: WordForm, S: Storage, D: Device>(
     limits: &Limits,
     spot: &Spot,
 ) -> Result<Progress, ChannelError>
-    ensures reaches { IfOk result (λ r. Reaches (live (F.written program.now)) (setting D.machine limits.now) (Fetching spot.now (memory_of (S.bytes storage.old) (S.keys storage.old)) device.old) (state_of r (memory_of (S.bytes storage.new) (S.keys storage.new)) device.new)) }
+    ensures reaches { IfOk result
+        (λ r. Reaches (live (F.written program.now)) (setting D.machine limits.now)
+        (Fetching spot.now (memory_of (S.bytes storage.old) (S.keys storage.old)) device.old)
+        (state_of r (memory_of (S.bytes storage.new) (S.keys storage.new)) device.new)) }
     ensures lighter { IfOk result (IsLighter limits.now.commands spot.now) }
     ensures keys { S.keys storage.new ≡ S.keys storage.old }
     ensures rest { S.Keeps storage.old storage.new }
-    ensures stuck { IfErr result (MatchStuck (F.written program.now) (setting D.machine limits.now) D.needs_memory (S.present storage.old) (Fetching spot.now (memory_of (S.bytes storage.old) (S.keys storage.old)) device.old)) }
+    ensures stuck { IfErr result
+        (MatchStuck (F.written program.now) (setting D.machine limits.now) D.needs_memory (S.present storage.old)
+        (Fetching spot.now (memory_of (S.bytes storage.old) (S.keys storage.old)) device.old)) }
 {
     let found = match program.fetch(storage, spot.at) {
         Ok(found) => found,
@@ -204,7 +226,7 @@ pub enum ChannelError {
 }
 
 /// Goes on with the words from a spot, to the end of the program.
-#[tactic(auto, using(s370_walk::specs::Reaching::reach_on, crate::proofs::Stuck::stuck_later))]
+#[tactic(auto, using(s370_walk::proofs::Reaching::reach_on, crate::proofs::Stuck::stuck_later))]
 pub(crate) fn go_on<F: WordForm, S: Storage, D: Device>(
     program: &F,
     storage: &mut S,
@@ -212,10 +234,15 @@ pub(crate) fn go_on<F: WordForm, S: Storage, D: Device>(
     limits: &Limits,
     from: Spot,
 ) -> Result<Ending, ChannelError>
-    ensures reaches { IfOk result (λ ending. Reaches (live (F.written program.now)) (setting D.machine limits.now) (Fetching from (memory_of (S.bytes storage.old) (S.keys storage.old)) device.old) (Over ending (memory_of (S.bytes storage.new) (S.keys storage.new)) device.new)) }
+    ensures reaches { IfOk result
+        (λ ending. Reaches (live (F.written program.now)) (setting D.machine limits.now)
+        (Fetching from (memory_of (S.bytes storage.old) (S.keys storage.old)) device.old)
+        (Over ending (memory_of (S.bytes storage.new) (S.keys storage.new)) device.new)) }
     ensures keys { S.keys storage.new ≡ S.keys storage.old }
     ensures rest { S.Keeps storage.old storage.new }
-    ensures stuck { IfErr result (MatchStuck (F.written program.now) (setting D.machine limits.now) D.needs_memory (S.present storage.old) (Fetching from (memory_of (S.bytes storage.old) (S.keys storage.old)) device.old)) }
+    ensures stuck { IfErr result
+        (MatchStuck (F.written program.now) (setting D.machine limits.now) D.needs_memory (S.present storage.old)
+        (Fetching from (memory_of (S.bytes storage.old) (S.keys storage.old)) device.old)) }
 {
     let mut spot = from;
     'words: loop {
@@ -235,10 +262,15 @@ pub fn run<F: WordForm, S: Storage, D: Device>(
     limits: &Limits,
     device: &mut D,
 ) -> Result<Ending, ChannelError>
-    ensures reaches { IfOk result (λ ending. Reaches (live (F.written program.now)) (setting D.machine limits.now) (Fetching (start_spot start) (memory_of (S.bytes storage.old) (S.keys storage.old)) device.old) (Over ending (memory_of (S.bytes storage.new) (S.keys storage.new)) device.new)) }
+    ensures reaches { IfOk result
+        (λ ending. Reaches (live (F.written program.now)) (setting D.machine limits.now)
+        (Fetching (start_spot start) (memory_of (S.bytes storage.old) (S.keys storage.old)) device.old)
+        (Over ending (memory_of (S.bytes storage.new) (S.keys storage.new)) device.new)) }
     ensures keys { S.keys storage.new ≡ S.keys storage.old }
     ensures rest { S.Keeps storage.old storage.new }
-    ensures stuck { IfErr result (MatchStuck (F.written program.now) (setting D.machine limits.now) D.needs_memory (S.present storage.old) (Fetching (start_spot start) (memory_of (S.bytes storage.old) (S.keys storage.old)) device.old)) }
+    ensures stuck { IfErr result
+        (MatchStuck (F.written program.now) (setting D.machine limits.now) D.needs_memory (S.present storage.old)
+        (Fetching (start_spot start) (memory_of (S.bytes storage.old) (S.keys storage.old)) device.old)) }
 {
     go_on(program, storage, device, limits, first_spot(start))
 }

@@ -35,8 +35,12 @@ pub fn check_start<F: WordForm, S: Storage>(
     storage: &S,
     caw: u32,
 ) -> Result<Option<Caw>, Page>
-    ensures start { IfOk result (λ start. start ≡ start_of ((F.written program.now).text (memory_of (S.bytes storage.now) (S.keys storage.now))) (caw_of caw)) }
-    ensures absent { IfErr result (λ page. IsAway (length (S.bytes storage.now)) (S.present storage.now) page.0 × Touches ((F.written program.now).word_asks (caw % 2 ^ 24)) page.0) }
+    ensures start { IfOk result
+        (λ start. start ≡ start_of ((F.written program.now).text (memory_of (S.bytes storage.now) (S.keys storage.now)))
+        (caw_of caw)) }
+    ensures absent { IfErr result
+        (λ page. IsAway (length (S.bytes storage.now)) (S.present storage.now) page.0
+        × Touches ((F.written program.now).word_asks (caw % 2 ^ 24)) page.0) }
 {
     let Some(start) = Caw::from_word(caw) else {
         return Ok(None);

@@ -51,8 +51,8 @@ impl Ccw {
 pub struct Csw {
     /// The key of the program.
     pub key: AccessKey,
-    /// Eight bytes past the last word that was used, or the one that failed. A program over real storage has words past 24
-    /// bits; of this address the low 24 are stored.
+    /// Eight bytes past the last word that was used, or the one that failed. A program over real storage has words past
+    /// 24 bits; of this address the low 24 are stored.
     pub address: u32,
     /// The status of the device.
     pub unit: UnitStatus,

@@ -18,7 +18,8 @@ fn half(past: bool, bytes: [u8; 2]) -> u16
 /// The instruction whose bytes these are, as many as the longest has, of which the first, the operation code, is known.
 #[inline(always)]
 fn instruction_in(bytes: &[u8; 6], opcode: u8) -> Instruction
-    ensures instruction { (storage : List ℕ) → (start : ℕ) → bytes.now ≡ slice_range storage start (start + 6) → opcode ≡ slice_index storage start → result ≡ instruction_at storage start }
+    ensures instruction { (storage : List ℕ) → (start : ℕ) → bytes.now ≡ slice_range storage start (start + 6)
+        → opcode ≡ slice_index storage start → result ≡ instruction_at storage start }
     ensures same { result.opcode ≡ opcode }
 {
     Instruction {

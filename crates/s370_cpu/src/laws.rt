@@ -27,8 +27,8 @@ pub fn few_ranges_are_tested()
     ensures { FewTests }
 {}
 
-/// The pages that an instruction asks for are all in one list of at most eight: it lies in two, as does the target of EX, and
-/// so does each range of its operands.
+/// The pages that an instruction asks for are all in one list of at most eight: it lies in two, as does the target of
+/// EX, and so does each range of its operands.
 pub fn few_pages_are_asked_for()
     ensures { UnitsAskForFewPages }
 {}

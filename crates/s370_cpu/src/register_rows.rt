@@ -70,7 +70,8 @@ fn divide(cpu: &mut Cpu, i: Instruction, b: u32) -> Result<Ending, ProgramCode>
 /// 8C SRDL, 8D SLDL, 8E SRDA, 8F SLDA: a shift of a pair.
 #[inline(always)]
 fn shift_pair(shift: Shift, cpu: &mut Cpu, i: Instruction) -> Result<Ending, ProgramCode>
-    ensures { MeetsEnded (with_even (r1_of i) (Ok (pair_shifted shift cpu.old (r1_of i) (shift_count cpu.old i)))) cpu.old result cpu.new }
+    ensures { MeetsEnded (with_even (r1_of i)
+        (Ok (pair_shifted shift cpu.old (r1_of i) (shift_count cpu.old i)))) cpu.old result cpu.new }
 {
     if i.r1().number() % 2 != 0 {
         return Err(ProgramCode::Specification);
@@ -82,7 +83,8 @@ fn shift_pair(shift: Shift, cpu: &mut Cpu, i: Instruction) -> Result<Ending, Pro
 /// Whether a branch is taken where there is an address to branch to.
 #[inline(always)]
 fn is_taken(kind: Branching, cpu: &Cpu, i: Instruction) -> bool
-    ensures { result ≡ false → (place : Place) → (target : ℕ) → branched kind cpu.now place i true target ≡ branched kind cpu.now place i false 0 }
+    ensures { result ≡ false → (place : Place) → (target : ℕ)
+        → branched kind cpu.now place i true target ≡ branched kind cpu.now place i false 0 }
 {
     match kind {
         Branching::Count => cpu.general[i.r1().index()] != 1,
@@ -93,11 +95,12 @@ fn is_taken(kind: Branching, cpu: &Cpu, i: Instruction) -> bool
 
 /// 45 BAL, 46 BCT, 47 BC: a branch to the second operand's address.
 ///
-/// The address is made up only for a branch that is taken. So the real processor foretells which instruction comes next, and
-/// does not wait for the count or the condition to choose between two addresses.
+/// The address is made up only for a branch that is taken. So the real processor foretells which instruction comes
+/// next, and does not wait for the count or the condition to choose between two addresses.
 #[inline(always)]
 pub fn branch_to(kind: Branching, cpu: &mut Cpu, place: Place, i: Instruction) -> Ending
-    ensures { branched kind cpu.old place i true (indexed_address cpu.old (r2_of i) i.second_half) ≡ record { ending = result; cpu = cpu.new } }
+    ensures { branched kind cpu.old place i true (indexed_address cpu.old (r2_of i) i.second_half)
+        ≡ record { ending = result; cpu = cpu.new } }
 {
     if !is_taken(kind, cpu, i) {
         return branch_row(kind, cpu, place, i, false, 0);
@@ -109,7 +112,8 @@ pub fn branch_to(kind: Branching, cpu: &mut Cpu, place: Place, i: Instruction) -
 /// 05 BALR, 06 BCTR, 07 BCR: a branch to the address in a register, but none where the field is zero.
 #[inline(always)]
 pub fn branch_register(kind: Branching, cpu: &mut Cpu, place: Place, i: Instruction) -> Ending
-    ensures { branched kind cpu.old place i (not (r2_of i == 0)) (slice_index cpu.old.general (r2_of i)) ≡ record { ending = result; cpu = cpu.new } }
+    ensures { branched kind cpu.old place i (not (r2_of i == 0)) (slice_index cpu.old.general (r2_of i))
+        ≡ record { ending = result; cpu = cpu.new } }
 {
     let target = cpu.general[i.r2().index()];
     branch_row(kind, cpu, place, i, i.r2().number() != 0, target)
@@ -118,7 +122,8 @@ pub fn branch_register(kind: Branching, cpu: &mut Cpu, place: Place, i: Instruct
 /// An operation on two registers.
 #[inline(always)]
 pub fn register_operation(operation: Arithmetic, cpu: &mut Cpu, i: Instruction) -> Ending
-    ensures { arithmetic operation cpu.old (r1_of i) (slice_index cpu.old.general (r2_of i)) ≡ record { ending = result; cpu = cpu.new } }
+    ensures { arithmetic operation cpu.old (r1_of i) (slice_index cpu.old.general (r2_of i))
+        ≡ record { ending = result; cpu = cpu.new } }
 {
     let second = cpu.general[i.r2().index()];
     arithmetic_row(operation, cpu, i.r1(), second)
@@ -127,7 +132,8 @@ pub fn register_operation(operation: Arithmetic, cpu: &mut Cpu, i: Instruction) 
 /// 41 LA: the second operand's address goes to a register.
 #[inline(always)]
 pub fn load_address(cpu: &mut Cpu, i: Instruction) -> Ending
-    ensures { address_loaded cpu.old (r1_of i) (indexed_address cpu.old (r2_of i) i.second_half) ≡ record { ending = result; cpu = cpu.new } }
+    ensures { address_loaded cpu.old (r1_of i) (indexed_address cpu.old (r2_of i) i.second_half)
+        ≡ record { ending = result; cpu = cpu.new } }
 {
     let address = cpu.indexed(i.r2(), i.second_half);
     load_address_row(cpu, i.r1(), address)

@@ -20,8 +20,8 @@ use s370_psw::{Ilc, ProgramCode};
 use s370_rows::{Cpu, Ending, Instruction, Place, Refusal};
 use s370_store::{Storage, load_byte};
 
-/// Carries out an instruction of any state that was fetched, but for its address. The operation code is passed beside the
-/// instruction, so that where it is a constant all but that instruction's row is left out of the code.
+/// Carries out an instruction of any state that was fetched, but for its address. The operation code is passed beside
+/// the instruction, so that where it is a constant all but that instruction's row is left out of the code.
 #[inline(always)]
 fn perform<S: Storage>(
     cpu: &mut Cpu,
@@ -83,8 +83,8 @@ fn step_apart<S: Storage>(cpu: &mut Cpu, storage: &mut S) -> Stop
     }
 }
 
-/// Goes on with the instruction of this operation code, which stands at the instruction address, once one look was enough
-/// for its fetch.
+/// Goes on with the instruction of this operation code, which stands at the instruction address, once one look was
+/// enough for its fetch.
 #[inline(always)]
 fn carry_known<S: Storage>(cpu: &mut Cpu, storage: &mut S, start: u32, opcode: u8) -> Stop
     requires here { start ≡ cpu.old.psw.address }

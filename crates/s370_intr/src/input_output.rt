@@ -8,8 +8,8 @@ use s370_rows::{Cpu, IoOperation};
 use s370_store::{Page, Storage};
 use s370_subchannels::{Subchannels, answer};
 
-/// Answers an input/output instruction, which asks the device of this address. Where a page is not present that is needed,
-/// it is the error, and nothing is changed.
+/// Answers an input/output instruction, which asks the device of this address. Where a page is not present that is
+/// needed, it is the error, and nothing is changed.
 #[inline(never)]
 pub fn answer_asked<S: Storage>(
     cpu: &mut Cpu,
@@ -19,9 +19,11 @@ pub fn answer_asked<S: Storage>(
     device: u16,
 ) -> Result<(), Page>
     requires { 8192 ≤ length (S.bytes storage.old) }
-    ensures answer { let before = configuration_of (state_of cpu.old (S.bytes storage.old) (S.keys storage.old)) subchannels.old in
+    ensures answer { let before = configuration_of
+        (state_of cpu.old (S.bytes storage.old) (S.keys storage.old)) subchannels.old in
         let after = configuration_of (state_of cpu.new (S.bytes storage.new) (S.keys storage.new)) subchannels.new in
-        Meets (answered operation device before) (AskNeeds operation device before) (S.present storage.old) before result after }
+        Meets (answered operation device before) (AskNeeds operation device before)
+        (S.present storage.old) before result after }
     ensures rest { S.Keeps storage.old storage.new }
 {
     match answer(subchannels, storage, operation, device) {

@@ -39,11 +39,12 @@ pub enum Next {
     Instructs,
 }
 
-/// Whether a running processor does an instruction next, where nothing is pending. Where it says no, [`look`] tells what comes
-/// next, which can be an instruction still.
+/// Whether a running processor does an instruction next, where nothing is pending. Where it says no, [`look`] tells
+/// what comes next, which can be an instruction still.
 #[inline(always)]
 pub fn is_plain(cpu: &Cpu, pending: Pending, subchannels: &Subchannels) -> bool
-    ensures { (bytes keys : List ℕ) → result ≡ true → look (core_of (state_of cpu.now bytes keys) pending subchannels.now) ≡ Instructs }
+    ensures { (bytes keys : List ℕ) → result ≡ true
+        → look (core_of (state_of cpu.now bytes keys) pending subchannels.now) ≡ Instructs }
 {
     if cpu.psw.is_ec() {
         return false;
@@ -60,7 +61,8 @@ pub fn is_plain(cpu: &Cpu, pending: Pending, subchannels: &Subchannels) -> bool
 /// What a running processor does next, of which it is known already whether it is an instruction with nothing pending.
 #[inline(always)]
 pub fn next_of(is_plain: bool, cpu: &Cpu, pending: Pending, subchannels: &Subchannels) -> Next
-    requires { (bytes keys : List ℕ) → is_plain ≡ true → look (core_of (state_of cpu.now bytes keys) pending subchannels.now) ≡ Instructs }
+    requires { (bytes keys : List ℕ) → is_plain ≡ true
+        → look (core_of (state_of cpu.now bytes keys) pending subchannels.now) ≡ Instructs }
     ensures { (bytes keys : List ℕ) → result ≡ look (core_of (state_of cpu.now bytes keys) pending subchannels.now) }
 {
     if is_plain {

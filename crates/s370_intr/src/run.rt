@@ -42,8 +42,10 @@ fn try_unit<P: Processor, S: Keyed>(
     storage: &mut S,
 ) -> Result<(), Page>
     requires { 8192 ≤ length (S.Storage.bytes storage.old) }
-    ensures unit { let before = core_of (state_of cpu.old (S.Storage.bytes storage.old) (S.Storage.keys storage.old)) pending.old subchannels.old in
-        let after = core_of (state_of cpu.new (S.Storage.bytes storage.new) (S.Storage.keys storage.new)) pending.new subchannels.new in
+    ensures unit { let before = core_of
+        (state_of cpu.old (S.Storage.bytes storage.old) (S.Storage.keys storage.old)) pending.old subchannels.old in
+        let after = core_of (state_of cpu.new (S.Storage.bytes storage.new)
+        (S.Storage.keys storage.new)) pending.new subchannels.new in
         MeetsUnitAt said (S.Storage.present storage.old) before result after }
     ensures rest { S.Storage.Keeps storage.old storage.new }
 {
@@ -55,8 +57,8 @@ fn try_unit<P: Processor, S: Keyed>(
     }
 }
 
-/// The unit that a look says, after each page was brought that it needs, each of them once. Where there is no room for one
-/// of them, nothing has changed.
+/// The unit that a look says, after each page was brought that it needs, each of them once. Where there is no room for
+/// one of them, nothing has changed.
 fn bring_pages<P: Processor, S: UnitSupply>(
     said: Next,
     cpu: &mut Cpu,
@@ -66,11 +68,15 @@ fn bring_pages<P: Processor, S: UnitSupply>(
     storage: &mut S,
 ) -> Result<(), FramesOut>
     requires { 8192 ≤ length (S.Storage.bytes storage.old) }
-    ensures unit { let before = core_of (state_of cpu.old (S.Storage.bytes storage.old) (S.Storage.keys storage.old)) pending.old subchannels.old in
-        let after = core_of (state_of cpu.new (S.Storage.bytes storage.new) (S.Storage.keys storage.new)) pending.new subchannels.new in
+    ensures unit { let before = core_of
+        (state_of cpu.old (S.Storage.bytes storage.old) (S.Storage.keys storage.old)) pending.old subchannels.old in
+        let after = core_of (state_of cpu.new (S.Storage.bytes storage.new)
+        (S.Storage.keys storage.new)) pending.new subchannels.new in
         SuppliesUnit said before result after (S.Supply.IsShort storage.new) }
-    ensures supply { let before = core_of (state_of cpu.old (S.Storage.bytes storage.old) (S.Storage.keys storage.old)) pending.old subchannels.old in
-        (pages : List ℕ) × S.Supply.Brought storage.old pages storage.new × AllNeeded (NeedsAt said before) pages × (length pages ≤ 9) }
+    ensures supply { let before = core_of
+        (state_of cpu.old (S.Storage.bytes storage.old) (S.Storage.keys storage.old)) pending.old subchannels.old in
+        (pages : List ℕ) × S.Supply.Brought storage.old pages storage.new × AllNeeded (NeedsAt said before) pages
+        × (length pages ≤ 9) }
     ensures size { length (S.Storage.bytes storage.new) ≡ length (S.Storage.bytes storage.old) }
 {
     loop {
@@ -83,8 +89,8 @@ fn bring_pages<P: Processor, S: UnitSupply>(
     }
 }
 
-/// The unit that a look says, for which pages have to be brought: they are held until it ends, and no longer. It is out of
-/// line, so that a unit that brings nothing pays nothing for it.
+/// The unit that a look says, for which pages have to be brought: they are held until it ends, and no longer. It is out
+/// of line, so that a unit that brings nothing pays nothing for it.
 #[inline(never)]
 fn bring_for_unit<P: Processor, S: UnitSupply>(
     said: Next,
@@ -96,11 +102,15 @@ fn bring_for_unit<P: Processor, S: UnitSupply>(
 ) -> Result<(), FramesOut>
     requires large { 8192 ≤ length (S.Storage.bytes storage.old) }
     requires between { S.IsBetween storage.old }
-    ensures unit { let before = core_of (state_of cpu.old (S.Storage.bytes storage.old) (S.Storage.keys storage.old)) pending.old subchannels.old in
-        let after = core_of (state_of cpu.new (S.Storage.bytes storage.new) (S.Storage.keys storage.new)) pending.new subchannels.new in
+    ensures unit { let before = core_of
+        (state_of cpu.old (S.Storage.bytes storage.old) (S.Storage.keys storage.old)) pending.old subchannels.old in
+        let after = core_of (state_of cpu.new (S.Storage.bytes storage.new)
+        (S.Storage.keys storage.new)) pending.new subchannels.new in
         SuppliesUnit said before result after (S.IsOut storage.new) }
-    ensures supply { let before = core_of (state_of cpu.old (S.Storage.bytes storage.old) (S.Storage.keys storage.old)) pending.old subchannels.old in
-        (pages : List ℕ) × S.Came storage.old (pages ∷ []) storage.new × AllNeeded (NeedsAt said before) pages × (length pages ≤ 9) }
+    ensures supply { let before = core_of
+        (state_of cpu.old (S.Storage.bytes storage.old) (S.Storage.keys storage.old)) pending.old subchannels.old in
+        (pages : List ℕ) × S.Came storage.old (pages ∷ []) storage.new × AllNeeded (NeedsAt said before) pages
+        × (length pages ≤ 9) }
     ensures between { S.IsBetween storage.new }
     ensures size { length (S.Storage.bytes storage.new) ≡ length (S.Storage.bytes storage.old) }
 {
@@ -109,8 +119,8 @@ fn bring_for_unit<P: Processor, S: UnitSupply>(
     done
 }
 
-/// The unit that a look says, tried once, and where it lacks a page with all pages that it needs; none where it stops. Where
-/// there is no room for one of them, nothing has changed; the pages that were brought for it stay.
+/// The unit that a look says, tried once, and where it lacks a page with all pages that it needs; none where it stops.
+/// Where there is no room for one of them, nothing has changed; the pages that were brought for it stay.
 #[inline(always)]
 fn try_or_bring<P: Processor, S: UnitSupply>(
     said: Next,
@@ -122,11 +132,15 @@ fn try_or_bring<P: Processor, S: UnitSupply>(
 ) -> Result<(), FramesOut>
     requires large { 8192 ≤ length (S.Storage.bytes storage.old) }
     requires between { S.IsBetween storage.old }
-    ensures unit { let before = core_of (state_of cpu.old (S.Storage.bytes storage.old) (S.Storage.keys storage.old)) pending.old subchannels.old in
-        let after = core_of (state_of cpu.new (S.Storage.bytes storage.new) (S.Storage.keys storage.new)) pending.new subchannels.new in
+    ensures unit { let before = core_of
+        (state_of cpu.old (S.Storage.bytes storage.old) (S.Storage.keys storage.old)) pending.old subchannels.old in
+        let after = core_of (state_of cpu.new (S.Storage.bytes storage.new)
+        (S.Storage.keys storage.new)) pending.new subchannels.new in
         SuppliesUnit said before result after (S.IsOut storage.new) }
-    ensures supply { let before = core_of (state_of cpu.old (S.Storage.bytes storage.old) (S.Storage.keys storage.old)) pending.old subchannels.old in
-        (pages : List ℕ) × S.Came storage.old (pages ∷ []) storage.new × AllNeeded (NeedsAt said before) pages × (length pages ≤ 9) }
+    ensures supply { let before = core_of
+        (state_of cpu.old (S.Storage.bytes storage.old) (S.Storage.keys storage.old)) pending.old subchannels.old in
+        (pages : List ℕ) × S.Came storage.old (pages ∷ []) storage.new × AllNeeded (NeedsAt said before) pages
+        × (length pages ≤ 9) }
     ensures between { S.IsBetween storage.new }
     ensures size { length (S.Storage.bytes storage.new) ≡ length (S.Storage.bytes storage.old) }
 {
@@ -148,18 +162,23 @@ fn accept_supplied<P: Processor, S: UnitSupply>(
 ) -> Result<(), FramesOut>
     requires large { 8192 ≤ length (S.Storage.bytes storage.old) }
     requires between { S.IsBetween storage.old }
-    ensures unit { let before = core_of (state_of cpu.old (S.Storage.bytes storage.old) (S.Storage.keys storage.old)) pending.old subchannels.old in
-        let after = core_of (state_of cpu.new (S.Storage.bytes storage.new) (S.Storage.keys storage.new)) pending.new subchannels.new in
+    ensures unit { let before = core_of
+        (state_of cpu.old (S.Storage.bytes storage.old) (S.Storage.keys storage.old)) pending.old subchannels.old in
+        let after = core_of (state_of cpu.new (S.Storage.bytes storage.new)
+        (S.Storage.keys storage.new)) pending.new subchannels.new in
         SuppliesUnit said before result after (S.IsOut storage.new) }
-    ensures supply { let before = core_of (state_of cpu.old (S.Storage.bytes storage.old) (S.Storage.keys storage.old)) pending.old subchannels.old in
-        (pages : List ℕ) × S.Came storage.old (pages ∷ []) storage.new × AllNeeded (NeedsAt said before) pages × (length pages ≤ 9) }
+    ensures supply { let before = core_of
+        (state_of cpu.old (S.Storage.bytes storage.old) (S.Storage.keys storage.old)) pending.old subchannels.old in
+        (pages : List ℕ) × S.Came storage.old (pages ∷ []) storage.new × AllNeeded (NeedsAt said before) pages
+        × (length pages ≤ 9) }
     ensures between { S.IsBetween storage.new }
     ensures size { length (S.Storage.bytes storage.new) ≡ length (S.Storage.bytes storage.old) }
 {
     try_or_bring::<P, S>(said, cpu, spare, pending, subchannels, storage)
 }
 
-/// The same. An instruction is named here, and all else is out of line, so that nothing of other units is carried through it.
+/// The same. An instruction is named here, and all else is out of line, so that nothing of other units is carried
+/// through it.
 #[inline(always)]
 fn supplied<P: Processor, S: UnitSupply>(
     said: Next,
@@ -171,11 +190,15 @@ fn supplied<P: Processor, S: UnitSupply>(
 ) -> Result<(), FramesOut>
     requires large { 8192 ≤ length (S.Storage.bytes storage.old) }
     requires between { S.IsBetween storage.old }
-    ensures unit { let before = core_of (state_of cpu.old (S.Storage.bytes storage.old) (S.Storage.keys storage.old)) pending.old subchannels.old in
-        let after = core_of (state_of cpu.new (S.Storage.bytes storage.new) (S.Storage.keys storage.new)) pending.new subchannels.new in
+    ensures unit { let before = core_of
+        (state_of cpu.old (S.Storage.bytes storage.old) (S.Storage.keys storage.old)) pending.old subchannels.old in
+        let after = core_of (state_of cpu.new (S.Storage.bytes storage.new)
+        (S.Storage.keys storage.new)) pending.new subchannels.new in
         SuppliesUnit said before result after (S.IsOut storage.new) }
-    ensures supply { let before = core_of (state_of cpu.old (S.Storage.bytes storage.old) (S.Storage.keys storage.old)) pending.old subchannels.old in
-        (pages : List ℕ) × S.Came storage.old (pages ∷ []) storage.new × AllNeeded (NeedsAt said before) pages × (length pages ≤ 9) }
+    ensures supply { let before = core_of
+        (state_of cpu.old (S.Storage.bytes storage.old) (S.Storage.keys storage.old)) pending.old subchannels.old in
+        (pages : List ℕ) × S.Came storage.old (pages ∷ []) storage.new × AllNeeded (NeedsAt said before) pages
+        × (length pages ≤ 9) }
     ensures between { S.IsBetween storage.new }
     ensures size { length (S.Storage.bytes storage.new) ≡ length (S.Storage.bytes storage.old) }
 {
@@ -187,26 +210,31 @@ fn supplied<P: Processor, S: UnitSupply>(
     }
 }
 
-/// The block of an address, where the one that was found for the last instruction ends. It is out of line, so that the loop over
-/// instructions has no more in it than a call.
+/// The block of an address, where the one that was found for the last instruction ends. It is out of line, so that the
+/// loop over instructions has no more in it than a call.
 #[inline(never)]
 fn find_again<S: Storage>(storage: &S, next: Addr24, key: AccessKey) -> Option<Block>
     ensures first { IfSome result (λ found. found.first ≡ next / 2048 * 2048) }
-    ensures may_fetch { IfSome result (λ found. MayFetch (length (S.bytes storage.now)) (S.keys storage.now) (S.present storage.now) key found.first) }
+    ensures may_fetch { IfSome result
+        (λ found. MayFetch (length (S.bytes storage.now)) (S.keys storage.now)
+        (S.present storage.now) key found.first) }
     ensures placed { IfSome result (λ found. S.IsPlaced storage.now found) }
 {
     storage.find_block(next.get(), Access::Fetch, key)
 }
 
-/// The block in which the next instruction lies, at an even address and with room for the longest: the one that was found for the
-/// last, or another.
+/// The block in which the next instruction lies, at an even address and with room for the longest: the one that was
+/// found for the last, or another.
 #[inline(always)]
 fn block_of<S: Storage>(storage: &S, block: Block, next: Addr24, key: AccessKey) -> Option<Block>
     requires low { block.first < 16777216 }
-    requires may_fetch { MayFetch (length (S.bytes storage.now)) (S.keys storage.now) (S.present storage.now) key block.first }
+    requires may_fetch { MayFetch (length (S.bytes storage.now)) (S.keys storage.now)
+        (S.present storage.now) key block.first }
     requires placed { S.IsPlaced storage.now block }
     ensures low { IfSome result (λ found. found.first < 16777216) }
-    ensures may_fetch { IfSome result (λ found. MayFetch (length (S.bytes storage.now)) (S.keys storage.now) (S.present storage.now) key found.first) }
+    ensures may_fetch { IfSome result
+        (λ found. MayFetch (length (S.bytes storage.now)) (S.keys storage.now)
+        (S.present storage.now) key found.first) }
     ensures placed { IfSome result (λ found. S.IsPlaced storage.now found) }
     ensures begins { IfSome result (λ found. found.first ≤ next) }
     ensures ends { IfSome result (λ found. next ≤ found.first + 2042) }
@@ -225,8 +253,8 @@ fn block_of<S: Storage>(storage: &S, block: Block, next: Addr24, key: AccessKey)
     }
 }
 
-/// Parts of an MVCL that stands at the instruction address, one after another and at most so many: how many were done. They have
-/// a loop of their own, since each of them moves so much that what is done once for all of them counts.
+/// Parts of an MVCL that stands at the instruction address, one after another and at most so many: how many were done.
+/// They have a loop of their own, since each of them moves so much that what is done once for all of them counts.
 #[inline(never)]
 fn move_parts<S: Storage>(
     cpu: &mut Cpu,
@@ -236,7 +264,8 @@ fn move_parts<S: Storage>(
     limit: u32,
 ) -> u32
     requires here { start ≡ cpu.old.psw.address }
-    requires stands { IsLongMoveAt (state_of cpu.old (S.bytes storage.old) (S.keys storage.old)) (S.present storage.old) start second_byte }
+    requires stands { IsLongMoveAt (state_of cpu.old (S.bytes storage.old) (S.keys storage.old))
+        (S.present storage.old) start second_byte }
     ensures done { let before = state_of cpu.old (S.bytes storage.old) (S.keys storage.old) in
         let after = state_of cpu.new (S.bytes storage.new) (S.keys storage.new) in
         DoesInstructions result before after }
@@ -264,7 +293,8 @@ fn move_parts_in<S: Storage>(
     limit: u32,
 ) -> u32
     requires here { start ≡ cpu.old.psw.address }
-    requires may_fetch { MayFetch (length (S.bytes storage.old)) (S.keys storage.old) (S.present storage.old) cpu.old.psw.key block.first }
+    requires may_fetch { MayFetch (length (S.bytes storage.old)) (S.keys storage.old)
+        (S.present storage.old) cpu.old.psw.key block.first }
     requires placed { S.IsPlaced storage.old block }
     requires begins { block.first ≤ start }
     requires ends { start ≤ block.first + 2042 }
@@ -282,9 +312,9 @@ fn move_parts_in<S: Storage>(
     move_parts(cpu, storage, start, second_byte, limit)
 }
 
-/// Instructions that are done in one go, one after another and at most so many: how many were done. After each of them a
-/// look would say what it said before: so the block from which they are fetched is looked up once, as long as they stay in
-/// it. This has no other unit in it, so that registers are left for what it needs.
+/// Instructions that are done in one go, one after another and at most so many: how many were done. After each of them
+/// a look would say what it said before: so the block from which they are fetched is looked up once, as long as they
+/// stay in it. This has no other unit in it, so that registers are left for what it needs.
 #[inline(never)]
 fn instruct_quickly<S: Storage>(cpu: &mut Cpu, storage: &mut S, limit: u32) -> u32
     ensures done { let before = state_of cpu.old (S.bytes storage.old) (S.keys storage.old) in
@@ -323,7 +353,9 @@ fn go_quickly<S: Storage>(is_plain: bool, cpu: &mut Cpu, storage: &mut S, limit:
     ensures done { (pending : Pending) → (list : List Subchannel) →
         let before = core_of (state_of cpu.old (S.bytes storage.old) (S.keys storage.old)) pending list in
         let after = core_of (state_of cpu.new (S.bytes storage.new) (S.keys storage.new)) pending list in
-        (is_plain ≡ true → look before ≡ next.Instructs) → (run result before ≡ record { core = after; units = result; reason = reasons.Count }) × (is_plain ≡ true → look after ≡ next.Instructs) }
+        (is_plain ≡ true → look before ≡ next.Instructs)
+        → (run result before ≡ record { core = after; units = result; reason = reasons.Count })
+        × (is_plain ≡ true → look after ≡ next.Instructs) }
     ensures within { result ≤ limit }
     ensures rest { S.Keeps storage.old storage.new }
 {
@@ -343,8 +375,8 @@ fn blank_cpu() -> Cpu {
     }
 }
 
-/// At most so many units of a running processor. Each brings the pages that it needs, nine at most, and what is brought for
-/// one stays until it ends. This takes no memory.
+/// At most so many units of a running processor. Each brings the pages that it needs, nine at most, and what is brought
+/// for one stays until it ends. This takes no memory.
 pub fn run_units<P: Processor, S: UnitSupply>(
     cpu: &mut Cpu,
     pending: &mut Pending,
@@ -354,11 +386,16 @@ pub fn run_units<P: Processor, S: UnitSupply>(
 ) -> Ran
     requires large { 8192 ≤ length (S.Storage.bytes storage.old) }
     requires between { S.IsBetween storage.old }
-    ensures told { let before = core_of (state_of cpu.old (S.Storage.bytes storage.old) (S.Storage.keys storage.old)) pending.old subchannels.old in
-        let after = core_of (state_of cpu.new (S.Storage.bytes storage.new) (S.Storage.keys storage.new)) pending.new subchannels.new in
-        TellsRun count before (record { core = after; units = result.units; reason = result.reason }) (S.IsOut storage.new) }
-    ensures supply { let before = core_of (state_of cpu.old (S.Storage.bytes storage.old) (S.Storage.keys storage.old)) pending.old subchannels.old in
-        (units : List (List ℕ)) × S.Came storage.old units storage.new × EachBrings before 0 units × (length units ≤ begun result.units result.reason) }
+    ensures told { let before = core_of
+        (state_of cpu.old (S.Storage.bytes storage.old) (S.Storage.keys storage.old)) pending.old subchannels.old in
+        let after = core_of (state_of cpu.new (S.Storage.bytes storage.new)
+        (S.Storage.keys storage.new)) pending.new subchannels.new in
+        TellsRun count before
+        (record { core = after; units = result.units; reason = result.reason }) (S.IsOut storage.new) }
+    ensures supply { let before = core_of
+        (state_of cpu.old (S.Storage.bytes storage.old) (S.Storage.keys storage.old)) pending.old subchannels.old in
+        (units : List (List ℕ)) × S.Came storage.old units storage.new × EachBrings before 0 units
+        × (length units ≤ begun result.units result.reason) }
     ensures between { S.IsBetween storage.new }
     ensures size { length (S.Storage.bytes storage.new) ≡ length (S.Storage.bytes storage.old) }
 {

@@ -15,12 +15,13 @@ const TIMER: Range = Range {
 /// What a tick takes from the interval timer.
 const STEP: u32 = 256;
 
-/// A tick of the interval timer, the word at location 80, which makes the timer condition pending where it takes the word
-/// from zero or positive to negative (GA22-7000, "Interval Timer"). Keys are not tested. Where page 0 is not present it is
-/// the error, and nothing is changed.
+/// A tick of the interval timer, the word at location 80, which makes the timer condition pending where it takes the
+/// word from zero or positive to negative (GA22-7000, "Interval Timer"). Keys are not tested. Where page 0 is not
+/// present it is the error, and nothing is changed.
 pub fn tick<S: Storage>(pending: &mut Pending, storage: &mut S) -> Result<(), Page>
     requires { 8192 ≤ length (S.bytes storage.old) }
-    ensures tick { MeetsTick (S.present storage.old) (timed (S.bytes storage.old) pending.old) result (timed (S.bytes storage.new) pending.new) }
+    ensures tick { MeetsTick (S.present storage.old) (timed (S.bytes storage.old) pending.old) result
+        (timed (S.bytes storage.new) pending.new) }
     ensures keys { S.keys storage.new ≡ S.keys storage.old }
     ensures rest { S.Keeps storage.old storage.new }
 {

@@ -69,8 +69,8 @@ impl Processor for RealCpu {
     }
 }
 
-/// Goes on with an instruction for the supervisor state that was handed back, and with what follows it. The registers are
-/// copied, since an answer may have to be undone. It is out of line, so that the loop over units is for the others.
+/// Goes on with an instruction for the supervisor state that was handed back, and with what follows it. The registers
+/// are copied, since an answer may have to be undone. It is out of line, so that the loop over units is for the others.
 #[inline(never)]
 fn instruct_control<P: Processor, S: Keyed>(
     cpu: &mut Cpu,
@@ -82,8 +82,10 @@ fn instruct_control<P: Processor, S: Keyed>(
     requires size { 8192 ≤ length (S.Storage.bytes storage.old) }
     requires handed { let m = state_of cpu.old (S.Storage.bytes storage.old) (S.Storage.keys storage.old) in
         MeetsStep (S.Storage.present storage.old) m (stops.Privileged i ilc) m }
-    ensures instruction { let before = configuration_of (state_of cpu.old (S.Storage.bytes storage.old) (S.Storage.keys storage.old)) subchannels.old in
-        let after = configuration_of (state_of cpu.new (S.Storage.bytes storage.new) (S.Storage.keys storage.new)) subchannels.new in
+    ensures instruction { let before = configuration_of
+        (state_of cpu.old (S.Storage.bytes storage.old) (S.Storage.keys storage.old)) subchannels.old in
+        let after = configuration_of
+        (state_of cpu.new (S.Storage.bytes storage.new) (S.Storage.keys storage.new)) subchannels.new in
         MeetsInstruction (S.Storage.present storage.old) before result after }
     ensures rest { S.Storage.Keeps storage.old storage.new }
 {
@@ -103,16 +105,18 @@ fn instruct_control<P: Processor, S: Keyed>(
     }
 }
 
-/// One instruction, and the interruption or the answer that it ends in. Where they need a page that is not present, that is
-/// the error, and all is as it was.
+/// One instruction, and the interruption or the answer that it ends in. Where they need a page that is not present,
+/// that is the error, and all is as it was.
 pub fn instruct<P: Processor, S: Keyed>(
     cpu: &mut Cpu,
     subchannels: &mut Subchannels,
     storage: &mut S,
 ) -> Result<(), Page>
     requires { 8192 ≤ length (S.Storage.bytes storage.old) }
-    ensures instruction { let before = configuration_of (state_of cpu.old (S.Storage.bytes storage.old) (S.Storage.keys storage.old)) subchannels.old in
-        let after = configuration_of (state_of cpu.new (S.Storage.bytes storage.new) (S.Storage.keys storage.new)) subchannels.new in
+    ensures instruction { let before = configuration_of
+        (state_of cpu.old (S.Storage.bytes storage.old) (S.Storage.keys storage.old)) subchannels.old in
+        let after = configuration_of
+        (state_of cpu.new (S.Storage.bytes storage.new) (S.Storage.keys storage.new)) subchannels.new in
         MeetsInstruction (S.Storage.present storage.old) before result after }
     ensures rest { S.Storage.Keeps storage.old storage.new }
 {
@@ -129,8 +133,10 @@ pub(crate) fn instruct_saving<P: Processor, S: Keyed>(
     storage: &mut S,
 ) -> Result<(), Page>
     requires { 8192 ≤ length (S.Storage.bytes storage.old) }
-    ensures instruction { let before = configuration_of (state_of cpu.old (S.Storage.bytes storage.old) (S.Storage.keys storage.old)) subchannels.old in
-        let after = configuration_of (state_of cpu.new (S.Storage.bytes storage.new) (S.Storage.keys storage.new)) subchannels.new in
+    ensures instruction { let before = configuration_of
+        (state_of cpu.old (S.Storage.bytes storage.old) (S.Storage.keys storage.old)) subchannels.old in
+        let after = configuration_of
+        (state_of cpu.new (S.Storage.bytes storage.new) (S.Storage.keys storage.new)) subchannels.new in
         MeetsInstruction (S.Storage.present storage.old) before result after }
     ensures rest { S.Storage.Keeps storage.old storage.new }
 {
@@ -154,7 +160,8 @@ pub(crate) fn instruct_saving<P: Processor, S: Keyed>(
     }
 }
 
-/// Copies the registers where an interruption may have to be undone: page 0, in which it stores and loads, is not present.
+/// Copies the registers where an interruption may have to be undone: page 0, in which it stores and loads, is not
+/// present.
 #[inline(always)]
 fn save<S: Storage>(cpu: &Cpu, spare: &mut Cpu, storage: &S)
     requires { 8192 ≤ length (S.bytes storage.now) }
@@ -167,7 +174,8 @@ fn save<S: Storage>(cpu: &Cpu, spare: &mut Cpu, storage: &S)
     }
 }
 
-/// Carries out what the stop of an instruction is followed by: its interruption, or the answer of the device that it asks.
+/// Carries out what the stop of an instruction is followed by: its interruption, or the answer of the device that it
+/// asks.
 #[inline(always)]
 fn follow<P: Processor, S: Keyed>(
     cpu: &mut Cpu,
@@ -176,8 +184,10 @@ fn follow<P: Processor, S: Keyed>(
     stop: Stop,
 ) -> Result<(), Page>
     requires { 8192 ≤ length (S.Storage.bytes storage.old) }
-    ensures followed { let before = configuration_of (state_of cpu.old (S.Storage.bytes storage.old) (S.Storage.keys storage.old)) subchannels.old in
-        let after = configuration_of (state_of cpu.new (S.Storage.bytes storage.new) (S.Storage.keys storage.new)) subchannels.new in
+    ensures followed { let before = configuration_of
+        (state_of cpu.old (S.Storage.bytes storage.old) (S.Storage.keys storage.old)) subchannels.old in
+        let after = configuration_of
+        (state_of cpu.new (S.Storage.bytes storage.new) (S.Storage.keys storage.new)) subchannels.new in
         MeetsFollowed stop (S.Storage.present storage.old) before result after }
     ensures rest { S.Storage.Keeps storage.old storage.new }
 {
@@ -204,8 +214,10 @@ pub fn accept<P: Processor, S: Keyed>(
     storage: &mut S,
 ) -> Result<(), Page>
     requires { 8192 ≤ length (S.Storage.bytes storage.old) }
-    ensures unit { let before = core_of (state_of cpu.old (S.Storage.bytes storage.old) (S.Storage.keys storage.old)) pending.old _subchannels.now in
-        let after = core_of (state_of cpu.new (S.Storage.bytes storage.new) (S.Storage.keys storage.new)) pending.new _subchannels.now in
+    ensures unit { let before = core_of
+        (state_of cpu.old (S.Storage.bytes storage.old) (S.Storage.keys storage.old)) pending.old _subchannels.now in
+        let after = core_of (state_of cpu.new (S.Storage.bytes storage.new)
+        (S.Storage.keys storage.new)) pending.new _subchannels.now in
         MeetsUnitAt (next.Accepts taken) (S.Storage.present storage.old) before result after }
     ensures rest { S.Storage.Keeps storage.old storage.new }
 {
@@ -214,8 +226,8 @@ pub fn accept<P: Processor, S: Keyed>(
     Ok(())
 }
 
-/// Accepts the status of a device: stores its channel status word and interrupts the processor; the device is idle. Where
-/// page 0 is not present, that is the error, and all is as it was.
+/// Accepts the status of a device: stores its channel status word and interrupts the processor; the device is idle.
+/// Where page 0 is not present, that is the error, and all is as it was.
 #[inline(never)]
 pub fn accept_status<P: Processor, S: Keyed>(
     status: Status,
@@ -224,8 +236,10 @@ pub fn accept_status<P: Processor, S: Keyed>(
     storage: &mut S,
 ) -> Result<(), Page>
     requires { 8192 ≤ length (S.Storage.bytes storage.old) }
-    ensures status { let before = configuration_of (state_of cpu.old (S.Storage.bytes storage.old) (S.Storage.keys storage.old)) subchannels.old in
-        let after = configuration_of (state_of cpu.new (S.Storage.bytes storage.new) (S.Storage.keys storage.new)) subchannels.new in
+    ensures status { let before = configuration_of
+        (state_of cpu.old (S.Storage.bytes storage.old) (S.Storage.keys storage.old)) subchannels.old in
+        let after = configuration_of
+        (state_of cpu.new (S.Storage.bytes storage.new) (S.Storage.keys storage.new)) subchannels.new in
         MeetsPresented status (S.Storage.present storage.old) before result after }
     ensures rest { S.Storage.Keeps storage.old storage.new }
 {

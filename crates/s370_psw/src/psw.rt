@@ -29,11 +29,31 @@ impl Model for Psw {
 
     ghost Value = { Fields };
 
-    ghost view = { λ p. record { system_mask = p.system_mask; key = p.key; extended = p.extended; machine_check = p.machine_check; wait = p.wait; problem = p.problem; condition = p.condition; program_mask = p.program_mask; address = p.address } };
+    ghost view = { λ p. record {
+      system_mask = p.system_mask;
+      key = p.key;
+      extended = p.extended;
+      machine_check = p.machine_check;
+      wait = p.wait;
+      problem = p.problem;
+      condition = p.condition;
+      program_mask = p.program_mask;
+      address = p.address;
+    } };
 
     ghost invariant = { λ p. p.program_mask < 16 };
 
-    ghost inverse = { λ p. record { system_mask = p.system_mask; key = p.key; extended = p.extended; machine_check = p.machine_check; wait = p.wait; problem = p.problem; condition = p.condition; program_mask = p.program_mask; address = p.address } };
+    ghost inverse = { λ p. record {
+      system_mask = p.system_mask;
+      key = p.key;
+      extended = p.extended;
+      machine_check = p.machine_check;
+      wait = p.wait;
+      problem = p.problem;
+      condition = p.condition;
+      program_mask = p.program_mask;
+      address = p.address;
+    } };
 }
 
 /// Between storage and the processor.

@@ -9,7 +9,8 @@ use s370_num::Addr24;
 use s370_rows::Cpu;
 use s370_store::{Access, Block, Storage};
 
-/// The blocks in which the last operands lay, one for each kind of access: what may be fetched from may not be stored into.
+/// The blocks in which the last operands lay, one for each kind of access: what may be fetched from may not be stored
+/// into.
 #[derive(Clone, Copy, PartialEq, Eq)]
 pub struct Held {
     /// The block from which operands are fetched.
@@ -31,8 +32,8 @@ fn holds(block: Block, start: Addr24, count: u32) -> bool
     start.get().wrapping_sub(block.first) <= 2048 - count
 }
 
-/// The block in which an operand lies: the one that is held for such operands, or another. None where it lies in two, or may not
-/// be accessed so.
+/// The block in which an operand lies: the one that is held for such operands, or another. None where it lies in two,
+/// or may not be accessed so.
 #[inline(always)]
 pub fn operand_block<S: Storage>(
     access: Access,
@@ -43,10 +44,15 @@ pub fn operand_block<S: Storage>(
     count: u32,
 ) -> Option<Block>
     requires short { count ≤ 256 }
-    requires operands { IsHeld access (S.IsPlaced storage.now) (length (S.bytes storage.now)) (S.keys storage.now) (S.present storage.now) cpu.now.psw.key held }
-    ensures operands { IfSome result (λ found. IsHeld access (S.IsPlaced storage.now) (length (S.bytes storage.now)) (S.keys storage.now) (S.present storage.now) cpu.now.psw.key found) }
+    requires operands { IsHeld access (S.IsPlaced storage.now) (length (S.bytes storage.now)) (S.keys storage.now)
+        (S.present storage.now) cpu.now.psw.key held }
+    ensures operands { IfSome result
+        (λ found. IsHeld access (S.IsPlaced storage.now) (length (S.bytes storage.now)) (S.keys storage.now)
+        (S.present storage.now) cpu.now.psw.key found) }
     ensures placed { IfSome result (λ found. S.IsPlaced storage.now found) }
-    ensures granted { IfSome result (λ _. Grants (state_of cpu.now (S.bytes storage.now) (S.keys storage.now)) (S.present storage.now) (test_of access start count ∷ []) (Ok tt)) }
+    ensures granted { IfSome result
+        (λ _. Grants (state_of cpu.now (S.bytes storage.now) (S.keys storage.now)) (S.present storage.now)
+        (test_of access start count ∷ []) (Ok tt)) }
     ensures begins { IfSome result (λ found. found.first ≤ start) }
     ensures ends { IfSome result (λ found. start + count ≤ found.first + 2048) }
 {

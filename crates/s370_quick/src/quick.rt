@@ -26,16 +26,17 @@ use s370_num::Addr24;
 use s370_rows::{Arithmetic, ByteTest, Cpu, Ending, Instruction, Place, arithmetic_row, test_byte};
 use s370_store::{Access, Block, Storage, load_byte_in, load_word_in, store_word_in};
 
-/// Does one instruction of a running processor, if it is one of the most frequent, if it is done, and if the processor then
-/// goes on with the next one. Else nothing changes. It stands at an even address in a block that was found for fetches with the
-/// processor's key, with room behind it for the longest instruction.
+/// Does one instruction of a running processor, if it is one of the most frequent, if it is done, and if the processor
+/// then goes on with the next one. Else nothing changes. It stands at an even address in a block that was found for
+/// fetches with the processor's key, with room behind it for the longest instruction.
 ///
-/// The address of the next instruction says that it was done. So a loop over instructions has no stop to tell from others;
-/// what it has looked at before (all that only the supervisor state can change, the key among it) it need not look at again;
-/// and the address it holds itself, since what was just stored into the PSW would be waited for.
+/// The address of the next instruction says that it was done. So a loop over instructions has no stop to tell from
+/// others; what it has looked at before (all that only the supervisor state can change, the key among it) it need not
+/// look at again; and the address it holds itself, since what was just stored into the PSW would be waited for.
 ///
-/// An operand is fetched from the block that is held for fetches, or stored into the one that is held for stores, where it lies in
-/// it; else in the block of its own that is found, which is held from then on. So an operand near the last one is looked up no more.
+/// An operand is fetched from the block that is held for fetches, or stored into the one that is held for stores, where
+/// it lies in it; else in the block of its own that is found, which is held from then on. So an operand near the last
+/// one is looked up no more.
 #[inline(always)]
 pub fn step_quickly<S: Storage>(
     cpu: &mut Cpu,
@@ -45,17 +46,20 @@ pub fn step_quickly<S: Storage>(
     held: &mut Held,
 ) -> Option<Addr24>
     requires here { start ≡ cpu.old.psw.address }
-    requires may_fetch { MayFetch (length (S.bytes storage.old)) (S.keys storage.old) (S.present storage.old) cpu.old.psw.key block.first }
+    requires may_fetch { MayFetch (length (S.bytes storage.old)) (S.keys storage.old)
+        (S.present storage.old) cpu.old.psw.key block.first }
     requires placed { S.IsPlaced storage.old block }
     requires begins { block.first ≤ start }
     requires ends { start ≤ block.first + 2042 }
     requires even { start % 2 ≡ 0 }
-    requires operands { AreHeld (S.IsPlaced storage.old) (length (S.bytes storage.old)) (S.keys storage.old) (S.present storage.old) cpu.old.psw.key held.old }
+    requires operands { AreHeld (S.IsPlaced storage.old) (length (S.bytes storage.old)) (S.keys storage.old)
+        (S.present storage.old) cpu.old.psw.key held.old }
     ensures step { let before = state_of cpu.old (S.bytes storage.old) (S.keys storage.old) in
         let after = state_of cpu.new (S.bytes storage.new) (S.keys storage.new) in
         StepsQuickly (S.present storage.old) before result after }
     ensures rest { S.Keeps storage.old storage.new }
-    ensures operands { AreHeld (S.IsPlaced storage.old) (length (S.bytes storage.old)) (S.keys storage.old) (S.present storage.old) cpu.old.psw.key held.new }
+    ensures operands { AreHeld (S.IsPlaced storage.old) (length (S.bytes storage.old)) (S.keys storage.old)
+        (S.present storage.old) cpu.old.psw.key held.new }
 {
     step_found_quickly(cpu, storage, start, block, held)
 }
@@ -75,12 +79,14 @@ fn step_found_quickly<S: Storage>(
     requires placed { S.IsPlaced storage.old block }
     requires begins { block.first ≤ start }
     requires ends { start ≤ block.first + 2042 }
-    requires operands { AreHeld (S.IsPlaced storage.old) (length (S.bytes storage.old)) (S.keys storage.old) (S.present storage.old) cpu.old.psw.key held.old }
+    requires operands { AreHeld (S.IsPlaced storage.old) (length (S.bytes storage.old)) (S.keys storage.old)
+        (S.present storage.old) cpu.old.psw.key held.old }
     ensures step { let before = state_of cpu.old (S.bytes storage.old) (S.keys storage.old) in
         let after = state_of cpu.new (S.bytes storage.new) (S.keys storage.new) in
         StepsQuickly (S.present storage.old) before result after }
     ensures rest { S.Keeps storage.old storage.new }
-    ensures operands { AreHeld (S.IsPlaced storage.old) (length (S.bytes storage.old)) (S.keys storage.old) (S.present storage.old) cpu.old.psw.key held.new }
+    ensures operands { AreHeld (S.IsPlaced storage.old) (length (S.bytes storage.old)) (S.keys storage.old)
+        (S.present storage.old) cpu.old.psw.key held.new }
 {
     // One jump, behind which all is compiled for the one operation code.
     match load_byte_in(storage, block, start.get()) {
@@ -110,9 +116,9 @@ fn step_found_quickly<S: Storage>(
     }
 }
 
-/// Parts of an MVCL that stands at the instruction address, one after another and at most so many: those that can be moved as one,
-/// where each has all its 256 bytes, changes nothing of the MVCL, and is not the last. How many there were; where there is none,
-/// nothing changes. Either way the same MVCL is the next instruction.
+/// Parts of an MVCL that stands at the instruction address, one after another and at most so many: those that can be
+/// moved as one, where each has all its 256 bytes, changes nothing of the MVCL, and is not the last. How many there
+/// were; where there is none, nothing changes. Either way the same MVCL is the next instruction.
 ///
 /// So a loop over parts need not fetch it again.
 #[inline(always)]
@@ -124,13 +130,15 @@ pub fn move_parts_quickly<S: Storage>(
     limit: u32,
 ) -> u32
     requires here { start ≡ cpu.old.psw.address }
-    requires stands { IsLongMoveAt (state_of cpu.old (S.bytes storage.old) (S.keys storage.old)) (S.present storage.old) start second_byte }
+    requires stands { IsLongMoveAt (state_of cpu.old (S.bytes storage.old) (S.keys storage.old))
+        (S.present storage.old) start second_byte }
     ensures done { let before = state_of cpu.old (S.bytes storage.old) (S.keys storage.old) in
         let after = state_of cpu.new (S.bytes storage.new) (S.keys storage.new) in
         DoesUnits result (S.present storage.old) before after }
     ensures within { result ≤ limit }
     ensures here { start ≡ cpu.new.psw.address }
-    ensures stands { IsLongMoveAt (state_of cpu.new (S.bytes storage.new) (S.keys storage.new)) (S.present storage.new) start second_byte }
+    ensures stands { IsLongMoveAt (state_of cpu.new (S.bytes storage.new) (S.keys storage.new))
+        (S.present storage.new) start second_byte }
     ensures rest { S.Keeps storage.old storage.new }
 {
     move_long_quickly(cpu, storage, start, second_byte, limit)
@@ -152,12 +160,14 @@ fn carry_quickly<S: Storage, const CODE: u8>(
     requires begins { block.first ≤ start }
     requires ends { start ≤ block.first + 2042 }
     requires known { CODE ≡ slice_index (S.bytes storage.old) start }
-    requires operands { AreHeld (S.IsPlaced storage.old) (length (S.bytes storage.old)) (S.keys storage.old) (S.present storage.old) cpu.old.psw.key held.old }
+    requires operands { AreHeld (S.IsPlaced storage.old) (length (S.bytes storage.old)) (S.keys storage.old)
+        (S.present storage.old) cpu.old.psw.key held.old }
     ensures step { let before = state_of cpu.old (S.bytes storage.old) (S.keys storage.old) in
         let after = state_of cpu.new (S.bytes storage.new) (S.keys storage.new) in
         StepsQuickly (S.present storage.old) before result after }
     ensures rest { S.Keeps storage.old storage.new }
-    ensures operands { AreHeld (S.IsPlaced storage.old) (length (S.bytes storage.old)) (S.keys storage.old) (S.present storage.old) cpu.old.psw.key held.new }
+    ensures operands { AreHeld (S.IsPlaced storage.old) (length (S.bytes storage.old)) (S.keys storage.old)
+        (S.present storage.old) cpu.old.psw.key held.new }
 {
     if CODE == EXECUTE {
         return None;
@@ -181,12 +191,14 @@ fn finish_quickly<S: Storage, const CODE: u8>(
     requires carried { Carries (state_of cpu.old (S.bytes storage.old) (S.keys storage.old)) place.ilc i }
     requires next { let m = state_of cpu.old (S.bytes storage.old) (S.keys storage.old) in
         place ≡ place_at m place.ilc }
-    requires operands { AreHeld (S.IsPlaced storage.old) (length (S.bytes storage.old)) (S.keys storage.old) (S.present storage.old) cpu.old.psw.key held.old }
+    requires operands { AreHeld (S.IsPlaced storage.old) (length (S.bytes storage.old)) (S.keys storage.old)
+        (S.present storage.old) cpu.old.psw.key held.old }
     ensures step { let before = state_of cpu.old (S.bytes storage.old) (S.keys storage.old) in
         let after = state_of cpu.new (S.bytes storage.new) (S.keys storage.new) in
         StepsQuickly (S.present storage.old) before result after }
     ensures rest { S.Keeps storage.old storage.new }
-    ensures operands { AreHeld (S.IsPlaced storage.old) (length (S.bytes storage.old)) (S.keys storage.old) (S.present storage.old) cpu.old.psw.key held.new }
+    ensures operands { AreHeld (S.IsPlaced storage.old) (length (S.bytes storage.old)) (S.keys storage.old)
+        (S.present storage.old) cpu.old.psw.key held.new }
 {
     let Place { next, ilc } = place;
     match perform_quickly::<S, CODE>(cpu, storage, Place { next, ilc }, i, held) {
@@ -226,12 +238,14 @@ fn perform_quickly<S: Storage, const CODE: u8>(
     held: &mut Held,
 ) -> Option<Ending>
     requires same { i.opcode ≡ CODE }
-    requires operands { AreHeld (S.IsPlaced storage.old) (length (S.bytes storage.old)) (S.keys storage.old) (S.present storage.old) cpu.old.psw.key held.old }
+    requires operands { AreHeld (S.IsPlaced storage.old) (length (S.bytes storage.old)) (S.keys storage.old)
+        (S.present storage.old) cpu.old.psw.key held.old }
     ensures row { let before = state_of cpu.old (S.bytes storage.old) (S.keys storage.old) in
         let after = state_of cpu.new (S.bytes storage.new) (S.keys storage.new) in
         MeetsQuick (row_of before place i) (S.present storage.old) before result after }
     ensures rest { S.Keeps storage.old storage.new }
-    ensures operands { AreHeld (S.IsPlaced storage.old) (length (S.bytes storage.old)) (S.keys storage.old) (S.present storage.old) cpu.old.psw.key held.new }
+    ensures operands { AreHeld (S.IsPlaced storage.old) (length (S.bytes storage.old)) (S.keys storage.old)
+        (S.present storage.old) cpu.old.psw.key held.new }
 {
     match CODE {
         0x07 => Some(branch_register(Branching::Condition, cpu, place, i)),
@@ -276,12 +290,14 @@ fn store_quickly<S: Storage>(
     i: Instruction,
     held: &mut Held,
 ) -> Option<Ending>
-    requires operands { AreHeld (S.IsPlaced storage.old) (length (S.bytes storage.old)) (S.keys storage.old) (S.present storage.old) cpu.now.psw.key held.old }
+    requires operands { AreHeld (S.IsPlaced storage.old) (length (S.bytes storage.old)) (S.keys storage.old)
+        (S.present storage.old) cpu.now.psw.key held.old }
     ensures row { let before = state_of cpu.now (S.bytes storage.old) (S.keys storage.old) in
         let after = state_of cpu.now (S.bytes storage.new) (S.keys storage.new) in
         MeetsQuick (word_stored before i) (S.present storage.old) before result after }
     ensures rest { S.Keeps storage.old storage.new }
-    ensures operands { AreHeld (S.IsPlaced storage.old) (length (S.bytes storage.old)) (S.keys storage.old) (S.present storage.old) cpu.now.psw.key held.new }
+    ensures operands { AreHeld (S.IsPlaced storage.old) (length (S.bytes storage.old)) (S.keys storage.old)
+        (S.present storage.old) cpu.now.psw.key held.new }
 {
     let start = cpu.indexed(i.r2(), i.second_half);
     let found = match operand_block(Access::Store, cpu, storage, held.stored, start, 4) {
@@ -293,7 +309,8 @@ fn store_quickly<S: Storage>(
     Some(Ending::Done)
 }
 
-/// An operation on a register and the word at the second operand's address, where it lies in one block; else nothing changes.
+/// An operation on a register and the word at the second operand's address, where it lies in one block; else nothing
+/// changes.
 #[inline(always)]
 fn word_quickly<S: Storage>(
     operation: Arithmetic,
@@ -302,11 +319,13 @@ fn word_quickly<S: Storage>(
     i: Instruction,
     held: &mut Held,
 ) -> Option<Ending>
-    requires operands { AreHeld (S.IsPlaced storage.now) (length (S.bytes storage.now)) (S.keys storage.now) (S.present storage.now) cpu.old.psw.key held.old }
+    requires operands { AreHeld (S.IsPlaced storage.now) (length (S.bytes storage.now)) (S.keys storage.now)
+        (S.present storage.now) cpu.old.psw.key held.old }
     ensures row { let before = state_of cpu.old (S.bytes storage.now) (S.keys storage.now) in
         let after = state_of cpu.new (S.bytes storage.now) (S.keys storage.now) in
         MeetsAtOnce (word_operation operation before i) (S.present storage.now) before result after }
-    ensures operands { AreHeld (S.IsPlaced storage.now) (length (S.bytes storage.now)) (S.keys storage.now) (S.present storage.now) cpu.old.psw.key held.new }
+    ensures operands { AreHeld (S.IsPlaced storage.now) (length (S.bytes storage.now)) (S.keys storage.now)
+        (S.present storage.now) cpu.old.psw.key held.new }
 {
     let start = cpu.indexed(i.r2(), i.second_half);
     let found = match operand_block(Access::Fetch, cpu, storage, held.fetched, start, 4) {
@@ -326,11 +345,13 @@ fn add_quickly<S: Storage>(
     i: Instruction,
     held: &mut Held,
 ) -> Option<Ending>
-    requires operands { AreHeld (S.IsPlaced storage.now) (length (S.bytes storage.now)) (S.keys storage.now) (S.present storage.now) cpu.old.psw.key held.old }
+    requires operands { AreHeld (S.IsPlaced storage.now) (length (S.bytes storage.now)) (S.keys storage.now)
+        (S.present storage.now) cpu.old.psw.key held.old }
     ensures row { let before = state_of cpu.old (S.bytes storage.now) (S.keys storage.now) in
         let after = state_of cpu.new (S.bytes storage.now) (S.keys storage.now) in
         MeetsQuick (word_operation operations.Add before i) (S.present storage.now) before result after }
-    ensures operands { AreHeld (S.IsPlaced storage.now) (length (S.bytes storage.now)) (S.keys storage.now) (S.present storage.now) cpu.old.psw.key held.new }
+    ensures operands { AreHeld (S.IsPlaced storage.now) (length (S.bytes storage.now)) (S.keys storage.now)
+        (S.present storage.now) cpu.old.psw.key held.new }
 {
     if cpu.psw.program_mask() >= 8 {
         return None;
@@ -347,11 +368,13 @@ fn test_byte_quickly<S: Storage>(
     i: Instruction,
     held: &mut Held,
 ) -> Option<Ending>
-    requires operands { AreHeld (S.IsPlaced storage.now) (length (S.bytes storage.now)) (S.keys storage.now) (S.present storage.now) cpu.old.psw.key held.old }
+    requires operands { AreHeld (S.IsPlaced storage.now) (length (S.bytes storage.now)) (S.keys storage.now)
+        (S.present storage.now) cpu.old.psw.key held.old }
     ensures row { let before = state_of cpu.old (S.bytes storage.now) (S.keys storage.now) in
         let after = state_of cpu.new (S.bytes storage.now) (S.keys storage.now) in
         MeetsAtOnce (byte_tested test before i) (S.present storage.now) before result after }
-    ensures operands { AreHeld (S.IsPlaced storage.now) (length (S.bytes storage.now)) (S.keys storage.now) (S.present storage.now) cpu.old.psw.key held.new }
+    ensures operands { AreHeld (S.IsPlaced storage.now) (length (S.bytes storage.now)) (S.keys storage.now)
+        (S.present storage.now) cpu.old.psw.key held.new }
 {
     let start = cpu.based(i.second_half);
     let found = match operand_block(Access::Fetch, cpu, storage, held.fetched, start, 1) {
@@ -367,15 +390,18 @@ fn test_byte_quickly<S: Storage>(
 /// D2 MVC between two blocks, where it is one copy. Else nothing changes.
 #[inline(always)]
 fn move_held<S: Storage>(cpu: &Cpu, storage: &mut S, i: Instruction, held: &mut Held) -> bool
-    requires operands { AreHeld (S.IsPlaced storage.old) (length (S.bytes storage.old)) (S.keys storage.old) (S.present storage.old) cpu.now.psw.key held.old }
+    requires operands { AreHeld (S.IsPlaced storage.old) (length (S.bytes storage.old)) (S.keys storage.old)
+        (S.present storage.old) cpu.now.psw.key held.old }
     ensures done { let before = state_of cpu.now (S.bytes storage.old) (S.keys storage.old) in
         let after = state_of cpu.now (S.bytes storage.new) (S.keys storage.new) in
-        result ≡ true → MeetsRow (string_combined combines.Move before i) (S.present storage.old) before (Ok endings.Done) after }
+        result ≡ true → MeetsRow (string_combined combines.Move before i) (S.present storage.old) before
+        (Ok endings.Done) after }
     ensures still { let before = state_of cpu.now (S.bytes storage.old) (S.keys storage.old) in
         let after = state_of cpu.now (S.bytes storage.new) (S.keys storage.new) in
         result ≡ false → after ≡ before }
     ensures rest { S.Keeps storage.old storage.new }
-    ensures operands { AreHeld (S.IsPlaced storage.old) (length (S.bytes storage.old)) (S.keys storage.old) (S.present storage.old) cpu.now.psw.key held.new }
+    ensures operands { AreHeld (S.IsPlaced storage.old) (length (S.bytes storage.old)) (S.keys storage.old)
+        (S.present storage.old) cpu.now.psw.key held.new }
 {
     let to = cpu.based(i.second_half);
     let from = cpu.based(i.third_half);
@@ -397,15 +423,18 @@ fn move_held<S: Storage>(cpu: &Cpu, storage: &mut S, i: Instruction, held: &mut 
 #[inline(always)]
 fn move_quickly<S: Storage>(cpu: &mut Cpu, storage: &mut S, i: Instruction, held: &mut Held) -> bool
     requires opcode { i.opcode ≡ 0xD2 }
-    requires operands { AreHeld (S.IsPlaced storage.old) (length (S.bytes storage.old)) (S.keys storage.old) (S.present storage.old) cpu.old.psw.key held.old }
+    requires operands { AreHeld (S.IsPlaced storage.old) (length (S.bytes storage.old)) (S.keys storage.old)
+        (S.present storage.old) cpu.old.psw.key held.old }
     ensures done { let before = state_of cpu.old (S.bytes storage.old) (S.keys storage.old) in
         let after = state_of cpu.new (S.bytes storage.new) (S.keys storage.new) in
-        result ≡ true → MeetsRow (string_combined combines.Move before i) (S.present storage.old) before (Ok endings.Done) after }
+        result ≡ true → MeetsRow (string_combined combines.Move before i) (S.present storage.old) before
+        (Ok endings.Done) after }
     ensures still { let before = state_of cpu.old (S.bytes storage.old) (S.keys storage.old) in
         let after = state_of cpu.new (S.bytes storage.new) (S.keys storage.new) in
         result ≡ false → after ≡ before }
     ensures rest { S.Keeps storage.old storage.new }
-    ensures operands { AreHeld (S.IsPlaced storage.old) (length (S.bytes storage.old)) (S.keys storage.old) (S.present storage.old) cpu.old.psw.key held.new }
+    ensures operands { AreHeld (S.IsPlaced storage.old) (length (S.bytes storage.old)) (S.keys storage.old)
+        (S.present storage.old) cpu.old.psw.key held.new }
 {
     if move_held(cpu, storage, i, held) {
         return true;
@@ -413,8 +442,8 @@ fn move_quickly<S: Storage>(cpu: &mut Cpu, storage: &mut S, i: Instruction, held
     move_apart(cpu, storage, i.second_byte, i.second_half, i.third_half)
 }
 
-/// D2 MVC by its row. It is given the parts of the instruction, so that the loop need not write the instruction to memory for an
-/// MVC that is one copy.
+/// D2 MVC by its row. It is given the parts of the instruction, so that the loop need not write the instruction to
+/// memory for an MVC that is one copy.
 #[inline(never)]
 fn move_apart<S: Storage>(
     cpu: &mut Cpu,
@@ -425,8 +454,14 @@ fn move_apart<S: Storage>(
 ) -> bool
     ensures done { let before = state_of cpu.old (S.bytes storage.old) (S.keys storage.old) in
         let after = state_of cpu.new (S.bytes storage.new) (S.keys storage.new) in
-        let i : Instruction = record { opcode = 0xD2; second_byte = second_byte; second_half = second_half; third_half = third_half } in
-        result ≡ true → MeetsRow (string_combined combines.Move before i) (S.present storage.old) before (Ok endings.Done) after }
+        let i : Instruction = record {
+          opcode = 0xD2;
+          second_byte = second_byte;
+          second_half = second_half;
+          third_half = third_half;
+        } in
+        result ≡ true → MeetsRow (string_combined combines.Move before i) (S.present storage.old) before
+        (Ok endings.Done) after }
     ensures still { let before = state_of cpu.old (S.bytes storage.old) (S.keys storage.old) in
         let after = state_of cpu.new (S.bytes storage.new) (S.keys storage.new) in
         result ≡ false → after ≡ before }

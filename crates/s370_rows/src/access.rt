@@ -19,7 +19,8 @@ pub fn grant<S: Storage>(
     access: Access,
 ) -> Result<(), Refusal>
     requires { range.count ≤ 256 }
-    ensures { Grants (state_of cpu.now (S.bytes storage.now) (S.keys storage.now)) (S.present storage.now) (tested access range ∷ []) result }
+    ensures { Grants (state_of cpu.now (S.bytes storage.now) (S.keys storage.now)) (S.present storage.now)
+        (tested access range ∷ []) result }
 {
     leave_of(storage.check(range, access, cpu.psw.key()))
 }
@@ -36,7 +37,8 @@ pub fn grant_two<S: Storage>(
 ) -> Result<(), Refusal>
     requires first { first.count ≤ 256 }
     requires second { second.count ≤ 256 }
-    ensures { Grants (state_of cpu.now (S.bytes storage.now) (S.keys storage.now)) (S.present storage.now) (tested first_access first ∷ tested second_access second ∷ []) result }
+    ensures { Grants (state_of cpu.now (S.bytes storage.now) (S.keys storage.now)) (S.present storage.now)
+        (tested first_access first ∷ tested second_access second ∷ []) result }
 {
     let answer = check_two(
         storage,
@@ -49,14 +51,16 @@ pub fn grant_two<S: Storage>(
     leave_of(answer)
 }
 
-/// Copies at most 2048 bytes from one place to another, as if all were read before any is written, where one look at each grants
-/// leave with the key of the PSW; else nothing changes.
+/// Copies at most 2048 bytes from one place to another, as if all were read before any is written, where one look at
+/// each grants leave with the key of the PSW; else nothing changes.
 #[inline(always)]
 pub fn copy_granted<S: Storage>(cpu: &Cpu, storage: &mut S, from: u32, to: u32, count: u32) -> bool
     requires { count ≤ 2048 }
     ensures granted { let m = state_of cpu.now (S.bytes storage.old) (S.keys storage.old) in
-        result ≡ true → Grants m (S.present storage.old) (test_of Store to count ∷ test_of Fetch from count ∷ []) (Ok tt) }
-    ensures moved { result ≡ true → S.bytes storage.new ≡ put (S.bytes storage.old) to (slice_range (S.bytes storage.old) from (from + count)) }
+        result ≡ true → Grants m (S.present storage.old) (test_of Store to count ∷ test_of Fetch from count ∷ [])
+        (Ok tt) }
+    ensures moved { result ≡ true
+        → S.bytes storage.new ≡ put (S.bytes storage.old) to (slice_range (S.bytes storage.old) from (from + count)) }
     ensures still { result ≡ false → S.bytes storage.new ≡ S.bytes storage.old }
     ensures keys { S.keys storage.new ≡ S.keys storage.old }
     ensures rest { S.Keeps storage.old storage.new }
@@ -67,7 +71,8 @@ pub fn copy_granted<S: Storage>(cpu: &Cpu, storage: &mut S, from: u32, to: u32, 
 /// What the answer of a check is to the instruction that asked.
 #[inline(always)]
 fn leave_of(answer: Result<(), Fault>) -> Result<(), Refusal>
-    ensures { (m : State) → (present : ℕ → Bool) → (ts : List Test) → IsVerdict (length m.bytes) m.keys present m.cpu.psw.key ts answer → Grants m present ts result }
+    ensures { (m : State) → (present : ℕ → Bool) → (ts : List Test)
+        → IsVerdict (length m.bytes) m.keys present m.cpu.psw.key ts answer → Grants m present ts result }
 {
     match answer {
         Ok(()) => Ok(()),

@@ -23,7 +23,8 @@ pub enum Arithmetic {
     ExclusiveOr,
 }
 
-/// What an operation makes: the new contents of its register, the condition code, and whether a signed result did not fit.
+/// What an operation makes: the new contents of its register, the condition code, and whether a signed result did not
+/// fit.
 #[derive(Clone, Copy, PartialEq, Eq)]
 pub struct Computed {
     pub value: u32,

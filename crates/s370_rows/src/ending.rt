@@ -28,8 +28,8 @@ pub enum Ending {
     Interrupted(ProgramCode),
     /// A supervisor call with this number; nothing else is done.
     SupervisorCall(u8),
-    /// The device of this address, or its channel, is asked; nothing else is done. Who has the devices sets the condition
-    /// code.
+    /// The device of this address, or its channel, is asked; nothing else is done. Who has the devices sets the
+    /// condition code.
     InputOutput(IoOperation, u16),
 }
 

@@ -3,8 +3,8 @@ ghost use Rattle.std.specs.Prelude.{◌≡◌, ◌+◌, ◌%◌, ◌<◌, ◌≤
 
 /// A block of 2048 bytes that a storage has found, for fetches or for stores.
 ///
-/// What its place is, only the storage knows that found it: whoever fetches one instruction after another from a block, or has
-/// operands near one another in it, passes it back with each, and nothing is looked up twice.
+/// What its place is, only the storage knows that found it: whoever fetches one instruction after another from a block,
+/// or has operands near one another in it, passes it back with each, and nothing is looked up twice.
 #[derive(Clone, Copy, PartialEq, Eq)]
 pub struct Block {
     /// The address of its first byte.

@@ -7,8 +7,8 @@
 //!
 //! All code above is written over the trait [`Storage`]: [`PlainStorage`] is the whole storage of a bare machine, and a
 //! control program has bodies of its own, lent from the frames that its users share. What has to go on where a page is
-//! absent is written over [`Supply`], a storage that brings its absent pages, and over [`UnitSupply`] where that goes on
-//! for one unit of operation after another.
+//! absent is written over [`Supply`], a storage that brings its absent pages, and over [`UnitSupply`] where that goes
+//! on for one unit of operation after another.
 #![tactic(auto)]
 
 mod block;
@@ -120,15 +120,18 @@ pub trait Storage {
     /// Tests an access to at most 256 bytes, with this protection key.
     fn check(&self, range: Range, access: Access, key: AccessKey) -> Result<(), Fault>
         requires { range.count ≤ 256 }
-        ensures { IsVerdict (length (bytes self.now)) (keys self.now) (present self.now) key (tested access range ∷ []) result };
+        ensures { IsVerdict (length (bytes self.now)) (keys self.now) (present self.now) key
+            (tested access range ∷ []) result };
 
     /// A block stands where it says.
     ghost IsPlaced: { Self → Block → Type 0 };
 
-    /// Finds the block of an address, if the whole of it may be accessed so with this protection key, and its page is present.
+    /// Finds the block of an address, if the whole of it may be accessed so with this protection key, and its page is
+    /// present.
     fn find_block(&self, start: u32, access: Access, key: AccessKey) -> Option<Block>
         ensures first { IfSome result (λ block. block.first ≡ start / 2048 * 2048) }
-        ensures may_access { IfSome result (λ block. MayAccess access (length (bytes self.now)) (keys self.now) (present self.now) key block.first) }
+        ensures may_access { IfSome result
+            (λ block. MayAccess access (length (bytes self.now)) (keys self.now) (present self.now) key block.first) }
         ensures placed { IfSome result (λ block. IsPlaced self.now block) };
 
     /// Copies bytes out of a block that was found, one at least.
@@ -149,8 +152,8 @@ pub trait Storage {
         ensures keys { keys self.new ≡ keys self.old }
         ensures rest { Keeps self.old self.new };
 
-    /// Copies at most 256 bytes, one at least, from one block that was found into another or the same, as if all were read before
-    /// any is written.
+    /// Copies at most 256 bytes, one at least, from one block that was found into another or the same, as if all were
+    /// read before any is written.
     #[inline(always)]
     fn copy_in(&mut self, source: Block, from: u32, target: Block, to: u32, count: u32)
         requires source_placed { IsPlaced self.old source }
@@ -201,13 +204,16 @@ pub trait Storage {
         self.store(to, part);
     }
 
-    /// Copies at most 2048 bytes, as many as a block has, from one place to another as if all were read before any is written,
-    /// where one look at each place grants it; else nothing changes.
+    /// Copies at most 2048 bytes, as many as a block has, from one place to another as if all were read before any is
+    /// written, where one look at each place grants it; else nothing changes.
     #[inline(always)]
     fn copy_at_once(&mut self, from: u32, to: u32, count: u32, key: AccessKey) -> bool
         requires { count ≤ 2048 }
-        ensures granted { result ≡ true → IsVerdict (length (bytes self.old)) (keys self.old) (present self.old) key (test_of Store to count ∷ test_of Fetch from count ∷ []) (Ok tt) }
-        ensures moved { result ≡ true → bytes self.new ≡ put (bytes self.old) to (slice_range (bytes self.old) from (from + count)) }
+        ensures granted { result ≡ true
+            → IsVerdict (length (bytes self.old)) (keys self.old) (present self.old) key
+            (test_of Store to count ∷ test_of Fetch from count ∷ []) (Ok tt) }
+        ensures moved { result ≡ true
+            → bytes self.new ≡ put (bytes self.old) to (slice_range (bytes self.old) from (from + count)) }
         ensures still { result ≡ false → bytes self.new ≡ bytes self.old }
         ensures keys { keys self.new ≡ keys self.old }
         ensures rest { Keeps self.old self.new }

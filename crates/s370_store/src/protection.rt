@@ -108,8 +108,8 @@ pub fn may_access_block<K: Keyring>(
 
 /// The test of an access to one range by size and keys, as if every page were present.
 ///
-/// A body's own `check` makes it first, and then looks for the pages. At most 2048 bytes lie in one block or in two that
-/// follow one another, so the key of the first byte decides, or those of the first and the last.
+/// A body's own `check` makes it first, and then looks for the pages. At most 2048 bytes lie in one block or in two
+/// that follow one another, so the key of the first byte decides, or those of the first and the last.
 #[inline(always)]
 pub fn test_range<K: Keyring>(
     size: u32,

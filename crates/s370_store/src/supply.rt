@@ -12,8 +12,8 @@ pub struct FramesOut;
 
 /// A storage whose absent pages can be brought.
 ///
-/// Code that has to go on where a page is absent is written over it once, for a storage that is all there as for one that
-/// is lent from frames: it tries, brings the page that was absent, and tries again.
+/// Code that has to go on where a page is absent is written over it once, for a storage that is all there as for one
+/// that is lent from frames: it tries, brings the page that was absent, and tries again.
 ///
 /// ```
 /// loop {
@@ -56,7 +56,8 @@ pub trait Supply: Keyed {
     ghost brought_none: { (s t : Self) → Self.Keeps s t → Brought s [] t };
 
     /// What is brought twice is brought.
-    ghost brought_on: { (s t u : Self) (before after : List ℕ) → Brought s before t → Brought t after u → Brought s (before ++ after) u };
+    ghost brought_on: { (s t u : Self) (before after : List ℕ) → Brought s before t → Brought t after u
+        → Brought s (before ++ after) u };
 
     /// An access takes no room.
     ghost spare_kept: { (s t : Self) → Self.Keeps s t → spare t ≡ spare s };

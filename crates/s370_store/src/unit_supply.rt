@@ -1,8 +1,8 @@
 //! A storage that brings absent pages for one unit of operation after another.
 //!
-//! What is brought for a unit is held until the unit ends: it tries, brings the page that was absent and tries again, each
-//! page but once, since what is held is present; and then it lets go. So a unit brings no more pages than it needs, and a
-//! storage that can hold nine tells that there is no room only where there is none for any unit.
+//! What is brought for a unit is held until the unit ends: it tries, brings the page that was absent and tries again,
+//! each page but once, since what is held is present; and then it lets go. So a unit brings no more pages than it
+//! needs, and a storage that can hold nine tells that there is no room only where there is none for any unit.
 //!
 //! Whatever was brought from a state between units on, letting go leads to such a state again, and just
 //! the pages that were brought came from one to the other, as those of one unit.
@@ -29,8 +29,8 @@ pub trait UnitSupply: Supply {
     /// There is no room for this page, though nothing is held.
     ghost IsOut: { Self → ℕ → Type 0 };
 
-    /// From one state between units to another just these pages came, for each unit in turn, in this order; what this storage is
-    /// lent from stays.
+    /// From one state between units to another just these pages came, for each unit in turn, in this order; what this
+    /// storage is lent from stays.
     ghost Came: { Self → List (List ℕ) → Self → Type 0 };
 
     /// What was brought is held no longer. It stays present, until another page takes its place.
@@ -43,16 +43,20 @@ pub trait UnitSupply: Supply {
         ensures let_go { LetsGo self.old self.new };
 
     /// What was brought is present, whatever was brought after it.
-    ghost held: { (s t : Self) (pages : List ℕ) (page : ℕ) → Self.Brought s pages t → Contains pages page → Self.present t page ≡ true };
+    ghost held: { (s t : Self) (pages : List ℕ) (page : ℕ) → Self.Brought s pages t → Contains pages page
+        → Self.present t page ≡ true };
 
     /// Letting go ends a unit.
-    ghost let_go_between: { (s t u : Self) (pages : List ℕ) → IsBetween s → Self.Brought s pages t → LetsGo t u → IsBetween u };
+    ghost let_go_between: { (s t u : Self) (pages : List ℕ) → IsBetween s → Self.Brought s pages t → LetsGo t u
+        → IsBetween u };
 
     /// What was brought has come, for one unit.
-    ghost let_go_came: { (s t u : Self) (pages : List ℕ) → Self.Brought s pages t → LetsGo t u → Came s (pages ∷ []) u };
+    ghost let_go_came: { (s t u : Self) (pages : List ℕ) → Self.Brought s pages t → LetsGo t u
+        → Came s (pages ∷ []) u };
 
     /// Where there was no room beside at most nine pages that are held, there is none.
-    ghost let_go_out: { (s t u : Self) (pages : List ℕ) (page : ℕ) → IsBetween s → Self.Brought s pages t → length pages ≤ 9 → Self.IsShort t page → LetsGo t u → IsOut u page };
+    ghost let_go_out: { (s t u : Self) (pages : List ℕ) (page : ℕ) → IsBetween s → Self.Brought s pages t
+        → length pages ≤ 9 → Self.IsShort t page → LetsGo t u → IsOut u page };
 
     /// An access holds nothing.
     ghost between_kept: { (s t : Self) → Self.Keeps s t → IsBetween s → IsBetween t };
@@ -61,7 +65,8 @@ pub trait UnitSupply: Supply {
     ghost came_none: { (s t : Self) (units : ℕ) → IsBetween s → Self.Keeps s t → Came s (replicate units []) t };
 
     /// What comes for some units and then for others comes for all of them.
-    ghost came_on: { (s t u : Self) (before after : List (List ℕ)) → Came s before t → Came t after u → Came s (before ++ after) u };
+    ghost came_on: { (s t u : Self) (before after : List (List ℕ)) → Came s before t → Came t after u
+        → Came s (before ++ after) u };
 }
 
 /// All of it is there, so nothing is ever held.

@@ -149,7 +149,8 @@ pub fn check_two<S: Storage>(
 ) -> Result<(), Fault>
     requires first { first.count ≤ 256 }
     requires second { second.count ≤ 256 }
-    ensures { IsVerdict (length (S.bytes storage.now)) (S.keys storage.now) (S.present storage.now) key (tested first_access first ∷ tested second_access second ∷ []) result }
+    ensures { IsVerdict (length (S.bytes storage.now)) (S.keys storage.now) (S.present storage.now) key
+        (tested first_access first ∷ tested second_access second ∷ []) result }
 {
     let one = storage.check(first, first_access, key);
     let other = storage.check(second, second_access, key);

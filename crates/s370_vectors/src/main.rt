@@ -1,9 +1,9 @@
 //! Runs the instructions that an independent System/370 executed, and prints how many it agrees with.
 //!
-//! `instructions.txt` has one instruction a line, with all that it finds and all that it leaves; its first lines tell the
-//! fields. Each is carried out twice, with the interruption that it ends in: over a storage that is all there, and over
-//! one whose pages are absent until they are asked for. A line that does not agree is told by its row, its number and
-//! what differs.
+//! `instructions.txt` has one instruction a line, with all that it finds and all that it leaves; its first lines tell
+//! the fields. Each is carried out twice, with the interruption that it ends in: over a storage that is all there, and
+//! over one whose pages are absent until they are asked for. A line that does not agree is told by its row, its number
+//! and what differs.
 #![tactic(auto)]
 
 mod case;

@@ -1,12 +1,12 @@
 //! The walk of a channel program, one step at a time, and what it goes over: devices and forms of words.
 //!
-//! Its theorems: a walk comes to one end ([`a_walk_comes_to_one_end`]), and to the same one where each word is read as it stood
-//! when the program began, if the program changes none ([`steady_programs_end_alike`]). What each step does is `next` in `specs/Walk.antt`, which is to be read beside
-//! docs/MACHINE.md, "Channel"; the run of a program in `s370_channel` is that walk, for each [`Device`], each [`WordForm`]
-//! and each storage.
+//! Its theorems: a walk comes to one end ([`a_walk_comes_to_one_end`]), and to the same one where each word is read as
+//! it stood when the program began, if the program changes none ([`steady_programs_end_alike`]). What each step does is
+//! `next` in `specs/Walk.antt`, which is to be read beside docs/MACHINE.md, "Channel"; the run of a program in
+//! `s370_channel` is that walk, for each [`Device`], each [`WordForm`] and each storage.
 //!
-//! A device is what implements [`Device`]: `device.command(order)` begins a command, `device.give()` and `device.take(byte)`
-//! move its bytes, and `device.finish()` tells how it went.
+//! A device is what implements [`Device`]: `device.command(order)` begins a command, `device.give()` and
+//! `device.take(byte)` move its bytes, and `device.finish()` tells how it went.
 #![tactic(auto)]
 
 mod bits;

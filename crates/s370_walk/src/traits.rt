@@ -23,8 +23,8 @@ pub trait Device {
 
     /// Begins a command, or refuses it.
     ///
-    /// A command that keeps a record takes the memory for it here, so that its bytes and its end need none. Where memory is
-    /// refused nothing has happened.
+    /// A command that keeps a record takes the memory for it here, so that its bytes and its end need none. Where
+    /// memory is refused nothing has happened.
     fn command(&mut self, order: Order) -> Result<Answer, AllocError>
         ensures answer { IfOk result (λ answer. answer ≡ machine.answer self.old order) }
         ensures after { OnOk result (self.new ≡ machine.started self.old order) }
@@ -54,7 +54,8 @@ pub trait Device {
     fn ready(&self) -> u32
         requires { machine.done self.now ≡ false }
         ensures giving { (n : ℕ) → n < result → machine.done (after_giving machine self.now n) ≡ false }
-        ensures taking { (bytes : List ℕ) → length bytes < result → machine.done (after_taking machine self.now bytes) ≡ false }
+        ensures taking { (bytes : List ℕ) → length bytes < result
+            → machine.done (after_taking machine self.now bytes) ≡ false }
     {
         1
     }
@@ -86,7 +87,8 @@ pub trait WordForm {
 
     /// The word at an address, or None where none lies there. An error is a page that is not present.
     fn fetch<S: Storage>(&self, storage: &S, at: u32) -> Result<Option<Word>, Page>
-        ensures { FetchTells (length (S.bytes storage.now)) (S.present storage.now) ((written self.now).word_asks at) ((written self.now).text (memory_of (S.bytes storage.now) (S.keys storage.now)) at) result };
+        ensures { FetchTells (length (S.bytes storage.now)) (S.present storage.now) ((written self.now).word_asks at)
+            ((written self.now).text (memory_of (S.bytes storage.now) (S.keys storage.now)) at) result };
 
     /// Where the block of this number begins of the area of a word, or None where that cannot be found out: block 0 is
     /// where the area begins, the others are blocks of 2048 bytes.
@@ -97,5 +99,8 @@ pub trait WordForm {
         number: u32,
     ) -> Result<Option<u32>, Page>
         requires { number ≤ 32 }
-        ensures { FetchTells (length (S.bytes storage.now)) (S.present storage.now) ((written self.now).block_asks position.now number) ((written self.now).block (memory_of (S.bytes storage.now) (S.keys storage.now)) position.now number) result };
+        ensures { FetchTells (length (S.bytes storage.now)) (S.present storage.now)
+            ((written self.now).block_asks position.now number)
+            ((written self.now).block
+            (memory_of (S.bytes storage.now) (S.keys storage.now)) position.now number) result };
 }

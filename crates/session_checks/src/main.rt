@@ -1,8 +1,9 @@
-//! Sessions over memory: each script of a table has the transcript that stands behind it, or is refused at the line that is
-//! told there with nothing done; and where a call of the host fails, that is told, after a beginning of the transcript.
+//! Sessions over memory: each script of a table has the transcript that stands behind it, or is refused at the line
+//! that is told there with nothing done; and where a call of the host fails, that is told, after a beginning of the
+//! transcript.
 //!
-//! `sessions.txt` has its scripts in blocks; its first lines tell how they are written. It fails at the first block that is
-//! otherwise, and tells where that ends.
+//! `sessions.txt` has its scripts in blocks; its first lines tell how they are written. It fails at the first block
+//! that is otherwise, and tells where that ends.
 #![tactic(auto)]
 
 mod block;
@@ -75,8 +76,8 @@ fn is_told(alloc: Global, block: &Block) -> Result<bool> {
     Ok(told.as_slice() == block.told.as_slice())
 }
 
-/// Whether a session is refused at this line, with nothing told and nothing done: user A can log on after it, and is then
-/// dealt slices.
+/// Whether a session is refused at this line, with nothing told and nothing done: user A can log on after it, and is
+/// then dealt slices.
 fn is_refused(alloc: Global, block: &Block, line: u64) -> Result<bool> {
     let mut system = booted(alloc)?;
     let mut told = Vec::new(alloc);

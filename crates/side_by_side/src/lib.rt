@@ -1,8 +1,8 @@
 //! A system of the control program, and beside each of its users a bare machine that is given that user's own events.
 //!
-//! It is for programs that look whether a user sees what the bare machine shows: [`SideBySide`] gives each event to both,
-//! and tells the first [`View`] in which they differ. Nothing is promised of it but safety; what it compares is what the
-//! public calls of `cp_core` and `bare_installation` show.
+//! It is for programs that look whether a user sees what the bare machine shows: [`SideBySide`] gives each event to
+//! both, and tells the first [`View`] in which they differ. Nothing is promised of it but safety; what it compares is
+//! what the public calls of `cp_core` and `bare_installation` show.
 //!
 //! ```
 //! let mut machines = SideBySide::boot(alloc, b"USER A PW 8K", sizes)?;

@@ -1,10 +1,11 @@
-//! Sixty-four users, each with a program of its own, run in turns of one to seven units beside sixty-four bare machines.
+//! Sixty-four users, each with a program of its own, run in turns of one to seven units beside sixty-four bare
+//! machines.
 //!
-//! The programs are made of pieces of code, and the events come in the order of a fixed sequence of numbers: mostly a run
-//! of some user, and now and then a tick of its timer or a line that its operator types. After each event every view of every user has to be that
-//! of the bare machine that was given that user's own events. All users share 16 frames, so that pages are given up and come back
-//! all the time. It prints how many events there were, or the first after
-//! which a view differs.
+//! The programs are made of pieces of code, and the events come in the order of a fixed sequence of numbers: mostly a
+//! run of some user, and now and then a tick of its timer or a line that its operator types. After each event every
+//! view of every user has to be that of the bare machine that was given that user's own events. All users share 16
+//! frames, so that pages are given up and come back all the time. It prints how many events there were, or the first
+//! after which a view differs.
 #![tactic(auto)]
 
 mod program;

@@ -1,7 +1,7 @@
 //! What the users' programs are made of, and what their operators type.
 
-/// What stands in every user's storage: the PSWs of interruptions, the instructions that go on after one, operands, and the
-/// timer.
+/// What stands in every user's storage: the PSWs of interruptions, the instructions that go on after one, operands, and
+/// the timer.
 pub const DATA: [&str; 19] = [
     // a supervisor call and a program interruption each go on with the next instruction
     "STORE 60 00000000000003000000000000000310",

@@ -1,8 +1,8 @@
-//! Tables that programs read: what they share that do a step for each line, compare what comes of it with what the line says, and
-//! count.
+//! Tables that programs read: what they share that do a step for each line, compare what comes of it with what the line
+//! says, and count.
 //!
-//! A table is a text of which each line is a step, but for empty lines and those that begin with `#`, which tell its form. A line
-//! that does not agree is told by its number, with what came of it; at the end it is told how many agree.
+//! A table is a text of which each line is a step, but for empty lines and those that begin with `#`, which tell its
+//! form. A line that does not agree is told by its number, with what came of it; at the end it is told how many agree.
 //!
 //! ```text
 //! let table = table(&rt)?;
@@ -71,8 +71,8 @@ impl Agreement {
     }
 }
 
-/// Does each step of a table, whose outcome stands behind the first such mark and a blank, and prints what comes of those that do not agree;
-/// and under this name how many agree.
+/// Does each step of a table, whose outcome stands behind the first such mark and a blank, and prints what comes of
+/// those that do not agree; and under this name how many agree.
 pub fn compare<R: AllocGlobal + Print, F: FnMut(&str) -> Result<String>>(
     rt: &R,
     name: &str,

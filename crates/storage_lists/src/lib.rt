@@ -1,7 +1,8 @@
 //! What tables list of storage and keys: set in a storage, compared with another, and made zero again.
 //!
-//! A list has its items between commas, and `-` is an empty one: `000800:0102` is two bytes from an address on, `000800:F0` among
-//! keys the key of its block, whose bits stand on the left of the byte. What lies past the end of storage is passed over.
+//! A list has its items between commas, and `-` is an empty one: `000800:0102` is two bytes from an address on,
+//! `000800:F0` among keys the key of its block, whose bits stand on the left of the byte. What lies past the end of
+//! storage is passed over.
 #![tactic(auto)]
 
 mod bed;

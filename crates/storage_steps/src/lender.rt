@@ -42,9 +42,11 @@ impl Shared {
     fn put(&mut self, user: usize, start: u32, from: &[u8])
         requires user { user < 2 }
         requires inside { start + length from.now ≤ 4096 }
-        ensures own { slice_index_or self.new.bytes user [] ≡ put (slice_index_or self.old.bytes user []) start from.now }
+        ensures own { slice_index_or self.new.bytes user []
+            ≡ put (slice_index_or self.old.bytes user []) start from.now }
         ensures size { length (slice_index_or self.new.bytes user []) ≡ 4096 }
-        ensures others { (other : ℕ) → other ≢ user → slice_index_or self.new.bytes other [] ≡ slice_index_or self.old.bytes other [] }
+        ensures others { (other : ℕ) → other ≢ user
+            → slice_index_or self.new.bytes other [] ≡ slice_index_or self.old.bytes other [] }
         ensures keys { self.new.keys ≡ self.old.keys }
     {
         put_at(&mut self.bytes[user], start as usize, from);
@@ -54,9 +56,11 @@ impl Shared {
     fn set_key(&mut self, user: usize, block: u32, key: StorageKey)
         requires user { user < 2 }
         requires block { block < 2 }
-        ensures own { slice_index_or self.new.keys user [] ≡ slice_set (slice_index_or self.old.keys user []) block key }
+        ensures own { slice_index_or self.new.keys user []
+            ≡ slice_set (slice_index_or self.old.keys user []) block key }
         ensures size { length (slice_index_or self.new.keys user []) ≡ 2 }
-        ensures others { (other : ℕ) → other ≢ user → slice_index_or self.new.keys other [] ≡ slice_index_or self.old.keys other [] }
+        ensures others { (other : ℕ) → other ≢ user
+            → slice_index_or self.new.keys other [] ≡ slice_index_or self.old.keys other [] }
         ensures bytes { self.new.bytes ≡ self.old.bytes }
     {
         self.keys[user][block as usize] = key;
@@ -94,7 +98,13 @@ impl<'a> Storage for Lent<'a> {
 
     ghost present = { λ _ _. true };
 
-    ghost Keeps = { λ old new. (new.shared.ghost_name ≡ old.shared.ghost_name) × (new.user ≡ old.user) × ((other : ℕ) → other ≢ old.user → slice_index_or new.shared.now.bytes other [] ≡ slice_index_or old.shared.now.bytes other []) × ((other : ℕ) → other ≢ old.user → slice_index_or new.shared.now.keys other [] ≡ slice_index_or old.shared.now.keys other []) × (length (slice_index_or new.shared.now.bytes new.user []) ≡ length (slice_index_or old.shared.now.bytes old.user [])) };
+    ghost Keeps = { λ old new. (new.shared.ghost_name ≡ old.shared.ghost_name) × (new.user ≡ old.user)
+        × ((other : ℕ) → other ≢ old.user
+        → slice_index_or new.shared.now.bytes other [] ≡ slice_index_or old.shared.now.bytes other [])
+        × ((other : ℕ) → other ≢ old.user
+        → slice_index_or new.shared.now.keys other [] ≡ slice_index_or old.shared.now.keys other [])
+        × (length (slice_index_or new.shared.now.bytes new.user [])
+        ≡ length (slice_index_or old.shared.now.bytes old.user [])) };
 
     ghost IsPlaced = { λ s block. block.first + 2048 ≤ 4096 };
 
@@ -180,8 +190,10 @@ pub fn stamp<S: Storage>(storage: &mut S, start: u32, mark: u8) -> Result<(), Fa
 /// Stamps one user's storage: the other user's bytes and keys are as they were.
 pub fn stamp_for(shared: &mut Shared, user: usize, start: u32, mark: u8) -> Result<(), Fault>
     requires { user < 2 }
-    ensures bytes { (other : ℕ) → other ≢ user → slice_index_or shared.new.bytes other [] ≡ slice_index_or shared.old.bytes other [] }
-    ensures keys { (other : ℕ) → other ≢ user → slice_index_or shared.new.keys other [] ≡ slice_index_or shared.old.keys other [] }
+    ensures bytes { (other : ℕ) → other ≢ user
+        → slice_index_or shared.new.bytes other [] ≡ slice_index_or shared.old.bytes other [] }
+    ensures keys { (other : ℕ) → other ≢ user
+        → slice_index_or shared.new.keys other [] ≡ slice_index_or shared.old.keys other [] }
 {
     let mut lent = Lent::new(shared, user);
     stamp(&mut lent, start, mark)

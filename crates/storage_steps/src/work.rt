@@ -110,8 +110,8 @@ fn both(alloc: Global, one: Range, other: Range, key: AccessKey) -> Told
     verdict(alloc, outcome)
 }
 
-/// `paged FFF 2 5`: whether a range may be fetched where page 1 is absent and the blocks on both sides of its beginning have
-/// access control 3 and fetch protection.
+/// `paged FFF 2 5`: whether a range may be fetched where page 1 is absent and the blocks on both sides of its beginning
+/// have access control 3 and fetch protection.
 fn paged(alloc: Global, range: Range, key: AccessKey) -> Told
     requires { range.count ≤ 256 }
 {
@@ -132,8 +132,8 @@ fn find(alloc: Global, start: u32, access: Access, key: AccessKey) -> Told {
     }
 }
 
-/// `move 808 1010`: a word that is stored into its block, the one to which it is copied, and the first byte of that; in a storage
-/// that is all there, and in one of which page 1 alone is present.
+/// `move 808 1010`: a word that is stored into its block, the one to which it is copied, and the first byte of that; in
+/// a storage that is all there, and in one of which page 1 alone is present.
 fn moves(alloc: Global, from: u32, to: u32) -> Told {
     let mut whole = PlainStorage::new(alloc, 4)?;
     let mut paged = PagedStorage::new(alloc, 2)?;

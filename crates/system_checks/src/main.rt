@@ -1,5 +1,5 @@
-//! What no script shows of a system, beside the transcripts of `vm370_examples`: too few frames, the machine of nobody, what a
-//! console keeps, a frame that is lent, how many pages have come, and where they stand.
+//! What no script shows of a system, beside the transcripts of `vm370_examples`: too few frames, the machine of nobody,
+//! what a console keeps, a frame that is lent, how many pages have come, and where they stand.
 //!
 //! It fails at the first thing that is otherwise, and tells it.
 #![tactic(auto)]
@@ -50,7 +50,8 @@ fn booted(alloc: Global, frames: u32) -> Result<Result<System, BootError>> {
     Ok(System::boot(alloc, directory, sizes))
 }
 
-/// The error of an event that was refused. A system for which memory was refused has to answer nothing else from then on.
+/// The error of an event that was refused. A system for which memory was refused has to answer nothing else from then
+/// on.
 fn refused(system: &mut System, error: CpError) -> Result<()> {
     if error == CpError::Memory {
         see(system.is_spent(), "want of memory ends the system")?;
@@ -252,8 +253,8 @@ fn stand(system: &System, pages: &[u32], in_frames: bool, in_slots: bool) -> Res
     Ok(())
 }
 
-/// An EX lies across a page end, its target, an MVC, across another, and so do what is moved and where it goes: one unit brings
-/// eight pages, each once, six from slots and two that stood nowhere. Page 0 is not needed.
+/// An EX lies across a page end, its target, an MVC, across another, and so do what is moved and where it goes: one
+/// unit brings eight pages, each once, six from slots and two that stood nowhere. Page 0 is not needed.
 fn a_move_of_eight_pages(system: &mut System) -> Result<()> {
     let lines = [
         ("LOGON", 0),
@@ -286,8 +287,8 @@ fn a_move_of_eight_pages(system: &mut System) -> Result<()> {
     Ok(())
 }
 
-/// An EX lies across a page end, its target, an A, across another, and its operand across a third; the sum overflows, so that the
-/// unit ends in an interruption, which needs page 0: seven pages.
+/// An EX lies across a page end, its target, an A, across another, and its operand across a third; the sum overflows,
+/// so that the unit ends in an interruption, which needs page 0: seven pages.
 fn an_overflow_of_seven_pages(system: &mut System) -> Result<()> {
     let lines = [
         ("LOGON", 0),

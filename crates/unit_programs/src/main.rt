@@ -1,8 +1,8 @@
-//! Runs the channel programs of readers, punches and printers that an independent System/370 ran, and prints how many it
-//! agrees with.
+//! Runs the channel programs of readers, punches and printers that an independent System/370 ran, and prints how many
+//! it agrees with.
 //!
-//! `programs.txt` has one program a line, with all that it finds and all that it leaves; its first lines tell the fields and
-//! where they come from. A line that does not agree is told by its number and what differs.
+//! `programs.txt` has one program a line, with all that it finds and all that it leaves; its first lines tell the
+//! fields and where they come from. A line that does not agree is told by its number and what differs.
 #![tactic(auto)]
 
 mod bed;

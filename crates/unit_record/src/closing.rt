@@ -20,15 +20,19 @@ pub struct Closed {
     pub printer: bool,
 }
 
-/// Closes the open files of both, that of the punch for this target and that of the printer for the operator. Where memory is
-/// refused, both stay as they were.
+/// Closes the open files of both, that of the punch for this target and that of the printer for the operator. Where
+/// memory is refused, both stay as they were.
 pub fn close_both(
     alloc: Global,
     punch: &mut Punch,
     printer: &mut Printer,
     target: Target,
 ) -> Result<Closed, AllocError>
-    ensures any { IfOk result (λ closed. closed ≡ record { punch = has_entries punch.old.entries; printer = has_entries printer.old.entries }) }
+    ensures any { IfOk result
+        (λ closed. closed ≡ record {
+          punch = has_entries punch.old.entries;
+          printer = has_entries printer.old.entries;
+        }) }
     ensures punch_closed { OnOk result (punch.new ≡ punch_closed punch.old target) }
     ensures printer_closed { OnOk result (printer.new ≡ printer_closed printer.old System) }
     ensures punch_as_was { OnErr result (punch.new ≡ punch.old) }

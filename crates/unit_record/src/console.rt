@@ -53,10 +53,19 @@ impl Model for Console {
 
     ghost use Rattle.unit_record.specs.ConsoleRoom.{HasRoom};
 
-    ghost view = { λ c. record { lines = c.lines.items; unfinished = c.unfinished; waiting = c.waiting.items; sense = c.sense; wanted = c.wanted; ends_line = c.ends_line; giving = c.giving } };
+    ghost view = { λ c. record {
+      lines = c.lines.items;
+      unfinished = c.unfinished;
+      waiting = c.waiting.items;
+      sense = c.sense;
+      wanted = c.wanted;
+      ends_line = c.ends_line;
+      giving = c.giving;
+    } };
 
     // What is being written has its room.
-    ghost invariant = { λ c. HasRoom (vec_len c.lines) (vec_capacity c.lines) (length c.unfinished) c.wanted c.ends_line };
+    ghost invariant = { λ c. HasRoom (vec_len c.lines) (vec_capacity c.lines)
+        (length c.unfinished) c.wanted c.ends_line };
 }
 
 impl Device for Console {

@@ -1,8 +1,9 @@
 //! The unit record devices and the console: a card reader, a card punch, a line printer and a typewriter console.
 //!
-//! Their one theorem: each is a [`Device`](s370_walk::Device) whose machine is the one that `specs/` defines, one small file a
-//! device (docs/MACHINE.md, "Unit record devices and console"): no record that a program wrote is lost or changed, and none
-//! is read twice. What a device keeps between programs is changed from outside only by the calls named here.
+//! Their one theorem: each is a [`Device`](s370_walk::Device) whose machine is the one that `specs/` defines, one small
+//! file a device (docs/MACHINE.md, "Unit record devices and console"): no record that a program wrote is lost or
+//! changed, and none is read twice. What a device keeps between programs is changed from outside only by the calls
+//! named here.
 //!
 //! A command that keeps a record takes the memory for it when it begins. So want of memory is told by
 //! `Device::command`, and nothing has happened then.

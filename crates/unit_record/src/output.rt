@@ -98,7 +98,12 @@ impl Model for Output {
 
     ghost Value = { OutputValue };
 
-    ghost view = { λ o. record { entries = o.entries.items; closed = o.closed.items; room = vec_capacity o.entries - vec_len o.entries; file_room = vec_capacity o.closed - vec_len o.closed } };
+    ghost view = { λ o. record {
+      entries = o.entries.items;
+      closed = o.closed.items;
+      room = vec_capacity o.entries - vec_len o.entries;
+      file_room = vec_capacity o.closed - vec_len o.closed;
+    } };
 }
 
 impl Output {

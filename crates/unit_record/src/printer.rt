@@ -25,7 +25,13 @@ impl Model for Printer {
 
     ghost Value = { PrinterState };
 
-    ghost view = { λ p. record { entries = p.output.entries; closed = p.output.closed; sense = p.sense; printing = p.printing; line = p.line } };
+    ghost view = { λ p. record {
+      entries = p.output.entries;
+      closed = p.output.closed;
+      sense = p.sense;
+      printing = p.printing;
+      line = p.line;
+    } };
 
     // A line that is being printed has its room.
     ghost invariant = { λ p. is_some p.printing ≡ true → 0 < p.output.room };

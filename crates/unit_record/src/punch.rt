@@ -32,7 +32,13 @@ impl Model for Punch {
 
     ghost Value = { PunchState };
 
-    ghost view = { λ p. record { entries = p.output.entries; closed = p.output.closed; sense = p.sense; is_punching = p.is_punching; card = p.card } };
+    ghost view = { λ p. record {
+      entries = p.output.entries;
+      closed = p.output.closed;
+      sense = p.sense;
+      is_punching = p.is_punching;
+      card = p.card;
+    } };
 
     // A card that is being punched has its room.
     ghost invariant = { λ p. p.is_punching ≡ true → 0 < p.output.room };

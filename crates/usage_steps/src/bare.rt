@@ -6,8 +6,8 @@ use std::alloc::{AllocError, Global};
 use vm370::arguments::UsageError;
 use vm370::session::SessionError;
 
-/// `bare-words bare370 8K script`: the pages of storage, how many volumes, and whether they are saved; or that the words are
-/// refused.
+/// `bare-words bare370 8K script`: the pages of storage, how many volumes, and whether they are saved; or that the
+/// words are refused.
 pub fn bare_options(alloc: Global, words: &[&str]) -> Result<String, AllocError> {
     match bare_arguments(alloc, "bare370", words) {
         Ok(options) => {

@@ -1,5 +1,5 @@
-//! Reads the words of `vm370` and `bare370`, prints faults and refuses scripts as a table asks, and compares what comes of it with
-//! what the table says.
+//! Reads the words of `vm370` and `bare370`, prints faults and refuses scripts as a table asks, and compares what comes
+//! of it with what the table says.
 //!
 //! `steps.txt` has one step a line, with what comes of it behind a bar; its first lines tell the steps.
 #![tactic(auto)]

@@ -81,8 +81,8 @@ pub fn write(alloc: Global, step: &Step<'_>) -> Result<String> {
     Ok(told)
 }
 
-/// `write-counted 0 "HELLO/HELLO"`: the parts are written as std writes them, where there is room for four bytes and so many
-/// are held back.
+/// `write-counted 0 "HELLO/HELLO"`: the parts are written as std writes them, where there is room for four bytes and so
+/// many are held back.
 pub fn write_counted(alloc: Global, step: &Step<'_>) -> Result<String> {
     let mut room = [b'.'; 4];
     let mut told = String::new(alloc);

@@ -4,8 +4,8 @@ use crate::telling::{add, quoted};
 use cp_script::{ScriptError, ScriptEvent, ScriptUser, read_script};
 use std::alloc::{AllocError, Global};
 
-/// `script "RUN A 1\n"`: the events of a text, or its first bad line, where its users are A, who has two devices, and B, who has
-/// none.
+/// `script "RUN A 1\n"`: the events of a text, or its first bad line, where its users are A, who has two devices, and
+/// B, who has none.
 pub fn script(alloc: Global, step: &Step<'_>) -> Result<String, AllocError> {
     let users = [
         ScriptUser {

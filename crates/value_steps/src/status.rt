@@ -22,8 +22,8 @@ fn word_at(step: &Step<'_>, high: usize, low: usize) -> u64 {
     u64::from(step.hexadecimal(high)) << 32 | u64::from(step.hexadecimal(low))
 }
 
-/// `psw 00000000 00001002 7 1`: the fields that are not zero in the word that is loaded, and the word that is then stored with
-/// this interruption code and this instruction length code.
+/// `psw 00000000 00001002 7 1`: the fields that are not zero in the word that is loaded, and the word that is then
+/// stored with this interruption code and this instruction length code.
 pub fn psw(alloc: Global, step: &Step<'_>) -> Result<String, AllocError> {
     let psw = Psw::from_word(word_at(step, 1, 2));
     let mut told = String::new(alloc);

@@ -46,8 +46,8 @@ pub fn lines(alloc: Global, step: &Step<'_>) -> Result<String, AllocError> {
     Ok(told)
 }
 
-/// `user "OPER"`: of the users A and OPER the one of this name, or user 2, whom nobody is: by number and by the name that the
-/// number leads to, where names are lent and where they are owned.
+/// `user "OPER"`: of the users A and OPER the one of this name, or user 2, whom nobody is: by number and by the name
+/// that the number leads to, where names are lent and where they are owned.
 pub fn user(alloc: Global, step: &Step<'_>) -> Result<String, AllocError> {
     let lent = [b"A".as_slice(), b"OPER".as_slice()];
     let owned = [b"A".to_vec(alloc)?, b"OPER".to_vec(alloc)?];

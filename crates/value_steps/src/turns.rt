@@ -6,8 +6,8 @@ use cp_users::UserNo;
 use s370_num::DevAddr;
 use std::alloc::{AllocError, Global};
 
-/// `slices 111 -1 101`: the users 0, 1 and 2 who are dealt slices where those are ready whose digit is 1; a number behind `-`
-/// leaves. At the end the queue is told.
+/// `slices 111 -1 101`: the users 0, 1 and 2 who are dealt slices where those are ready whose digit is 1; a number
+/// behind `-` leaves. At the end the queue is told.
 pub fn slices(alloc: Global, step: &Step<'_>) -> Result<String, AllocError> {
     let mut policy = Policy::new(alloc, 3, 0)?;
     policy.join(UserNo::new(0));
@@ -50,8 +50,8 @@ fn add_user(alloc: Global, told: &mut String, user: Option<UserNo>) -> Result<()
     add(told, number.as_str())
 }
 
-/// `serves`: what is served before user 0 has started programs of 009 and 191, twice while both are there, how many are left
-/// when that of 191 has ended, and what is served then.
+/// `serves`: what is served before user 0 has started programs of 009 and 191, twice while both are there, how many are
+/// left when that of 191 has ended, and what is served then.
 pub fn serves(alloc: Global) -> Result<String, AllocError> {
     let user = UserNo::new(0);
     let [first, second] = [DevAddr::new(0x009), DevAddr::new(0x191)];

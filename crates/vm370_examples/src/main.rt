@@ -1,9 +1,9 @@
-//! Runs the examples: each script over its directory has to give the transcript that is stored beside it, on as many frames
-//! as the program `vm370` has, and on the fewest that a system may have.
+//! Runs the examples: each script over its directory has to give the transcript that is stored beside it, on as many
+//! frames as the program `vm370` has, and on the fewest that a system may have.
 //!
 //! The words of the program are the folders of the examples, each of which has the files `directory`, `script`
-//! and `transcript`. One that is about want of frames has the file `sizes` too, with numbers of frames and slots, as `16 0`:
-//! it gives its transcript on these alone. The transcripts go to standard output, in the order of the words.
+//! and `transcript`. One that is about want of frames has the file `sizes` too, with numbers of frames and slots, as
+//! `16 0`: it gives its transcript on these alone. The transcripts go to standard output, in the order of the words.
 #![tactic(auto)]
 
 use anyhow::{Context, Result, bail};
