@@ -17,7 +17,7 @@ store_byte-requires g c =
 
 pub loop-k-preserved : goal.loop-k-preserved
 loop-k-preserved g c =
-    let inside : c.args.to + c.loop-k.k < length (g.S.Storage.bytes c.loop-k.storage) = rw g.met.S.Storage.keeps_size _ _ c.loop-k.invariant.rest (omega (arith, c.requires.target.inside)) in
+    let inside : c.args.to + c.loop-k.k < length (g.S.Storage.bytes c.loop-k.storage) = rw (g.met.S.Storage.keeps_size _ _ c.loop-k.invariant.rest) (omega (arith, c.requires.target.inside)) in
     record {
       bytes = c.store_byte.ensures.bytes ∙ one_translated _ _ _ _ _ _ _ inside c.loop-k.invariant.bytes c.load_byte-name.ensures c.load_byte-byte.ensures;
       keys = c.store_byte.ensures.keys ∙ c.loop-k.invariant.keys;
