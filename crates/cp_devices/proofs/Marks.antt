@@ -14,7 +14,7 @@ use Rattle.s370_subchannels.specs.declared.subchannel.DeviceState.TheVariants.{I
 use Rattle.s370_subchannels.specs.declared.subchannel.Subchannel.{Subchannel}
 use Rattle.s370_subchannels.specs.Answers.{Devices, device_answered, answered, address_word, start_asked, started, start_answered, test_answered, halt_answered}
 use Rattle.s370_subchannels.specs.Programs.{program_ended, program_ended_at, status_word}
-use Rattle.s370_subchannels.specs.Subchannels.{attended, attended_by, attending, changed, ended, found, in_state, reset, that_gives, with_attention, with_state, withdrawn}
+use Rattle.s370_subchannels.specs.Subchannels.{attended, attended_by, attending, begun, changed, ended, found, in_state, last_started, next_start, reset, reset_one, that_gives, with_attention, with_state, withdrawn}
 use Rattle.s370_intr.specs.declared.next.Next.{Next}
 use Rattle.s370_intr.specs.declared.next.Next.TheVariants.{Stops, Accepts, AcceptsStatus, Instructs}
 use Rattle.s370_intr.specs.InputOutput.{Configuration, devices_in}
@@ -81,10 +81,15 @@ is_ended : (gives : Bool) (csw : ℕ) → gives ≡ true → TellsAttention (end
 is_ended true csw h = (csw, refl)
 is_ended false csw h = absurd (never false h refl)
 
+-- a device that begins a program
+it_begins : (d caw : ℕ) (f : ℕ → Bool) (list : List Subchannel) → Marks f list → Marks f (begun d caw list)
+it_begins d caw f list h device =
+    changes d device (last_started (next_start list)) (λ s. refl) (IsMarked (f device)) (IsMarked (f device)) (λ e s p. p) (λ n s p. p) (with_state d (Working caw) list) (in_another d (Working caw) f list (λ w. tt) h device)
+
 -- ---- what is answered
 
 start_keeps : (device : ℕ) (o : Option Caw) (d : Devices) → Keeps d.subchannels (started device o d).left.subchannels
-start_keeps device (Some start) d f h = in_another device (Working (address_word d)) f d.subchannels (λ w. tt) h
+start_keeps device (Some start) d f h = it_begins device (address_word d) f d.subchannels h
 start_keeps device None d f h = h
 
 start_in : (device : ℕ) (state : DeviceState) (d : Devices) → Keeps d.subchannels (start_answered device state d).left.subchannels
@@ -235,4 +240,4 @@ either_of false s rest P p q = q
 pub reset_marks : (f : ℕ → Bool) (list : List Subchannel) → ((device : ℕ) → f device ≡ false) → Marks f (reset list)
 reset_marks f [] off device = tt
 reset_marks f (s ∷ ss) off device =
-    either_of (s.address == device) (record s { state = Idle; attention = false }) (found device (reset ss)) (IsMarked (f device)) (sym (off device), λ w. tt) (reset_marks f ss off device)
+    either_of (s.address == device) (reset_one s) (found device (reset ss)) (IsMarked (f device)) (sym (off device), λ w. tt) (reset_marks f ss off device)
