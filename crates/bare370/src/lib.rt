@@ -2,12 +2,11 @@
 //!
 //! Its scripts are those of the control program ([`cp_script::read_script`]) with one user, [`BARE`](bare_installation::BARE),
 //! and `DECK`; what the machine does is what an installation does (`bare_installation`), and the transcript has the same
-//! lines. Where a script names one user, both programs print the same, but for the user's name. Turns are dealt by the policy of
-//! the control program ([`cp_dispatch::Policy`]), and of its serves too, since this machine has devices.
+//! lines. Where a script names one user, both programs print the same, but for the user's name. Turns deal serves too, since
+//! this machine has devices.
 #![tactic(auto)]
 
 pub mod arguments;
-mod dealer;
 mod ended;
 mod images;
 pub mod program;

@@ -1,7 +1,6 @@
 //! A session of a machine of its own: from a script's bytes to a transcript's bytes.
 ghost use Rattle.std.specs.Prelude.{◌≤◌};
 
-use crate::dealer::Dealer;
 use crate::script::{Step, read_steps};
 use crate::transcript::{print_files, print_happening, print_run, print_turn};
 use bare_installation::Bare;
@@ -129,33 +128,25 @@ pub fn bare_session<R: HostReader, W: HostWriter>(
         Err(ScriptError::Memory) => return Err(SessionError::Memory),
         Err(ScriptError::Line(number)) => return Err(SessionError::Line(number)),
     };
-    let mut dealer = Dealer::new(alloc, deals_turns(&steps))?;
-    dealer.look(machine);
-    play(alloc, machine, &mut dealer, &steps, writer)
-}
-
-/// Whether turns are dealt by any of the steps.
-fn deals_turns(steps: &[Step<'_>]) -> bool {
-    steps.iter().any(|step| matches!(step, Step::Turns(_)))
+    play(alloc, machine, &steps, writer)
 }
 
 /// Lets the steps happen and deals the turns one after another, and writes the lines of each as they come, and then the files.
 fn play<W: HostWriter>(
     alloc: Global,
     machine: &mut Bare,
-    dealer: &mut Dealer,
     steps: &[Step<'_>],
     writer: &mut W,
 ) -> Result<(), SessionError> {
     for step in steps {
         match step {
             Step::Run(units) => {
-                let lines = print_run(alloc, machine, dealer, *units)?;
+                let lines = print_run(alloc, machine, *units)?;
                 write_all(writer, &lines)?;
             }
-            Step::Turns(turns) => deal(alloc, machine, dealer, *turns, writer)?,
+            Step::Turns(turns) => deal(alloc, machine, *turns, writer)?,
             Step::Happens(happening) => {
-                let lines = print_happening(alloc, machine, dealer, happening)?;
+                let lines = print_happening(alloc, machine, happening)?;
                 write_all(writer, &lines)?;
             }
         }
@@ -170,12 +161,11 @@ fn play<W: HostWriter>(
 fn deal<W: HostWriter>(
     alloc: Global,
     machine: &mut Bare,
-    dealer: &mut Dealer,
     turns: u32,
     writer: &mut W,
 ) -> Result<(), SessionError> {
     for _turn in 0..turns {
-        let lines = print_turn(alloc, machine, dealer)?;
+        let lines = print_turn(alloc, machine)?;
         write_all(writer, &lines)?;
     }
     Ok(())

@@ -5,7 +5,6 @@ ghost use Rattle.bare_installation.specs.Bare.{bare};
 ghost use Rattle.vm370.specs.Transcript.{ended, told_line};
 ghost use Rattle.bare370.specs.Transcript.{queue_line, queue_lines, said_lines, told_lines};
 
-use crate::dealer::{Dealer, SLICE_UNITS};
 use crate::script::Happening;
 use bare_installation::{BARE, Bare, FileKind, Reply};
 use cp_console::printing;
@@ -13,17 +12,19 @@ use cp_console::responses::Response;
 use cp_devices::{Told, deck_line};
 use s370_num::DevAddr;
 use s370_num::ebcdic::printable;
+use s370_subchannels::first_started;
 use std::alloc::{AllocError, Global};
 use unit_record::{Deck, File, Reader, Target};
 use vm370::transcript::{idle_line, print_line, print_ran};
 
+/// How many units a slice has.
+const SLICE_UNITS: u32 = 100;
+
 /// Lets what a script says happen to the machine. The transcript's lines for it, each ended by LF: the answer to a line where
-/// the console has not printed it, what the console printed meanwhile, and then how the event ended. The dealer sees what came
-/// of it.
+/// the console has not printed it, what the console printed meanwhile, and then how the event ended.
 pub(crate) fn print_happening(
     alloc: Global,
     machine: &mut Bare,
-    dealer: &mut Dealer,
     happening: &Happening<'_>,
 ) -> Result<Vec<u8>, AllocError> {
     let mut text = Vec::new(alloc);
@@ -42,7 +43,6 @@ pub(crate) fn print_happening(
         Ok(Reply::Ran(_) | Reply::Done) => {}
         Err(error) => return Err(error),
     }
-    dealer.look(machine);
     Ok(text)
 }
 
@@ -51,11 +51,10 @@ pub(crate) fn print_happening(
 pub(crate) fn print_run(
     alloc: Global,
     machine: &mut Bare,
-    dealer: &mut Dealer,
     units: u32,
 ) -> Result<Vec<u8>, AllocError> {
     let mut text = Vec::new(alloc);
-    add_run(alloc, &mut text, machine, dealer, units)?;
+    add_run(alloc, &mut text, machine, units)?;
     Ok(text)
 }
 
@@ -64,28 +63,26 @@ fn add_run(
     alloc: Global,
     out: &mut Vec<u8>,
     machine: &mut Bare,
-    dealer: &mut Dealer,
     units: u32,
 ) -> Result<(), AllocError> {
     let before = machine.printed();
-    let told = dealer.run(machine, units);
+    let told = machine.units(units);
     print_console(alloc, out, machine, before)?;
     print_ran(alloc, out, BARE, told.ran)
 }
 
-/// Deals a turn: a slice to the user, where the machine is ready, and then a serve of the program that is first in the line,
-/// where one is started. Its lines are those of both, or that there was neither.
+/// Deals a turn: a slice, where the machine is ready, and then a serve of the program that was started first, where one is under
+/// way. Its lines are those of both, or that there was neither.
 pub(crate) fn print_turn(
     alloc: Global,
     machine: &mut Bare,
-    dealer: &mut Dealer,
 ) -> Result<Vec<u8>, AllocError> {
     let mut text = Vec::new(alloc);
-    if dealer.slice(machine.is_ready()) {
-        add_run(alloc, &mut text, machine, dealer, SLICE_UNITS)?;
+    if machine.is_ready() {
+        add_run(alloc, &mut text, machine, SLICE_UNITS)?;
     }
-    if let Some(device) = dealer.serve() {
-        add_serve(alloc, &mut text, machine, dealer, device)?;
+    if let Some(started) = first_started(machine.subchannels(), 0) {
+        add_serve(alloc, &mut text, machine, started.address)?;
     }
     if text.is_empty() {
         text.extend_from_slice(idle_line())?;
@@ -98,12 +95,10 @@ fn add_serve(
     alloc: Global,
     out: &mut Vec<u8>,
     machine: &mut Bare,
-    dealer: &mut Dealer,
     device: DevAddr,
 ) -> Result<(), AllocError> {
     let before = machine.printed();
     let done = machine.serve(device)?;
-    dealer.look(machine);
     print_console(alloc, out, machine, before)?;
     print_served(alloc, out, device.get(), done)
 }

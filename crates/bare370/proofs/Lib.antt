@@ -1,4 +1,0 @@
-mod Lines
-mod Queues
-mod Pieces
-mod Watched

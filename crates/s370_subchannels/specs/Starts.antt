@@ -1,0 +1,31 @@
+-- The order in which the programs of devices were started, in which they are served (docs/MACHINE.md, "Channel").
+use Rattle.std.specs.Prelude.{◌≡◌, ℕ, ◌≤◌, nat_le, nat_lt, Bool, true, false, ◌&&◌, List, Option, Some, None, All, Contains}
+use Rattle.s370_subchannels.specs.declared.subchannel.DeviceState.{DeviceState}
+use Rattle.s370_subchannels.specs.declared.subchannel.DeviceState.TheVariants.{Idle, Working, Pending}
+use Rattle.s370_subchannels.specs.declared.subchannel.Subchannel.{Subchannel}
+
+abbrev pub works : DeviceState → Bool
+works Idle = false
+works (Working caw) = true
+works (Pending csw) = false
+
+-- the device works, and its start has this number or a higher one
+abbrev pub is_started : ℕ → Subchannel → Bool
+is_started number s = works s.state && nat_le number s.last_start
+
+-- it was started before this other one, or there is none
+abbrev pub comes_first : Subchannel → Option Subchannel → Bool
+comes_first s None = true
+comes_first s (Some other) = nat_lt s.last_start other.last_start
+
+abbrev pub IsNotStarted : ℕ → Subchannel → Type 0
+IsNotStarted number s = is_started number s ≡ false
+
+-- where the other one is such a device, it was not started before this one
+abbrev pub IsFollowedBy : ℕ → Subchannel → Subchannel → Type 0
+IsFollowedBy number s other = is_started number other ≡ true → s.last_start ≤ other.last_start
+
+-- of the devices that work, the first of those whose start has this number or a higher one
+abbrev pub IsFirstStarted : ℕ → List Subchannel → Option Subchannel → Type 0
+IsFirstStarted number list None = All (IsNotStarted number) list
+IsFirstStarted number list (Some s) = Contains list s × (is_started number s ≡ true) × All (IsFollowedBy number s) list
