@@ -89,7 +89,8 @@ fn paths_of<'a>(
     matches: &ArgMatches<'a>,
     id: &str,
 ) -> Result<Vec<&'a str>, AllocError>
-    ensures { IfOk result (λ paths. map (λ path. path.now) paths.items ≡ texts_of (all_of id.now (rows_of (found_of matches.now)))) }
+    ensures { IfOk result (λ paths. map (λ path. path.now) paths.items
+        ≡ texts_of (all_of id.now (rows_of (found_of matches.now)))) }
 {
     match texts_in(matches, id) {
         Some(paths) => copied(alloc, paths),
@@ -99,7 +100,8 @@ fn paths_of<'a>(
 
 /// The texts that the words give for an argument, where they give any.
 fn texts_in<'b, 'a>(matches: &'b ArgMatches<'a>, id: &str) -> Option<&'b [&'a str]>
-    ensures { option_map (λ texts. map (λ text. text.now) texts.now) result ≡ all_of id.now (rows_of (found_of matches.now)) }
+    ensures { option_map (λ texts. map (λ text. text.now) texts.now) result
+        ≡ all_of id.now (rows_of (found_of matches.now)) }
 {
     matches.get_strs(id)
 }

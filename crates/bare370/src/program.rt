@@ -1,4 +1,5 @@
-//! The program `bare370 [--save] STORAGE SCRIPT [VOLUME]...`: its words, its files, its session, and what it says of a failure.
+//! The program `bare370 [--save] STORAGE SCRIPT [VOLUME]...`: its words, its files, its session, and what it says of a
+//! failure.
 //!
 //! The transcript goes to standard output. A failure is one line on standard error, and its kind is the
 //! exit status.
@@ -30,14 +31,14 @@ The transcript goes to standard output, a fault as one line to standard error. E
   4  there was not memory enough
 ";
 
-/// The whole program: what it is started with names a storage, a script and volumes, and the transcript of that script is
-/// written. A failure is told on standard error.
+/// The whole program: what it is started with names a storage, a script and volumes, and the transcript of that script
+/// is written. A failure is told on standard error.
 pub fn bare_program<R: AllocGlobal + Files + Env + Print + Eprint>(rt: &R) -> Ended {
     finish(rt, run(rt))
 }
 
-/// Reads the words, the images and the script, writes the transcript, and saves the volumes where that is asked for. A wrong
-/// use is told here.
+/// Reads the words, the images and the script, writes the transcript, and saves the volumes where that is asked for. A
+/// wrong use is told here.
 fn run<R: AllocGlobal + Files + Env + Print + Eprint>(rt: &R) -> Result<(), BareFailure> {
     let alloc = rt.alloc();
     let words = words(rt, PROGRAM)?;

@@ -55,7 +55,8 @@ impl<'a> Happening<'a> {
     }
 }
 
-/// The steps of a script for a machine with these devices. The whole text is judged: its first line that is wrong is told.
+/// The steps of a script for a machine with these devices. The whole text is judged: its first line that is wrong is
+/// told.
 pub fn read_steps<'a>(
     alloc: Global,
     devices: &[u16],
@@ -138,8 +139,8 @@ fn deck_of(line: &[u8]) -> Option<u32> {
     }
 }
 
-/// So many cards, which follow the line of this number, and what stands after them. Missing cards are the fault of that line,
-/// and a card that is too long is its own.
+/// So many cards, which follow the line of this number, and what stands after them. Missing cards are the fault of that
+/// line, and a card that is too long is its own.
 fn read_deck<'a>(
     alloc: Global,
     number: u64,

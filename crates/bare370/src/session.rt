@@ -40,8 +40,8 @@ const FIRST_CYLINDER: Arm = Arm {
     },
 };
 
-/// A machine that is off, with a storage of so many blocks of 2048 bytes, console, reader, punch and printer, and a disk for
-/// each of these volumes, of which there are at most [`MOST_DISKS`].
+/// A machine that is off, with a storage of so many blocks of 2048 bytes, console, reader, punch and printer, and a
+/// disk for each of these volumes, of which there are at most [`MOST_DISKS`].
 pub fn machine_of(alloc: Global, blocks: u32, volumes: Vec<Volume>) -> Result<Bare, AllocError>
     requires least { 4 ≤ blocks }
     requires most { blocks ≤ 2048 }
@@ -112,9 +112,9 @@ fn addresses(alloc: Global, machine: &Bare) -> Result<Vec<u16>, AllocError> {
     Ok(addresses)
 }
 
-/// Reads a whole script and judges it; then lets its steps happen to the machine and deals its turns one after another, and
-/// writes the lines of each as they come, and at the end the files for the operator. Where the script is refused nothing
-/// happens, and nothing is written. After any other failure a beginning of the transcript is written.
+/// Reads a whole script and judges it; then lets its steps happen to the machine and deals its turns one after another,
+/// and writes the lines of each as they come, and at the end the files for the operator. Where the script is refused
+/// nothing happens, and nothing is written. After any other failure a beginning of the transcript is written.
 pub fn bare_session<R: HostReader, W: HostWriter>(
     alloc: Global,
     machine: &mut Bare,
@@ -131,7 +131,8 @@ pub fn bare_session<R: HostReader, W: HostWriter>(
     play(alloc, machine, &steps, writer)
 }
 
-/// Lets the steps happen and deals the turns one after another, and writes the lines of each as they come, and then the files.
+/// Lets the steps happen and deals the turns one after another, and writes the lines of each as they come, and then the
+/// files.
 fn play<W: HostWriter>(
     alloc: Global,
     machine: &mut Bare,

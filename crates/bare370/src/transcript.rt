@@ -20,8 +20,8 @@ use vm370::transcript::{idle_line, print_line, print_ran};
 /// How many units a slice has.
 const SLICE_UNITS: u32 = 100;
 
-/// Lets what a script says happen to the machine. The transcript's lines for it, each ended by LF: the answer to a line where
-/// the console has not printed it, what the console printed meanwhile, and then how the event ended.
+/// Lets what a script says happen to the machine. The transcript's lines for it, each ended by LF: the answer to a line
+/// where the console has not printed it, what the console printed meanwhile, and then how the event ended.
 pub(crate) fn print_happening(
     alloc: Global,
     machine: &mut Bare,
@@ -46,8 +46,8 @@ pub(crate) fn print_happening(
     Ok(text)
 }
 
-/// Lets the machine run for so many units. The transcript's lines for it: what the console printed meanwhile, and then how
-/// the run ended.
+/// Lets the machine run for so many units. The transcript's lines for it: what the console printed meanwhile, and then
+/// how the run ended.
 pub(crate) fn print_run(
     alloc: Global,
     machine: &mut Bare,
@@ -71,12 +71,9 @@ fn add_run(
     print_ran(alloc, out, BARE, told.ran)
 }
 
-/// Deals a turn: a slice, where the machine is ready, and then a serve of the program that was started first, where one is under
-/// way. Its lines are those of both, or that there was neither.
-pub(crate) fn print_turn(
-    alloc: Global,
-    machine: &mut Bare,
-) -> Result<Vec<u8>, AllocError> {
+/// Deals a turn: a slice, where the machine is ready, and then a serve of the program that was started first, where one
+/// is under way. Its lines are those of both, or that there was neither.
+pub(crate) fn print_turn(alloc: Global, machine: &mut Bare) -> Result<Vec<u8>, AllocError> {
     let mut text = Vec::new(alloc);
     if machine.is_ready() {
         add_run(alloc, &mut text, machine, SLICE_UNITS)?;
@@ -186,8 +183,8 @@ fn print_response(alloc: Global, out: &mut Vec<u8>, response: &Response) -> Resu
     print_line(out, BARE, &text)
 }
 
-/// The files that were closed for the operator, in the order of their numbers: a first line, and then each entry of a printer
-/// (its command code and its text), or each card.
+/// The files that were closed for the operator, in the order of their numbers: a first line, and then each entry of a
+/// printer (its command code and its text), or each card.
 pub fn print_files(alloc: Global, machine: &Bare) -> Result<Vec<u8>, AllocError> {
     let mut text = Vec::new(alloc);
     let mut punched = 0usize;

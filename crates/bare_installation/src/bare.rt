@@ -8,6 +8,7 @@ ghost use Rattle.cp_panel.specs.Machine.{unused};
 ghost use Rattle.cp_panel.specs.Ready.{is_ready};
 ghost use Rattle.cp_panel.specs.Run.{run};
 ghost use Rattle.cp_panel.specs.Tick.{ticked};
+ghost use Rattle.cp_devices.specs.Devices.{devices_new, no_places};
 ghost use Rattle.cp_devices.specs.Lines.{IsIpl, IsLine, IsWholeLine};
 ghost use Rattle.cp_devices.specs.Serve.{IsServedAt};
 ghost use Rattle.bare_installation.specs.Bare.{IsTyped, is_logged_on, next_file, noted, printed_file, punched, received, with_deck, world_of};
@@ -49,14 +50,18 @@ impl Model for Bare {
 
     ghost Value = { Whole };
 
-    ghost view = { λ b. record { equipped = equipped b.machine b.devices (disks_of b.channels) (plain_bytes b.storage) (plain_keys b.storage); files = b.files.items } };
+    ghost view = { λ b. record {
+      equipped = equipped b.machine b.devices (disks_of b.channels) (plain_bytes b.storage)
+          (plain_keys b.storage);
+      files = b.files.items;
+    } };
 
     ghost invariant = { λ b. 8192 ≤ length (plain_bytes b.storage) };
 }
 
 impl Bare {
-    /// A machine that is off, with this storage of at least 8 KiB, which is cleared, these subchannels, which are reset, the
-    /// parts of their devices, and these disks.
+    /// A machine that is off, with this storage of at least 8 KiB, which is cleared, these subchannels, which are
+    /// reset, the parts of their devices, and these disks.
     pub fn new(
         alloc: Global,
         mut storage: PlainStorage,
@@ -83,7 +88,10 @@ impl Bare {
     /// A machine without devices that is off, with this storage of at least 8 KiB, which is cleared.
     pub fn without_devices(alloc: Global, storage: PlainStorage) -> Bare
         requires { 8192 ≤ length (plain_bytes storage) }
-        ensures { result.equipped.machine ≡ unused (plain_bytes storage) (plain_keys storage) [] }
+        ensures machine { result.equipped.machine ≡ unused (plain_bytes storage) (plain_keys storage) [] }
+        ensures devices { result.equipped.devices ≡ devices_new no_places }
+        ensures disks { result.equipped.disks ≡ [] }
+        ensures files { result.files ≡ [] }
     {
         Bare::new(
             alloc,
@@ -122,7 +130,13 @@ impl Bare {
 
     /// Lets the machine run for at most so many units. This takes no memory.
     pub fn units(&mut self, count: u32) -> MachineRan
-        ensures machine { run count self.old.equipped.machine ≡ record { machine = self.new.equipped.machine; units = result.ran.units; reason = result.ran.reason; notice = result.notice } }
+        ensures machine { run count self.old.equipped.machine
+            ≡ record {
+              machine = self.new.equipped.machine;
+              units = result.ran.units;
+              reason = result.ran.reason;
+              notice = result.notice;
+            } }
         ensures devices { self.new.equipped.devices ≡ self.old.equipped.devices }
         ensures disks { self.new.equipped.disks ≡ self.old.equipped.disks }
         ensures files { self.new.files ≡ self.old.files }
@@ -147,8 +161,9 @@ impl Bare {
         }
     }
 
-    /// Serves the device of this address: the channel program that was started runs as a whole, and its status is pending.
-    /// Tells whether there was one; else nothing has happened. Where memory is refused, nothing is said of the machine.
+    /// Serves the device of this address: the channel program that was started runs as a whole, and its status is
+    /// pending. Tells whether there was one; else nothing has happened. Where memory is refused, nothing is said of the
+    /// machine.
     pub fn serve(&mut self, device: DevAddr) -> Result<bool, AllocError>
         ensures served { IfOk result (λ done. IsServedAt as_reached device self.old.equipped done self.new.equipped) }
         ensures files { self.new.files ≡ self.old.files }
@@ -167,8 +182,8 @@ impl Bare {
         }
     }
 
-    /// A deck that the operator gives to the reader; no cards are no deck. Where memory is refused, nothing is said of the
-    /// machine.
+    /// A deck that the operator gives to the reader; no cards are no deck. Where memory is refused, nothing is said of
+    /// the machine.
     pub fn deck(&mut self, cards: Vec<Card>) -> Result<(), AllocError>
         ensures { OnOk result (self.new ≡ with_deck cards.items self.old) }
     {
@@ -195,7 +210,8 @@ impl Bare {
 
     /// What a line does in the small world of one user, an IPL included.
     fn answer_whole(&mut self, alloc: Global, typed: &[u8]) -> Result<Told, AllocError>
-        ensures line { IfOk result (λ told. IsWholeLine (world_of self.old) typed.now self.old.equipped told self.new.equipped) }
+        ensures line { IfOk result
+            (λ told. IsWholeLine (world_of self.old) typed.now self.old.equipped told self.new.equipped) }
         ensures files { self.new.files ≡ self.old.files }
     {
         let first = self.answer(alloc, typed)?;
@@ -207,7 +223,8 @@ impl Bare {
 
     /// What a line does in the small world of one user.
     fn answer(&mut self, alloc: Global, typed: &[u8]) -> Result<Told, AllocError>
-        ensures line { IfOk result (λ told. IsLine (world_of self.old) typed.now self.old.equipped told self.new.equipped) }
+        ensures line { IfOk result
+            (λ told. IsLine (world_of self.old) typed.now self.old.equipped told self.new.equipped) }
         ensures files { self.new.files ≡ self.old.files }
     {
         let world = Alone {
@@ -251,7 +268,8 @@ impl Bare {
     /// A message to itself is printed, and a file that was closed has the next number.
     fn receive(&mut self, told: Told) -> Result<Told, AllocError>
         ensures told { IfOk result (λ last. last ≡ (received (next_file self.old.files) told self.old.equipped).told) }
-        ensures after { OnOk result (self.new.equipped ≡ (received (next_file self.old.files) told self.old.equipped).equipped) }
+        ensures after { OnOk result
+            (self.new.equipped ≡ (received (next_file self.old.files) told self.old.equipped).equipped) }
         ensures files { self.new.files ≡ self.old.files }
     {
         match told {
@@ -410,8 +428,8 @@ impl Bare {
     }
 }
 
-/// Whatever happens to a machine with its devices: it is what its own events leave, in order, with each message and each deck
-/// for its own user right after the line that sent or closed it.
+/// Whatever happens to a machine with its devices: it is what its own events leave, in order, with each message and
+/// each deck for its own user right after the line that sent or closed it.
 pub fn each_is_life()
     ensures { EachIsLife }
 {}

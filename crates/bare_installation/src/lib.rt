@@ -1,8 +1,9 @@
 //! A machine of its own with its devices: a console, a card reader, a card punch, a line printer and disks.
 //!
 //! Its one theorem: what [`Bare`] does when it is let run, when a line is typed, at a tick of its timer, when a device
-//! is served and when a deck is given ([`Bare::apply`]) is what `specs/` defines (docs/MACHINE.md, docs/COMMANDS.md); and
-//! whatever happens, the machine is what its own events leave, in order ([`each_is_life`]). Nobody else is there: its user is
+//! is served and when a deck is given ([`Bare::apply`]) is what `specs/` defines (docs/MACHINE.md, docs/COMMANDS.md);
+//! and whatever happens, the machine is what its own events leave, in order ([`each_is_life`]). Nobody else is there:
+//! its user is
 //! `BARE`, to whom messages and punched files go.
 //!
 //! ```

@@ -19,32 +19,36 @@ pub trait Channels<S: Storage> {
     /// The disks, in the order in which they were attached.
     ghost disks: { Self → List DiskAt };
 
-    /// Whether a program is run as a whole or not at all: one that names a page which is not present has done nothing. Where
-    /// it is not so, a program stops at the step that needs the page.
+    /// Whether a program is run as a whole or not at all: one that names a page which is not present has done nothing.
+    /// Where it is not so, a program stops at the step that needs the page.
     ghost is_whole: { Bool };
-
-    /// How many disks there are.
-    fn count(&self) -> usize
-        ensures { result ≡ length (disks self.now) };
 
     /// The index of the first disk with this address.
     fn disk_at(&self, device: u16) -> Option<usize>
         ensures index { result ≡ position (is_disk_at device) (disks self.now) }
         ensures inside { IfSome result (λ index. index < length (disks self.now)) };
 
-    /// Runs the program with this start, for a device that is no disk. An error is told only where the program comes to a
-    /// command that needs memory, or a page is not present that the program names.
+    /// Runs the program with this start, for a device that is no disk. An error is told only where the program comes to
+    /// a command that needs memory, or a page is not present that the program names.
     fn run<D: Device>(
         &mut self,
         storage: &mut S,
         start: Caw,
         device: &mut D,
     ) -> Result<Ending, ChannelError>
-        ensures walk { IfOk result (λ ending. Walks reads D.machine start (memory_of (S.bytes storage.old) (S.keys storage.old)) device.old ending (memory_of (S.bytes storage.new) (S.keys storage.new)) device.new) }
+        ensures walk { IfOk result
+            (λ ending. Walks reads D.machine start
+            (memory_of (S.bytes storage.old) (S.keys storage.old)) device.old ending
+            (memory_of (S.bytes storage.new) (S.keys storage.new)) device.new) }
         ensures disks { disks self.new ≡ disks self.old }
         ensures away { IfErr result (TellsAway (S.present storage.old)) }
-        ensures stopped { is_whole ≡ false → IfErr result (IsStopped D.machine D.needs_memory (S.present storage.old) start (memory_of (S.bytes storage.old) (S.keys storage.old)) device.old) }
-        ensures whole { is_whole ≡ true → IfErr result (WhereAbsent ((S.bytes storage.new ≡ S.bytes storage.old) × (device.new ≡ device.old) × (disks self.new ≡ disks self.old))) }
+        ensures stopped { is_whole ≡ false
+            → IfErr result (IsStopped D.machine D.needs_memory (S.present storage.old) start
+            (memory_of (S.bytes storage.old) (S.keys storage.old)) device.old) }
+        ensures whole { is_whole ≡ true
+            → IfErr result (WhereAbsent
+            ((S.bytes storage.new ≡ S.bytes storage.old) × (device.new ≡ device.old)
+            × (disks self.new ≡ disks self.old))) }
         ensures keys { S.keys storage.new ≡ S.keys storage.old }
         ensures rest { S.Keeps storage.old storage.new };
 
@@ -56,10 +60,16 @@ pub trait Channels<S: Storage> {
         index: usize,
     ) -> Result<Ending, ChannelError>
         requires { index < length (disks self.old) }
-        ensures walk { IfOk result (λ ending. WalksDisk reads start (memory_of (S.bytes storage.old) (S.keys storage.old)) (disks self.old) index ending (memory_of (S.bytes storage.new) (S.keys storage.new)) (disks self.new)) }
+        ensures walk { IfOk result
+            (λ ending. WalksDisk reads start (memory_of (S.bytes storage.old) (S.keys storage.old))
+            (disks self.old) index ending (memory_of (S.bytes storage.new) (S.keys storage.new)) (disks self.new)) }
         ensures away { IfErr result (TellsAway (S.present storage.old)) }
-        ensures stopped { is_whole ≡ false → IfErr result (StopsDisk (S.present storage.old) start (memory_of (S.bytes storage.old) (S.keys storage.old)) (slice_get (disks self.old) index)) }
-        ensures whole { is_whole ≡ true → IfErr result (WhereAbsent ((S.bytes storage.new ≡ S.bytes storage.old) × (disks self.new ≡ disks self.old))) }
+        ensures stopped { is_whole ≡ false
+            → IfErr result (StopsDisk (S.present storage.old) start
+            (memory_of (S.bytes storage.old) (S.keys storage.old)) (slice_get (disks self.old) index)) }
+        ensures whole { is_whole ≡ true
+            → IfErr result (WhereAbsent
+            ((S.bytes storage.new ≡ S.bytes storage.old) × (disks self.new ≡ disks self.old))) }
         ensures keys { S.keys storage.new ≡ S.keys storage.old }
         ensures rest { S.Keeps storage.old storage.new };
 

@@ -58,9 +58,14 @@ impl AttachedDisk {
         storage: &mut S,
         start: Caw,
     ) -> Result<Ending, ChannelError>
-        ensures walk { IfOk result (λ ending. RestsAfter as_reached start (memory_of (S.bytes storage.old) (S.keys storage.old)) self.old ending (memory_of (S.bytes storage.new) (S.keys storage.new)) self.new) }
+        ensures walk { IfOk result
+            (λ ending. RestsAfter as_reached start
+            (memory_of (S.bytes storage.old) (S.keys storage.old)) self.old ending
+            (memory_of (S.bytes storage.new) (S.keys storage.new)) self.new) }
         ensures away { IfErr result (TellsAway (S.present storage.old)) }
-        ensures stopped { IfErr result (StopsForPage disk_machine (S.present storage.old) start (memory_of (S.bytes storage.old) (S.keys storage.old)) self.old.unit) }
+        ensures stopped { IfErr result
+            (StopsForPage disk_machine (S.present storage.old) start
+            (memory_of (S.bytes storage.old) (S.keys storage.old)) self.old.unit) }
         ensures keys { S.keys storage.new ≡ S.keys storage.old }
         ensures rest { S.Keeps storage.old storage.new }
     {
@@ -69,11 +74,15 @@ impl AttachedDisk {
         Ok(ending)
     }
 
-    /// The program of an initial program loading runs on the unit, which is then at rest. It has gone well where its ending
-    /// says so.
+    /// The program of an initial program loading runs on the unit, which is then at rest. It has gone well where its
+    /// ending says so.
     pub(crate) fn load<S: Storage>(&mut self, storage: &mut S) -> Result<Ending, ChannelError>
-        ensures walk { IfOk result (λ ending. RestsLoaded (memory_of (S.bytes storage.old) (S.keys storage.old)) self.old ending (memory_of (S.bytes storage.new) (S.keys storage.new)) self.new) }
-        ensures stopped { IfErr result (StopsLoadingDisk (S.present storage.old) (memory_of (S.bytes storage.old) (S.keys storage.old)) (Some self.old)) }
+        ensures walk { IfOk result
+            (λ ending. RestsLoaded (memory_of (S.bytes storage.old) (S.keys storage.old)) self.old ending
+            (memory_of (S.bytes storage.new) (S.keys storage.new)) self.new) }
+        ensures stopped { IfErr result
+            (StopsLoadingDisk (S.present storage.old) (memory_of (S.bytes storage.old) (S.keys storage.old))
+            (Some self.old)) }
         ensures keys { S.keys storage.new ≡ S.keys storage.old }
         ensures rest { S.Keeps storage.old storage.new }
     {

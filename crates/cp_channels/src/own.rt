@@ -40,8 +40,12 @@ impl Own {
         index: usize,
     ) -> Result<Ending, ChannelError>
         requires { index < length (disks_of self.old) }
-        ensures walk { IfOk result (λ ending. LoadsDisk (memory_of (S.bytes storage.old) (S.keys storage.old)) (disks_of self.old) index ending (memory_of (S.bytes storage.new) (S.keys storage.new)) (disks_of self.new)) }
-        ensures stopped { IfErr result (StopsLoadingDisk (S.present storage.old) (memory_of (S.bytes storage.old) (S.keys storage.old)) (slice_get (disks_of self.old) index)) }
+        ensures walk { IfOk result
+            (λ ending. LoadsDisk (memory_of (S.bytes storage.old) (S.keys storage.old)) (disks_of self.old) index ending
+            (memory_of (S.bytes storage.new) (S.keys storage.new)) (disks_of self.new)) }
+        ensures stopped { IfErr result
+            (StopsLoadingDisk (S.present storage.old) (memory_of (S.bytes storage.old) (S.keys storage.old))
+            (slice_get (disks_of self.old) index)) }
         ensures keys { S.keys storage.new ≡ S.keys storage.old }
         ensures rest { S.Keeps storage.old storage.new }
     {
@@ -73,10 +77,6 @@ impl<S: Storage> Channels<S> for Own {
     ghost disks = { disks_of };
 
     ghost is_whole = { false };
-
-    fn count(&self) -> usize {
-        self.disks.len()
-    }
 
     fn disk_at(&self, device: u16) -> Option<usize> {
         self.disks

@@ -15,9 +15,14 @@ pub(crate) fn run_live<S: Storage, D: Device>(
     start: Caw,
     device: &mut D,
 ) -> Result<Ending, ChannelError>
-    ensures walk { IfOk result (λ ending. Walks as_reached D.machine start (memory_of (S.bytes storage.old) (S.keys storage.old)) device.old ending (memory_of (S.bytes storage.new) (S.keys storage.new)) device.new) }
+    ensures walk { IfOk result
+        (λ ending. Walks as_reached D.machine start
+        (memory_of (S.bytes storage.old) (S.keys storage.old)) device.old ending
+        (memory_of (S.bytes storage.new) (S.keys storage.new)) device.new) }
     ensures away { IfErr result (TellsAway (S.present storage.old)) }
-    ensures stopped { IfErr result (IsStopped D.machine D.needs_memory (S.present storage.old) start (memory_of (S.bytes storage.old) (S.keys storage.old)) device.old) }
+    ensures stopped { IfErr result
+        (IsStopped D.machine D.needs_memory (S.present storage.old) start
+        (memory_of (S.bytes storage.old) (S.keys storage.old)) device.old) }
     ensures keys { S.keys storage.new ≡ S.keys storage.old }
     ensures rest { S.Keeps storage.old storage.new }
 {

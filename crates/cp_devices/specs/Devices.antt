@@ -24,6 +24,10 @@ pub record DevicesValue : Type 0 where
   -- for whom the punch's file is, when it is closed
   pub target : Target
 
+-- no address leads to any of them
+abbrev pub no_places : Places
+no_places = record { console = None; reader = None; punch = None; printer = None }
+
 -- Parts that have done nothing; what is punched is for the operator.
 abbrev pub devices_new : Places → DevicesValue
 devices_new places =

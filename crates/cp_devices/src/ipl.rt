@@ -27,14 +27,6 @@ fn loaded(well: bool) -> Told
     }
 }
 
-/// Why a line is not obeyed whose program of loading stopped.
-fn line_error(error: ChannelError) -> LineError {
-    match error {
-        ChannelError::Memory => LineError::Memory,
-        ChannelError::Absent(_) => LineError::FramesOut,
-    }
-}
-
 impl Devices {
     /// The machine is loaded from the device of this address, a reader or a disk. Where it is not obeyed, nothing is said of the
     /// machine.
@@ -120,7 +112,8 @@ impl Devices {
         };
         match start_loaded(machine, storage, device, &ending) {
             Ok(well) => Ok(loaded(well)),
-            Err(error) => Err(line_error(error)),
+            // The page of the PSW is not present.
+            Err(_) => Err(LineError::FramesOut),
         }
     }
 }
