@@ -1,5 +1,5 @@
 -- The order in which the programs of devices were started, in which they are served (docs/MACHINE.md, "Channel").
-use Rattle.std.specs.Prelude.{◌≡◌, ℕ, ◌≤◌, nat_le, nat_lt, Bool, true, false, ◌&&◌, List, Option, Some, None, All, Contains}
+use Rattle.std.specs.Prelude.{◌≡◌, ℕ, ◌≤◌, nat_le, nat_lt, if◌then◌else◌, Bool, true, false, ◌&&◌, List, Option, Some, None, All, Contains}
 use Rattle.s370_subchannels.specs.declared.subchannel.DeviceState.{DeviceState}
 use Rattle.s370_subchannels.specs.declared.subchannel.DeviceState.TheVariants.{Idle, Working, Pending}
 use Rattle.s370_subchannels.specs.declared.subchannel.Subchannel.{Subchannel}
@@ -13,10 +13,10 @@ works (Pending csw) = false
 abbrev pub is_started : ℕ → Subchannel → Bool
 is_started number s = works s.state && nat_le number s.last_start
 
--- it was started before this other one, or there is none
-abbrev pub comes_first : Subchannel → Option Subchannel → Bool
-comes_first s None = true
-comes_first s (Some other) = nat_lt s.last_start other.last_start
+-- the first, when this device is looked at too
+abbrev pub first_of : ℕ → Option Subchannel → Subchannel → Option Subchannel
+first_of number None s = if is_started number s then Some s else None
+first_of number (Some other) s = if is_started number s && nat_lt s.last_start other.last_start then Some s else Some other
 
 abbrev pub IsNotStarted : ℕ → Subchannel → Type 0
 IsNotStarted number s = is_started number s ≡ false

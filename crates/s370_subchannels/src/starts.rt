@@ -1,6 +1,6 @@
 //! The order in which the programs of devices were started.
 ghost use Rattle.std.specs.Prelude.{◌≡◌};
-ghost use Rattle.s370_subchannels.specs.Starts.{IsFirstStarted, comes_first, is_started};
+ghost use Rattle.s370_subchannels.specs.Starts.{IsFirstStarted, first_of, is_started};
 
 use crate::subchannel::{DeviceState, Subchannel};
 
@@ -10,11 +10,31 @@ pub fn first_started(list: &[Subchannel], number: u64) -> Option<Subchannel>
 {
     let mut first: Option<Subchannel> = None;
     for s in list {
-        if is_started(s, number) && comes_first(s, first) {
-            first = Some(*s);
-        }
+        first = first_of(first, s, number);
     }
     first
+}
+
+/// The first, when this device is looked at too.
+fn first_of(first: Option<Subchannel>, s: &Subchannel, number: u64) -> Option<Subchannel>
+    ensures { result ≡ first_of number first s.now }
+{
+    match first {
+        Some(other) => {
+            if is_started(s, number) && s.last_start < other.last_start {
+                Some(*s)
+            } else {
+                Some(other)
+            }
+        }
+        None => {
+            if is_started(s, number) {
+                Some(*s)
+            } else {
+                None
+            }
+        }
+    }
 }
 
 /// Whether a device works, and its start has this number or a higher one.
@@ -22,14 +42,4 @@ fn is_started(s: &Subchannel, number: u64) -> bool
     ensures { result ≡ is_started number s.now }
 {
     matches!(s.state, DeviceState::Working(_)) && number <= s.last_start
-}
-
-/// Whether a device was started before this other one, or there is none.
-fn comes_first(s: &Subchannel, other: Option<Subchannel>) -> bool
-    ensures { result ≡ comes_first s.now other }
-{
-    match other {
-        Some(other) => s.last_start < other.last_start,
-        None => true,
-    }
 }

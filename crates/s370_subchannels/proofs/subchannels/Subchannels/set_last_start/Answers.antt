@@ -1,4 +1,4 @@
-use Rattle.std.proofs.Common.{◌∙◌, ◌≡◌, ◌≤◌, Some, sym, ap, refl, arith, List, length, length-set}
+use Rattle.std.proofs.Common.{◌∙◌, ◌≡◌, Some, sym, ap, arith, List, length-set}
 use Rattle.std.specs.List.{position}
 use Rattle.s370_subchannels.specs.declared.subchannel.Subchannel.{Subchannel}
 use Rattle.s370_subchannels.specs.Subchannels.{is_at, pending_masks, with_last_start, last_started}
