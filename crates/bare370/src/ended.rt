@@ -1,6 +1,7 @@
 //! How the program ends: what it says of a failure, and its exit status.
 use ckd_image::ImageError;
 use ckd_text::faults as image_faults;
+use cp_devices::AttachError;
 use s370_num::host::HostFault;
 use std::alloc::AllocError;
 use std::process::{ExitCode, Termination};
@@ -37,6 +38,16 @@ impl From<HostFault> for BareFailure {
 impl From<AllocError> for BareFailure {
     fn from(_error: AllocError) -> BareFailure {
         BareFailure::Session(session_faults::Failure::Memory)
+    }
+}
+
+impl From<AttachError> for BareFailure {
+    fn from(error: AttachError) -> BareFailure {
+        BareFailure::Session(match error {
+            AttachError::Memory => session_faults::Failure::Memory,
+            // More volumes than a machine has disks, which are words that are not the program's.
+            AttachError::Address => session_faults::Failure::Usage,
+        })
     }
 }
 

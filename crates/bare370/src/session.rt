@@ -1,17 +1,17 @@
 //! A session of a machine of its own: from a script's bytes to a transcript's bytes.
-ghost use Rattle.std.specs.Prelude.{◌≤◌};
+ghost use Rattle.std.specs.Prelude.{◌≤◌, IfOk, length};
+ghost use Rattle.s370_store.specs.Plain.{plain_bytes};
 
 use crate::script::{Step, read_steps};
 use crate::transcript::{print_files, print_happening, print_run, print_turn};
 use bare_installation::Bare;
 use ckd_volume::{Arm, Sense, Unit, Volume};
 use cp_channels::AttachedDisk;
-use cp_devices::{Devices, Places};
+use cp_devices::{AttachError, Devices, Places};
 use cp_script::ScriptError;
 use s370_num::DevAddr;
 use s370_num::host::{HostReader, HostWriter, read_all, write_all};
 use s370_store::PlainStorage;
-use s370_subchannels::Subchannels;
 use std::alloc::{AllocError, Global};
 use vm370::session::SessionError;
 
@@ -42,11 +42,10 @@ const FIRST_CYLINDER: Arm = Arm {
 
 /// A machine that is off, with a storage of so many blocks of 2048 bytes, console, reader, punch and printer, and a
 /// disk for each of these volumes, of which there are at most [`MOST_DISKS`].
-pub fn machine_of(alloc: Global, blocks: u32, volumes: Vec<Volume>) -> Result<Bare, AllocError>
+pub fn machine_of(alloc: Global, blocks: u32, volumes: Vec<Volume>) -> Result<Bare, AttachError>
     requires least { 4 ≤ blocks }
     requires most { blocks ≤ 2048 }
 {
-    let storage = PlainStorage::new(alloc, blocks)?;
     let devices = Devices::new(
         alloc,
         Places {
@@ -56,32 +55,34 @@ pub fn machine_of(alloc: Global, blocks: u32, volumes: Vec<Volume>) -> Result<Ba
             printer: Some(DevAddr::new(PRINTER)),
         },
     );
-    let mut subchannels = unit_record_subchannels(alloc)?;
-    let disks = disks_of(alloc, &mut subchannels, volumes)?;
-    Ok(Bare::new(alloc, storage, subchannels, devices, disks))
-}
-
-/// The subchannels of console, reader, punch and printer.
-fn unit_record_subchannels(alloc: Global) -> Result<Subchannels, AllocError> {
-    let mut subchannels = Subchannels::new(alloc);
-    for address in [CONSOLE, READER, PUNCH, PRINTER] {
-        add(&mut subchannels, address)?;
+    match parts_of(alloc, blocks, volumes) {
+        Ok((storage, disks)) => Bare::new(alloc, storage, devices, disks),
+        Err(_) => Err(AttachError::Memory),
     }
-    Ok(subchannels)
 }
 
-/// A disk for each of these volumes, which has a subchannel.
-fn disks_of(
+/// Its storage, and its disks.
+fn parts_of(
     alloc: Global,
-    subchannels: &mut Subchannels,
+    blocks: u32,
     volumes: Vec<Volume>,
-) -> Result<Vec<AttachedDisk>, AllocError> {
+) -> Result<(PlainStorage, Vec<AttachedDisk>), AllocError>
+    requires least { 4 ≤ blocks }
+    requires most { blocks ≤ 2048 }
+    ensures size { IfOk result (λ parts. 8192 ≤ length (plain_bytes parts.0)) }
+{
+    let storage = PlainStorage::new(alloc, blocks)?;
+    let disks = disks_of(alloc, volumes)?;
+    Ok((storage, disks))
+}
+
+/// A disk for each of these volumes, at an address of its own.
+fn disks_of(alloc: Global, volumes: Vec<Volume>) -> Result<Vec<AttachedDisk>, AllocError> {
     let mut disks = Vec::new(alloc);
     let mut address = FIRST_DISK;
     for volume in volumes {
         let unit = disk(alloc, volume)?;
         disks.push(AttachedDisk::new(DevAddr::new(address), unit))?;
-        add(subchannels, address)?;
         address = address.saturating_add(1);
     }
     Ok(disks)
@@ -92,15 +93,6 @@ fn disk(alloc: Global, volume: Volume) -> Result<Unit, AllocError> {
     // A volume has a first cylinder.
     let _cylinders = volume.count();
     Unit::new(alloc, volume, FIRST_CYLINDER)
-}
-
-/// A device more, where there is room for it.
-fn add(subchannels: &mut Subchannels, address: u16) -> Result<(), AllocError> {
-    let device = DevAddr::new(address);
-    if subchannels.can_add(device) {
-        subchannels.add(device)?;
-    }
-    Ok(())
 }
 
 /// The addresses of the devices of a machine.

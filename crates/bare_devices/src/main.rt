@@ -17,7 +17,6 @@ use cp_console::printing::reply;
 use cp_devices::{Devices, Places, Told};
 use s370_num::DevAddr;
 use s370_store::PlainStorage;
-use s370_subchannels::Subchannels;
 use std::alloc::Global;
 
 /// The device address of the reader.
@@ -77,17 +76,9 @@ fn machine(alloc: Global) -> Result<Bare> {
         printer: Some(DevAddr::new(PRINTER)),
         ..Places::NONE
     };
-    let mut subchannels = Subchannels::new(alloc);
-    for address in [READER, PRINTER] {
-        let address = DevAddr::new(address);
-        if !subchannels.can_add(address) {
-            bail!("no such device can be added");
-        }
-        subchannels.add(address)?;
-    }
     let storage = PlainStorage::new(alloc, 4)?;
     let devices = Devices::new(alloc, places);
-    let mut machine = Bare::new(alloc, storage, subchannels, devices, Vec::new(alloc));
+    let mut machine = Bare::new(alloc, storage, devices, Vec::new(alloc))?;
     for line in TYPED {
         machine.line(alloc, line.as_bytes())?;
     }

@@ -1,5 +1,5 @@
 //! A machine with its devices, and nobody else.
-ghost use Rattle.std.specs.Prelude.{◌≡◌, ◌≤◌, [], Option, true, IfOk, OnErr, OnOk, length, slice_get};
+ghost use Rattle.std.specs.Prelude.{◌≡◌, ◌≤◌, [], List, Option, true, IfOk, OnErr, OnOk, length, slice_get};
 ghost use Rattle.std.specs.Option.{option_map};
 ghost use Rattle.s370_store.specs.Plain.{plain_bytes, plain_keys};
 ghost use Rattle.s370_channel.specs.Reading.{as_reached};
@@ -8,7 +8,8 @@ ghost use Rattle.cp_panel.specs.Machine.{unused};
 ghost use Rattle.cp_panel.specs.Ready.{is_ready};
 ghost use Rattle.cp_panel.specs.Run.{run};
 ghost use Rattle.cp_panel.specs.Tick.{ticked};
-ghost use Rattle.cp_devices.specs.Devices.{devices_new, no_places};
+ghost use Rattle.s370_subchannels.specs.declared.subchannel.Subchannel.{Subchannel};
+ghost use Rattle.cp_devices.specs.Devices.{AreAttached, devices_new, no_places};
 ghost use Rattle.cp_devices.specs.Lines.{IsIpl, IsLine, IsWholeLine};
 ghost use Rattle.cp_devices.specs.Serve.{IsServedAt};
 ghost use Rattle.bare_installation.specs.Bare.{IsTyped, is_logged_on, next_file, noted, printed_file, punched, received, with_deck, world_of};
@@ -19,7 +20,7 @@ use crate::events::{Event, Reply};
 use crate::files::FileKind;
 use cp_channels::{AttachedDisk, Own};
 use cp_console::responses::Response;
-use cp_devices::{Devices, Places, Told};
+use cp_devices::{AttachError, Devices, Places, Told};
 use cp_panel::{LineError, Machine, MachineRan, Mode};
 use s370_channel::ChannelError;
 use s370_intr::{Pending, RealCpu};
@@ -60,9 +61,28 @@ impl Model for Bare {
 }
 
 impl Bare {
-    /// A machine that is off, with this storage of at least 8 KiB, which is cleared, these subchannels, which are
-    /// reset, the parts of their devices, and these disks.
+    /// A machine that is off, with this storage of at least 8 KiB, which is cleared, these devices and these disks,
+    /// each of which has an address of its own, on one of channels 0 to 5.
     pub fn new(
+        alloc: Global,
+        storage: PlainStorage,
+        devices: Devices,
+        disks: Vec<AttachedDisk>,
+    ) -> Result<Bare, AttachError>
+        requires { 8192 ≤ length (plain_bytes storage) }
+        ensures machine { IfOk result
+            (λ bare. (subchannels : List Subchannel) × AreAttached devices disks.items subchannels
+            × (bare.equipped.machine ≡ unused (plain_bytes storage) (plain_keys storage) subchannels)) }
+        ensures devices { IfOk result (λ bare. bare.equipped.devices ≡ devices) }
+        ensures disks { IfOk result (λ bare. bare.equipped.disks ≡ disks.items) }
+        ensures files { IfOk result (λ bare. bare.files ≡ []) }
+    {
+        let subchannels = devices.subchannels(alloc, &disks)?;
+        Ok(Bare::with_subchannels(alloc, storage, subchannels, devices, disks))
+    }
+
+    /// The same, where these subchannels are those of the devices and disks.
+    fn with_subchannels(
         alloc: Global,
         mut storage: PlainStorage,
         subchannels: Subchannels,
@@ -93,7 +113,7 @@ impl Bare {
         ensures disks { result.equipped.disks ≡ [] }
         ensures files { result.files ≡ [] }
     {
-        Bare::new(
+        Bare::with_subchannels(
             alloc,
             storage,
             Subchannels::new(alloc),

@@ -1,3 +1,4 @@
+mod Attached
 pub mod Requested
 pub mod Printed
 pub mod Cards

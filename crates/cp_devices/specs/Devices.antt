@@ -1,8 +1,10 @@
 -- The parts of the devices of one machine: console, card reader, card punch and line printer, each at its address or without
 -- one. The disks are those of its channels.
-use Rattle.std.specs.Prelude.{ℕ, ◌<◌, ◌==◌, Bool, false, if◌then◌else◌, List, length, Option, Some, None}
+use Rattle.std.specs.Prelude.{ℕ, ◌≡◌, ◌<◌, ◌==◌, ◌||◌, Bool, false, if◌then◌else◌, is_some, List, length, Option, Some, None}
 use Rattle.std.specs.Option.{option_map}
-use Rattle.std.specs.List.{position}
+use Rattle.std.specs.List.{list_any, position}
+use Rattle.s370_subchannels.specs.declared.subchannel.Subchannel.{Subchannel}
+use Rattle.s370_subchannels.specs.Subchannels.{found}
 use Rattle.unit_record.specs.declared.output.Target.{Target}
 use Rattle.unit_record.specs.declared.output.Target.TheVariants.{System}
 use Rattle.unit_record.specs.Console.{ConsoleState, console_new}
@@ -70,3 +72,11 @@ IsAttached disks kinds.Console = Unit {0}
 IsAttached disks kinds.Reader = Unit {0}
 IsAttached disks kinds.Punch = Unit {0}
 IsAttached disks kinds.Printer = Unit {0}
+
+-- a part or a disk has this address
+abbrev pub has_device : DevicesValue → List DiskAt → ℕ → Bool
+has_device d disks device = is_some (part_at d device) || list_any (is_disk_at device) disks
+
+-- there is a subchannel for each of them, and no other, on channels 0 to 5
+abbrev pub AreAttached : DevicesValue → List DiskAt → List Subchannel → Type 0
+AreAttached d disks list = (device : ℕ) → device < 0x600 → is_some (found device list) ≡ has_device d disks device

@@ -11,6 +11,7 @@
 //! ```
 #![tactic(auto)]
 
+mod attaching;
 mod devices;
 mod files;
 mod ipl;
@@ -24,6 +25,7 @@ mod serve;
 mod spooling;
 mod world;
 
+pub use attaching::AttachError;
 pub use devices::Devices;
 pub use files::deck_line;
 pub use laws::attention_agrees;

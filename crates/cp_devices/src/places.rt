@@ -1,5 +1,5 @@
 //! Where the devices of a machine are.
-ghost use Rattle.std.specs.Prelude.{◌≡◌};
+ghost use Rattle.std.specs.Prelude.{◌≡◌, ◌≤◌};
 ghost use Rattle.cp_devices.specs.Devices.{is_there};
 
 use s370_num::DevAddr;
@@ -21,6 +21,29 @@ impl Places {
         punch: None,
         printer: None,
     };
+
+    /// How many of them a machine has.
+    pub fn count(&self) -> usize
+        ensures { result ≤ 4 }
+    {
+        let Places {
+            console,
+            reader,
+            punch,
+            printer,
+        } = *self;
+        one_if(console.is_some())
+            + one_if(reader.is_some())
+            + one_if(punch.is_some())
+            + one_if(printer.is_some())
+    }
+}
+
+/// One where this holds, else none.
+fn one_if(holds: bool) -> usize
+    ensures { result ≤ 1 }
+{
+    if holds { 1 } else { 0 }
 }
 
 /// What has an address.

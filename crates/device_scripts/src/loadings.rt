@@ -81,7 +81,7 @@ fn machine(alloc: Global, loading: &Loading<'_>) -> Result<Bare> {
         let unit = Unit::new(alloc, make_volume(alloc, text.as_bytes())?, FIRST_TRACK)?;
         disks.push(AttachedDisk::new(device, unit))?;
     }
-    let mut machine = machine_of(alloc, BLOCKS, devices, disks, &[DEVICE])?;
+    let mut machine = machine_of(alloc, BLOCKS, devices, disks)?;
     if is_reader && loading.content != "-" {
         machine.deck(cards_of(alloc, loading.content)?)?;
     }

@@ -6,32 +6,21 @@ use bare_installation::Bare;
 use cp_channels::AttachedDisk;
 use cp_console::responses::Response;
 use cp_devices::{Devices, Told};
-use s370_num::DevAddr;
 use s370_store::PlainStorage;
-use s370_subchannels::Subchannels;
 use std::alloc::Global;
 
-/// A machine with a storage of so many blocks of 2048 bytes and devices at these addresses, whose user is logged on.
+/// A machine with a storage of so many blocks of 2048 bytes and these devices, whose user is logged on.
 pub fn machine_of(
     alloc: Global,
     blocks: u32,
     devices: Devices,
     disks: Vec<AttachedDisk>,
-    addresses: &[u16],
 ) -> Result<Bare>
     requires least { 4 ≤ blocks }
     requires most { blocks ≤ 2048 }
 {
     let storage = PlainStorage::new(alloc, blocks)?;
-    let mut subchannels = Subchannels::new(alloc);
-    for address in addresses {
-        let device = DevAddr::new(*address);
-        if !subchannels.can_add(device) {
-            bail!("no such device can be added");
-        }
-        subchannels.add(device)?;
-    }
-    let mut machine = Bare::new(alloc, storage, subchannels, devices, disks);
+    let mut machine = Bare::new(alloc, storage, devices, disks)?;
     log_on(alloc, &mut machine)?;
     Ok(machine)
 }

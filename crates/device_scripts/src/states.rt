@@ -62,7 +62,7 @@ fn machine(alloc: Global) -> Result<Bare> {
         let unit = Unit::new(alloc, volume, FIRST_TRACK)?;
         disks.push(AttachedDisk::new(DevAddr::new(address), unit))?;
     }
-    let mut machine = machine_of(alloc, BLOCKS, devices, disks, &DISKS)?;
+    let mut machine = machine_of(alloc, BLOCKS, devices, disks)?;
     for (place, digits) in STORED {
         store(alloc, &mut machine, place, digits)?;
     }
