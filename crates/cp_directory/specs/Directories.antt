@@ -17,7 +17,7 @@ at_line number (Err fault) = Err (number, fault)
 
 -- the users after one more line, or that line and its first fault
 abbrev pub directory_step : ℕ → List DirectoryUser → List ℕ → Result (List DirectoryUser) (ℕ × LineFault)
-directory_step number users line = at_line number (line_placed users line)
+directory_step number users line = at_line number (line_placed number users line)
 
 -- the users that a text states, or its first faulty line and the first fault of that line
 abbrev pub directory_of : List ℕ → Result (List DirectoryUser) (ℕ × LineFault)

@@ -8,7 +8,7 @@ use Rattle.cp_directory.specs.declared.spelling.SizeUnit.{SizeUnit}
 use Rattle.cp_directory.specs.declared.spelling.SizeUnit.TheVariants.{Kilobyte, Megabyte}
 use Rattle.cp_directory.specs.declared.spelling.SpelledSize.{SpelledSize}
 use Rattle.cp_directory.specs.declared.spelling.Statement.{Statement}
-use Rattle.cp_directory.specs.declared.spelling.Statement.TheVariants.{User}
+use Rattle.cp_directory.specs.declared.spelling.Statement.TheVariants.{User, Device, Minidisk}
 
 -- the kilobytes of a unit
 abbrev pub kilobytes_in : SizeUnit → ℕ
@@ -22,6 +22,8 @@ kilobytes size = number 0 size.digits.now * kilobytes_in size.unit
 -- what a statement states
 abbrev pub stated : Statement → Stated
 stated (User name size) = said.User name (kilobytes size)
+stated (Device kind address) = said.Device kind address
+stated (Minidisk address extent) = said.Disk address extent
 
 -- what is stated, or the fault
 abbrev pub stated_result : Result Statement LineFault → Result Stated LineFault

@@ -1,19 +1,30 @@
 //! A directory that was read, and its users.
-ghost use Rattle.std.specs.Prelude.{◌≡◌, ◌==◌, ◌<◌, ◌≤◌, ◌++◌, ◌∷◌, [], length, IfOk, OnErr};
+ghost use Rattle.std.specs.Prelude.{◌≡◌, ◌==◌, ◌<◌, ◌≤◌, ◌++◌, ◌∷◌, [], length, IfOk, IfSome, MatchOption, OnErr};
 ghost use Rattle.std.specs.List.{list_any};
 ghost use Rattle.cp_directory.specs.Statements.{has_name};
+ghost use Rattle.cp_directory.specs.Users.{first_conflict, has_device, is_full, last_user, minidisks_of, new_user};
+ghost use Rattle.cp_directory.specs.Users.{with_device, with_last, with_minidisk};
 
+use crate::devices::{DeviceKind, UserDevices};
+use crate::extent::DiskExtent;
+use crate::minidisk::Minidisk;
 use crate::name::UserName;
 use crate::storage::StorageSize;
 use cp_users::{MOST_USERS, Named};
+use s370_num::DevAddr;
 use std::alloc::{AllocError, Global};
 use std::marker::Model;
+
+/// The most devices of one user.
+pub const MOST_DEVICES: usize = 32;
 
 /// A user that a directory states.
 #[derive(Debug, Drop)]
 pub struct User {
     name: UserName,
     storage: StorageSize,
+    devices: UserDevices,
+    minidisks: Vec<Minidisk>,
 }
 
 impl Model for User {
@@ -21,15 +32,25 @@ impl Model for User {
 
     ghost Value = { DirectoryUser };
 
-    ghost view = { λ user. record { name = user.name; pages = user.storage } };
+    ghost view = { λ user. record {
+      name = user.name;
+      pages = user.storage;
+      devices = user.devices;
+      minidisks = user.minidisks.items;
+    } };
 }
 
 impl User {
-    /// A user of this name with storage of this size.
-    pub fn new(name: UserName, storage: StorageSize) -> User
-        ensures { result ≡ record { name = name; pages = storage } }
+    /// A user of this name with storage of this size and no device.
+    pub fn new(alloc: Global, name: UserName, storage: StorageSize) -> User
+        ensures { result ≡ new_user name storage }
     {
-        User { name, storage }
+        User {
+            name,
+            storage,
+            devices: UserDevices::NONE,
+            minidisks: Vec::new(alloc),
+        }
     }
 
     /// The characters of the name.
@@ -44,6 +65,62 @@ impl User {
         ensures { result ≡ self.now.pages }
     {
         self.storage
+    }
+
+    /// The devices that are no disks.
+    pub fn devices(&self) -> UserDevices
+        ensures { result ≡ self.now.devices }
+    {
+        self.devices
+    }
+
+    /// The minidisks, in the order of their lines.
+    pub fn minidisks(&self) -> &[Minidisk]
+        ensures { result.now ≡ self.now.minidisks }
+    {
+        self.minidisks.as_slice()
+    }
+
+    /// Whether a device of the user has this address.
+    pub fn has_device(&self, address: DevAddr) -> bool
+        ensures { result ≡ has_device address self.now }
+    {
+        self.devices.has(address) || self.minidisks.iter().any(|disk| disk.address == address)
+    }
+
+    /// Whether the user has as many devices as one may have.
+    pub fn is_full(&self) -> bool
+        ensures { result ≡ is_full self.now }
+    {
+        self.minidisks.len() >= MOST_DEVICES - self.devices.count()
+    }
+
+    /// The line of the first minidisk that conflicts with an extent.
+    fn first_conflict(&self, extent: &DiskExtent) -> Option<usize>
+        ensures { result ≡ first_conflict extent.now self.now.minidisks }
+    {
+        for disk in &self.minidisks {
+            if extent.conflicts_with(&disk.extent) {
+                return Some(disk.line);
+            }
+        }
+        None
+    }
+
+    /// Puts the device of this kind at this address.
+    fn put(&mut self, kind: DeviceKind, address: DevAddr)
+        ensures { self.new ≡ with_device kind address self.old }
+    {
+        self.devices.put(kind, address);
+    }
+
+    /// Adds a minidisk after the others. Where the growth is refused, nothing is added.
+    fn add_minidisk(&mut self, disk: Minidisk) -> Result<(), AllocError>
+        ensures ok { IfOk result (λ _. self.new ≡ with_minidisk disk self.old) }
+        ensures err { OnErr result (self.new ≡ self.old) }
+    {
+        self.minidisks.push(disk)?;
+        Ok(())
     }
 
     /// Whether this is the user's name.
@@ -122,6 +199,43 @@ impl Directory {
         ensures { result ≡ (length self.now == 0) }
     {
         self.users.is_empty()
+    }
+
+    /// The last user, to whom device statements belong.
+    pub(crate) fn last(&self) -> Option<&User>
+        ensures { MatchOption result (self.now ≡ []) (λ user. (0 < length self.now) × (user.now ≡ last_user self.now)) }
+    {
+        self.users.as_slice().last()
+    }
+
+    /// Gives the last user the device of this kind at this address.
+    pub(crate) fn put_device(&mut self, kind: DeviceKind, address: DevAddr)
+        requires { 0 < length self.old }
+        ensures { self.new ≡ with_last (with_device kind address) self.old }
+    {
+        let last = self.users.len() - 1;
+        self.users[last].put(kind, address);
+    }
+
+    /// Gives the last user one minidisk more. Where the growth is refused, nothing is added.
+    pub(crate) fn add_minidisk(&mut self, disk: Minidisk) -> Result<(), AllocError>
+        requires { 0 < length self.old }
+        ensures ok { IfOk result (λ _. self.new ≡ with_last (with_minidisk disk) self.old) }
+    {
+        let last = self.users.len() - 1;
+        self.users[last].add_minidisk(disk)
+    }
+
+    /// The line of the first minidisk of any user that conflicts with an extent.
+    pub(crate) fn first_conflict(&self, extent: &DiskExtent) -> Option<usize>
+        ensures { result ≡ first_conflict extent.now (minidisks_of self.now) }
+    {
+        for user in &self.users {
+            if let Some(line) = user.first_conflict(extent) {
+                return Some(line);
+            }
+        }
+        None
     }
 
     /// Whether a user has this name.

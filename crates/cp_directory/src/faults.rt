@@ -10,7 +10,7 @@ pub enum DirError {
     /// The allocator refused a growth.
     #[error("no memory is left for the directory")]
     Memory,
-    /// The line's words do not have the form of their statement.
+    /// The line's words do not have the form of their statement, or state a device before any user.
     #[error("line {0}: the operands are not those of the statement")]
     Syntax(usize),
     /// The line's first word names no statement.
@@ -19,20 +19,20 @@ pub enum DirError {
     /// An earlier line states a user of this name.
     #[error("line {0}: an earlier line has a user of this name")]
     DuplicateUser(usize),
-    /// The user has a device at this address, or one of this kind where it can have but one.
+    /// The user has a device at this address.
     #[error("line {0}: the user has this device already")]
     DuplicateDevice(usize),
     /// The storage is not one that a user may have.
     #[error("line {0}: storage is 8K to 4096K in steps of 4K, or 1M to 4M")]
     BadStorage(usize),
-    /// The cylinders are not those of a volume.
+    /// There is no cylinder, or one that no volume has.
     #[error("line {0}: no volume has these cylinders")]
     BadExtent(usize),
-    /// The extent shares a cylinder with that of an earlier line, told first.
+    /// The extent shares a cylinder with that of an earlier line, told first, and not both are read-only.
     #[error("line {1}: the cylinders overlap those of line {0}")]
     Overlap(usize, usize),
     /// A limit on users or devices is passed.
-    #[error("line {0}: this is past the limit, which is 64 users")]
+    #[error("line {0}: this is past the limit, which is 64 users, 32 devices of a user and one of a kind but disks")]
     TooMany(usize),
 }
 

@@ -17,15 +17,22 @@
 //! in the order in which they are told. A new statement is a case in each.
 #![tactic(auto)]
 
+mod device_spelling;
+mod devices;
 mod directory;
+mod extent;
 mod faults;
+mod minidisk;
 mod name;
 mod reader;
 mod spelling;
 mod storage;
 
-pub use directory::{Directory, User};
+pub use devices::{DeviceKind, UserDevices};
+pub use directory::{Directory, MOST_DEVICES, User};
+pub use extent::{DiskExtent, DiskMode, MOST_CYLINDERS, SpelledExtent, Volser};
 pub use faults::DirError;
+pub use minidisk::Minidisk;
 pub use name::UserName;
 pub use reader::{read_directory, reads_grammar};
 pub use spelling::storage_of;

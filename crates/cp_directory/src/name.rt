@@ -71,7 +71,8 @@ pub fn is_short_word(word: &[u8]) -> bool
     word.iter().all(|c| is_letter_or_digit(*c))
 }
 
-fn is_letter_or_digit(c: u8) -> bool
+/// Whether this is one of `A` to `Z` and `0` to `9`.
+pub fn is_letter_or_digit(c: u8) -> bool
     ensures { result ≡ is_letter_or_digit c }
 {
     is_letter(c) || is_digit(c)

@@ -1,18 +1,22 @@
 //! The reader of directories: line by line, and each statement after those before it.
-ghost use Rattle.std.specs.Prelude.{◌≡◌, IfOk, IfErr, Ok};
+ghost use Rattle.std.specs.Prelude.{◌≡◌, ℕ, IfOk, IfErr, Ok};
 ghost use Rattle.cp_directory.specs.Directories.{IsRefusal, Places, directory_of};
 ghost use Rattle.cp_directory.specs.Grammar.{IsLawful, ReadsGrammar};
 ghost use Rattle.cp_directory.specs.Spelled.{kilobytes, stated};
 ghost use Rattle.cp_directory.specs.Statements as said;
 ghost use Rattle.cp_directory.specs.Statements.{line_placed, placed};
 
+use crate::devices::DeviceKind;
 use crate::directory::{Directory, User};
+use crate::extent::{DiskExtent, SpelledExtent};
 use crate::faults::{DirError, LineError, LineFault};
+use crate::minidisk::Minidisk;
 use crate::name::UserName;
 use crate::spelling::{SpelledSize, Statement, read_statement, size_of};
 use cp_text::lines::{is_comment, numbered_lines};
 use cp_text::words::words_of;
 use cp_users::MOST_USERS;
+use s370_num::DevAddr;
 use std::alloc::Global;
 
 /// The directory that a text states.
@@ -33,7 +37,7 @@ pub fn read_directory(alloc: Global, text: &[u8]) -> Result<Directory, DirError>
 {
     let mut directory = Directory::new(alloc);
     for line in numbered_lines(text) {
-        match read_line(alloc, &mut directory, line.text) {
+        match read_line(alloc, &mut directory, line.number, line.text) {
             Ok(()) => {}
             Err(LineError::Memory) => return Err(DirError::Memory),
             Err(LineError::Fault(fault)) => return Err(fault.at(line.number)),
@@ -42,9 +46,14 @@ pub fn read_directory(alloc: Global, text: &[u8]) -> Result<Directory, DirError>
     Ok(directory)
 }
 
-/// Reads one line after those that the directory has.
-fn read_line(alloc: Global, directory: &mut Directory, line: &[u8]) -> Result<(), LineError>
-    ensures { Places (line_placed directory.old line.now) directory.new result }
+/// Reads the line of this number after those that the directory has.
+fn read_line(
+    alloc: Global,
+    directory: &mut Directory,
+    number: usize,
+    line: &[u8],
+) -> Result<(), LineError>
+    ensures { Places (line_placed number directory.old line.now) directory.new result }
 {
     if is_comment(line) {
         return Ok(());
@@ -56,27 +65,36 @@ fn read_line(alloc: Global, directory: &mut Directory, line: &[u8]) -> Result<()
     match words.as_slice() {
         [] => Ok(()),
         [verb, operands @ ..] => match read_statement(verb, operands) {
-            Ok(statement) => place(directory, statement),
+            Ok(statement) => place(alloc, directory, number, statement),
             Err(fault) => Err(LineError::Fault(fault)),
         },
     }
 }
 
 /// Adds what a statement states, or finds its first fault by what the directory has.
-fn place(directory: &mut Directory, statement: Statement<'_>) -> Result<(), LineError>
-    ensures { Places (placed directory.old (stated statement.entry)) directory.new result }
+fn place(
+    alloc: Global,
+    directory: &mut Directory,
+    line: usize,
+    statement: Statement<'_>,
+) -> Result<(), LineError>
+    ensures { Places (placed line directory.old (stated statement.entry)) directory.new result }
 {
     match statement {
-        Statement::User(name, size) => place_user(directory, name, size),
+        Statement::User(name, size) => place_user(alloc, directory, name, size),
+        Statement::Device(kind, address) => place_device(directory, kind, address),
+        Statement::Minidisk(address, extent) => place_minidisk(directory, line, address, extent),
     }
 }
 
 fn place_user(
+    alloc: Global,
     directory: &mut Directory,
     name: UserName,
     spelled: SpelledSize<'_>,
 ) -> Result<(), LineError>
-    ensures { Places (placed directory.old (said.User name (kilobytes spelled.entry))) directory.new result }
+    ensures { (line : ℕ) → let user = said.User name (kilobytes spelled.entry) in
+        Places (placed line directory.old user) directory.new result }
 {
     if directory.contains(name.as_bytes()) {
         return Err(LineError::Fault(LineFault::DuplicateUser));
@@ -88,7 +106,63 @@ fn place_user(
     if directory.len() >= MOST_USERS {
         return Err(LineError::Fault(LineFault::TooMany));
     }
-    match directory.push(User::new(name, size)) {
+    match directory.push(User::new(alloc, name, size)) {
+        Ok(()) => Ok(()),
+        Err(_) => Err(LineError::Memory),
+    }
+}
+
+fn place_device(
+    directory: &mut Directory,
+    kind: DeviceKind,
+    address: DevAddr,
+) -> Result<(), LineError>
+    ensures { (line : ℕ) → Places (placed line directory.old (said.Device kind address)) directory.new result }
+{
+    let Some(user) = directory.last() else {
+        return Err(LineError::Fault(LineFault::Syntax));
+    };
+    if user.has_device(address) {
+        return Err(LineError::Fault(LineFault::DuplicateDevice));
+    }
+    if user.is_full() || user.devices().place_of(kind).is_some() {
+        return Err(LineError::Fault(LineFault::TooMany));
+    }
+    directory.put_device(kind, address);
+    Ok(())
+}
+
+fn place_minidisk(
+    directory: &mut Directory,
+    line: usize,
+    address: DevAddr,
+    spelled: SpelledExtent,
+) -> Result<(), LineError>
+    ensures { Places (placed line directory.old (said.Disk address spelled)) directory.new result }
+{
+    let Some(user) = directory.last() else {
+        return Err(LineError::Fault(LineFault::Syntax));
+    };
+    if user.has_device(address) {
+        return Err(LineError::Fault(LineFault::DuplicateDevice));
+    }
+    let is_full = user.is_full();
+    let extent = match DiskExtent::new(spelled) {
+        Some(extent) => extent,
+        None => return Err(LineError::Fault(LineFault::BadExtent)),
+    };
+    if let Some(first) = directory.first_conflict(&extent) {
+        return Err(LineError::Fault(LineFault::Overlap(first)));
+    }
+    if is_full {
+        return Err(LineError::Fault(LineFault::TooMany));
+    }
+    let disk = Minidisk {
+        line,
+        address,
+        extent,
+    };
+    match directory.add_minidisk(disk) {
         Ok(()) => Ok(()),
         Err(_) => Err(LineError::Memory),
     }

@@ -7,10 +7,14 @@ ghost use Rattle.cp_directory.specs.Sizes.{is_number, kilobytes_of, kilobytes_by
 ghost use Rattle.cp_directory.specs.Statements.{stated_by, user_of, user_stated, well_formed};
 ghost use Rattle.cp_directory.specs.Spelled.{kilobytes, kilobytes_in, stated, stated_result};
 
+use crate::device_spelling::{read_console, read_minidisk, read_spool};
+use crate::devices::DeviceKind;
+use crate::extent::SpelledExtent;
 use crate::faults::LineFault;
 use crate::name::{UserName, is_short_word};
 use crate::storage::StorageSize;
 use cp_text::numbers::is_digit;
+use s370_num::DevAddr;
 
 /// The letter of a size.
 #[derive(Clone, Copy)]
@@ -31,6 +35,10 @@ pub struct SpelledSize<'a> {
 pub enum Statement<'a> {
     /// A user of this name, with storage of this size.
     User(UserName, SpelledSize<'a>),
+    /// A device of this kind at this address.
+    Device(DeviceKind, DevAddr),
+    /// A minidisk at this address, of this extent.
+    Minidisk(DevAddr, SpelledExtent),
 }
 
 /// The statement that begins with this word and has these operands.
@@ -39,6 +47,12 @@ pub fn read_statement<'a>(verb: &[u8], operands: &[&'a [u8]]) -> Result<Statemen
 {
     if verb == b"USER".as_slice() {
         well_formed(read_user(operands))
+    } else if verb == b"CONSOLE".as_slice() {
+        well_formed(read_console(operands))
+    } else if verb == b"SPOOL".as_slice() {
+        well_formed(read_spool(operands))
+    } else if verb == b"MDISK".as_slice() {
+        well_formed(read_minidisk(operands))
     } else {
         Err(LineFault::UnknownStatement)
     }

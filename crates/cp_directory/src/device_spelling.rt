@@ -1,0 +1,127 @@
+//! What the words of a device's statement state.
+ghost use Rattle.std.specs.Prelude.{◌≡◌, map};
+ghost use Rattle.std.specs.Option.{option_map};
+ghost use Rattle.cp_directory.specs.Statements.{address_of, console_of, console_stated, disk_of, disk_stated};
+ghost use Rattle.cp_directory.specs.Statements.{extent_spelled, low_address, spool_kind_of, spool_of, spool_stated};
+ghost use Rattle.cp_directory.specs.Spelled.{stated};
+
+use crate::devices::DeviceKind;
+use crate::extent::{DiskMode, SpelledExtent, Volser};
+use crate::spelling::Statement;
+use cp_text::numbers::{decimal_of, hexadecimal_of};
+use s370_num::DevAddr;
+
+/// The highest address of a device.
+const HIGHEST_ADDRESS: u32 = 0x5FF;
+
+/// `CONSOLE address 3215`
+pub fn read_console<'a>(operands: &[&'a [u8]]) -> Option<Statement<'a>>
+    ensures { option_map stated result ≡ console_stated (map (λ w. w.now) operands.now) }
+{
+    match operands {
+        [address, model] => console_of(address, model),
+        _ => None,
+    }
+}
+
+fn console_of<'a>(address: &'a [u8], model: &[u8]) -> Option<Statement<'a>>
+    ensures { option_map stated result ≡ console_of address.now model.now }
+{
+    if model != b"3215".as_slice() {
+        return None;
+    }
+    Some(Statement::Device(DeviceKind::Console, address_of(address)?))
+}
+
+/// `SPOOL address kind`
+pub fn read_spool<'a>(operands: &[&'a [u8]]) -> Option<Statement<'a>>
+    ensures { option_map stated result ≡ spool_stated (map (λ w. w.now) operands.now) }
+{
+    match operands {
+        [address, kind] => spool_of(address, kind),
+        _ => None,
+    }
+}
+
+fn spool_of<'a>(address: &'a [u8], kind: &[u8]) -> Option<Statement<'a>>
+    ensures { option_map stated result ≡ spool_of address.now kind.now }
+{
+    let address = address_of(address)?;
+    let kind = spool_kind_of(kind)?;
+    Some(Statement::Device(kind, address))
+}
+
+/// What is spooled.
+fn spool_kind_of(word: &[u8]) -> Option<DeviceKind>
+    ensures { result ≡ spool_kind_of word.now }
+{
+    if word == b"READER".as_slice() {
+        Some(DeviceKind::Reader)
+    } else if word == b"PUNCH".as_slice() {
+        Some(DeviceKind::Punch)
+    } else if word == b"PRINTER".as_slice() {
+        Some(DeviceKind::Printer)
+    } else {
+        None
+    }
+}
+
+/// `MDISK address 3330 start count volser mode`
+pub fn read_minidisk<'a>(operands: &[&'a [u8]]) -> Option<Statement<'a>>
+    ensures { option_map stated result ≡ disk_stated (map (λ w. w.now) operands.now) }
+{
+    match operands {
+        [address, model, start, count, volser, mode] => {
+            disk_of(address, model, extent_spelled(start, count, volser, mode))
+        }
+        _ => None,
+    }
+}
+
+fn disk_of<'a>(
+    address: &'a [u8],
+    model: &[u8],
+    extent: Option<SpelledExtent>,
+) -> Option<Statement<'a>>
+    ensures { option_map stated result ≡ disk_of address.now model.now extent }
+{
+    if model != b"3330".as_slice() {
+        return None;
+    }
+    let address = address_of(address)?;
+    let extent = extent?;
+    Some(Statement::Minidisk(address, extent))
+}
+
+/// The cylinders of a volume, and how they may be used.
+fn extent_spelled(start: &[u8], count: &[u8], volser: &[u8], mode: &[u8]) -> Option<SpelledExtent>
+    ensures { result ≡ extent_spelled start.now count.now volser.now mode.now }
+{
+    let volser = Volser::new(volser)?;
+    let start = decimal_of(4, start)?;
+    let count = decimal_of(4, count)?;
+    let mode = DiskMode::new(mode)?;
+    Some(SpelledExtent {
+        volser,
+        start,
+        count,
+        mode,
+    })
+}
+
+/// The address of a device: three hexadecimal digits.
+fn address_of(word: &[u8]) -> Option<DevAddr>
+    ensures { result ≡ address_of word.now }
+{
+    low_address(hexadecimal_of(3, 3, word)?)
+}
+
+/// The address, where a device may have it.
+fn low_address(address: u32) -> Option<DevAddr>
+    ensures { result ≡ low_address address }
+{
+    if address > HIGHEST_ADDRESS {
+        return None;
+    }
+    Some(DevAddr::new(address as u16))
+}

@@ -1,0 +1,101 @@
+//! The devices of a user that are no disks.
+ghost use Rattle.std.specs.Prelude.{◌≡◌, ◌≤◌, ◌==◌, length};
+ghost use Rattle.std.specs.List.{list_any};
+ghost use Rattle.std.specs.Option.{option_to_list};
+ghost use Rattle.cp_directory.specs.Devices.{place_of, places_of, with_place};
+
+use s370_num::DevAddr;
+
+/// A kind of device of which a user has at most one.
+#[derive(Clone, Copy, Debug, PartialEq, Eq)]
+pub enum DeviceKind {
+    Console,
+    Reader,
+    Punch,
+    Printer,
+}
+
+/// The addresses of a user's console, reader, punch and printer; None where the user has no such device.
+#[derive(Clone, Copy, Debug, PartialEq, Eq)]
+pub struct UserDevices {
+    pub console: Option<DevAddr>,
+    pub reader: Option<DevAddr>,
+    pub punch: Option<DevAddr>,
+    pub printer: Option<DevAddr>,
+}
+
+impl UserDevices {
+    /// None of them.
+    pub const NONE: UserDevices = UserDevices {
+        console: None,
+        reader: None,
+        punch: None,
+        printer: None,
+    };
+
+    /// The address of the device of this kind.
+    pub fn place_of(&self, kind: DeviceKind) -> Option<DevAddr>
+        ensures { result ≡ place_of self.now kind }
+    {
+        match kind {
+            DeviceKind::Console => self.console,
+            DeviceKind::Reader => self.reader,
+            DeviceKind::Punch => self.punch,
+            DeviceKind::Printer => self.printer,
+        }
+    }
+
+    /// Whether one of them has this address.
+    pub fn has(&self, address: DevAddr) -> bool
+        ensures { result ≡ list_any (λ other. other == address) (places_of self.now) }
+    {
+        is_there(self.console, address)
+            || is_there(self.reader, address)
+            || is_there(self.punch, address)
+            || is_there(self.printer, address)
+    }
+
+    /// How many there are.
+    pub fn count(&self) -> usize
+        ensures value { result ≡ length (places_of self.now) }
+        ensures few { result ≤ 4 }
+    {
+        count_of(self.console)
+            + count_of(self.reader)
+            + count_of(self.punch)
+            + count_of(self.printer)
+    }
+
+    /// Puts the device of this kind at this address.
+    pub(crate) fn put(&mut self, kind: DeviceKind, address: DevAddr)
+        ensures { self.new ≡ with_place self.old kind address }
+    {
+        match kind {
+            DeviceKind::Console => self.console = Some(address),
+            DeviceKind::Reader => self.reader = Some(address),
+            DeviceKind::Punch => self.punch = Some(address),
+            DeviceKind::Printer => self.printer = Some(address),
+        }
+    }
+}
+
+/// Whether a device has this address.
+fn is_there(place: Option<DevAddr>, address: DevAddr) -> bool
+    ensures { result ≡ list_any (λ other. other == address) (option_to_list place) }
+{
+    match place {
+        Some(other) => other == address,
+        None => false,
+    }
+}
+
+/// One device, or none.
+fn count_of(place: Option<DevAddr>) -> usize
+    ensures value { result ≡ length (option_to_list place) }
+    ensures few { result ≤ 1 }
+{
+    match place {
+        Some(_) => 1,
+        None => 0,
+    }
+}
