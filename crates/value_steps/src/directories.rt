@@ -1,7 +1,9 @@
 //! Directories, their users and their faults.
 use crate::step::Step;
 use crate::telling::{add, add_quoted, none};
-use cp_directory::{DirError, Directory, User, read_directory, storage_of};
+use cp_directory::{
+    DeviceKind, DirError, Directory, DiskMode, Minidisk, User, read_directory, storage_of,
+};
 use cp_users::{MOST_USERS, UserNo, name_of, user_of};
 use std::alloc::{AllocError, Global};
 
@@ -80,6 +82,70 @@ pub fn crowd(alloc: Global, step: &Step<'_>) -> Result<String, AllocError> {
     }
     text.extend_from_slice(step.text())?;
     directory(alloc, &text)
+}
+
+/// `full "CONSOLE 009 3215"`: the answer to this text behind the lines of a user with 31 minidisks, of a cylinder each, at 100 and up.
+pub fn full(alloc: Global, step: &Step<'_>) -> Result<String, AllocError> {
+    let mut text = Vec::new(alloc);
+    text.extend_from_slice(b"USER A P 8K\n")?;
+    for number in 0..31u16 {
+        let address = 0x100 + number;
+        let line = format!(in alloc; "MDISK {address:03X} 3330 {number} 1 VOL1 W\n")?;
+        text.extend_from_slice(line.as_bytes())?;
+    }
+    text.extend_from_slice(step.text())?;
+    directory(alloc, &text)
+}
+
+/// `devices "USER A P 8K\nCONSOLE 009 3215\n"`: the devices of each user that a text states.
+pub fn devices(alloc: Global, step: &Step<'_>) -> Result<String, AllocError> {
+    let Ok(directory) = read(alloc, step.text())? else {
+        return none(alloc);
+    };
+    let mut told = String::new(alloc);
+    for user in directory.users() {
+        add_quoted(alloc, &mut told, user.name())?;
+        add_devices(alloc, &mut told, user)?;
+        for disk in user.minidisks() {
+            add_minidisk(alloc, &mut told, disk)?;
+        }
+        if user.is_full() {
+            add(&mut told, "full")?;
+        }
+    }
+    Ok(told)
+}
+
+/// Adds those that are no disks.
+fn add_devices(alloc: Global, told: &mut String, user: &User) -> Result<(), AllocError> {
+    let kinds = [
+        (DeviceKind::Console, "console"),
+        (DeviceKind::Reader, "reader"),
+        (DeviceKind::Punch, "punch"),
+        (DeviceKind::Printer, "printer"),
+    ];
+    for (kind, name) in kinds {
+        if let Some(address) = user.devices().place_of(kind) {
+            let text = format!(in alloc; "{name} {address}")?;
+            add(told, text.as_str())?;
+        }
+    }
+    Ok(())
+}
+
+/// Adds a minidisk: its address, its line, the characters on its volume, the first cylinder and how many, and its mode.
+fn add_minidisk(alloc: Global, told: &mut String, disk: &Minidisk) -> Result<(), AllocError> {
+    let (address, line) = (disk.address, disk.line);
+    let place = format!(in alloc; "minidisk {address} of line {line}")?;
+    add(told, place.as_str())?;
+    add_quoted(alloc, told, &disk.extent.volser().padded())?;
+    let (start, count) = (disk.extent.start(), disk.extent.count());
+    let mode = match disk.extent.mode() {
+        DiskMode::ReadOnly => "read",
+        DiskMode::Writable => "write",
+    };
+    let cylinders = format!(in alloc; "{start} {count} {mode}")?;
+    add(told, cylinders.as_str())
 }
 
 /// `size "8K"`: the pages of a storage that is spelled so.
