@@ -1,5 +1,5 @@
 -- What is read is in the grammar, what is in the grammar is read, and another text has its first fault told.
-use Rattle.std.proofs.Common.{◌≡◌, ℕ, ◌+◌, ◌≤◌, ◌⊎◌, inl, inr, Bool, true, false, cond, List, [], ◌∷◌, length, Result, Ok, Err, refl, ap, sym, ◌∙◌, subst, arith}
+use Rattle.std.proofs.Common.{◌≡◌, ℕ, ◌+◌, ◌≤◌, ◌⊎◌, inl, inr, Bool, true, false, cond, List, [], ◌∷◌, ◌++◌, length, Result, Ok, Err, refl, ap, sym, ◌∙◌, subst, arith}
 use Rattle.cp_text.specs.Lines.{and_then, is_comment, lines_of, read_lines}
 use Rattle.cp_text.specs.Words.{words_of}
 use Rattle.cp_text.proofs.Spellings.{chosen}
@@ -11,7 +11,7 @@ use Rattle.cp_directory.specs.Grammar.{Continues, HasFault, IsFirstFault, IsIgno
 use Rattle.cp_directory.specs.declared.faults.LineFault.{LineFault}
 use Rattle.cp_directory.specs.declared.faults.LineFault.TheVariants.{UnknownStatement, Syntax, DuplicateUser, DuplicateDevice, BadStorage, BadExtent, Overlap, TooMany}
 use Rattle.cp_directory.proofs.Spellings.{Unread, Unnamed, Misspelled, again, found, is_verb, unread}
-use Rattle.cp_directory.proofs.Places.{Judged, right_again, right_found, wrong_found}
+use Rattle.cp_directory.proofs.Places.{Judged, no_fault, one_fault, own, right_again, right_found, wrong_found}
 
 -- a line adds nothing, or what it states
 abbrev Adds : ℕ → List DirectoryUser → List ℕ → List DirectoryUser → Type 0
@@ -155,9 +155,51 @@ first_bad lines number fault h =
       first = judged.1.first;
     }
 
+-- ---- and the first fault is told
+
+refused_on : (n : ℕ) (lines rest : List (List ℕ)) (users : List DirectoryUser) (told : ℕ × LineFault) (r : Result (List DirectoryUser) (ℕ × LineFault))
+    → ((next : List DirectoryUser) → read_lines directory_step (n + 1) next lines ≡ Ok users → read_lines directory_step (n + 1) next rest ≡ Err told)
+    → and_then r (λ next. read_lines directory_step (n + 1) next lines) ≡ Ok users → and_then r (λ next. read_lines directory_step (n + 1) next rest) ≡ Err told
+refused_on n lines rest users told (Err other) hyp h = cc
+refused_on n lines rest users told (Ok next) hyp h = hyp next h
+
+refused_first : (n : ℕ) (s users : List DirectoryUser) (line : List ℕ) (after : List (List ℕ)) (number : ℕ) (fault : LineFault) → s ≡ users → number ≡ n → line_placed number users line ≡ Err fault
+    → read_lines directory_step n s (line ∷ after) ≡ Err (number, fault)
+refused_first n s users line after number fault e m h = rw (e, ← m, h) refl
+
+-- where the lines before this one are read, and it is refused, it is told
+refused_at : (n : ℕ) (s : List DirectoryUser) (before : List (List ℕ)) (line : List ℕ) (after : List (List ℕ)) (users : List DirectoryUser) (number : ℕ) (fault : LineFault)
+    → read_lines directory_step n s before ≡ Ok users → number ≡ n + length before → line_placed number users line ≡ Err fault → read_lines directory_step n s (before ++ line ∷ after) ≡ Err (number, fault)
+refused_at n s [] line after users number fault h m k = let same : s ≡ users = cc in refused_first n s users line after number fault same (omega (arith, m)) k
+refused_at n s (one ∷ before) line after users number fault h m k =
+    refused_on n before (before ++ line ∷ after) users (number, fault) (directory_step n s one)
+    (λ next read. refused_at (n + 1) next before line after users number fault read (omega (arith, m)) k) h
+
+first_again_on : (number : ℕ) (users : List DirectoryUser) (line : List ℕ) (fault : LineFault) (r : Result (List DirectoryUser) LineFault) → line_placed number users line ≡ r → is_comment line ≡ false → HasFault users (words_of line) fault
+    → ((other : LineFault) → HasFault users (words_of line) other → order fault ≤ order other) → line_placed number users line ≡ Err fault
+first_again_on number users line fault (Ok next) e counted has first = elim (line_found number users line next e) [
+  | inl k ↦ elim k.0 [
+    | inl comment ↦ cc
+    | inr empty ↦ absurd (no_fault users fault (subst (λ (w : List (List ℕ)). HasFault users w fault) empty has))
+  ]
+  | inr k ↦ let states = k.1 in absurd (states.right fault (own users (words_of line) k.0 fault states.says has))
+]
+first_again_on number users line fault (Err told) e counted has first =
+    let judged = bad_found number users line told e in
+    let early = judged.1.first fault has in
+    let late = first told judged.1.has in
+    e ∙ ap Err (one_fault users (words_of line) told fault judged.1.has has (omega arith))
+
+first_again : (lines : List (List ℕ)) (number : ℕ) (fault : LineFault) → IsFirstFault lines number fault → read_lines directory_step 1 [] lines ≡ Err (number, fault)
+first_again lines number fault h =
+    ap (read_lines directory_step 1 []) h.at.split
+    ∙ refused_at 1 [] h.at.before h.at.line h.at.after h.users number fault (continue_again 1 [] h.at.before h.users h.accepted) (omega (arith, h.at.numbered))
+    (first_again_on number h.users h.at.line fault (line_placed number h.users h.at.line) refl h.counted h.has h.first)
+
 pub reads : ReadsGrammar
 reads text = (
   λ users h. continue_found 1 [] (lines_of text) users h,
   λ users h. continue_again 1 [] (lines_of text) users h,
   λ number fault h. first_bad (lines_of text) number fault h,
+  λ number fault h. first_again (lines_of text) number fault h,
 )

@@ -1,5 +1,5 @@
 -- A statement after those before it: nothing is wrong with it, or its first fault is.
-use Rattle.std.proofs.Common.{◌≡◌, ℕ, ◌+◌, ◌<◌, ◌≤◌, ◌⊎◌, inl, inr, ◌&&◌, ◌||◌, Bool, true, false, not, eqb, leb, List, [], ◌∷◌, length, Option, Some, None, Ok, Err, refl, sym, ◌∙◌, subst, arith}
+use Rattle.std.proofs.Common.{◌≡◌, ℕ, ◌+◌, ◌<◌, ◌≤◌, ◌⊎◌, inl, inr, ◌&&◌, ◌||◌, Bool, true, false, not, eqb, leb, List, [], ◌∷◌, length, Option, Some, None, Ok, Err, refl, ap, sym, ◌∙◌, subst, arith}
 use Rattle.std.specs.List.{list_any}
 use Rattle.std.specs.Option.{option_map, is_some}
 use Rattle.std.proofs.lemmas.Bool.{leb-true, leb-false}
@@ -215,7 +215,7 @@ wrong users words (Overlap line) w = w
 wrong users words TooMany w = w
 
 -- words that say a statement have no fault but its own
-own : (users : List DirectoryUser) (words : List (List ℕ)) (s : Stated) (fault : LineFault) → Says words s → HasFault users words fault → Breaks users s fault
+pub own : (users : List DirectoryUser) (words : List (List ℕ)) (s : Stated) (fault : LineFault) → Says words s → HasFault users words fault → Breaks users s fault
 own users words s UnknownStatement says h = absurd (known words s says h)
 own users words s Syntax says h = elim h [ inl m ↦ absurd (m.silent s says) | inr w ↦ only users words s Syntax says w ]
 own users words s DuplicateUser says h = only users words s DuplicateUser says h
@@ -237,3 +237,65 @@ wrong_found line users words s fault says h =
       has = wrong users words fault (record { statement = s; says = says; breaks = breaks users s fault (first_told (faults_of users s) fault told) });
       first = λ other k. least (faults_of users s) fault other (in_order users s).ascends told (tells users s other (own users words s other says k));
     }
+
+-- ---- a line has one first fault
+
+-- faults at one place of the order are one, or both are of an overlap
+pub data AtOnePlace (fault other : LineFault) : Type 0 where
+  Same : fault ≡ other → AtOnePlace fault other
+  Overlaps : (line first : ℕ) → fault ≡ Overlap line → other ≡ Overlap first → AtOnePlace fault other
+
+at_one_place : (fault other : LineFault) → order fault ≡ order other → AtOnePlace fault other
+at_one_place UnknownStatement UnknownStatement h = Same refl
+at_one_place UnknownStatement _ h = absurd (omega arith)
+at_one_place Syntax Syntax h = Same refl
+at_one_place Syntax _ h = absurd (omega arith)
+at_one_place DuplicateUser DuplicateUser h = Same refl
+at_one_place DuplicateUser _ h = absurd (omega arith)
+at_one_place DuplicateDevice DuplicateDevice h = Same refl
+at_one_place DuplicateDevice _ h = absurd (omega arith)
+at_one_place BadStorage BadStorage h = Same refl
+at_one_place BadStorage _ h = absurd (omega arith)
+at_one_place BadExtent BadExtent h = Same refl
+at_one_place BadExtent _ h = absurd (omega arith)
+at_one_place (Overlap line) (Overlap first) h = Overlaps line first refl refl
+at_one_place (Overlap line) _ h = absurd (omega arith)
+at_one_place TooMany TooMany h = Same refl
+at_one_place TooMany _ h = absurd (omega arith)
+
+-- a statement overlaps the disk of one line first
+one_overlap : (users : List DirectoryUser) (s : Stated) (line first : ℕ) → Breaks users s (Overlap line) → Breaks users s (Overlap first) → line ≡ first
+one_overlap users (User name k) line first h k' = absurd h
+one_overlap users (Device kind address) line first h k' = absurd h
+one_overlap users (Disk address extent) line first h k' =
+    let twice : Some line ≡ Some first = sym (first_again extent (minidisks_of users) line h) ∙ first_again extent (minidisks_of users) first k' in
+    cc
+
+one_fault_on : (users : List DirectoryUser) (words : List (List ℕ)) (fault other : LineFault) → HasFault users words fault → HasFault users words other → AtOnePlace fault other → fault ≡ other
+one_fault_on users words fault other h k (Same e) = e
+one_fault_on users words fault other h k (Overlaps line first e f) =
+    let w : SaysWrong users words (Overlap line) = subst (HasFault users words) e h in
+    let v : SaysWrong users words (Overlap first) = subst (HasFault users words) f k in
+    let same = one_overlap users w.statement line first w.breaks (only users words w.statement (Overlap first) w.says v) in
+    e ∙ ap Overlap same ∙ sym f
+
+-- words have one fault at each place of the order
+pub one_fault : (users : List DirectoryUser) (words : List (List ℕ)) (fault other : LineFault) → HasFault users words fault → HasFault users words other → order fault ≡ order other → fault ≡ other
+one_fault users words fault other h k e = one_fault_on users words fault other h k (at_one_place fault other e)
+
+nothing_begins : (verb : List ℕ) (operands : List (List ℕ)) → [] ≡ verb ∷ operands → ⊥
+nothing_begins verb operands h = cc
+
+says_nothing : (s : Stated) → Says [] s → ⊥
+says_nothing s says = let a = again [] s says in nothing_begins a.verb a.operands a.begins
+
+-- a line without words has none
+pub no_fault : (users : List DirectoryUser) (fault : LineFault) → HasFault users [] fault → ⊥
+no_fault users UnknownStatement h = nothing_begins h.verb h.operands h.begins
+no_fault users Syntax h = elim h [ inl m ↦ nothing_begins m.verb m.operands m.begins | inr w ↦ says_nothing w.statement w.says ]
+no_fault users DuplicateUser w = says_nothing w.statement w.says
+no_fault users DuplicateDevice w = says_nothing w.statement w.says
+no_fault users BadStorage w = says_nothing w.statement w.says
+no_fault users BadExtent w = says_nothing w.statement w.says
+no_fault users (Overlap line) w = says_nothing w.statement w.says
+no_fault users TooMany w = says_nothing w.statement w.says

@@ -199,12 +199,14 @@ pub record IsFirstFault (lines : List (List ℕ)) (number : ℕ) (fault : LineFa
   pub has : HasFault users (words_of at.line) fault
   pub first : (other : LineFault) → HasFault users (words_of at.line) other → order fault ≤ order other
 
--- a text of the grammar is read as the users that it states, and another is refused for the first fault of its first faulty line
+-- a text of the grammar is read as the users that it states, and no other; another is refused for the first fault of its first
+-- faulty line, and for no other
 abbrev pub ReadsGrammar : Type 0
 ReadsGrammar = (text : List ℕ) →
     ((users : List DirectoryUser) → directory_of text ≡ Ok users → IsDirectory (lines_of text) users)
     × ((users : List DirectoryUser) → IsDirectory (lines_of text) users → directory_of text ≡ Ok users)
     × ((number : ℕ) (fault : LineFault) → directory_of text ≡ Err (number, fault) → IsFirstFault (lines_of text) number fault)
+    × ((number : ℕ) (fault : LineFault) → IsFirstFault (lines_of text) number fault → directory_of text ≡ Err (number, fault))
 
 -- ---- what every directory keeps
 

@@ -23,7 +23,7 @@ use std::alloc::Global;
 ///
 /// A text outside the grammar is refused by its first faulty line and that line's first fault, and
 /// [`DirError::Memory`] is the answer only where a growth was refused. A directory has at most 64
-/// users, and their names differ.
+/// users of different names, and of two of its extents that share a cylinder both are read-only.
 ///
 /// ```text
 /// let directory = read_directory(alloc, b"USER ALPHA SECRET 4M\n")?;
@@ -168,8 +168,8 @@ fn place_minidisk(
     }
 }
 
-/// What [`read_directory`] reads is what the grammar says, and the fault that it tells is the first
-/// fault of the first faulty line.
+/// What [`read_directory`] reads is what the grammar says, and it reads all of that; the fault that it tells is the
+/// first fault of the first faulty line, and that is always told.
 pub fn reads_grammar()
     ensures { ReadsGrammar }
 {}
