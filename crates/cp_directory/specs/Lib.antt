@@ -2,6 +2,7 @@ pub mod Names
 pub mod Sizes
 pub mod Devices
 pub mod Extents
+pub mod Volsers
 pub mod Users
 pub mod Statements
 pub mod Spelled

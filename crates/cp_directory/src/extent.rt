@@ -37,14 +37,14 @@ impl DiskMode {
 }
 
 /// The serial number of a volume: one to six of `A` to `Z` and `0` to `9`.
-#[derive(Debug, Drop)]
+#[derive(Clone, Copy, Debug, PartialEq, Eq)]
 pub struct Volser {
     bytes: [u8; 6],
     len: usize,
 }
 
 impl Model for Volser {
-    ghost use Rattle.std.specs.Prelude.{◌≤◌, ◌≡◌, ℕ, List, take, true};
+    ghost use Rattle.std.specs.Prelude.{◌≤◌, ◌≡◌, ℕ, List, length, take, true};
     ghost use Rattle.cp_directory.specs.Extents.{is_volser, padded};
 
     ghost Value = { List ℕ };
@@ -54,6 +54,12 @@ impl Model for Volser {
     ghost invariant = { λ v. (v.len ≤ 6)
         × (is_volser (take v.len v.bytes) ≡ true)
         × (v.bytes ≡ padded (take v.len v.bytes)) };
+
+    ghost use Rattle.cp_directory.specs.Volsers.{given_back};
+
+    ghost inverse = { λ word. record { bytes = padded word; len = length word } };
+
+    ghost inverse_ok = { given_back };
 }
 
 impl Volser {
@@ -118,7 +124,7 @@ impl Model for SpelledExtent {
 }
 
 /// At least one cylinder of a volume, of those with the numbers 0 to 807, and whether they may be written to.
-#[derive(Debug, Drop)]
+#[derive(Clone, Copy, Debug, PartialEq, Eq)]
 pub struct DiskExtent {
     volser: Volser,
     start: u16,
@@ -135,6 +141,8 @@ impl Model for DiskExtent {
     ghost view = { λ e. record { volser = e.volser; start = e.start; count = e.count; mode = e.mode } };
 
     ghost invariant = { λ e. (0 < e.count) × (e.start + e.count ≤ 808) };
+
+    ghost inverse = { λ e. record { volser = e.volser; start = e.start; count = e.count; mode = e.mode } };
 }
 
 impl DiskExtent {
@@ -160,10 +168,10 @@ impl DiskExtent {
     }
 
     /// The serial number of the volume.
-    pub fn volser(&self) -> &Volser
-        ensures { result.now ≡ self.now.volser }
+    pub fn volser(&self) -> Volser
+        ensures { result ≡ self.now.volser }
     {
-        &self.volser
+        self.volser
     }
 
     /// The first cylinder.

@@ -3,7 +3,7 @@ use crate::extent::DiskExtent;
 use s370_num::DevAddr;
 
 /// A disk of a user: an extent of a volume, at an address.
-#[derive(Debug, Drop)]
+#[derive(Clone, Copy, Debug, PartialEq, Eq)]
 pub struct Minidisk {
     /// The number of the line that states it, from 1.
     pub line: usize,
