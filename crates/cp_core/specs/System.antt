@@ -1,12 +1,12 @@
 -- The whole system as it is seen, and what its events do: to each user what a bare machine does.
-use Rattle.std.specs.Prelude.{◌≡◌, ℕ, ◌==◌, ◌*◌, ◌<◌, ◌≤◌, if◌then◌else◌, Bool, true, false, List, [], ◌∷◌, ◌++◌, length, map, replicate, reverse, slice_index_or, None}
-use Rattle.std.specs.List.{concat, range_with_len}
+use Rattle.std.specs.Prelude.{◌≡◌, ℕ, ◌==◌, ◌*◌, ◌<◌, ◌≤◌, if◌then◌else◌, Bool, true, false, List, [], ◌∷◌, ◌++◌, length, map, replicate, reverse, nat_lt, slice_index_or, None}
+use Rattle.std.specs.List.{concat, list_any, range_with_len}
 use Rattle.s370_store.specs.Access.{Touches}
 use Rattle.s370_intr.specs.declared.next.Reason.TheVariants.{FramesOut as RunFramesOut}
 use Rattle.s370_intr.specs.declared.run.Ran.{Ran as RanUnits}
 use Rattle.s370_intr.specs.Run.{AllNeeded, EachBrings, IsLacking}
 use Rattle.s370_intr.specs.Laws.{begun}
-use Rattle.cp_directory.specs.Users.{DirectoryUser}
+use Rattle.cp_directory.specs.Users.{DirectoryUser, addresses_of}
 use Rattle.cp_frames.specs.Layout.{FrameSupply}
 use Rattle.cp_dat.specs.Supplied.{HasNoRoom, IsBetweenUnits, IsBroughtInUnits}
 use Rattle.cp_panel.specs.Machine.{Machine, unused}
@@ -60,6 +60,10 @@ free_supply frames slots = record {
   order = reverse (range_with_len 0 frames);
   page_ins = 0;
 }
+
+-- one of these users has a device
+abbrev pub has_devices : List DirectoryUser → Bool
+has_devices users = list_any (λ user. nat_lt 0 (length (addresses_of user))) users
 
 -- the system at boot
 abbrev pub booted : List DirectoryUser → ℕ → ℕ → SystemView

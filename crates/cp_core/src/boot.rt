@@ -1,6 +1,7 @@
 //! Boot: a system from a directory.
-ghost use Rattle.std.specs.Prelude.{◌≡◌, ◌*◌, ◌<◌, ◌≤◌, ◌↔◌, ℕ, All, IfOk, IfSome, IsSome, length, map};
-ghost use Rattle.cp_core.specs.System.{booted};
+ghost use Rattle.std.specs.Prelude.{◌≡◌, ◌*◌, ◌<◌, ◌≤◌, ◌↔◌, ℕ, nat_lt, true, All, Err, IfOk, IfSome, IsSome, length, map};
+ghost use Rattle.cp_directory.specs.Users.{addresses_of};
+ghost use Rattle.cp_core.specs.System.{booted, has_devices};
 ghost use Rattle.cp_core.specs.Whole.{AreNew};
 
 use crate::events::BootError;
@@ -67,14 +68,19 @@ impl Sizes {
 }
 
 impl System {
-    /// The system that a directory states, on so many frames and slots: every user is off, and storage is zero.
+    /// The system that a directory states, on so many frames and slots: every user is off, and storage is zero. Users have no
+    /// devices yet.
     pub fn boot(alloc: Global, directory: Directory, sizes: Sizes) -> Result<System, BootError>
         requires { length directory ≤ 64 }
         ensures ok { IfOk result (λ system. system ≡ booted directory sizes.frames sizes.slots) }
         ensures too_few { (result ≡ Err BootError.TooFewFrames) ↔ (sizes.frames < 16) }
+        ensures devices { (result ≡ Err BootError.Devices) ↔ ((16 ≤ sizes.frames) × (has_devices directory ≡ true)) }
     {
         if sizes.frames() < 16 {
             return Err(BootError::TooFewFrames);
+        }
+        if has_devices(directory.users()) {
+            return Err(BootError::Devices);
         }
         let machines = match machines_of(alloc, directory.users()) {
             Ok(machines) => machines,
@@ -94,6 +100,21 @@ impl System {
             Err(_) => Err(BootError::Memory),
         }
     }
+}
+
+/// Whether one of these users has a device.
+fn has_devices(users: &[User]) -> bool
+    ensures { result ≡ has_devices users.now }
+{
+    users.iter().any(|user| has_device(user))
+}
+
+/// Whether a user has any device.
+#[tactic(auto, using(std::proofs::lemmas::List::length-append, std::proofs::lemmas::List::length-map))]
+fn has_device(user: &User) -> bool
+    ensures { result ≡ nat_lt 0 (length (addresses_of user.now)) }
+{
+    user.devices().count() + user.minidisks().len() > 0
 }
 
 /// A machine for each user.

@@ -90,4 +90,7 @@ pub enum BootError {
     /// A system has at least 16 frames.
     #[error("fewer than 16 frames")]
     TooFewFrames,
+    /// A user has a device, and no user can have one yet.
+    #[error("users have no devices yet")]
+    Devices,
 }

@@ -122,6 +122,7 @@ fn boot_line(alloc: Global, error: &BootError) -> Result<String, AllocError>
     match error {
         BootError::Memory => String::from_str(alloc, "fault: memory Memory"),
         BootError::TooFewFrames => String::from_str(alloc, "fault: boot TooFewFrames"),
+        BootError::Devices => String::from_str(alloc, "fault: boot Devices"),
     }
 }
 

@@ -10,8 +10,8 @@ use Rattle.cp_core.proofs.system.System.boot.Goals as goal
 pub invariant_of-result : goal.invariant_of-result
 invariant_of-result c =
     let users = c.args.directory in
-    let seated : AreNew c.in-Ok.machines.items users = subst (AreNew c.in-Ok.machines.items) c.users.ensures.users c.in-Ok.ensures in
-    let pages = c.in-Ok-pages_of.ensures.pages ∙ ap (λ (us : List DirectoryUser). map (λ (user : DirectoryUser). user.pages) us) c.users-2.ensures.users in
+    let seated : AreNew c.in-Ok.machines.items users = subst (AreNew c.in-Ok.machines.items) c.users-2.ensures.users c.in-Ok.ensures in
+    let pages = c.in-Ok-pages_of.ensures.pages ∙ ap (λ (us : List DirectoryUser). map (λ (user : DirectoryUser). user.pages) us) c.users-3.ensures.users in
     let stored : c.in-Ok-new.frames.storages ≡ blank users = c.in-Ok-new.ensures.storages ∙ ap (λ (ps : List ℕ). map (λ pages. replicate (pages * 4096) 0) ps) pages in
     record {
       whole = rw stored (whole_new c.in-Ok.machines.items users seated c.requires);
@@ -24,8 +24,8 @@ view_is machines machines' users supply supply' a b = rw (a, b) refl
 pub returns-in-Ok-new-clause-ok : goal.returns-in-Ok-new-clause-ok
 returns-in-Ok-new-clause-ok c =
     let users = c.args.directory in
-    let seated : AreNew c.in-Ok.machines.items users = subst (AreNew c.in-Ok.machines.items) c.users.ensures.users c.in-Ok.ensures in
-    let pages = c.in-Ok-pages_of.ensures.pages ∙ ap (λ (us : List DirectoryUser). map (λ (user : DirectoryUser). user.pages) us) c.users-2.ensures.users in
+    let seated : AreNew c.in-Ok.machines.items users = subst (AreNew c.in-Ok.machines.items) c.users-2.ensures.users c.in-Ok.ensures in
+    let pages = c.in-Ok-pages_of.ensures.pages ∙ ap (λ (us : List DirectoryUser). map (λ (user : DirectoryUser). user.pages) us) c.users-3.ensures.users in
     let stored : c.in-Ok-new.frames.storages ≡ blank users = c.in-Ok-new.ensures.storages ∙ ap (λ (ps : List ℕ). map (λ pages. replicate (pages * 4096) 0) ps) pages in
     let supply = new_supply c.in-Ok-new.frames.supply c.frames-2.result c.slots.result c.in-Ok-new.ensures.owners c.in-Ok-new.ensures.slots c.in-Ok-new.ensures.pins c.in-Ok-new.ensures.order c.in-Ok-new.ensures.page_ins in
     view_is _ _ users _ _ (ap (machines_of c.in-Ok.machines.items) stored ∙ new_machines c.in-Ok.machines.items users seated)
