@@ -43,7 +43,12 @@ fn see(holds: bool, what: &str) -> Result<()> {
 
 /// A system of two users with two pages each on so many frames, or why it is not booted.
 fn booted(alloc: Global, frames: u32) -> Result<Result<System, BootError>> {
-    let directory = read_directory(alloc, b"USER A PW 8K\nUSER B PW 8K\n")?;
+    boot_of(alloc, b"USER A PW 8K\nUSER B PW 8K\n", frames)
+}
+
+/// The system of a directory, on so many frames.
+fn boot_of(alloc: Global, text: &[u8], frames: u32) -> Result<Result<System, BootError>> {
+    let directory = read_directory(alloc, text)?;
     let Some(sizes) = Sizes::new(frames, 0) else {
         bail!("{frames} frames are too many");
     };
@@ -90,6 +95,20 @@ fn too_few_frames(alloc: Global) -> Result<()> {
             Err(error) => error == BootError::TooFewFrames,
         };
         see(refused, "a system has sixteen frames")?;
+    }
+    Ok(())
+}
+
+fn users_with_devices(alloc: Global) -> Result<()> {
+    for text in [
+        "USER A PW 8K\nCONSOLE 009 3215\n",
+        "USER A PW 8K\nUSER B PW 8K\nMDISK 190 3330 0 10 PACK01 W\n",
+    ] {
+        let refused = match boot_of(alloc, text.as_bytes(), FEWEST_FRAMES)? {
+            Ok(_) => false,
+            Err(error) => error == BootError::Devices,
+        };
+        see(refused, "users have no devices yet")?;
     }
     Ok(())
 }
@@ -319,6 +338,7 @@ fn an_overflow_of_seven_pages(system: &mut System) -> Result<()> {
 fn main(rt: HostRuntime) -> Result<()> {
     let alloc = rt.alloc();
     too_few_frames(alloc)?;
+    users_with_devices(alloc)?;
     machine_of_nobody(&mut booted(alloc, FEWEST_FRAMES)??)?;
     kept_lines(&mut booted(alloc, FEWEST_FRAMES)??)?;
     a_lent_frame(&mut booted(alloc, FEWEST_FRAMES)??)?;
