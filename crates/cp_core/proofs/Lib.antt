@@ -1,3 +1,4 @@
+pub mod Stated
 pub mod Systems
 pub mod Histories
 pub mod Boots

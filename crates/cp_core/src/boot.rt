@@ -68,8 +68,8 @@ impl Sizes {
 }
 
 impl System {
-    /// The system that a directory states, on so many frames and slots: every user is off, and storage is zero. Users have no
-    /// devices yet.
+    /// The system that a directory states, on so many frames and slots: every user is off, and storage is zero. Users
+    /// have no devices yet.
     pub fn boot(alloc: Global, directory: Directory, sizes: Sizes) -> Result<System, BootError>
         requires { length directory ≤ 64 }
         ensures ok { IfOk result (λ system. system ≡ booted directory sizes.frames sizes.slots) }
@@ -110,7 +110,7 @@ fn has_devices(users: &[User]) -> bool
 }
 
 /// Whether a user has any device.
-#[tactic(auto, using(std::proofs::lemmas::List::length-append, std::proofs::lemmas::List::length-map))]
+#[tactic(auto, using(crate::proofs::Stated::device_count))]
 fn has_device(user: &User) -> bool
     ensures { result ≡ nat_lt 0 (length (addresses_of user.now)) }
 {

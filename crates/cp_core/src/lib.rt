@@ -1,10 +1,11 @@
 //! The control program: many users on one System/370.
 //!
-//! Its one theorem: whatever the events, each user has the machine that a bare System/370 is after that user's own events
-//! ([`System::apply`], clause `views`, and [`each_is_bare`] for whole histories); each reply tells what a bare machine
-//! tells, or that frames are lacking (`told`); and only pages that the event needs are brought into frames, where others are
-//! given up to slots for them, and both are given back where the machine is switched on (`supplied`). What is written to a
-//! frame that is lent ([`System::frame_mut`]) is the content of the page that stands in it, and all else stays.
+//! Its one theorem: whatever the events, each user has the machine that a bare System/370 is after that user's own
+//! events ([`System::apply`], clause `views`, and [`each_is_bare`] for whole histories); each reply tells what a bare
+//! machine tells, or that frames are lacking (`told`); and only pages that the event needs are brought into frames,
+//! where others are given up to slots for them, and both are given back where the machine is switched on (`supplied`).
+//! What is written to a frame that is lent ([`System::frame_mut`]) is the content of the page that stands in it, and
+//! all else stays.
 //!
 //! It is given a directory and the numbers of frames and slots ([`System::boot`]), and then one event after another.
 //!

@@ -24,13 +24,16 @@ impl System {
         u64::from(page.0) * u64::from(PAGE_SIZE) < u64::from(self.frames.size(user))
     }
 
-    /// The frame in which a page of a user's storage stands, with no other page; `None` past storage too. A page that stands in
-    /// none, and in no slot, is all zero. This takes no memory.
+    /// The frame in which a page of a user's storage stands, with no other page; `None` past storage too. A page that
+    /// stands in none, and in no slot, is all zero. This takes no memory.
     pub fn frame_of(&self, user: UserNo, page: Page) -> Option<FrameNo>
         ensures frame { number_of result ≡ frame_at self.now user page.0 }
         ensures apart { IsSome result → slot_at self.now user page.0 ≡ None }
-        ensures once { IfSome result (λ frame. (other other_page : ℕ) → frame_at self.now other other_page ≡ Some frame.0 → (other ≡ user) × (other_page ≡ page.0)) }
-        ensures zero { IfNone result (slot_at self.now user page.0 ≡ None → IsZeroPage (machine_at self.now user).core.processor.bytes page.0) }
+        ensures once { IfSome result
+            (λ frame. (other other_page : ℕ) → frame_at self.now other other_page ≡ Some frame.0 → (other ≡ user)
+            × (other_page ≡ page.0)) }
+        ensures zero { IfNone result
+            (slot_at self.now user page.0 ≡ None → IsZeroPage (machine_at self.now user).core.processor.bytes page.0) }
     {
         if !self.has_page(user, page) {
             return None;
@@ -38,13 +41,16 @@ impl System {
         self.frames.frame_of(user, page)
     }
 
-    /// The slot in which a page of a user's storage stands, with no other page; `None` past storage too. A page that stands in
-    /// none, and in no frame, is all zero. This takes no memory.
+    /// The slot in which a page of a user's storage stands, with no other page; `None` past storage too. A page that
+    /// stands in none, and in no frame, is all zero. This takes no memory.
     pub fn slot_of(&self, user: UserNo, page: Page) -> Option<usize>
         ensures slot { result ≡ slot_at self.now user page.0 }
         ensures apart { IsSome result → frame_at self.now user page.0 ≡ None }
-        ensures once { IfSome result (λ slot. (other other_page : ℕ) → slot_at self.now other other_page ≡ Some slot → (other ≡ user) × (other_page ≡ page.0)) }
-        ensures zero { IfNone result (frame_at self.now user page.0 ≡ None → IsZeroPage (machine_at self.now user).core.processor.bytes page.0) }
+        ensures once { IfSome result
+            (λ slot. (other other_page : ℕ) → slot_at self.now other other_page ≡ Some slot → (other ≡ user)
+            × (other_page ≡ page.0)) }
+        ensures zero { IfNone result
+            (frame_at self.now user page.0 ≡ None → IsZeroPage (machine_at self.now user).core.processor.bytes page.0) }
     {
         if !self.has_page(user, page) {
             return None;
@@ -52,8 +58,8 @@ impl System {
         self.frames.slot_of(user, page)
     }
 
-    /// A frame's bytes, `None` past the frames. What is written there is from then on the content of the page that stands in
-    /// the frame. This takes no memory.
+    /// A frame's bytes, `None` past the frames. What is written there is from then on the content of the page that
+    /// stands in the frame. This takes no memory.
     pub fn frame_mut(&mut self, frame: FrameNo) -> Option<&mut [u8; FRAME_SIZE]>
         ensures* writes_back { sem 𝓛 (LendsFrame self.entry frame.0 result) }
         ensures some { IsSome result ↔ (frame.0 < length self.old.supply.owners) }

@@ -39,7 +39,12 @@ impl Model for System {
 
     ghost Value = { SystemView };
 
-    ghost view = { λ s. record { machines = machines_of s.machines.items s.frames.storages; users = s.directory; supply = s.frames.supply; is_spent = s.is_spent } };
+    ghost view = { λ s. record {
+      machines = machines_of s.machines.items s.frames.storages;
+      users = s.directory;
+      supply = s.frames.supply;
+      is_spent = s.is_spent;
+    } };
 
     ghost invariant = { λ s. IsSystem s.machines.items s.frames s.directory };
 }
@@ -95,7 +100,8 @@ impl System {
         ensures inside { IsOk result → user < length self.now.machines }
         ensures alive { IsOk result → self.now.is_spent ≡ false }
         ensures spent { (result ≡ Err CpError.Spent) ↔ (self.now.is_spent ≡ true) }
-        ensures no_such_user { (result ≡ Err CpError.NoSuchUser) ↔ ((self.now.is_spent ≡ false) × (length self.now.machines ≤ user)) }
+        ensures no_such_user { (result ≡ Err CpError.NoSuchUser)
+            ↔ ((self.now.is_spent ≡ false) × (length self.now.machines ≤ user)) }
         ensures not_stated { result ≡ Err CpError.NoSuchUser → length self.now.users ≤ user }
         ensures memory { result ≡ Err CpError.Memory → ⊥ }
     {
@@ -112,8 +118,15 @@ impl System {
     /// Lets a user's machine run. This takes no memory.
     fn run(&mut self, user: usize, units: u32) -> Ran
         requires { user < length self.old.machines }
-        ensures told { TellsRun units (machine_at self.old user) (record { machine = machine_at self.new user; units = result.units; reason = result.reason; notice = notice_of result.reason }) (HasNoRoom self.new.supply user) }
-        ensures supply { (units : List (List ℕ)) × IsBroughtInUnits user units self.old.supply self.new.supply × EachBrings (machine_at self.old user).core 0 units × (length units ≤ begun result.units result.reason) }
+        ensures told { TellsRun units (machine_at self.old user)
+            (record {
+              machine = machine_at self.new user;
+              units = result.units;
+              reason = result.reason;
+              notice = notice_of result.reason;
+            }) (HasNoRoom self.new.supply user) }
+        ensures supply { (units : List (List ℕ)) × IsBroughtInUnits user units self.old.supply self.new.supply
+            × EachBrings (machine_at self.old user).core 0 units × (length units ≤ begun result.units result.reason) }
         ensures machines { self.new.machines ≡ slice_set self.old.machines user (machine_at self.new user) }
         ensures between_before { IsBetweenUnits self.old.supply }
         ensures between { IsBetweenUnits self.new.supply }
@@ -129,8 +142,11 @@ impl System {
         requires { user < length self.old.machines }
         ensures ok { OnOk result (machine_at self.new user ≡ ticked (machine_at self.old user)) }
         ensures err { OnErr result (machine_at self.new user ≡ machine_at self.old user) }
-        ensures frames { OnErr result (IsLacking (TickNeeds (machine_at self.old user)) (length (machine_at self.old user).core.processor.bytes) (HasNoRoom self.new.supply user)) }
-        ensures supply { (pages : List ℕ) × IsBroughtInUnits user (pages ∷ []) self.old.supply self.new.supply × AllNeeded (TickNeeds (machine_at self.old user)) pages × (length pages ≤ 1) }
+        ensures frames { OnErr result
+            (IsLacking (TickNeeds (machine_at self.old user)) (length (machine_at self.old user).core.processor.bytes)
+            (HasNoRoom self.new.supply user)) }
+        ensures supply { (pages : List ℕ) × IsBroughtInUnits user (pages ∷ []) self.old.supply self.new.supply
+            × AllNeeded (TickNeeds (machine_at self.old user)) pages × (length pages ≤ 1) }
         ensures machines { self.new.machines ≡ slice_set self.old.machines user (machine_at self.new user) }
         ensures between_before { IsBetweenUnits self.old.supply }
         ensures between { IsBetweenUnits self.new.supply }
@@ -144,12 +160,19 @@ impl System {
     /// A line that a user types.
     fn line(&mut self, user: usize, typed: &[u8]) -> Result<Option<Response>, LineError>
         requires { user < length self.old.machines }
-        ensures ok { IfOk result (λ reply. line typed.now (machine_at self.old user) ≡ record { machine = machine_at self.new user; reply = reply }) }
+        ensures ok { IfOk result (λ reply. line typed.now (machine_at self.old user)
+            ≡ record { machine = machine_at self.new user; reply = reply }) }
         ensures err { OnErr result (machine_at self.new user ≡ machine_at self.old user) }
         ensures memory { result ≡ Err errors.Memory → 0 < line_room typed.now (machine_at self.old user) }
-        ensures frames { result ≡ Err errors.FramesOut → IsLacking (Touches (line_needs typed.now (machine_at self.old user))) (length (machine_at self.old user).core.processor.bytes) (IsShort self.new.supply user (Touches (line_needs typed.now (machine_at self.old user)))) }
-        ensures cleared { switches typed.now (machine_at self.old user) ≡ true → IsGivenBack user self.old.supply self.new.supply }
-        ensures supply { switches typed.now (machine_at self.old user) ≡ false → ((pages : List ℕ) × IsBroughtInUnits user (pages ∷ []) self.old.supply self.new.supply × AllNeeded (Touches (line_needs typed.now (machine_at self.old user))) pages) }
+        ensures frames { result ≡ Err errors.FramesOut
+            → IsLacking (Touches (line_needs typed.now (machine_at self.old user)))
+            (length (machine_at self.old user).core.processor.bytes)
+            (IsShort self.new.supply user (Touches (line_needs typed.now (machine_at self.old user)))) }
+        ensures cleared { switches typed.now (machine_at self.old user) ≡ true
+            → IsGivenBack user self.old.supply self.new.supply }
+        ensures supply { switches typed.now (machine_at self.old user) ≡ false
+            → ((pages : List ℕ) × IsBroughtInUnits user (pages ∷ []) self.old.supply self.new.supply
+            × AllNeeded (Touches (line_needs typed.now (machine_at self.old user))) pages) }
         ensures machines { self.new.machines ≡ slice_set self.old.machines user (machine_at self.new user) }
         ensures between_before { IsBetweenUnits self.old.supply }
         ensures between { IsBetweenUnits self.new.supply }
@@ -168,17 +191,20 @@ impl System {
         ensures views { IfOk result (λ reply. IsApplied self.old event.entry reply self.new) }
         ensures told { IfOk result (λ reply. IsTold self.old event.entry reply self.new) }
         ensures supplied { IfOk result (λ reply. IsSupplied self.old event.entry reply self.new) }
-        ensures supplied_without_memory { result ≡ Err CpError.Memory → (reply : Reply) → IsSupplied self.old event.entry reply self.new }
+        ensures supplied_without_memory { result ≡ Err CpError.Memory → (reply : Reply)
+            → IsSupplied self.old event.entry reply self.new }
         ensures user { IsOk result → user_of event.entry < length self.old.machines }
         ensures users { self.new.users ≡ self.old.users }
         ensures alive { IsOk result → self.new.is_spent ≡ false }
         ensures spent { (result ≡ Err CpError.Spent) ↔ (self.old.is_spent ≡ true) }
         ensures unchanged_if_spent { result ≡ Err CpError.Spent → self.new ≡ self.old }
-        ensures no_such_user { (result ≡ Err CpError.NoSuchUser) ↔ ((self.old.is_spent ≡ false) × (length self.old.machines ≤ user_of event.entry)) }
+        ensures no_such_user { (result ≡ Err CpError.NoSuchUser)
+            ↔ ((self.old.is_spent ≡ false) × (length self.old.machines ≤ user_of event.entry)) }
         ensures not_stated { result ≡ Err CpError.NoSuchUser → length self.old.users ≤ user_of event.entry }
         ensures unchanged_for_nobody { result ≡ Err CpError.NoSuchUser → self.new ≡ self.old }
         ensures memory { result ≡ Err CpError.Memory → (self.new.is_spent ≡ true) × MayTakeMemory self.old event.entry }
-        ensures unchanged_without_memory { result ≡ Err CpError.Memory → (user : ℕ) → machine_at self.new user ≡ machine_at self.old user }
+        ensures unchanged_without_memory { result ≡ Err CpError.Memory → (user : ℕ)
+            → machine_at self.new user ≡ machine_at self.old user }
     {
         match event {
             Event::Run(user, units) => {
@@ -201,17 +227,20 @@ impl System {
         ensures views { IfOk result (λ reply. IsApplied self.old event.entry reply self.new) }
         ensures told { IfOk result (λ reply. IsTold self.old event.entry reply self.new) }
         ensures supplied { IfOk result (λ reply. IsSupplied self.old event.entry reply self.new) }
-        ensures supplied_without_memory { result ≡ Err CpError.Memory → (reply : Reply) → IsSupplied self.old event.entry reply self.new }
+        ensures supplied_without_memory { result ≡ Err CpError.Memory → (reply : Reply)
+            → IsSupplied self.old event.entry reply self.new }
         ensures user { IsOk result → user_of event.entry < length self.old.machines }
         ensures users { self.new.users ≡ self.old.users }
         ensures alive { IsOk result → self.new.is_spent ≡ false }
         ensures spent { (result ≡ Err CpError.Spent) ↔ (self.old.is_spent ≡ true) }
         ensures unchanged_if_spent { result ≡ Err CpError.Spent → self.new ≡ self.old }
-        ensures no_such_user { (result ≡ Err CpError.NoSuchUser) ↔ ((self.old.is_spent ≡ false) × (length self.old.machines ≤ user_of event.entry)) }
+        ensures no_such_user { (result ≡ Err CpError.NoSuchUser)
+            ↔ ((self.old.is_spent ≡ false) × (length self.old.machines ≤ user_of event.entry)) }
         ensures not_stated { result ≡ Err CpError.NoSuchUser → length self.old.users ≤ user_of event.entry }
         ensures unchanged_for_nobody { result ≡ Err CpError.NoSuchUser → self.new ≡ self.old }
         ensures memory { result ≡ Err CpError.Memory → (self.new.is_spent ≡ true) × MayTakeMemory self.old event.entry }
-        ensures unchanged_without_memory { result ≡ Err CpError.Memory → (user : ℕ) → machine_at self.new user ≡ machine_at self.old user }
+        ensures unchanged_without_memory { result ≡ Err CpError.Memory → (user : ℕ)
+            → machine_at self.new user ≡ machine_at self.old user }
     {
         match event {
             Event::Run(_, _) => unreachable!(),

@@ -47,7 +47,9 @@ impl UserMachine {
     pub fn new(alloc: Global, pages: u32) -> Result<UserMachine, AllocError>
         requires { pages ≤ 1024 }
         ensures keys { IfOk result (λ user. user.keys ≡ replicate (pages * 2) 0) }
-        ensures parts { IfOk result (λ user. (bytes keys : List ℕ) → parts_with user.parts (replicate (length bytes) 0) (replicate (length keys) 0) ≡ unused bytes keys []) }
+        ensures parts { IfOk result
+            (λ user. (bytes keys : List ℕ)
+            → parts_with user.parts (replicate (length bytes) 0) (replicate (length keys) 0) ≡ unused bytes keys []) }
     {
         let keys = vec![in alloc; StorageKey::ZERO; pages as usize * 2]?;
         Ok(UserMachine {
@@ -64,7 +66,8 @@ impl UserMachine {
             let after = machine_of self.new (bytes_of frames.new user) in
             TellsRun count before (record { machine = after; units = result.units; reason = result.reason; notice = notice_of result.reason }) (HasNoRoom frames.new.supply user) }
         ensures supply { let before = machine_of self.old (bytes_of frames.old user) in
-            (units : List (List ℕ)) × IsBroughtInUnits user units frames.old.supply frames.new.supply × EachBrings before.core 0 units × (length units ≤ begun result.units result.reason) }
+            (units : List (List ℕ)) × IsBroughtInUnits user units frames.old.supply frames.new.supply
+            × EachBrings before.core 0 units × (length units ≤ begun result.units result.reason) }
         ensures others { frames.new.storages ≡ slice_set frames.old.storages user (bytes_of frames.new user) }
         ensures fits { Fits self.new (bytes_of frames.new user) }
         ensures between { IsBetweenUnits frames.new.supply }
@@ -72,17 +75,20 @@ impl UserMachine {
         run_over(&mut self.machine, frames, &mut self.keys, user, count)
     }
 
-    /// A tick of the interval timer. Where there is no room for the page that it needs, nothing has happened. This takes
-    /// no memory.
+    /// A tick of the interval timer. Where there is no room for the page that it needs, nothing has happened. This
+    /// takes no memory.
     pub fn tick(&mut self, frames: &mut Frames, user: UserNo) -> Result<(), FramesOut>
         requires fits { Fits self.old (bytes_of frames.old user) }
         requires between { IsBetweenUnits frames.old.supply }
-        ensures ok { OnOk result (machine_of self.new (bytes_of frames.new user) ≡ ticked (machine_of self.old (bytes_of frames.old user))) }
-        ensures err { OnErr result (machine_of self.new (bytes_of frames.new user) ≡ machine_of self.old (bytes_of frames.old user)) }
+        ensures ok { OnOk result (machine_of self.new (bytes_of frames.new user)
+            ≡ ticked (machine_of self.old (bytes_of frames.old user))) }
+        ensures err { OnErr result
+            (machine_of self.new (bytes_of frames.new user) ≡ machine_of self.old (bytes_of frames.old user)) }
         ensures frames { let before = machine_of self.old (bytes_of frames.old user) in
             OnErr result (IsLacking (TickNeeds before) (length before.core.processor.bytes) (HasNoRoom frames.new.supply user)) }
         ensures supply { let before = machine_of self.old (bytes_of frames.old user) in
-            (pages : List ℕ) × IsBroughtInUnits user (pages ∷ []) frames.old.supply frames.new.supply × AllNeeded (TickNeeds before) pages × (length pages ≤ 1) }
+            (pages : List ℕ) × IsBroughtInUnits user (pages ∷ []) frames.old.supply frames.new.supply
+            × AllNeeded (TickNeeds before) pages × (length pages ≤ 1) }
         ensures others { frames.new.storages ≡ slice_set frames.old.storages user (bytes_of frames.new user) }
         ensures fits { Fits self.new (bytes_of frames.new user) }
         ensures between { IsBetweenUnits frames.new.supply }
@@ -102,15 +108,20 @@ impl UserMachine {
         ensures ok { let before = machine_of self.old (bytes_of frames.old user) in
             let after = machine_of self.new (bytes_of frames.new user) in
             IfOk result (λ reply. line typed.now before ≡ record { machine = after; reply = reply }) }
-        ensures err { OnErr result (machine_of self.new (bytes_of frames.new user) ≡ machine_of self.old (bytes_of frames.old user)) }
+        ensures err { OnErr result
+            (machine_of self.new (bytes_of frames.new user) ≡ machine_of self.old (bytes_of frames.old user)) }
         ensures memory { let before = machine_of self.old (bytes_of frames.old user) in
             result ≡ Err errors.Memory → self.old.parts.room < line_room typed.now before }
         ensures frames { let before = machine_of self.old (bytes_of frames.old user) in
-            result ≡ Err errors.FramesOut → IsLacking (Touches (line_needs typed.now before)) (length before.core.processor.bytes) (IsShort frames.new.supply user (Touches (line_needs typed.now before))) }
+            result ≡ Err errors.FramesOut
+            → IsLacking (Touches (line_needs typed.now before)) (length before.core.processor.bytes)
+            (IsShort frames.new.supply user (Touches (line_needs typed.now before))) }
         ensures cleared { let before = machine_of self.old (bytes_of frames.old user) in
             switches typed.now before ≡ true → IsGivenBack user frames.old.supply frames.new.supply }
         ensures supply { let before = machine_of self.old (bytes_of frames.old user) in
-            switches typed.now before ≡ false → ((pages : List ℕ) × IsBroughtInUnits user (pages ∷ []) frames.old.supply frames.new.supply × AllNeeded (Touches (line_needs typed.now before)) pages) }
+            switches typed.now before ≡ false
+            → ((pages : List ℕ) × IsBroughtInUnits user (pages ∷ []) frames.old.supply frames.new.supply
+            × AllNeeded (Touches (line_needs typed.now before)) pages) }
         ensures others { frames.new.storages ≡ slice_set frames.old.storages user (bytes_of frames.new user) }
         ensures fits { Fits self.new (bytes_of frames.new user) }
         ensures between { IsBetweenUnits frames.new.supply }
@@ -137,7 +148,8 @@ fn run_over(
         let after = parts_with machine.new (bytes_of frames.new user) keys.new in
         TellsRun count before (record { machine = after; units = result.units; reason = result.reason; notice = notice_of result.reason }) (HasNoRoom frames.new.supply user) }
     ensures supply { let before = parts_with machine.old (bytes_of frames.old user) keys.old in
-        (units : List (List ℕ)) × IsBroughtInUnits user units frames.old.supply frames.new.supply × EachBrings before.core 0 units × (length units ≤ begun result.units result.reason) }
+        (units : List (List ℕ)) × IsBroughtInUnits user units frames.old.supply frames.new.supply
+        × EachBrings before.core 0 units × (length units ≤ begun result.units result.reason) }
     ensures between { IsBetweenUnits frames.new.supply }
     ensures others { frames.new.storages ≡ slice_set frames.old.storages user (bytes_of frames.new user) }
     ensures size { length (bytes_of frames.new user) ≡ length (bytes_of frames.old user) }
@@ -146,8 +158,8 @@ fn run_over(
     machine.run::<VirtualCpu, Dat<'_>>(&mut dat, count)
 }
 
-/// A tick of a machine whose storage is lent from frames. It is out of line, as lines are, so that a run has not to make room for
-/// what they say.
+/// A tick of a machine whose storage is lent from frames. It is out of line, as lines are, so that a run has not to
+/// make room for what they say.
 #[inline(never)]
 fn tick_over(
     machine: &mut Machine,
@@ -167,7 +179,8 @@ fn tick_over(
     ensures frames { let before = parts_with machine.old (bytes_of frames.old user) keys.old in
         OnErr result (IsLacking (TickNeeds before) (length (bytes_of frames.old user)) (HasNoRoom frames.new.supply user)) }
     ensures supply { let before = parts_with machine.old (bytes_of frames.old user) keys.old in
-        (pages : List ℕ) × IsBroughtInUnits user (pages ∷ []) frames.old.supply frames.new.supply × AllNeeded (TickNeeds before) pages × (length pages ≤ 1) }
+        (pages : List ℕ) × IsBroughtInUnits user (pages ∷ []) frames.old.supply frames.new.supply
+        × AllNeeded (TickNeeds before) pages × (length pages ≤ 1) }
     ensures between { IsBetweenUnits frames.new.supply }
     ensures others { frames.new.storages ≡ slice_set frames.old.storages user (bytes_of frames.new user) }
     ensures size { length (bytes_of frames.new user) ≡ length (bytes_of frames.old user) }
@@ -195,13 +208,17 @@ fn line_over(
     ensures memory { let before = parts_with machine.old (bytes_of frames.old user) keys.old in
         result ≡ Err errors.Memory → machine.old.room < line_room typed.now before }
     ensures frames { let before = parts_with machine.old (bytes_of frames.old user) keys.old in
-        result ≡ Err errors.FramesOut → IsLacking (Touches (line_needs typed.now before)) (length (bytes_of frames.old user)) (IsRefused frames.new.supply user) }
+        result ≡ Err errors.FramesOut
+        → IsLacking (Touches (line_needs typed.now before)) (length (bytes_of frames.old user))
+        (IsRefused frames.new.supply user) }
     ensures cleared { let before = parts_with machine.old (bytes_of frames.old user) keys.old in
         switches typed.now before ≡ true → IsGivenBack user frames.old.supply frames.new.supply }
     ensures frames_kept { length frames.new.supply.owners ≡ length frames.old.supply.owners }
     ensures marks { length frames.new.supply.pins ≡ length frames.old.supply.pins }
     ensures supply { let before = parts_with machine.old (bytes_of frames.old user) keys.old in
-        switches typed.now before ≡ false → ((pages : List ℕ) × IsPagedFor user pages frames.old.supply frames.new.supply × AllNeeded (Touches (line_needs typed.now before)) pages) }
+        switches typed.now before ≡ false
+        → ((pages : List ℕ) × IsPagedFor user pages frames.old.supply frames.new.supply
+        × AllNeeded (Touches (line_needs typed.now before)) pages) }
     ensures others { frames.new.storages ≡ slice_set frames.old.storages user (bytes_of frames.new user) }
     ensures size { length (bytes_of frames.new user) ≡ length (bytes_of frames.old user) }
 {

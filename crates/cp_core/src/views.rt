@@ -19,7 +19,9 @@ impl System {
     /// A user's machine but for the bytes of its storage.
     pub(crate) fn machine(&self, user: UserNo) -> Option<&UserMachine>
         ensures some { IsSome result ↔ (user < length self.now.machines) }
-        ensures machine { IfSome result (λ machine. machine_at self.now user ≡ machine_of machine.now (machine_at self.now user).core.processor.bytes) }
+        ensures machine { IfSome result
+            (λ machine. machine_at self.now user
+            ≡ machine_of machine.now (machine_at self.now user).core.processor.bytes) }
     {
         let place = user.index();
         if place >= self.users() {

@@ -1,9 +1,10 @@
 -- A subchannel for each device, address by address.
-use Rattle.std.proofs.Common.{◌≡◌, ℕ, ◌+◌, ◌<◌, Bool, true, false, List, [], ◌∷◌, ◌++◌, Option, Some, None, refl, sym, ap, subst, ◌∙◌, arith}
+use Rattle.std.proofs.Common.{◌≡◌, ℕ, ◌+◌, Bool, true, false, List, [], ◌∷◌, ◌++◌, Option, Some, None, refl, sym, ap, subst, ◌∙◌, arith}
 use Rattle.std.proofs.lemmas.Bool.Decides.{nat_tests}
 use Rattle.std.specs.Prelude.{if◌then◌else◌, ◌==◌, ◌&&◌, ◌||◌, is_some, nat_lt}
 use Rattle.s370_subchannels.specs.declared.subchannel.Subchannel.{Subchannel}
 use Rattle.s370_subchannels.specs.Subchannels.{found, new_device}
+use Rattle.cp_devices.specs.Devices.{attached}
 
 -- ---- one device more is found
 
@@ -35,7 +36,7 @@ below_next false c false has e h = rw e refl
 next_below : (device address : ℕ) → nat_lt device (address + 1) ≡ (nat_lt device address || (address == device))
 next_below device address = grind (arith, nat_tests)
 
-pub added : (address : ℕ) (list : List Subchannel) (has : ℕ → Bool) → has address ≡ true → ((device : ℕ) → is_some (found device list) ≡ (nat_lt device address && has device)) → (device : ℕ) → is_some (found device (list ++ new_device address ∷ [])) ≡ (nat_lt device (address + 1) && has device)
+added : (address : ℕ) (list : List Subchannel) (has : ℕ → Bool) → has address ≡ true → ((device : ℕ) → is_some (found device list) ≡ (nat_lt device address && has device)) → (device : ℕ) → is_some (found device (list ++ new_device address ∷ [])) ≡ (nat_lt device (address + 1) && has device)
 added address list has is h device =
     found_added device address list
     ∙ ap (λ (b : Bool). b || (address == device)) (h device)
@@ -50,12 +51,10 @@ absent b c true has e h = rw (h refl) (none b ∙ sym (none c))
 absent true c false has e h = rw e refl
 absent false c false has e h = rw e refl
 
-pub passed : (address : ℕ) (list : List Subchannel) (has : ℕ → Bool) → has address ≡ false → ((device : ℕ) → is_some (found device list) ≡ (nat_lt device address && has device)) → (device : ℕ) → is_some (found device list) ≡ (nat_lt device (address + 1) && has device)
-passed address list has no h device =
-    h device ∙ absent (nat_lt device address) (nat_lt device (address + 1)) (address == device) (has device) (next_below device address) (λ e. let same : address ≡ device = grind (arith, nat_tests, e) in subst (λ (a : ℕ). has a ≡ false) same no)
+passed : (address : ℕ) (list : List Subchannel) (has : ℕ → Bool) → has address ≡ false → ((device : ℕ) → is_some (found device list) ≡ (nat_lt device address && has device)) → (device : ℕ) → is_some (found device list) ≡ (nat_lt device (address + 1) && has device)
+passed address list has gone h device =
+    h device ∙ absent (nat_lt device address) (nat_lt device (address + 1)) (address == device) (has device) (next_below device address) (λ e. let same : address ≡ device = grind (arith, nat_tests, e) in subst (λ (a : ℕ). has a ≡ false) same gone)
 
-within : (device : ℕ) (has : Bool) → device < 0x600 → (nat_lt device 0x600 && has) ≡ has
-within device has lt = let e : nat_lt device 0x600 ≡ true = grind (arith, nat_tests, lt) in rw e refl
-
-pub whole : (list : List Subchannel) (has : ℕ → Bool) → ((device : ℕ) → is_some (found device list) ≡ (nat_lt device 0x600 && has device)) → (device : ℕ) → device < 0x600 → is_some (found device list) ≡ has device
-whole list has h device lt = h device ∙ within device (has device) lt
+pub on : (address : ℕ) (list : List Subchannel) (has : ℕ → Bool) (b : Bool) → b ≡ has address → ((device : ℕ) → is_some (found device list) ≡ (nat_lt device address && has device)) → (device : ℕ) → is_some (found device (attached b address list)) ≡ (nat_lt device (address + 1) && has device)
+on address list has true is h = added address list has (sym is) h
+on address list has false is h = passed address list has (sym is) h

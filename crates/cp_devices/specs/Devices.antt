@@ -1,10 +1,10 @@
 -- The parts of the devices of one machine: console, card reader, card punch and line printer, each at its address or without
 -- one. The disks are those of its channels.
-use Rattle.std.specs.Prelude.{ℕ, ◌≡◌, ◌<◌, ◌==◌, ◌||◌, Bool, false, if◌then◌else◌, is_some, List, length, Option, Some, None}
+use Rattle.std.specs.Prelude.{ℕ, ◌≡◌, ◌<◌, ◌==◌, ◌||◌, ◌++◌, ◌∷◌, [], Bool, false, if◌then◌else◌, is_some, List, length, Option, Some, None}
 use Rattle.std.specs.Option.{option_map}
 use Rattle.std.specs.List.{list_any, position}
 use Rattle.s370_subchannels.specs.declared.subchannel.Subchannel.{Subchannel}
-use Rattle.s370_subchannels.specs.Subchannels.{found}
+use Rattle.s370_subchannels.specs.Subchannels.{found, new_device}
 use Rattle.unit_record.specs.declared.output.Target.{Target}
 use Rattle.unit_record.specs.declared.output.Target.TheVariants.{System}
 use Rattle.unit_record.specs.Console.{ConsoleState, console_new}
@@ -76,6 +76,10 @@ IsAttached disks kinds.Printer = Unit {0}
 -- a part or a disk has this address
 abbrev pub has_device : DevicesValue → List DiskAt → ℕ → Bool
 has_device d disks device = is_some (part_at d device) || list_any (is_disk_at device) disks
+
+-- a device more, above all others, if it is there
+abbrev pub attached : Bool → ℕ → List Subchannel → List Subchannel
+attached is_there device list = if is_there then list ++ new_device device ∷ [] else list
 
 -- there is a subchannel for each of them, and no other, on channels 0 to 5
 abbrev pub AreAttached : DevicesValue → List DiskAt → List Subchannel → Type 0

@@ -1,7 +1,8 @@
 //! The subchannels of the devices of one machine.
-ghost use Rattle.std.specs.Prelude.{◌≡◌, ◌++◌, ◌∷◌, [], IfOk};
-ghost use Rattle.s370_subchannels.specs.Subchannels.{new_device};
-ghost use Rattle.cp_devices.specs.Devices.{AreAttached, has_device};
+ghost use Rattle.std.specs.Prelude.{◌≡◌, IfOk};
+ghost use Rattle.std.specs.List.{list_any};
+ghost use Rattle.cp_channels.specs.Disks.{is_disk_at};
+ghost use Rattle.cp_devices.specs.Devices.{AreAttached, attached, has_device};
 
 use crate::devices::Devices;
 use cp_channels::AttachedDisk;
@@ -23,8 +24,8 @@ pub enum AttachError {
 }
 
 impl Devices {
-    /// The subchannels of these devices and disks, all idle: one at each address. Each of them has to have an address of its
-    /// own, on one of channels 0 to 5.
+    /// The subchannels of these devices and disks, all idle: one at each address. Each of them has to have an address
+    /// of its own, on one of channels 0 to 5.
     pub fn subchannels(
         &self,
         alloc: Global,
@@ -34,9 +35,8 @@ impl Devices {
     {
         let mut subchannels = Subchannels::new(alloc);
         for address in 0..PAST_DEVICES {
-            if self.has_device(disks, address) {
-                attach(&mut subchannels, DevAddr::new(address))?;
-            }
+            let is_there = self.has_device(disks, address);
+            attach_if(&mut subchannels, DevAddr::new(address), is_there)?;
         }
         if subchannels.list().len() != self.places().count() + disks.len() {
             return Err(AttachError::Address);
@@ -48,14 +48,31 @@ impl Devices {
     fn has_device(&self, disks: &[AttachedDisk], device: u16) -> bool
         ensures { result ≡ has_device self.now disks.now device }
     {
-        self.part_at(device).is_some() || disks.iter().any(|disk| disk.address().get() == device)
+        match self.part_at(device) {
+            Some(_) => true,
+            None => has_disk(disks, device),
+        }
     }
 }
 
-/// Adds an idle device, above all others.
-fn attach(subchannels: &mut Subchannels, device: DevAddr) -> Result<(), AttachError>
-    ensures { IfOk result (λ _. subchannels.new ≡ subchannels.old ++ new_device device ∷ []) }
+/// Whether one of these disks has this address.
+fn has_disk(disks: &[AttachedDisk], device: u16) -> bool
+    ensures { result ≡ list_any (is_disk_at device) disks.now }
 {
+    disks.iter().any(|disk| disk.address().get() == device)
+}
+
+/// Adds an idle device, above all others, if it is there.
+fn attach_if(
+    subchannels: &mut Subchannels,
+    device: DevAddr,
+    is_there: bool,
+) -> Result<(), AttachError>
+    ensures { IfOk result (λ _. subchannels.new ≡ attached is_there device subchannels.old) }
+{
+    if !is_there {
+        return Ok(());
+    }
     if !subchannels.can_add(device) {
         return Err(AttachError::Address);
     }

@@ -10,7 +10,8 @@ use std::alloc::Global;
 use std::marker::Model;
 use unit_record::{Console, Printer, Punch, Reader, Target};
 
-/// The parts of the devices of one machine, but for its disks. Console, reader, punch and printer are there also where no address leads to them.
+/// The parts of the devices of one machine, but for its disks. Console, reader, punch and printer are there also where
+/// no address leads to them.
 #[derive(Drop)]
 pub struct Devices {
     pub(crate) places: Places,
@@ -26,7 +27,14 @@ impl Model for Devices {
 
     ghost Value = { DevicesValue };
 
-    ghost view = { λ d. record { places = d.places; console = d.console; reader = d.reader; punch = d.punch; printer = d.printer; target = d.target } };
+    ghost view = { λ d. record {
+      places = d.places;
+      console = d.console;
+      reader = d.reader;
+      punch = d.punch;
+      printer = d.printer;
+      target = d.target;
+    } };
 }
 
 impl Devices {
@@ -76,8 +84,8 @@ impl Devices {
         }
     }
 
-    /// A system reset of all but the disks: no command is under way, no console line waits, and no device has sense. Files,
-    /// decks, the lines that were written and the punch's target stay.
+    /// A system reset of all but the disks: no command is under way, no console line waits, and no device has sense.
+    /// Files, decks, the lines that were written and the punch's target stay.
     pub fn reset(&mut self)
         ensures { self.new ≡ devices_reset self.old }
     {

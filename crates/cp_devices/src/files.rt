@@ -7,8 +7,8 @@ use cp_users::Named;
 use std::alloc::{AllocError, Global};
 use unit_record::{Deck, Sender};
 
-/// The line that tells of a deck of the reader, where these are all users: its number, from whom it comes, and how many cards
-/// it has. Only want of memory is an error.
+/// The line that tells of a deck of the reader, where these are all users: its number, from whom it comes, and how many
+/// cards it has. Only want of memory is an error.
 ///
 /// ```text
 /// let line = deck_line(alloc, &users, deck)?; // b"FILE 0001 FROM A CARDS 3"

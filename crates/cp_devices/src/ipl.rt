@@ -28,8 +28,8 @@ fn loaded(well: bool) -> Told
 }
 
 impl Devices {
-    /// The machine is loaded from the device of this address, a reader or a disk. Where it is not obeyed, nothing is said of the
-    /// machine.
+    /// The machine is loaded from the device of this address, a reader or a disk. Where it is not obeyed, nothing is
+    /// said of the machine.
     pub fn ipl<S: Storage>(
         &mut self,
         machine: &mut Machine,
@@ -38,8 +38,10 @@ impl Devices {
         device: DevAddr,
     ) -> Result<Told, LineError>
         requires size { 8192 ≤ length (S.bytes storage.old) }
-        ensures ok { let before = equipped machine.old self.old (disks_of channels.old) (S.bytes storage.old) (S.keys storage.old) in
-            let after = equipped machine.new self.new (disks_of channels.new) (S.bytes storage.new) (S.keys storage.new) in
+        ensures ok { let before = equipped machine.old self.old (disks_of channels.old) (S.bytes storage.old)
+            (S.keys storage.old) in
+            let after = equipped machine.new self.new (disks_of channels.new) (S.bytes storage.new)
+            (S.keys storage.new) in
             IfOk result (λ told. IsIpl device before told after) }
         ensures frames { result ≡ Err LineError.FramesOut → ((page : ℕ) × (S.present storage.old page ≡ false)) }
         ensures size { length (S.bytes storage.new) ≡ length (S.bytes storage.old) }
@@ -60,8 +62,10 @@ impl Devices {
         device: DevAddr,
     ) -> Result<Told, LineError>
         requires size { 8192 ≤ length (S.bytes storage.old) }
-        ensures ok { let before = equipped machine.old self.old (disks_of channels.old) (S.bytes storage.old) (S.keys storage.old) in
-            let after = equipped machine.new self.new (disks_of channels.new) (S.bytes storage.new) (S.keys storage.new) in
+        ensures ok { let before = equipped machine.old self.old (disks_of channels.old) (S.bytes storage.old)
+            (S.keys storage.old) in
+            let after = equipped machine.new self.new (disks_of channels.new) (S.bytes storage.new)
+            (S.keys storage.new) in
             IfOk result (λ told. LoadsReader device before told after) }
         ensures frames { result ≡ Err LineError.FramesOut → ((page : ℕ) × (S.present storage.old page ≡ false)) }
         ensures size { length (S.bytes storage.new) ≡ length (S.bytes storage.old) }
@@ -91,8 +95,10 @@ impl Devices {
     ) -> Result<Told, LineError>
         requires size { 8192 ≤ length (S.bytes storage.old) }
         requires inside { index < length (disks_of channels.old) }
-        ensures ok { let before = equipped machine.old self.old (disks_of channels.old) (S.bytes storage.old) (S.keys storage.old) in
-            let after = equipped machine.new self.new (disks_of channels.new) (S.bytes storage.new) (S.keys storage.new) in
+        ensures ok { let before = equipped machine.old self.old (disks_of channels.old) (S.bytes storage.old)
+            (S.keys storage.old) in
+            let after = equipped machine.new self.new (disks_of channels.new) (S.bytes storage.new)
+            (S.keys storage.new) in
             IfOk result (λ told. LoadsDisk index (slice_get (map reset_disk (disks_of channels.old)) index) device before told after) }
         ensures frames { result ≡ Err LineError.FramesOut → ((page : ℕ) × (S.present storage.old page ≡ false)) }
         ensures size { length (S.bytes storage.new) ≡ length (S.bytes storage.old) }

@@ -1,8 +1,8 @@
-//! The parts of the devices of one machine: a console, a card reader, a card punch and a line printer. Its disks are those of
-//! the channels on which its programs run.
+//! The parts of the devices of one machine: a console, a card reader, a card punch and a line printer. Its disks are
+//! those of the channels on which its programs run.
 //!
-//! Their one theorem: each call makes of all the parts what a definition of `specs/` says, and a part that it does not name
-//! stays as it was. Where memory is refused all stay.
+//! Their one theorem: each call makes of all the parts what a definition of `specs/` says, and a part that it does not
+//! name stays as it was. Where memory is refused all stay.
 //!
 //! ```
 //! let mut devices = Devices::new(alloc, places);

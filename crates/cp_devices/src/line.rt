@@ -59,7 +59,8 @@ fn told_of(response: Option<Response>) -> Told
 }
 
 impl Devices {
-    /// A line that is typed to a machine with these devices, and what is told. Where it is not obeyed, nothing has happened.
+    /// A line that is typed to a machine with these devices, and what is told. Where it is not obeyed, nothing has
+    /// happened.
     pub fn line<S: Supply, C: Channels<S>, W: World>(
         &mut self,
         alloc: Global,
@@ -70,14 +71,21 @@ impl Devices {
         typed: &[u8],
     ) -> Result<Told, LineError>
         requires size { 8192 ≤ length (S.Storage.bytes storage.old) }
-        ensures ok { let before = equipped machine.old self.old (C.disks channels.old) (S.Storage.bytes storage.old) (S.Storage.keys storage.old) in
-            let after = equipped machine.new self.new (C.disks channels.new) (S.Storage.bytes storage.new) (S.Storage.keys storage.new) in
+        ensures ok { let before = equipped machine.old self.old (C.disks channels.old) (S.Storage.bytes storage.old)
+            (S.Storage.keys storage.old) in
+            let after = equipped machine.new self.new (C.disks channels.new) (S.Storage.bytes storage.new)
+            (S.Storage.keys storage.new) in
             IfOk result (λ told. IsLine (W.known world.now) typed.now before told after) }
-        ensures err { let before = equipped machine.old self.old (C.disks channels.old) (S.Storage.bytes storage.old) (S.Storage.keys storage.old) in
-            let after = equipped machine.new self.new (C.disks channels.new) (S.Storage.bytes storage.new) (S.Storage.keys storage.new) in
+        ensures err { let before = equipped machine.old self.old (C.disks channels.old) (S.Storage.bytes storage.old)
+            (S.Storage.keys storage.old) in
+            let after = equipped machine.new self.new (C.disks channels.new) (S.Storage.bytes storage.new)
+            (S.Storage.keys storage.new) in
             OnErr result (after ≡ before) }
-        ensures frames { let before = equipped machine.old self.old (C.disks channels.old) (S.Storage.bytes storage.old) (S.Storage.keys storage.old) in
-            result ≡ Err LineError.FramesOut → LacksPage (Touches (line_needs typed.now before.machine)) (length (S.Storage.bytes storage.old)) (S.IsShort storage.new) (S.Storage.present storage.old) }
+        ensures frames { let before = equipped machine.old self.old (C.disks channels.old) (S.Storage.bytes storage.old)
+            (S.Storage.keys storage.old) in
+            result ≡ Err LineError.FramesOut
+            → LacksPage (Touches (line_needs typed.now before.machine)) (length (S.Storage.bytes storage.old))
+            (S.IsShort storage.new) (S.Storage.present storage.old) }
         ensures size { length (S.Storage.bytes storage.new) ≡ length (S.Storage.bytes storage.old) }
     {
         let text = ConsoleText::new(typed);
@@ -108,11 +116,15 @@ impl Devices {
         storage: &mut S,
         channels: &mut C,
     ) -> Result<Told, LineError>
-        ensures ok { let before = equipped machine.old self.old (C.disks channels.old) (S.Storage.bytes storage.old) (S.Storage.keys storage.old) in
-            let after = equipped machine.new self.new (C.disks channels.new) (S.Storage.bytes storage.new) (S.Storage.keys storage.new) in
+        ensures ok { let before = equipped machine.old self.old (C.disks channels.old) (S.Storage.bytes storage.old)
+            (S.Storage.keys storage.old) in
+            let after = equipped machine.new self.new (C.disks channels.new) (S.Storage.bytes storage.new)
+            (S.Storage.keys storage.new) in
             IfOk result (λ told. outcome after told ≡ logged_off before) }
-        ensures err { let before = equipped machine.old self.old (C.disks channels.old) (S.Storage.bytes storage.old) (S.Storage.keys storage.old) in
-            let after = equipped machine.new self.new (C.disks channels.new) (S.Storage.bytes storage.new) (S.Storage.keys storage.new) in
+        ensures err { let before = equipped machine.old self.old (C.disks channels.old) (S.Storage.bytes storage.old)
+            (S.Storage.keys storage.old) in
+            let after = equipped machine.new self.new (C.disks channels.new) (S.Storage.bytes storage.new)
+            (S.Storage.keys storage.new) in
             OnErr result (after ≡ before) }
         ensures memory { result ≡ Err LineError.FramesOut → ⊥ }
         ensures size { length (S.Storage.bytes storage.new) ≡ length (S.Storage.bytes storage.old) }
@@ -133,8 +145,12 @@ impl Devices {
         machine: &mut Machine,
         channels: &mut C,
     ) -> Result<Told, LineError>
-        ensures ok { (bytes keys : List ℕ) → IfOk result (λ told. outcome (equipped machine.new self.new (C.disks channels.new) bytes keys) told ≡ was_reset (equipped machine.old self.old (C.disks channels.old) bytes keys)) }
-        ensures err { (bytes keys : List ℕ) → OnErr result (equipped machine.new self.new (C.disks channels.new) bytes keys ≡ equipped machine.old self.old (C.disks channels.old) bytes keys) }
+        ensures ok { (bytes keys : List ℕ)
+            → IfOk result (λ told. outcome (equipped machine.new self.new (C.disks channels.new) bytes keys) told
+            ≡ was_reset (equipped machine.old self.old (C.disks channels.old) bytes keys)) }
+        ensures err { (bytes keys : List ℕ)
+            → OnErr result (equipped machine.new self.new (C.disks channels.new) bytes keys
+            ≡ equipped machine.old self.old (C.disks channels.old) bytes keys) }
         ensures memory { result ≡ Err LineError.FramesOut → ⊥ }
     {
         match machine.system_reset() {
@@ -149,8 +165,12 @@ impl Devices {
     /// A line for the console.
     fn type_line(&mut self, machine: &mut Machine, text: &[u8]) -> Result<Told, LineError>
         requires { length text.now ≤ 132 }
-        ensures ok { (disks : List DiskAt) (bytes keys : List ℕ) → IfOk result (λ told. outcome (equipped machine.new self.new disks bytes keys) told ≡ typed_at self.old.places.console text.now (equipped machine.old self.old disks bytes keys)) }
-        ensures err { (disks : List DiskAt) (bytes keys : List ℕ) → OnErr result (equipped machine.new self.new disks bytes keys ≡ equipped machine.old self.old disks bytes keys) }
+        ensures ok { (disks : List DiskAt) (bytes keys : List ℕ)
+            → IfOk result (λ told. outcome (equipped machine.new self.new disks bytes keys) told
+            ≡ typed_at self.old.places.console text.now (equipped machine.old self.old disks bytes keys)) }
+        ensures err { (disks : List DiskAt) (bytes keys : List ℕ)
+            → OnErr result (equipped machine.new self.new disks bytes keys
+            ≡ equipped machine.old self.old disks bytes keys) }
         ensures memory { result ≡ Err LineError.FramesOut → ⊥ }
     {
         let Some(device) = self.places.console else {

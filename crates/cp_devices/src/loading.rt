@@ -15,10 +15,10 @@ use s370_walk::{ChannelStatus, Device, Ending, UnitStatus};
 /// Where the device's address is stored, in the PSW that is loaded.
 const IPL_PSW: Range = Range { start: 0, count: 8 };
 
-/// Resets the machine, runs the program that the device loads, and lets the machine run where that ended well; tells whether
-/// it did. An error is told only where the program comes to a command that needs memory, or to a step that needs a page
-/// which is not present, or where the page of the PSW is not; nothing is said of the machine then. There is room for a line
-/// and for the notice of the machine's stop.
+/// Resets the machine, runs the program that the device loads, and lets the machine run where that ended well; tells
+/// whether it did. An error is told only where the program comes to a command that needs memory, or to a step that
+/// needs a page which is not present, or where the page of the PSW is not; nothing is said of the machine then. There
+/// is room for a line and for the notice of the machine's stop.
 pub(crate) fn load<S: Storage, D: Device>(
     machine: &mut Machine,
     storage: &mut S,
@@ -41,8 +41,8 @@ pub(crate) fn load<S: Storage, D: Device>(
     start_loaded(machine, storage, device, &ending)
 }
 
-/// Lets a machine run whose program of loading ended well, and tells whether it did. There is room for a line and for the
-/// notice of the machine's stop.
+/// Lets a machine run whose program of loading ended well, and tells whether it did. There is room for a line and for
+/// the notice of the machine's stop.
 pub(crate) fn start_loaded<S: Storage>(
     machine: &mut Machine,
     storage: &mut S,

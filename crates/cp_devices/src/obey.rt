@@ -37,7 +37,8 @@ fn target_of<W: World>(world: &W, name: &[u8]) -> Option<Target>
 
 /// MSG.
 fn send<W: World>(alloc: Global, world: &W, name: &[u8], text: &[u8]) -> Result<Told, LineError>
-    ensures ok { IfOk result (λ told. SendsTo (user_of (W.known world.now).names name.now) (W.known world.now) text.now told) }
+    ensures ok { IfOk result (λ told.
+        SendsTo (user_of (W.known world.now).names name.now) (W.known world.now) text.now told) }
     ensures memory { result ≡ Err LineError.FramesOut → ⊥ }
 {
     let Some(user) = world.user_of(name) else {
@@ -60,7 +61,10 @@ impl Devices {
         world: &W,
         command: &DeviceCommand<'_>,
     ) -> Result<Told, LineError>
-        ensures ok { (m : WholeMachine) (disks : List DiskAt) → IfOk result (λ told. IsObeyed (W.known world.now) command.now (record { machine = m; devices = self.old; disks = disks }) told (record { machine = m; devices = self.new; disks = disks })) }
+        ensures ok { (m : WholeMachine) (disks : List DiskAt)
+            → IfOk result (λ told. IsObeyed (W.known world.now) command.now
+            (record { machine = m; devices = self.old; disks = disks }) told
+            (record { machine = m; devices = self.new; disks = disks })) }
         ensures err { OnErr result (self.new ≡ self.old) }
         ensures memory { result ≡ Err LineError.FramesOut → ⊥ }
     {
@@ -92,7 +96,8 @@ impl Devices {
 
     /// PURGE.
     fn answer_purge(&mut self, file: u64) -> Told
-        ensures told { result ≡ Told.Said (if is_some (queued_at self.old.reader file) then responses.Purged else responses.FileNotFound) }
+        ensures told { result ≡ Told.Said
+            (if is_some (queued_at self.old.reader file) then responses.Purged else responses.FileNotFound) }
         ensures after { self.new ≡ with_deck_purged self.old file }
     {
         if self.purge(file) {
@@ -104,7 +109,10 @@ impl Devices {
 
     /// SPOOL.
     fn answer_spool<W: World>(&mut self, world: &W, device: DevAddr, name: &[u8]) -> Told
-        ensures { (m : WholeMachine) (disks : List DiskAt) → outcome (record { machine = m; devices = self.new; disks = disks }) result ≡ spool_answered (W.known world.now) device name.now (record { machine = m; devices = self.old; disks = disks }) }
+        ensures { (m : WholeMachine) (disks : List DiskAt)
+            → outcome (record { machine = m; devices = self.new; disks = disks }) result
+            ≡ spool_answered (W.known world.now) device name.now
+            (record { machine = m; devices = self.old; disks = disks }) }
     {
         match self.part_at(device.get()) {
             Some(Kind::Punch) => match target_of(world, name) {
@@ -120,7 +128,9 @@ impl Devices {
 
     /// CLOSE.
     fn answer_close(&mut self, alloc: Global, device: DevAddr) -> Result<Told, LineError>
-        ensures ok { (m : WholeMachine) (disks : List DiskAt) → IfOk result (λ told. outcome (record { machine = m; devices = self.new; disks = disks }) told ≡ close_answered device (record { machine = m; devices = self.old; disks = disks })) }
+        ensures ok { (m : WholeMachine) (disks : List DiskAt)
+            → IfOk result (λ told. outcome (record { machine = m; devices = self.new; disks = disks }) told
+            ≡ close_answered device (record { machine = m; devices = self.old; disks = disks })) }
         ensures err { OnErr result (self.new ≡ self.old) }
         ensures memory { result ≡ Err LineError.FramesOut → ⊥ }
     {

@@ -26,7 +26,8 @@ pub enum Request<'a> {
     Elsewhere,
 }
 
-/// What of a line that was cut and cleaned concerns the devices of a machine in this mode, with a console or without one.
+/// What of a line that was cut and cleaned concerns the devices of a machine in this mode, with a console or without
+/// one.
 pub(crate) fn request_of(mode: Mode, has_console: bool, text: &[u8]) -> Request<'_>
     ensures { result ≡ request_in mode has_console text.now }
 {

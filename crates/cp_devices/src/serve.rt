@@ -20,9 +20,10 @@ use std::alloc::AllocError;
 use unit_record::Console;
 
 impl Devices {
-    /// Serves the device of this address: the channel program that was started runs as a whole on these channels, and its
-    /// status is pending. Tells whether there was one; else nothing has happened. An error is told only where memory was
-    /// refused, or a page is not present that the program names. Where the channels are whole, nothing has happened in the latter case.
+    /// Serves the device of this address: the channel program that was started runs as a whole on these channels, and
+    /// its status is pending. Tells whether there was one; else nothing has happened. An error is told only where
+    /// memory was refused, or a page is not present that the program names. Where the channels are whole, nothing has
+    /// happened in the latter case.
     pub fn serve<S: Storage, C: Channels<S>>(
         &mut self,
         machine: &mut Machine,
@@ -30,13 +31,18 @@ impl Devices {
         channels: &mut C,
         device: DevAddr,
     ) -> Result<bool, ChannelError>
-        ensures served { let before = equipped machine.old self.old (C.disks channels.old) (S.bytes storage.old) (S.keys storage.old) in
-            let after = equipped machine.new self.new (C.disks channels.new) (S.bytes storage.new) (S.keys storage.new) in
+        ensures served { let before = equipped machine.old self.old (C.disks channels.old) (S.bytes storage.old)
+            (S.keys storage.old) in
+            let after = equipped machine.new self.new (C.disks channels.new) (S.bytes storage.new)
+            (S.keys storage.new) in
             IfOk result (λ done. IsServedAt C.reads device before done after) }
-        ensures whole { let before = equipped machine.old self.old (C.disks channels.old) (S.bytes storage.old) (S.keys storage.old) in
-            let after = equipped machine.new self.new (C.disks channels.new) (S.bytes storage.new) (S.keys storage.new) in
+        ensures whole { let before = equipped machine.old self.old (C.disks channels.old) (S.bytes storage.old)
+            (S.keys storage.old) in
+            let after = equipped machine.new self.new (C.disks channels.new) (S.bytes storage.new)
+            (S.keys storage.new) in
             C.is_whole ≡ true → IfErr result (WhereAbsent (after ≡ before)) }
-        ensures stopped { let before = equipped machine.old self.old (C.disks channels.old) (S.bytes storage.old) (S.keys storage.old) in
+        ensures stopped { let before = equipped machine.old self.old (C.disks channels.old) (S.bytes storage.old)
+            (S.keys storage.old) in
             C.is_whole ≡ false → IfErr result (StopsAt C.reads (S.present storage.old) device before) }
         ensures away { IfErr result (TellsAway (S.present storage.old)) }
         ensures keys { S.keys storage.new ≡ S.keys storage.old }
@@ -65,13 +71,18 @@ impl Devices {
         start: Caw,
     ) -> Result<(), ChannelError>
         requires attached { IsAttached (C.disks channels.old) kind }
-        ensures runs { let before = equipped machine.old self.old (C.disks channels.old) (S.bytes storage.old) (S.keys storage.old) in
-            let after = equipped machine.new self.new (C.disks channels.new) (S.bytes storage.new) (S.keys storage.new) in
+        ensures runs { let before = equipped machine.old self.old (C.disks channels.old) (S.bytes storage.old)
+            (S.keys storage.old) in
+            let after = equipped machine.new self.new (C.disks channels.new) (S.bytes storage.new)
+            (S.keys storage.new) in
             OnOk result (RunsKind C.reads kind device start before after) }
-        ensures whole { let before = equipped machine.old self.old (C.disks channels.old) (S.bytes storage.old) (S.keys storage.old) in
-            let after = equipped machine.new self.new (C.disks channels.new) (S.bytes storage.new) (S.keys storage.new) in
+        ensures whole { let before = equipped machine.old self.old (C.disks channels.old) (S.bytes storage.old)
+            (S.keys storage.old) in
+            let after = equipped machine.new self.new (C.disks channels.new) (S.bytes storage.new)
+            (S.keys storage.new) in
             C.is_whole ≡ true → IfErr result (WhereAbsent (after ≡ before)) }
-        ensures stopped { let before = equipped machine.old self.old (C.disks channels.old) (S.bytes storage.old) (S.keys storage.old) in
+        ensures stopped { let before = equipped machine.old self.old (C.disks channels.old) (S.bytes storage.old)
+            (S.keys storage.old) in
             C.is_whole ≡ false → IfErr result (StopsKind C.reads (S.present storage.old) kind start before) }
         ensures away { IfErr result (TellsAway (S.present storage.old)) }
         ensures keys { S.keys storage.new ≡ S.keys storage.old }
@@ -103,13 +114,18 @@ impl Devices {
         device: DevAddr,
         start: Caw,
     ) -> Result<(), ChannelError>
-        ensures runs { let before = equipped machine.old self.old (C.disks channels.old) (S.bytes storage.old) (S.keys storage.old) in
-            let after = equipped machine.new self.new (C.disks channels.new) (S.bytes storage.new) (S.keys storage.new) in
+        ensures runs { let before = equipped machine.old self.old (C.disks channels.old) (S.bytes storage.old)
+            (S.keys storage.old) in
+            let after = equipped machine.new self.new (C.disks channels.new) (S.bytes storage.new)
+            (S.keys storage.new) in
             OnOk result (RunsConsole C.reads device start before after) }
-        ensures whole { let before = equipped machine.old self.old (C.disks channels.old) (S.bytes storage.old) (S.keys storage.old) in
-            let after = equipped machine.new self.new (C.disks channels.new) (S.bytes storage.new) (S.keys storage.new) in
+        ensures whole { let before = equipped machine.old self.old (C.disks channels.old) (S.bytes storage.old)
+            (S.keys storage.old) in
+            let after = equipped machine.new self.new (C.disks channels.new) (S.bytes storage.new)
+            (S.keys storage.new) in
             C.is_whole ≡ true → IfErr result (WhereAbsent (after ≡ before)) }
-        ensures stopped { let before = equipped machine.old self.old (C.disks channels.old) (S.bytes storage.old) (S.keys storage.old) in
+        ensures stopped { let before = equipped machine.old self.old (C.disks channels.old) (S.bytes storage.old)
+            (S.keys storage.old) in
             C.is_whole ≡ false → IfErr result (StopsConsole C.reads (S.present storage.old) start before) }
         ensures away { IfErr result (TellsAway (S.present storage.old)) }
         ensures keys { S.keys storage.new ≡ S.keys storage.old }
@@ -133,7 +149,11 @@ impl Devices {
 
 /// Prints the lines that a console has finished.
 fn print_written(machine: &mut Machine, console: &Console) -> Result<(), AllocError>
-    ensures printed { OnOk result (machine.new ≡ record machine.old { output = machine.old.output ++ console.now.lines; room = machine.new.room }) }
+    ensures printed { OnOk result
+        (machine.new ≡ record machine.old {
+          output = machine.old.output ++ console.now.lines;
+          room = machine.new.room;
+        }) }
     ensures some { OnErr result (0 < length console.now.lines) }
 {
     for line in console.lines() {

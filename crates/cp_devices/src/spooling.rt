@@ -30,7 +30,8 @@ impl Devices {
         }
     }
 
-    /// Whether the open file of the punch or printer with this address has an entry; None where neither has this address.
+    /// Whether the open file of the punch or printer with this address has an entry; None where neither has this
+    /// address.
     pub fn has_output(&self, device: u16) -> Option<bool>
         ensures { result ≡ output_of self.now (part_at self.now device) }
     {
@@ -41,7 +42,8 @@ impl Devices {
         }
     }
 
-    /// Closes the punch's open file, for its target, and tells whether there was any. Where memory is refused all stays.
+    /// Closes the punch's open file, for its target, and tells whether there was any. Where memory is refused all
+    /// stays.
     pub fn close_punch(&mut self, alloc: Global) -> Result<bool, AllocError>
         ensures any { IfOk result (λ any. any ≡ has_entries self.old.punch.entries) }
         ensures closed { OnOk result (self.new ≡ with_punch_closed self.old) }
@@ -50,7 +52,8 @@ impl Devices {
         self.punch.close(alloc, self.target)
     }
 
-    /// Closes the printer's open file, for the operator, and tells whether there was any. Where memory is refused all stays.
+    /// Closes the printer's open file, for the operator, and tells whether there was any. Where memory is refused all
+    /// stays.
     pub fn close_printer(&mut self, alloc: Global) -> Result<bool, AllocError>
         ensures any { IfOk result (λ any. any ≡ has_entries self.old.printer.entries) }
         ensures closed { OnOk result (self.new ≡ with_printer_closed self.old) }
@@ -59,10 +62,14 @@ impl Devices {
         self.printer.close(alloc, Target::System)
     }
 
-    /// What LOGOFF does: closes the open files of punch and printer, puts the current deck back into the queue, and tells
-    /// which files there were. Where memory is refused all stays.
+    /// What LOGOFF does: closes the open files of punch and printer, puts the current deck back into the queue, and
+    /// tells which files there were. Where memory is refused all stays.
     pub fn log_off(&mut self, alloc: Global) -> Result<Closed, AllocError>
-        ensures any { IfOk result (λ closed. closed ≡ record { punch = has_entries self.old.punch.entries; printer = has_entries self.old.printer.entries }) }
+        ensures any { IfOk result
+            (λ closed. closed ≡ record {
+              punch = has_entries self.old.punch.entries;
+              printer = has_entries self.old.printer.entries;
+            }) }
         ensures after { OnOk result (self.new ≡ devices_logged_off self.old) }
         ensures err { OnErr result (self.new ≡ self.old) }
     {

@@ -135,7 +135,8 @@ fn all_digits(digits: &[u8]) -> bool
     digits.iter().all(|c| is_digit(*c))
 }
 
-/// The storage that a word spells as the operand of a user's statement does, where it is written so and a user may have it.
+/// The storage that a word spells as the operand of a user's statement does, where it is written so and a user may have
+/// it.
 ///
 /// `storage_of(b"8K")` is a storage of two pages; `8k` and `6K` are none.
 pub fn storage_of(word: &[u8]) -> Option<StorageSize>

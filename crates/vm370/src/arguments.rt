@@ -116,8 +116,10 @@ fn number_in(matches: &ArgMatches<'_>, id: &str, default: u32) -> Option<u32>
 
 /// The paths of the directory and of the script, where both are given.
 fn paths_in<'a>(matches: &ArgMatches<'a>) -> Option<(&'a str, &'a str)>
-    ensures directory { IfSome result (λ paths. first_of (codes "DIRECTORY") (rows_of (found_of matches.now)) ≡ Some paths.0.now) }
-    ensures script { IfSome result (λ paths. first_of (codes "SCRIPT") (rows_of (found_of matches.now)) ≡ Some paths.1.now) }
+    ensures directory { IfSome result
+        (λ paths. first_of (codes "DIRECTORY") (rows_of (found_of matches.now)) ≡ Some paths.0.now) }
+    ensures script { IfSome result
+        (λ paths. first_of (codes "SCRIPT") (rows_of (found_of matches.now)) ≡ Some paths.1.now) }
     ensures none { gives_paths (rows_of (found_of matches.now)) ≡ true → IsSome result }
 {
     let directory = text_of(matches, "DIRECTORY")?;
@@ -140,7 +142,8 @@ fn matched<'a, S: AsStr>(
 ) -> Result<ArgMatches<'a>, UsageError>
     ensures ok { IfOk result (λ m. rows_of (found_of m) ≡ rows_named program.entry.now (map S.text words.entry.now)) }
     ensures taken { OnOk result (HasNoFault program.entry.now (map S.text words.entry.now)) }
-    ensures err { is_taken program.entry.now (map S.text words.entry.now) ≡ true → IfErr result (λ error. error ≡ UsageError.Memory) }
+    ensures err { is_taken program.entry.now (map S.text words.entry.now) ≡ true
+        → IfErr result (λ error. error ≡ UsageError.Memory) }
 {
     let command = command(alloc, program)?;
     match command.try_get_matches_from(words) {

@@ -1,4 +1,5 @@
-//! The program `vm370 [--frames N] [--slots N] DIRECTORY SCRIPT`: its words, its files, its session, and what it says of a failure.
+//! The program `vm370 [--frames N] [--slots N] DIRECTORY SCRIPT`: its words, its files, its session, and what it says
+//! of a failure.
 //!
 //! The transcript goes to standard output. A failure is one line on standard error, and its kind is the
 //! exit status.

@@ -76,13 +76,20 @@ pub fn session<R: HostReader, W: HostWriter>(
     reader: &mut R,
     writer: &mut W,
 ) -> Result<(), SessionError>
-    ensures ok { OnOk result (IsSession system.old system.new (R.remaining reader.old) (R.remaining reader.new) (W.contents writer.old) (W.contents writer.new)) }
-    ensures line { (n : ℕ) → result ≡ Err (SessionError.Line n) → IsRefused (users_of system.old) (R.remaining reader.old) (R.remaining reader.new) n }
-    ensures refused { (n : ℕ) → result ≡ Err (SessionError.Line n) → (system.new ≡ system.old) × (writer.new ≡ writer.old) }
-    ensures err { OnErr result (((system.new ≡ system.old) × (writer.new ≡ writer.old)) ⊎ IsCut system.old system.new (R.remaining reader.old) (R.remaining reader.new) (W.contents writer.old) (W.contents writer.new)) }
+    ensures ok { OnOk result (IsSession system.old system.new (R.remaining reader.old) (R.remaining reader.new)
+        (W.contents writer.old) (W.contents writer.new)) }
+    ensures line { (n : ℕ) → result ≡ Err (SessionError.Line n)
+        → IsRefused (users_of system.old) (R.remaining reader.old) (R.remaining reader.new) n }
+    ensures refused { (n : ℕ) → result ≡ Err (SessionError.Line n) → (system.new ≡ system.old)
+        × (writer.new ≡ writer.old) }
+    ensures err { OnErr result
+        (((system.new ≡ system.old) × (writer.new ≡ writer.old))
+        ⊎ IsCut system.old system.new (R.remaining reader.old) (R.remaining reader.new) (W.contents writer.old)
+        (W.contents writer.new)) }
     ensures spent { result ≡ Err SessionError.Spent → system.old.is_spent ≡ true }
     ensures flushed { OnOk result (W.held writer.new ≡ []) }
-    ensures counts { CountsFiles result (R.HostFile.failures reader.old) (R.HostFile.failures reader.new) (W.HostFile.failures writer.old) (W.HostFile.failures writer.new) }
+    ensures counts { CountsFiles result (R.HostFile.failures reader.old) (R.HostFile.failures reader.new)
+        (W.HostFile.failures writer.old) (W.HostFile.failures writer.new) }
 {
     let text = read_all(alloc, reader)?;
     let events = read_events(alloc, system.directory().users(), &text)?;
@@ -132,8 +139,11 @@ fn play<W: HostWriter>(
     requires users { All (IsOfUser (length system.old.users)) events.now }
     requires devices { All NamesNoDevice events.now }
     requires seats { policy.old.most_users ≡ length system.old.users }
-    ensures ok { OnOk result (IsPlayed (acts (map said events.now)) (scene system.old policy.old.users) (scene system.new policy.new.users) (W.contents writer.old) (W.contents writer.new)) }
-    ensures err { OnErr result (IsPartly (acts (map said events.now)) (scene system.old policy.old.users) system.new (W.contents writer.old) (W.contents writer.new)) }
+    ensures ok { OnOk result (IsPlayed (acts (map said events.now)) (scene system.old policy.old.users)
+        (scene system.new policy.new.users) (W.contents writer.old) (W.contents writer.new)) }
+    ensures err { OnErr result
+        (IsPartly (acts (map said events.now)) (scene system.old policy.old.users) system.new (W.contents writer.old)
+        (W.contents writer.new)) }
     ensures line { (n : ℕ) → result ≡ Err (SessionError.Line n) → ⊥ }
     ensures spent { result ≡ Err SessionError.Spent → system.old.is_spent ≡ true }
     ensures flushed { OnOk result (W.held writer.new ≡ []) }
@@ -157,8 +167,11 @@ fn act<W: HostWriter>(
     requires user { IsOfUser (length system.old.users) event.now }
     requires device { NamesNoDevice event.now }
     requires seats { policy.old.most_users ≡ length system.old.users }
-    ensures ok { OnOk result (IsPlayed (acts_of (said event.now)) (scene system.old policy.old.users) (scene system.new policy.new.users) (W.contents writer.old) (W.contents writer.new)) }
-    ensures err { OnErr result (IsPartly (acts_of (said event.now)) (scene system.old policy.old.users) system.new (W.contents writer.old) (W.contents writer.new)) }
+    ensures ok { OnOk result (IsPlayed (acts_of (said event.now)) (scene system.old policy.old.users)
+        (scene system.new policy.new.users) (W.contents writer.old) (W.contents writer.new)) }
+    ensures err { OnErr result
+        (IsPartly (acts_of (said event.now)) (scene system.old policy.old.users) system.new (W.contents writer.old)
+        (W.contents writer.new)) }
     ensures users { system.new.users ≡ system.old.users }
     ensures seats { policy.new.most_users ≡ policy.old.most_users }
     ensures line { (n : ℕ) → result ≡ Err (SessionError.Line n) → ⊥ }
@@ -172,8 +185,8 @@ fn act<W: HostWriter>(
     }
 }
 
-/// Applies an event, and writes its lines. A user who logs on by it stands at the end of the queue, one who logs off stands
-/// in it no more.
+/// Applies an event, and writes its lines. A user who logs on by it stands at the end of the queue, one who logs off
+/// stands in it no more.
 fn apply<W: HostWriter>(
     alloc: Global,
     system: &mut System,
@@ -184,8 +197,11 @@ fn apply<W: HostWriter>(
     requires user { IsOfUser (length system.old.users) event.now }
     requires event { IsApplicable event.now }
     requires seats { policy.old.most_users ≡ length system.old.users }
-    ensures ok { OnOk result (IsPlayed (Applies (said event.now) ∷ []) (scene system.old policy.old.users) (scene system.new policy.new.users) (W.contents writer.old) (W.contents writer.new)) }
-    ensures err { OnErr result (IsPartly (Applies (said event.now) ∷ []) (scene system.old policy.old.users) system.new (W.contents writer.old) (W.contents writer.new)) }
+    ensures ok { OnOk result (IsPlayed (Applies (said event.now) ∷ []) (scene system.old policy.old.users)
+        (scene system.new policy.new.users) (W.contents writer.old) (W.contents writer.new)) }
+    ensures err { OnErr result
+        (IsPartly (Applies (said event.now) ∷ []) (scene system.old policy.old.users) system.new (W.contents writer.old)
+        (W.contents writer.new)) }
     ensures users { system.new.users ≡ system.old.users }
     ensures seats { policy.new.most_users ≡ policy.old.most_users }
     ensures line { (n : ℕ) → result ≡ Err (SessionError.Line n) → ⊥ }
@@ -210,8 +226,11 @@ fn deal<W: HostWriter>(
     writer: &mut W,
 ) -> Result<(), SessionError>
     requires seats { policy.old.most_users ≡ length system.old.users }
-    ensures ok { OnOk result (IsPlayed (replicate turns Deals) (scene system.old policy.old.users) (scene system.new policy.new.users) (W.contents writer.old) (W.contents writer.new)) }
-    ensures err { OnErr result (IsPartly (replicate turns Deals) (scene system.old policy.old.users) system.new (W.contents writer.old) (W.contents writer.new)) }
+    ensures ok { OnOk result (IsPlayed (replicate turns Deals) (scene system.old policy.old.users)
+        (scene system.new policy.new.users) (W.contents writer.old) (W.contents writer.new)) }
+    ensures err { OnErr result
+        (IsPartly (replicate turns Deals) (scene system.old policy.old.users) system.new (W.contents writer.old)
+        (W.contents writer.new)) }
     ensures users { system.new.users ≡ system.old.users }
     ensures seats { policy.new.most_users ≡ policy.old.most_users }
     ensures line { (n : ℕ) → result ≡ Err (SessionError.Line n) → ⊥ }
@@ -225,16 +244,19 @@ fn deal<W: HostWriter>(
     Ok(())
 }
 
-/// Deals a turn: a slice to the first in the queue who is ready, if there is one. Its lines are those of the run, or that
-/// nobody had it. Users have no devices, so no program waits to be served.
+/// Deals a turn: a slice to the first in the queue who is ready, if there is one. Its lines are those of the run, or
+/// that nobody had it. Users have no devices, so no program waits to be served.
 fn turn<W: HostWriter>(
     alloc: Global,
     system: &mut System,
     policy: &mut Policy,
     writer: &mut W,
 ) -> Result<(), SessionError>
-    ensures ok { OnOk result (IsPlayed (Deals ∷ []) (scene system.old policy.old.users) (scene system.new policy.new.users) (W.contents writer.old) (W.contents writer.new)) }
-    ensures err { OnErr result (IsPartly (Deals ∷ []) (scene system.old policy.old.users) system.new (W.contents writer.old) (W.contents writer.new)) }
+    ensures ok { OnOk result (IsPlayed (Deals ∷ []) (scene system.old policy.old.users)
+        (scene system.new policy.new.users) (W.contents writer.old) (W.contents writer.new)) }
+    ensures err { OnErr result
+        (IsPartly (Deals ∷ []) (scene system.old policy.old.users) system.new (W.contents writer.old)
+        (W.contents writer.new)) }
     ensures users { system.new.users ≡ system.old.users }
     ensures seats { policy.new.most_users ≡ policy.old.most_users }
     ensures line { (n : ℕ) → result ≡ Err (SessionError.Line n) → ⊥ }
@@ -261,8 +283,11 @@ fn answer<W: HostWriter>(
 ) -> Result<(), SessionError>
     requires user { IsOfUser (length system.old.users) event.now }
     requires event { IsApplicable event.now }
-    ensures ok { OnOk result (IsAnswered (said event.now) system.old system.new (W.contents writer.old) (W.contents writer.new)) }
-    ensures err { OnErr result (IsUnanswered system.old system.new (W.contents writer.old) (W.contents writer.new) ⊎ IsAnsweredPartly (said event.now) system.old system.new (W.contents writer.old) (W.contents writer.new)) }
+    ensures ok { OnOk result (IsAnswered (said event.now) system.old system.new (W.contents writer.old)
+        (W.contents writer.new)) }
+    ensures err { OnErr result
+        (IsUnanswered system.old system.new (W.contents writer.old) (W.contents writer.new)
+        ⊎ IsAnsweredPartly (said event.now) system.old system.new (W.contents writer.old) (W.contents writer.new)) }
     ensures users { system.new.users ≡ system.old.users }
     ensures line { (n : ℕ) → result ≡ Err (SessionError.Line n) → ⊥ }
     ensures alive { OnOk result (system.new.is_spent ≡ false) }

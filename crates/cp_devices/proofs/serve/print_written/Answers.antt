@@ -1,4 +1,4 @@
-use Rattle.std.proofs.Common.{◌≡◌, ◌∙◌, ◌++◌, ◌≤◌, ℕ, List, take, length, ap, sym, subst, rules}
+use Rattle.std.proofs.Common.{◌∙◌, ◌++◌, ◌≤◌, ℕ, List, take, length, ap, subst, rules}
 use Rattle.cp_panel.specs.Machine.{Parts}
 use Rattle.cp_devices.proofs.Printed.{one_printed, all_printed, printed_on}
 use Rattle.cp_devices.proofs.serve.print_written.Goals as goal
