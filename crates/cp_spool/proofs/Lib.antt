@@ -1,0 +1,3 @@
+pub mod Apart
+pub mod Steps
+pub mod Moves
