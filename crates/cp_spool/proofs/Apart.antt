@@ -25,6 +25,7 @@ vacant_is_free files queues numbered key sound vacant = record {
 module _ (files files' : Slab SpoolFileValue) (key : ℕ) (others : (other : ℕ) → other ≢ key → get files' other ≡ get files other) where
   pub sound_apart : (queues : List QueueKeys) (numbered : List (Option ℕ)) → IsFree key queues numbered → IsSound files queues numbered → IsSound files' queues numbered
   sound_apart queues numbered free sound = record {
+    few = sound.few;
     made = λ n k h. subst (λ (o : Option SpoolFileValue). IsSomeAnd o IsMade) (sym (others k (λ e. free.made n (h ∙ ap (λ (x : ℕ). Some x) e)))) (sound.made n k h);
     waiting = λ user i l. subst (λ (o : Option SpoolFileValue). IsSomeAnd o (StandsWith user)) (sym (others (get_or (keys_of queues user) i 0) (free.waiting user i l))) (sound.waiting user i l);
     once = sound.once;

@@ -1,3 +1,4 @@
 pub mod Apart
 pub mod Steps
+pub mod Sent
 pub mod Moves

@@ -2,7 +2,7 @@
 use Rattle.std.proofs.Common.{◌≡◌, ◌≢◌, ℕ, zero, suc, ◌+◌, ◌<◌, ◌≤◌, ◌⊎◌, inl, inr, Bool, true, List, [], ◌∷◌, ◌++◌, length, get_or, map, set, Option, Some, None, refl, sym, ◌∙◌, ap, subst, arith}
 use Rattle.std.specs.Prelude.{IsSomeAnd, remove}
 use Rattle.std.proofs.lemmas.Bool.{cases_eq, cases_lt}
-use Rattle.std.proofs.lemmas.List.{get_or-set_same, get_or-set_other, get_or_append_left, length-append}
+use Rattle.std.proofs.lemmas.List.{get_or-set_same, get_or-set_other, get_or_append_left, length-append, length-set}
 use Rattle.std.proofs.Math.Seq.{get_or-append_seam}
 use Rattle.std.proofs.lemmas.List.Edits.{get_or-remove_below, get_or-remove_above, length-remove}
 use Rattle.slab.specs.Slab.{Slab, get}
@@ -23,6 +23,7 @@ entry_or_last (x ∷ xs) last (suc n) key h = entry_or_last xs last n key h
 
 pub sound_numbered : (files : Slab SpoolFileValue) (queues : List QueueKeys) (numbered : List (Option ℕ)) (last : Option ℕ) → ((key : ℕ) → last ≡ Some key → IsSomeAnd (get files key) IsMade) → IsSound files queues numbered → IsSound files queues (numbered ++ last ∷ [])
 sound_numbered files queues numbered last is_made sound = record {
+  few = sound.few;
   made = λ n key h. elim (entry_or_last numbered last n key h) [ inl before ↦ sound.made n key before | inr now ↦ is_made key now ];
   waiting = sound.waiting;
   once = sound.once;
@@ -62,6 +63,7 @@ once_after queues user q inside now before other =
 
 pub sound_set : (files : Slab SpoolFileValue) (queues : List QueueKeys) (numbered : List (Option ℕ)) (user : ℕ) (q : QueueKeys) → user < length queues → Waits files user q.keys → Once q.keys → IsSound files queues numbered → IsSound files (set queues user q) numbered
 sound_set files queues numbered user q inside waits once sound = record {
+  few = simp length-set sound.few;
   made = sound.made;
   waiting = waits_after files queues user q inside waits sound.waiting;
   once = once_after queues user q inside once sound.once;
@@ -101,7 +103,7 @@ sound_pushed files queues numbered user key q inside keys here apart sound =
 -- ---- a deck leaves
 
 -- where an element that is left stood before
-record Stood (keys : List ℕ) (index i : ℕ) : Type 0 where
+pub record Stood (keys : List ℕ) (index i : ℕ) : Type 0 where
   pub before : ℕ
   pub inside : before < length keys
   pub apart : before ≢ index
@@ -109,7 +111,7 @@ record Stood (keys : List ℕ) (index i : ℕ) : Type 0 where
   pub below : before < index → i ≡ before
   pub above : index < before → i + 1 ≡ before
 
-stood : (keys : List ℕ) (index i : ℕ) → index < length keys → i < length (remove keys index) → Stood keys index i
+pub stood : (keys : List ℕ) (index i : ℕ) → index < length keys → i < length (remove keys index) → Stood keys index i
 stood keys index i inside l =
     let count : length (remove keys index) + 1 ≡ length keys = length-remove keys index inside in
     elim (cases_lt i index) [
@@ -169,7 +171,7 @@ system_of : (sender : Sender) → is_system sender ≡ true → sender ≡ sende
 system_of senders.System h = refl
 system_of (senders.User user) h = absurd (cc)
 
-given_not_made : (o : Option SpoolFileValue) → is_given o ≡ true → IsSomeAnd o IsMade → ⊥
+pub given_not_made : (o : Option SpoolFileValue) → is_given o ≡ true → IsSomeAnd o IsMade → ⊥
 given_not_made None given made = made
 given_not_made (Some file) given made = made (system_of file.sender given)
 

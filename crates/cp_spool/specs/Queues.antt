@@ -1,11 +1,12 @@
 -- The spool files of all users as lists (docs/MACHINE.md, "Unit record devices and console"; docs/COMMANDS.md, "CLOSE",
 -- "PURGE", "LOGOFF").
-use Rattle.std.specs.Prelude.{ℕ, ◌+◌, ◌≤◌, ◌<◌, ◌==◌, List, [], ◌∷◌, ◌++◌, drop, length, remove, slice_index, slice_index_or, slice_set, Option, Some, None}
+use Rattle.std.specs.Prelude.{ℕ, nat_lt, if◌then◌else◌, ◌+◌, ◌≤◌, ◌<◌, ◌==◌, List, [], ◌∷◌, ◌++◌, drop, length, remove, slice_index, slice_index_or, slice_set, Option, Some, None}
 use Rattle.std.specs.List.{position_from}
 use Rattle.unit_record.specs.declared.output.Target.{Target}
 use Rattle.unit_record.specs.declared.output.Target.TheVariants as targets
 use Rattle.unit_record.specs.declared.reader.Sender.TheVariants as senders
 use Rattle.unit_record.specs.Reader.{currents}
+use Rattle.cp_spool.specs.declared.delivery.Delivery.{Delivery}
 use Rattle.cp_spool.specs.File.{SpoolFileValue, ContentsValue, Cards, Lines}
 
 -- ---- what is held
@@ -18,11 +19,12 @@ pub record UserFiles : Type 0 where
 abbrev pub no_files : UserFiles
 no_files = record { decks = []; place = None }
 
--- The decks of each user; and by number, the first being 1, each file that a punch or a printer made, in whoever's reader it
--- stands too. A deck that the operator gave is kept by its reader alone.
+-- The decks of each user; by number, the first being 1, each file that a punch or a printer made, in whoever's reader it stands
+-- too; and a closed file that is on its way to a reader. A deck that the operator gave is kept by its reader alone.
 pub record Held : Type 0 where
   pub users : List UserFiles
   pub numbered : List (Option SpoolFileValue)
+  pub outgoing : Option SpoolFileValue
 
 abbrev pub files_of : Held → ℕ → UserFiles
 files_of h user = slice_index_or h.users user no_files
@@ -56,22 +58,48 @@ abbrev pub deck_given : Held → ℕ → List (List ℕ) → SpoolFileValue
 deck_given h user cards = record { id = next_id h; sender = senders.System; target = targets.User user; contents = Cards cards }
 
 abbrev pub given_to : ℕ → List (List ℕ) → Held → Held
-given_to user cards h = record { users = queued_for (Some user) (deck_given h user cards) h.users; numbered = h.numbered ++ None ∷ [] }
+given_to user cards h = record h { users = queued_for (Some user) (deck_given h user cards) h.users; numbered = h.numbered ++ None ∷ [] }
 
 -- the open file of a user's punch or printer
 abbrev pub file_closed : Held → ℕ → Target → ContentsValue → SpoolFileValue
 file_closed h user to contents = record { id = next_id h; sender = senders.User user; target = to; contents = contents }
 
--- whose reader it goes to: cards go to the user for whom they are, and what was printed goes to nobody's
+-- whose reader a file goes to: cards go to the user for whom they are, and what was printed goes to nobody's
 abbrev pub receiver : Target → ContentsValue → Option ℕ
 receiver (targets.User user) (Cards cards) = Some user
 receiver (targets.User user) (Lines lines) = None
 receiver targets.System contents = None
 
+abbrev pub on_its_way : Option ℕ → SpoolFileValue → Option SpoolFileValue → Option SpoolFileValue
+on_its_way (Some user) file outgoing = Some file
+on_its_way None file outgoing = outgoing
+
+-- it has the next number, and is on its way where it goes to a reader
 abbrev pub closed_by : ℕ → Target → ContentsValue → Held → Held
 closed_by user to contents h =
     let file = file_closed h user to contents in
-    record { users = queued_for (receiver to contents) file h.users; numbered = h.numbered ++ Some file ∷ [] }
+    record h { numbered = h.numbered ++ Some file ∷ []; outgoing = on_its_way (receiver to contents) file h.outgoing }
+
+-- what was on its way has come to the end of the queue
+abbrev pub users_after : Option SpoolFileValue → List UserFiles → List UserFiles
+users_after None users = users
+users_after (Some file) users = queued_for (receiver file.target file.contents) file users
+
+abbrev pub delivered : Held → Held
+delivered h = record h { users = users_after h.outgoing h.users; outgoing = None }
+
+-- and so it is told: whose reader has it, and its id
+abbrev pub told_to : Option ℕ → ℕ → Option Delivery
+told_to None id = None
+told_to (Some user) id = Some (record { reader = user; id = id })
+
+abbrev pub delivery_of : Option SpoolFileValue → Option Delivery
+delivery_of None = None
+delivery_of (Some file) = told_to (receiver file.target file.contents) file.id
+
+-- the user of this number, where there are so many
+abbrev pub user_at : ℕ → ℕ → Option ℕ
+user_at count number = if nat_lt number count then Some number else None
 
 -- the target is the operator or a user whom there is
 abbrev pub IsKnown : Target → Held → Type 0

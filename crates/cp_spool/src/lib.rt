@@ -1,9 +1,14 @@
 //! The spool files of all users.
 #![tactic(auto)]
 
+mod delivery;
+mod error;
 mod file;
+mod keeping;
 mod queue;
 mod queues;
 
+pub use delivery::Delivery;
+pub use error::SpoolError;
 pub use file::{Contents, SpoolFile};
 pub use queues::Queues;
