@@ -2,3 +2,5 @@ pub mod Apart
 pub mod Steps
 pub mod Sent
 pub mod Moves
+pub mod Search
+pub mod Again

@@ -1,16 +1,18 @@
 -- What coming and leaving make of the lists that are seen.
 use Rattle.std.proofs.Common.{◌≡◌, ◌≢◌, ℕ, zero, suc, ◌+◌, ◌<◌, ◌≤◌, Bool, true, false, List, [], ◌∷◌, ◌++◌, length, get_or, map, set, Option, Some, None, refl, sym, ◌∙◌, ap, subst, arith}
-use Rattle.std.specs.Prelude.{IsSomeAnd, remove, unwrap_or}
+use Rattle.std.specs.Prelude.{IsSomeAnd, remove, slice_get, unwrap_or}
 use Rattle.std.specs.Option.{option_map}
-use Rattle.std.proofs.lemmas.List.{map-set, map-append, length-map}
+use Rattle.std.proofs.lemmas.List.{map-set, map-append, length-map, get_or-set_same}
 use Rattle.std.proofs.Math.ListN.{get_or-map}
+use Rattle.std.proofs.Math.Seq.{map-set_same}
+use Rattle.std.proofs.lemmas.Option.{get_or_from_slice_get, slice_get-map}
 use Rattle.slab.specs.Slab.{Slab, get, Updates}
 use Rattle.unit_record.specs.declared.output.Target.{Target}
 use Rattle.unit_record.specs.declared.output.Target.TheVariants as targets
 use Rattle.unit_record.specs.declared.reader.Sender.TheVariants as senders
 use Rattle.cp_spool.specs.File.{SpoolFileValue, ContentsValue, Cards, Lines}
-use Rattle.cp_spool.specs.Queues.{Held, Room, HasPlace, UserFiles, no_files, queued_for, receiver, users_after, told_to, delivery_of, with_deck, without_deck}
-use Rattle.cp_spool.specs.Keys.{QueueKeys, no_file, file_at, user_files, numbered_files, keys_of, queue_of, with_queue, with_key, without_key, outgoing_file, StandsWith, IsMade, IsFor, IsSent, IsOutgoing, IsSound, IsWhole, is_given}
+use Rattle.cp_spool.specs.Queues.{Held, Room, HasPlace, UserFiles, no_files, queued_for, receiver, users_after, told_to, delivery_of, with_deck, with_place, without_deck}
+use Rattle.cp_spool.specs.Keys.{QueueKeys, no_file, no_keys, file_at, user_files, numbered_files, keys_of, queue_of, with_queue, with_key, without_key, outgoing_file, StandsWith, IsMade, IsFor, IsSent, IsOutgoing, IsSound, IsWhole, is_given}
 use Rattle.cp_spool.proofs.Apart.{IsFree, vacant_is_free, sound_apart, users_apart, numbered_apart}
 use Rattle.cp_spool.specs.declared.delivery.Outgoing.{Outgoing}
 use Rattle.cp_spool.specs.declared.delivery.Delivery.{Delivery}
@@ -22,7 +24,7 @@ files_there files [] user = refl
 files_there files (q ∷ qs) zero = refl
 files_there files (q ∷ qs) (suc user) = files_there files qs user
 
-held_is : (users users' : List UserFiles) (numbered numbered' : List (Option SpoolFileValue)) (outgoing outgoing' : Option SpoolFileValue) → users ≡ users' → numbered ≡ numbered' → outgoing ≡ outgoing' → (let h : Held = record { users = users; numbered = numbered; outgoing = outgoing } in h ≡ record { users = users'; numbered = numbered'; outgoing = outgoing' })
+pub held_is : (users users' : List UserFiles) (numbered numbered' : List (Option SpoolFileValue)) (outgoing outgoing' : Option SpoolFileValue) → users ≡ users' → numbered ≡ numbered' → outgoing ≡ outgoing' → (let h : Held = record { users = users; numbered = numbered; outgoing = outgoing } in h ≡ record { users = users'; numbered = numbered'; outgoing = outgoing' })
 held_is users users' numbered numbered' outgoing outgoing' e f g = rw (e, f, g) refl
 
 -- ---- a file comes
@@ -245,3 +247,63 @@ pub room_of : (files : Slab SpoolFileValue) (queues : List QueueKeys) (decks : L
 room_of files queues decks user least seen room =
     let there = subst (λ (ds : List ℕ). least ≤ get_or ds user 0) (sym seen) room in
     omega (arith, room_there queues user, there)
+
+-- ---- more room
+
+pub users_roomier : (files files' : Slab SpoolFileValue) (queues : List QueueKeys) (place : ℕ) (q q' : QueueKeys) → files' ≡ record files { capacity = files'.capacity } → place < length queues → q ≡ get_or queues place q → q' ≡ record q { room = q'.room } → map (user_files files') (set queues place q') ≡ map (user_files files) queues
+users_roomier files files' queues place q q' same inside is after =
+    ap (λ (s : Slab SpoolFileValue). map (user_files s) (set queues place q')) same
+    ∙ map-set_same (user_files files) queues place q' no_keys (ap (user_files files) after ∙ ap (λ (x : QueueKeys). user_files files x) (queue_is queues place q inside is))
+
+pub room_now : (queues : List QueueKeys) (user place least : ℕ) (q' : QueueKeys) → user < length queues → place ≡ user → least ≤ q'.room → least ≤ get_or (map (λ (q : QueueKeys). q.room) (set queues place q')) user 0
+room_now queues user place least q' inside at room =
+    let there : queue_of (set queues place q') user ≡ q' = ap (λ (n : ℕ). queue_of (set queues n q') user) at ∙ get_or-set_same queues user q' no_keys inside in
+    let less : least ≤ (queue_of (set queues place q') user).room = subst (λ (q : QueueKeys). least ≤ q.room) (sym there) room in
+    omega (arith, room_there (set queues place q') user, less)
+
+-- whoever is seen is there
+pub user_inside : (files : Slab SpoolFileValue) (queues : List QueueKeys) (users : List UserFiles) (user : ℕ) → map (user_files files) queues ≡ users → user < length users → user < length queues
+user_inside files queues users user seen inside =
+    let there : user < length (map (user_files files) queues) = subst (λ (us : List UserFiles). user < length us) (sym seen) inside in
+    simp length-map at there
+
+-- ---- a file is found
+
+there_is : (o : Option SpoolFileValue) (P : SpoolFileValue → Type 0) → IsSomeAnd o P → o ≡ Some (unwrap_or o no_file)
+there_is None P h = absurd h
+there_is (Some file) P h = refl
+
+pub deck_found : (files : Slab SpoolFileValue) (queues : List QueueKeys) (numbered : List (Option ℕ)) (user index key : ℕ) → IsSound files queues numbered → index < length (keys_of queues user) → slice_get (keys_of queues user) index ≡ Some key → get files key ≡ slice_get ((get_or (map (user_files files) queues) user no_files).decks) index
+deck_found files queues numbered user index key sound inside found =
+    let at : get_or (keys_of queues user) index 0 ≡ key = get_or_from_slice_get (keys_of queues user) index key 0 found in
+    let has : IsSomeAnd (get files key) (StandsWith user) = subst (λ (k : ℕ). IsSomeAnd (get files k) (StandsWith user)) at (sound.waiting user index inside) in
+    there_is (get files key) (StandsWith user) has
+    ∙ ap (λ (o : Option ℕ). option_map (file_at files) o) (sym found)
+    ∙ sym (slice_get-map (file_at files) (keys_of queues user) index)
+    ∙ ap (λ (f : UserFiles). slice_get f.decks index) (sym (files_there files queues user))
+
+pub no_deck_found : (files : Slab SpoolFileValue) (queues : List QueueKeys) (user index : ℕ) → slice_get (keys_of queues user) index ≡ None → None ≡ slice_get ((get_or (map (user_files files) queues) user no_files).decks) index
+no_deck_found files queues user index none =
+    ap (λ (o : Option ℕ). option_map (file_at files) o) (sym none)
+    ∙ sym (slice_get-map (file_at files) (keys_of queues user) index)
+    ∙ ap (λ (f : UserFiles). slice_get f.decks index) (sym (files_there files queues user))
+
+pub made_found : (files : Slab SpoolFileValue) (queues : List QueueKeys) (numbered : List (Option ℕ)) (number key : ℕ) → IsSound files queues numbered → get_or numbered number None ≡ Some key → get files key ≡ get_or (numbered_files files numbered) number None
+made_found files queues numbered number key sound found =
+    there_is (get files key) IsMade (sound.made number key found)
+    ∙ ap (λ (o : Option ℕ). option_map (file_at files) o) (sym found)
+    ∙ sym (get_or-map (option_map (file_at files)) numbered number None)
+
+-- the queue that was found is that of its user
+pub queue_found : (queues : List QueueKeys) (user place : ℕ) (q : QueueKeys) → user < length queues → place ≡ user → q ≡ get_or queues place q → q ≡ queue_of queues user
+queue_found queues user place q inside at is = queue_is queues user q inside (is ∙ ap (λ (n : ℕ). get_or queues n q) at)
+
+-- ---- how far a reader has come
+
+pub users_placed : (files : Slab SpoolFileValue) (queues : List QueueKeys) (user at : ℕ) (q q' : QueueKeys) (place : Option ℕ) → user < length queues → at ≡ user → q ≡ get_or queues at q → q' ≡ record q { place = place } → map (user_files files) (set queues at q') ≡ set (map (user_files files) queues) user (with_place place (get_or (map (user_files files) queues) user no_files))
+users_placed files queues user at q q' place inside same is after =
+    let here : q ≡ queue_of queues user = queue_found queues user at q inside same is in
+    ap (λ (n : ℕ). map (user_files files) (set queues n q')) same
+    ∙ map-set (user_files files) queues user q'
+    ∙ ap (λ (f : UserFiles). set (map (user_files files) queues) user f)
+    (ap (user_files files) (after ∙ ap (λ (x : QueueKeys). let y : QueueKeys = record x { place = place } in y) here) ∙ ap (λ (f : UserFiles). with_place place f) (sym (files_there files queues user)))

@@ -132,6 +132,12 @@ abbrev pub purged_at : Option ℕ → ℕ → Held → Held
 purged_at None user h = h
 purged_at (Some index) user h = with_files user (without_deck index (files_of h user)) h
 
+abbrev pub with_place : Option ℕ → UserFiles → UserFiles
+with_place place f = record f { place = place }
+
+abbrev pub without_first : UserFiles → UserFiles
+without_first f = record f { decks = drop 1 f.decks }
+
 -- a reader has read on: so many decks are ended, and of the first that is left so many cards were read
 abbrev pub read_on : ℕ → Option ℕ → UserFiles → UserFiles
 read_on ended place f = record { decks = drop ended f.decks; place = place }

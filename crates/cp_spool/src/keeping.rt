@@ -1,5 +1,5 @@
 //! How files are kept: under keys, which queues and numbers hold.
-ghost use Rattle.std.specs.Prelude.{◌≡◌, ℕ, ◌+◌, ◌<◌, ◌≤◌, ◌∷◌, ◌++◌, [], Some, None, true, false, map, vec_capacity, vec_len, if◌then◌else◌, length, replicate, IfOk};
+ghost use Rattle.std.specs.Prelude.{◌≡◌, ℕ, ◌+◌, ◌<◌, ◌≤◌, ◌∷◌, ◌++◌, [], Some, None, true, false, map, vec_capacity, vec_len, if◌then◌else◌, length, replicate, slice_index_or, IfOk};
 ghost use Rattle.slab.specs.Slab.{get, slab_len, HasRoomFor, Updates, Slab as Files};
 ghost use Rattle.cp_spool.specs.File.{SpoolFileValue};
 ghost use Rattle.cp_spool.specs.Keys.{is_given, keys_of, queue_of, user_files, with_queue, with_key};
@@ -59,6 +59,17 @@ fn is_given(files: &Slab<SpoolFile>, key: usize) -> bool
     match files.get(key) {
         Some(file) => file.sender() == Sender::System,
         None => false,
+    }
+}
+
+/// The key that is held under a number, if there is one.
+pub(crate) fn key_at(numbered: &[Option<usize>], number: usize) -> Option<usize>
+    ensures { result ≡ slice_index_or numbered.now number None }
+{
+    if number < numbered.len() {
+        numbered[number]
+    } else {
+        None
     }
 }
 

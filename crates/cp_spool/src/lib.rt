@@ -5,10 +5,12 @@ mod delivery;
 mod error;
 mod file;
 mod keeping;
+mod progress;
 mod queue;
 mod queues;
 
 pub use delivery::Delivery;
 pub use error::SpoolError;
 pub use file::{Contents, SpoolFile};
+pub use progress::Progress;
 pub use queues::Queues;

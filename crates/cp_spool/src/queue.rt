@@ -36,14 +36,13 @@ impl DeckQueue {
         }
     }
 
-    /// Makes room for one more deck.
-    pub(crate) fn reserve(&mut self) -> Result<(), AllocError>
-        ensures keys { self.new.keys ≡ self.old.keys }
-        ensures place { self.new.place ≡ self.old.place }
-        ensures room { OnOk result (1 ≤ self.new.room) }
+    /// Makes room for so many more decks.
+    pub(crate) fn reserve(&mut self, count: usize) -> Result<(), AllocError>
+        ensures rest { self.new ≡ record self.old { room = self.new.room } }
+        ensures room { OnOk result (count ≤ self.new.room) }
         ensures kept { self.old.room ≤ self.new.room }
     {
-        self.keys.reserve(1)
+        self.keys.reserve(count)
     }
 
     /// A deck comes to the end. This takes no memory.

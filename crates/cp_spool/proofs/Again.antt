@@ -1,0 +1,21 @@
+-- What one user has is changed twice.
+use Rattle.std.proofs.Common.{◌≡◌, ℕ, zero, suc, ◌+◌, ◌<◌, ◌≤◌, inl, inr, List, [], ◌∷◌, length, drop, get_or, set, refl, sym, ◌∙◌, ap, arith}
+use Rattle.cp_spool.specs.Queues.{Held, UserFiles, no_files, files_of, with_files}
+
+set_again : {X : Type 0} (xs : List X) (i : ℕ) (d : X) (x : X) (g : X → X) → set (set xs i x) i (g (get_or (set xs i x) i d)) ≡ set xs i (g x)
+set_again [] zero d x g = refl
+set_again [] (suc i) d x g = refl
+set_again (y ∷ ys) zero d x g = refl
+set_again (y ∷ ys) (suc i) d x g = ap (λ zs. y ∷ zs) (set_again ys i d x g)
+
+pub changed_again : (h : Held) (user : ℕ) (f : UserFiles) (g : UserFiles → UserFiles) → with_files user (g (files_of (with_files user f h) user)) (with_files user f h) ≡ with_files user (g f) h
+changed_again h user f g = ap (λ (us : List UserFiles). let k : Held = record h { users = us } in k) (set_again h.users user no_files f g)
+
+drop_suc : {X : Type 0} (n : ℕ) (xs : List X) → drop 1 (drop n xs) ≡ drop (suc n) xs
+drop_suc zero [] = refl
+drop_suc (suc n) [] = refl
+drop_suc zero (x ∷ xs) = refl
+drop_suc (suc n) (x ∷ xs) = drop_suc n xs
+
+pub drop_one_more : {X : Type 0} (n : ℕ) (xs : List X) → drop 1 (drop n xs) ≡ drop (n + 1) xs
+drop_one_more n xs = drop_suc n xs ∙ ap (λ (m : ℕ). drop m xs) (let e : suc n ≡ n + 1 = omega arith in e)
