@@ -4,3 +4,4 @@ pub mod Sent
 pub mod Moves
 pub mod Search
 pub mod Again
+pub mod Fed

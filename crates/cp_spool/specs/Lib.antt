@@ -1,3 +1,4 @@
 pub mod File
 pub mod Queues
 pub mod Keys
+pub mod Reader

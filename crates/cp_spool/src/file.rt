@@ -1,5 +1,5 @@
 //! Spool files.
-ghost use Rattle.std.specs.Prelude.{◌≡◌};
+ghost use Rattle.std.specs.Prelude.{◌≡◌, ◌<◌, slice_get, IfSome};
 
 use std::marker::Model;
 use unit_record::{Card, Entry, Sender, Target};
@@ -74,6 +74,19 @@ impl SpoolFile {
         match &self.contents {
             Contents::Cards(cards) => cards.as_slice(),
             Contents::Lines(_) => &[],
+        }
+    }
+
+    /// A card of a deck.
+    pub fn card(&self, index: usize) -> Option<Card>
+        ensures value { result ≡ slice_get (cards_in self.now.contents) index }
+        ensures fits { IfSome result (λ _. index < usize.MAX) }
+    {
+        let cards = self.cards();
+        if index < cards.len() {
+            Some(cards[index])
+        } else {
+            None
         }
     }
 

@@ -100,10 +100,12 @@ impl DeckQueue {
     pub(crate) fn key(&self, index: usize) -> Option<usize>
         ensures value { result ≡ slice_get self.now.keys index }
         ensures inside { IfSome result (λ _. index < length self.now.keys) }
+        ensures fits { IfSome result (λ _. index < usize.MAX) }
     {
-        match self.keys.get(index) {
-            Some(key) => Some(*key),
-            None => None,
+        if index < self.keys.len() {
+            self.keys.get(index).copied()
+        } else {
+            None
         }
     }
 }

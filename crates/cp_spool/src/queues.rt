@@ -276,6 +276,7 @@ impl Queues {
     pub fn deck(&self, user: UserNo, index: usize) -> Option<&SpoolFile>
         ensures value { option_copied result ≡ slice_get (files_of self.now.held user).decks index }
         ensures inside { IfSome result (λ _. index < length (files_of self.now.held user).decks) }
+        ensures fits { IfSome result (λ _. index < usize.MAX) }
     {
         if user.index() >= self.users.len() {
             return None;

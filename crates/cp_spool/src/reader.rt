@@ -1,0 +1,220 @@
+//! A card reader that feeds from the queue of its user.
+ghost use Rattle.std.specs.Prelude.{◌≡◌, ◌∷◌, [], drop, length, slice_index, true, IsOk, IfOk, OnOk, OnErr};
+ghost use Rattle.unit_record.specs.Front.{is_sense};
+ghost use Rattle.unit_record.specs.Reader.{read_answer};
+ghost use Rattle.cp_spool.specs.Queues.{files_of};
+ghost use Rattle.cp_spool.specs.Reader.{fed_by, part_new};
+
+use crate::progress::Progress;
+use crate::queues::Queues;
+use cp_users::UserNo;
+use s370_walk::{Answer, Device, Flags, Order, UnitStatus};
+use std::alloc::AllocError;
+use std::marker::Model;
+use unit_record::{COMMAND_REJECT, INTERVENTION_REQUIRED, RECORD_LENGTH, Record};
+
+/// The command that reads a card.
+const READ: u8 = 0x02;
+/// The command that does nothing.
+const NO_OPERATION: u8 = 0x03;
+/// The command that tells the sense byte.
+const SENSE: u8 = 0x04;
+/// Chain data and chain command.
+const CHAINING: Flags = Flags { bits: 0xC0 };
+
+/// What a card reader keeps beside its decks: its sense byte, and the bytes that are still to be given.
+#[derive(Drop)]
+pub struct Reader {
+    sense: u8,
+    bytes: Record,
+    given: usize,
+}
+
+impl Model for Reader {
+    ghost use Rattle.std.specs.Prelude.{drop, length, ◌≤◌};
+    ghost use Rattle.cp_spool.specs.Reader.{ReaderPart};
+
+    ghost Value = { ReaderPart };
+
+    ghost view = { λ r. record { sense = r.sense; giving = drop r.given r.bytes } };
+
+    ghost invariant = { λ r. r.given ≤ length r.bytes };
+}
+
+impl Reader {
+    /// A reader that has done nothing, or was reset.
+    pub fn new() -> Reader
+        ensures { result ≡ part_new }
+    {
+        Reader {
+            sense: 0,
+            bytes: Record::new(),
+            given: 0,
+        }
+    }
+
+    /// The sense byte of the last unit check.
+    pub fn sense(&self) -> u8
+        ensures { result ≡ self.now.sense }
+    {
+        self.sense
+    }
+
+    /// A unit check with this sense byte.
+    fn refuse(&mut self, sense: u8)
+        ensures { self.new ≡ record self.old { sense = sense } }
+    {
+        self.sense = sense;
+    }
+
+    /// These bytes are to be given.
+    fn hold(&mut self, bytes: Record)
+        ensures { self.new ≡ record self.old { giving = bytes } }
+    {
+        self.bytes = bytes;
+        self.given = 0;
+    }
+
+    /// Gives the next byte, or zero where none is left.
+    fn give(&mut self) -> u8
+        ensures byte { result ≡ slice_index self.old.giving 0 }
+        ensures after { self.new ≡ record self.old { giving = drop 1 self.old.giving } }
+    {
+        let byte = self.bytes.byte(self.given);
+        if self.given < self.bytes.len() {
+            self.given += 1;
+        }
+        byte
+    }
+}
+
+/// A card reader that feeds from the queue of one user. The queue stays as it is, and is told afterwards what was read
+/// ([`Queues::take_back`]).
+#[derive(Drop)]
+pub struct FedReader<'a> {
+    queues: &'a Queues,
+    user: UserNo,
+    progress: Progress,
+    reader: Reader,
+}
+
+impl<'a> Model for FedReader<'a> {
+    ghost use Rattle.std.specs.Prelude.{map, length, ◌≤◌};
+    ghost use Rattle.cp_spool.specs.Queues.{files_of};
+    ghost use Rattle.cp_spool.specs.Reader.{FeedState, deck_of};
+
+    ghost Value = { FeedState };
+
+    ghost view = { λ f. record { decks = map deck_of (files_of f.queues.now.held f.user).decks; ended = f.progress.ended; place = f.progress.place; part = f.reader } };
+}
+
+impl<'a> Device for FedReader<'a> {
+    ghost use Rattle.s370_walk.specs.Short.{nothing_needed};
+    ghost use Rattle.cp_spool.specs.Reader.{feed_machine};
+
+    ghost machine = { feed_machine };
+
+    ghost needs_memory = { nothing_needed };
+
+    /// A command of a reader is never refused memory.
+    fn command(&mut self, order: Order) -> Result<Answer, AllocError>
+        ensures ready { IsOk result }
+        ensures answer { IfOk result (λ answer. answer ≡ feed_machine.answer self.old order) }
+        ensures after { OnOk result (self.new ≡ feed_machine.started self.old order) }
+        ensures memory { OnErr result (self.new ≡ self.old) }
+        ensures needed { OnErr result (nothing_needed self.old order ≡ true) }
+    {
+        Ok(match order.command.code {
+            READ => self.read(),
+            NO_OPERATION => Answer::Immediate,
+            _ if is_sense(order) => {
+                let sense = self.reader.sense();
+                self.reader.hold(Record::of(&[sense]));
+                Answer::Input(1)
+            }
+            _ => {
+                self.reader.refuse(COMMAND_REJECT);
+                Answer::Refused(UnitStatus::UNIT_CHECK)
+            }
+        })
+    }
+
+    fn is_done(&self) -> bool {
+        false
+    }
+
+    fn ready(&self) -> u32 {
+        u32::MAX
+    }
+
+    fn give(&mut self) -> u8 {
+        self.reader.give()
+    }
+
+    fn take(&mut self, _byte: u8) {}
+
+    fn finish(&mut self) -> UnitStatus {
+        UnitStatus::NONE
+    }
+}
+
+impl<'a> FedReader<'a> {
+    ghost use Rattle.cp_spool.specs.Reader.{next_card, read_started};
+
+    /// This reader, which feeds from the queue of this user.
+    pub fn new(queues: &'a Queues, user: UserNo, reader: Reader) -> FedReader<'a>
+        ensures { result ≡ fed_by (files_of queues.now.held user) reader }
+    {
+        FedReader {
+            progress: Progress {
+                ended: 0,
+                place: queues.place(user),
+            },
+            queues,
+            user,
+            reader,
+        }
+    }
+
+    /// The reader, and what it has read.
+    pub fn into_parts(self) -> (Reader, Progress)
+        ensures reader { result.0 ≡ self.entry.part }
+        ensures ended { result.1.ended ≡ self.entry.ended }
+        ensures place { result.1.place ≡ self.entry.place }
+    {
+        let FedReader {
+            queues: _,
+            user: _,
+            progress,
+            reader,
+        } = self;
+        (reader, progress)
+    }
+
+    /// A read.
+    fn read(&mut self) -> Answer
+        ensures answer { result ≡ read_answer (next_card self.old) }
+        ensures after { self.new ≡ read_started self.old (next_card self.old) }
+    {
+        let Some(deck) = self.queues.deck(self.user, self.progress.ended) else {
+            self.reader.refuse(INTERVENTION_REQUIRED);
+            return Answer::Refused(UnitStatus::UNIT_CHECK);
+        };
+        let place = self.progress.place.unwrap_or(0);
+        let Some(card) = deck.card(place) else {
+            self.progress.ended += 1;
+            self.progress.place = None;
+            return Answer::Refused(UnitStatus::UNIT_EXCEPTION);
+        };
+        self.reader.hold(Record::of(&card));
+        self.progress.place = Some(place + 1);
+        Answer::Input(80)
+    }
+}
+
+/// Whether a sense command is asked for and accepted.
+fn is_sense(order: Order) -> bool
+    ensures { result ≡ is_sense order }
+{
+    order.command.code == SENSE && order.first && !order.flags.has(CHAINING)
+}
