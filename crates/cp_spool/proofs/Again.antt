@@ -1,5 +1,5 @@
 -- What one user has is changed twice.
-use Rattle.std.proofs.Common.{◌≡◌, ℕ, zero, suc, ◌+◌, ◌<◌, ◌≤◌, inl, inr, List, [], ◌∷◌, length, drop, get_or, set, refl, sym, ◌∙◌, ap, arith}
+use Rattle.std.proofs.Common.{◌≡◌, ℕ, zero, suc, ◌+◌, List, [], ◌∷◌, drop, get_or, set, refl, ◌∙◌, ap, arith}
 use Rattle.cp_spool.specs.Queues.{Held, UserFiles, no_files, files_of, with_files}
 
 set_again : {X : Type 0} (xs : List X) (i : ℕ) (d : X) (x : X) (g : X → X) → set (set xs i x) i (g (get_or (set xs i x) i d)) ≡ set xs i (g x)

@@ -1,10 +1,9 @@
 -- A key that nobody holds may get or lose its file.
-use Rattle.std.proofs.Common.{◌≡◌, ◌≢◌, ℕ, zero, suc, ◌<◌, List, [], ◌∷◌, length, get_or, map, set, Option, Some, None, refl, sym, ◌∙◌, ap, subst, arith}
+use Rattle.std.proofs.Common.{◌≡◌, ◌≢◌, ℕ, suc, ◌<◌, List, [], ◌∷◌, length, get_or, map, Option, Some, None, refl, sym, ◌∙◌, ap, subst, arith}
 use Rattle.std.specs.Prelude.{unwrap_or, IsSomeAnd}
-use Rattle.std.specs.Option.{option_map}
 use Rattle.slab.specs.Slab.{Slab, get}
 use Rattle.cp_spool.specs.File.{SpoolFileValue}
-use Rattle.cp_spool.specs.Keys.{QueueKeys, no_keys, no_file, file_at, user_files, numbered_files, keys_of, StandsWith, IsMade, IsSound}
+use Rattle.cp_spool.specs.Keys.{QueueKeys, no_file, file_at, user_files, numbered_files, keys_of, StandsWith, IsMade, IsSound}
 
 -- nobody holds the key
 pub record IsFree (key : ℕ) (queues : List QueueKeys) (numbered : List (Option ℕ)) : Type 0 where

@@ -1,5 +1,5 @@
 -- What coming and leaving make of the lists that are seen.
-use Rattle.std.proofs.Common.{◌≡◌, ◌≢◌, ℕ, zero, suc, ◌+◌, ◌<◌, ◌≤◌, Bool, true, false, List, [], ◌∷◌, ◌++◌, length, get_or, map, set, Option, Some, None, refl, sym, ◌∙◌, ap, subst, arith}
+use Rattle.std.proofs.Common.{◌≡◌, ◌≢◌, ℕ, zero, suc, ◌<◌, ◌≤◌, Bool, true, false, List, [], ◌∷◌, ◌++◌, length, get_or, map, set, Option, Some, None, refl, sym, ◌∙◌, ap, subst, arith}
 use Rattle.std.specs.Prelude.{IsSomeAnd, remove, slice_get, unwrap_or}
 use Rattle.std.specs.Option.{option_map}
 use Rattle.std.proofs.lemmas.List.{map-set, map-append, length-map, get_or-set_same}
@@ -15,7 +15,6 @@ use Rattle.cp_spool.specs.Queues.{Held, Room, HasPlace, UserFiles, no_files, que
 use Rattle.cp_spool.specs.Keys.{QueueKeys, no_file, no_keys, file_at, user_files, numbered_files, keys_of, queue_of, with_queue, with_key, without_key, outgoing_file, StandsWith, IsMade, IsFor, IsSent, IsOutgoing, IsSound, IsWhole, is_given}
 use Rattle.cp_spool.proofs.Apart.{IsFree, vacant_is_free, sound_apart, users_apart, numbered_apart}
 use Rattle.cp_spool.specs.declared.delivery.Outgoing.{Outgoing}
-use Rattle.cp_spool.specs.declared.delivery.Delivery.{Delivery}
 use Rattle.cp_spool.proofs.Sent.{not_vacant, not_given, outgoing_apart, outgoing_file_apart, outgoing_pushed, outgoing_removed}
 use Rattle.cp_spool.proofs.Steps.{sound_numbered, sound_pushed, sound_removed, removed_is_free, queue_inside, room_there}
 

@@ -1,5 +1,5 @@
 -- A file on its way stays one.
-use Rattle.std.proofs.Common.{◌≡◌, ◌≢◌, ℕ, zero, suc, ◌+◌, ◌<◌, ◌≤◌, inl, inr, Bool, true, false, List, [], ◌∷◌, ◌++◌, length, get_or, map, set, Option, Some, None, refl, sym, ◌∙◌, ap, subst, arith}
+use Rattle.std.proofs.Common.{◌≡◌, ◌≢◌, ℕ, ◌+◌, ◌<◌, ◌≤◌, inl, inr, true, List, [], ◌∷◌, ◌++◌, length, get_or, set, Option, Some, None, refl, sym, ◌∙◌, ap, subst, arith}
 use Rattle.std.specs.Prelude.{IsSomeAnd, remove, unwrap_or}
 use Rattle.std.proofs.lemmas.Bool.{cases_eq, cases_lt}
 use Rattle.std.proofs.lemmas.List.{get_or-set_same, get_or-set_other, get_or_append_left, length-append}
@@ -7,8 +7,8 @@ use Rattle.std.proofs.Math.Seq.{get_or-append_seam}
 use Rattle.slab.specs.Slab.{Slab, get}
 use Rattle.cp_spool.specs.File.{SpoolFileValue}
 use Rattle.cp_spool.specs.declared.delivery.Outgoing.{Outgoing}
-use Rattle.cp_spool.specs.Keys.{QueueKeys, no_keys, no_file, file_at, queue_of, keys_of, with_key, without_key, outgoing_file, IsFor, IsSent, IsOutgoing, IsMade, is_given}
-use Rattle.cp_spool.proofs.Steps.{given_not_made, stood, Stood}
+use Rattle.cp_spool.specs.Keys.{QueueKeys, no_keys, no_file, queue_of, keys_of, with_key, without_key, outgoing_file, IsFor, IsSent, IsOutgoing, IsMade, is_given}
+use Rattle.cp_spool.proofs.Steps.{given_not_made, stood}
 
 some_apart : (o o' : Option SpoolFileValue) (P : SpoolFileValue → Type 0) → IsSomeAnd o P → o ≡ o' → o' ≡ None → ⊥
 some_apart None o' P h e n = h

@@ -1,8 +1,7 @@
-use Rattle.std.proofs.Common.{◌≤◌, ◌≡◌, ℕ, List, [], ◌∷◌, ◌++◌, map, subst, sym, ◌∙◌, ap, refl, Option, Some, None}
+use Rattle.std.proofs.Common.{◌≡◌, ℕ, List, [], ◌∷◌, ◌++◌, map, subst, sym, ◌∙◌, ap, refl, Option, Some, None}
 use Rattle.unit_record.specs.declared.reader.Sender.TheVariants as senders
 use Rattle.cp_spool.specs.File.{SpoolFileValue, contents_of}
-use Rattle.cp_spool.specs.Keys.{QueueKeys, IsWhole, IsFor, IsMade, user_files, numbered_files, outgoing_file}
-use Rattle.cp_spool.specs.declared.delivery.Outgoing.{Outgoing}
+use Rattle.cp_spool.specs.Keys.{IsWhole, IsFor, IsMade, user_files, numbered_files, outgoing_file}
 use Rattle.cp_spool.specs.Queues.{QueuesValue, Held, file_closed, receiver, on_its_way}
 use Rattle.cp_spool.proofs.Moves.{whole_kept, whole_sent, held_kept, held_sent, file_is, place_for, room_of}
 use Rattle.cp_spool.proofs.queues.Queues.close.Goals as goal

@@ -1,4 +1,4 @@
-use Rattle.std.proofs.Common.{◌<◌, ◌≡◌, ℕ, List, length, subst, sym, ◌∙◌, ap, arith, Option, Some, None}
+use Rattle.std.proofs.Common.{◌<◌, ◌≡◌, length, subst, sym, ◌∙◌, ap, arith, Some, None}
 use Rattle.std.specs.Prelude.{slice_get}
 use Rattle.cp_spool.specs.Keys.{QueueKeys, keys_of}
 use Rattle.cp_spool.specs.Queues.{QueuesValue, files_of}

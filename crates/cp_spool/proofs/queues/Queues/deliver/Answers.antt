@@ -1,8 +1,7 @@
-use Rattle.std.proofs.Common.{◌≡◌, ℕ, List, map, subst, sym, ◌∙◌, ap, Option, Some, None}
+use Rattle.std.proofs.Common.{List, map, subst, sym, ◌∙◌, ap, Option, None}
 use Rattle.cp_spool.specs.declared.delivery.Outgoing.{Outgoing}
-use Rattle.cp_spool.specs.Keys.{QueueKeys, IsWhole, IsOutgoing, user_files, numbered_files, outgoing_file, file_at, queue_of, with_queue, with_key}
+use Rattle.cp_spool.specs.Keys.{QueueKeys, IsWhole, IsOutgoing, user_files, numbered_files, outgoing_file}
 use Rattle.cp_spool.specs.Queues.{QueuesValue, Held, delivered, UserFiles, users_after}
-use Rattle.cp_spool.specs.File.{SpoolFileValue}
 use Rattle.cp_spool.proofs.Moves.{whole_delivered, users_delivered}
 use Rattle.cp_spool.proofs.queues.Queues.deliver.Goals as goal
 

@@ -1,4 +1,4 @@
-use Rattle.std.proofs.Common.{◌≤◌, ◌≡◌, ℕ, List, [], ◌∷◌, ◌++◌, map, subst, sym, ◌∙◌, ap, Option, Some, None}
+use Rattle.std.proofs.Common.{◌≡◌, ℕ, List, [], ◌∷◌, ◌++◌, map, subst, sym, ◌∙◌, ap, Option, Some, None}
 use Rattle.unit_record.specs.declared.output.Target.TheVariants as targets
 use Rattle.cp_spool.specs.File.{SpoolFileValue, Cards}
 use Rattle.cp_spool.specs.Keys.{QueueKeys, IsWhole, user_files, numbered_files, outgoing_file, queue_of, with_queue, with_key}

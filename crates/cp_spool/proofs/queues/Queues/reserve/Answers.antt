@@ -1,9 +1,8 @@
-use Rattle.std.proofs.Common.{◌≤◌, ◌<◌, ◌≡◌, ℕ, List, map, length, get_or, set, subst, sym, ◌∙◌, ap, Option}
-use Rattle.std.specs.Option.{ForSome}
+use Rattle.std.proofs.Common.{◌<◌, ◌≡◌, ℕ, List, length, subst, sym, ◌∙◌, ap, Option}
 use Rattle.std.proofs.lemmas.Result.{on_ok_weaker}
 use Rattle.slab.specs.Slab.{Slab}
 use Rattle.cp_spool.specs.File.{SpoolFileValue}
-use Rattle.cp_spool.specs.Keys.{QueueKeys, numbered_files, outgoing_file, user_files}
+use Rattle.cp_spool.specs.Keys.{numbered_files, outgoing_file}
 use Rattle.cp_spool.specs.Queues.{QueuesValue}
 use Rattle.cp_spool.proofs.Moves.{held_is, room_now, user_inside, users_roomier}
 use Rattle.cp_spool.proofs.queues.Queues.reserve.Goals as goal

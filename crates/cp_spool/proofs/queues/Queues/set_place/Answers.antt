@@ -1,4 +1,4 @@
-use Rattle.std.proofs.Common.{◌<◌, ◌≡◌, ℕ, List, length, ◌∙◌, ap, arith}
+use Rattle.std.proofs.Common.{◌<◌, List, length, ◌∙◌, ap, arith}
 use Rattle.cp_spool.specs.Keys.{numbered_files, outgoing_file}
 use Rattle.cp_spool.specs.Queues.{Held, QueuesValue, UserFiles, files_of, with_files, with_place}
 use Rattle.cp_spool.proofs.Moves.{users_placed}

@@ -1,4 +1,4 @@
-use Rattle.std.proofs.Common.{◌≡◌, ◌+◌, ℕ, List, drop, sym, ◌∙◌, ap, arith}
+use Rattle.std.proofs.Common.{◌≡◌, ℕ, List, drop, ◌∙◌, ap, arith}
 use Rattle.cp_spool.specs.File.{SpoolFileValue}
 use Rattle.cp_spool.specs.Queues.{Held, UserFiles, files_of, with_files, with_place, without_first, read_on}
 use Rattle.cp_spool.proofs.Again.{changed_again, drop_one_more}

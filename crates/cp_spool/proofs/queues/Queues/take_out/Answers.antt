@@ -1,4 +1,4 @@
-use Rattle.std.proofs.Common.{◌<◌, ◌≡◌, ℕ, List, length, map, get_or, set, subst, sym, refl, ◌∙◌, ap}
+use Rattle.std.proofs.Common.{◌<◌, List, length, map, subst, sym, refl, ◌∙◌, ap}
 use Rattle.slab.specs.Slab.{get}
 use Rattle.cp_spool.specs.Keys.{QueueKeys, IsWhole, user_files, numbered_files, outgoing_file, keys_of, is_given}
 use Rattle.cp_spool.specs.Queues.{QueuesValue, Held, files_of, with_files, without_deck}

@@ -1,4 +1,4 @@
-use Rattle.std.proofs.Common.{◌≡◌, ◌==◌, List, sym, ◌∙◌, Some}
+use Rattle.std.proofs.Common.{◌≡◌, ◌==◌, sym, ◌∙◌, Some}
 use Rattle.std.specs.Prelude.{slice_get}
 use Rattle.cp_spool.specs.File.{SpoolFileValue}
 use Rattle.cp_spool.specs.Queues.{files_of}

@@ -1,7 +1,7 @@
-use Rattle.std.proofs.Common.{◌≡◌, ◌+◌, ℕ, List, drop, map, Option, Some, None, sym, ◌∙◌, ap}
+use Rattle.std.proofs.Common.{◌≡◌, ◌+◌, ℕ, List, map, Some, None, sym, ◌∙◌, ap}
 use Rattle.std.specs.Prelude.{slice_get}
-use Rattle.unit_record.specs.Reader.{Found, Nothing, Card, End, found, card_found, place_of, read_answer}
-use Rattle.cp_spool.specs.File.{SpoolFileValue, cards_in}
+use Rattle.unit_record.specs.Reader.{Found, Nothing, Card, End, card_found, place_of, read_answer}
+use Rattle.cp_spool.specs.File.{cards_in}
 use Rattle.cp_spool.specs.Queues.{files_of}
 use Rattle.cp_spool.specs.Reader.{ReaderPart, FeedState, deck_of, next_card, read_started}
 use Rattle.cp_spool.proofs.Fed.{found_none, found_some, place_is}
