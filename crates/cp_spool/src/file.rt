@@ -13,8 +13,8 @@ pub enum Contents {
     Lines(Vec<Entry>),
 }
 
-/// A spool file: a deck of cards or what was printed, with the id by which it is found, the one who made it and the one for
-/// whom it is.
+/// A spool file: a deck of cards or what was printed, with the id by which it is found, the one who made it and the one
+/// for whom it is.
 #[derive(Drop)]
 pub struct SpoolFile {
     id: u64,

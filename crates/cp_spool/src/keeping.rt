@@ -77,7 +77,8 @@ pub(crate) fn key_at(numbered: &[Option<usize>], number: usize) -> Option<usize>
 pub(crate) fn empty_queues(alloc: Global, count: usize) -> Result<Vec<DeckQueue>, AllocError>
     ensures len { IfOk result (λ queues. length queues.items ≡ count) }
     ensures keys { IfOk result (λ queues. (user : ℕ) → keys_of queues.items user ≡ []) }
-    ensures files { (files : Files SpoolFileValue) → IfOk result (λ queues. map (user_files files) queues.items ≡ replicate count no_files) }
+    ensures files { (files : Files SpoolFileValue)
+        → IfOk result (λ queues. map (user_files files) queues.items ≡ replicate count no_files) }
 {
     let mut queues = Vec::with_capacity(alloc, count)?;
     for _made in 0..count {

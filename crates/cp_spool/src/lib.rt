@@ -1,15 +1,16 @@
 //! The spool files of all users, and the queues of their readers.
 //!
-//! Its one theorem: the queues are lists ([`Queues`]). A contract sees the decks of each user's reader in order, and by number
-//! each file that a punch or a printer made; what a call does to them is one equation of `specs/Queues.antt`, and a call that
-//! refuses leaves them as they were. An id is the last plus one.
+//! Its one theorem: the queues are lists ([`Queues`]). A contract sees the decks of each user's reader in order, and by
+//! number each file that a punch or a printer made; what a call does to them is one equation of `specs/Queues.antt`,
+//! and a call that refuses leaves them as they were. An id is the last plus one.
 //!
-//! A file is kept once, in a slab, and named by its key. What a punch made for a user moves: its key comes to the queue of that
-//! user's reader, and its cards are never copied. The key stays under the file's number, too, since a user's closed files are
-//! part of what he is shown. A deck that the operator gave is kept by its reader alone, and is gone when it was read or purged.
+//! A file is kept once, in a slab, and named by its key. What a punch made for a user moves: its key comes to the queue
+//! of that user's reader, and its cards are never copied. The key stays under the file's number, too, since a user's
+//! closed files are part of what he is shown. A deck that the operator gave is kept by its reader alone, and is gone
+//! when it was read or purged.
 //!
-//! A reader feeds from the queue of its user ([`FedReader`]): it is a [`Device`](s370_walk::Device) that leaves the queue as it
-//! is while a program runs, and says afterwards what it has read.
+//! A reader feeds from the queue of its user ([`FedReader`]): it is a [`Device`](s370_walk::Device) that leaves the
+//! queue as it is while a program runs, and says afterwards what it has read.
 //!
 //! ```
 //! let mut queues = Queues::new(alloc, 2)?;

@@ -21,7 +21,11 @@ impl Model for DeckQueue {
 
     ghost Value = { QueueKeys };
 
-    ghost view = { λ q. record { keys = q.keys.items; place = q.place; room = deque_capacity q.keys - deque_len q.keys } };
+    ghost view = { λ q. record {
+      keys = q.keys.items;
+      place = q.place;
+      room = deque_capacity q.keys - deque_len q.keys;
+    } };
 }
 
 impl DeckQueue {

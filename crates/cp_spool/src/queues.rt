@@ -17,7 +17,8 @@ use std::alloc::{AllocError, Global};
 use std::marker::Model;
 use unit_record::{Card, Sender, Target};
 
-/// The spool files of all users: the decks that wait in their readers, and the files that their punches and printers made.
+/// The spool files of all users: the decks that wait in their readers, and the files that their punches and printers
+/// made.
 #[derive(Drop)]
 pub struct Queues {
     files: Slab<SpoolFile>,
@@ -35,8 +36,16 @@ impl Model for Queues {
     ghost Value = { QueuesValue };
 
     ghost view = { λ q. record {
-      held = record { users = map (user_files q.files) q.users.items; numbered = numbered_files q.files q.numbered.items; outgoing = outgoing_file q.files q.outgoing };
-      room = record { files = q.files.capacity - slab_len q.files; ids = vec_capacity q.numbered - vec_len q.numbered; decks = map (λ queue. queue.room) q.users.items };
+      held = record {
+        users = map (user_files q.files) q.users.items;
+        numbered = numbered_files q.files q.numbered.items;
+        outgoing = outgoing_file q.files q.outgoing;
+      };
+      room = record {
+        files = q.files.capacity - slab_len q.files;
+        ids = vec_capacity q.numbered - vec_len q.numbered;
+        decks = map (λ queue. queue.room) q.users.items;
+      };
     } };
 
     ghost invariant = { λ q. IsWhole q.files q.users.items q.numbered.items q.outgoing };
@@ -82,8 +91,8 @@ impl Queues {
         }
     }
 
-    /// Makes room for two closed files, of which one may have this target: what LOGOFF closes. So they can be closed without
-    /// memory.
+    /// Makes room for two closed files, of which one may have this target: what LOGOFF closes. So they can be closed
+    /// without memory.
     pub fn make_room(&mut self, to: Target) -> Result<(), SpoolError>
         ensures held { self.new.held ≡ self.old.held }
         ensures room { OnOk result (HasRoomFor 2 to self.new.room) }
@@ -140,8 +149,8 @@ impl Queues {
         id
     }
 
-    /// The open file of a user's punch or printer, which has this target, is closed, and tells its id. One that goes to a reader is
-    /// then on its way. This takes no memory.
+    /// The open file of a user's punch or printer, which has this target, is closed, and tells its id. One that goes to
+    /// a reader is then on its way. This takes no memory.
     pub fn close(&mut self, user: UserNo, to: Target, contents: Contents) -> u64
         requires room { HasRoomFor 1 to self.old.room }
         requires known { IsKnown to self.old.held }
@@ -185,7 +194,8 @@ impl Queues {
         }
     }
 
-    /// What is on its way comes to the end of the queue of the reader that it goes to, and so it is told. This takes no memory.
+    /// What is on its way comes to the end of the queue of the reader that it goes to, and so it is told. This takes no
+    /// memory.
     pub fn deliver(&mut self) -> Option<Delivery>
         ensures told { result ≡ delivery_of self.old.held.outgoing }
         ensures held { self.new.held ≡ delivered self.old.held }
@@ -205,7 +215,8 @@ impl Queues {
 
     /// Takes the waiting deck of this id away from the reader of this user. A current deck does not wait.
     pub fn purge(&mut self, user: UserNo, id: u64) -> Result<(), SpoolError>
-        ensures ok { OnOk result (self.new.held ≡ purged_at (waiting_at (files_of self.old.held user) id) user self.old.held) }
+        ensures ok { OnOk result (self.new.held
+            ≡ purged_at (waiting_at (files_of self.old.held user) id) user self.old.held) }
         ensures found { OnOk result (is_some (waiting_at (files_of self.old.held user) id) ≡ true) }
         ensures err { OnErr result (self.new.held ≡ self.old.held) }
         ensures no_user { (result ≡ Err SpoolError.NoSuchUser) ↔ (length self.old.held.users ≤ user) }
@@ -301,7 +312,8 @@ impl Queues {
         self.numbered.len()
     }
 
-    /// The file that a punch or a printer made which has the id after this number; None for a deck that the operator gave.
+    /// The file that a punch or a printer made which has the id after this number; None for a deck that the operator
+    /// gave.
     pub fn numbered(&self, number: usize) -> Option<&SpoolFile>
         ensures { option_copied result ≡ slice_index_or self.now.held.numbered number None }
     {
@@ -311,7 +323,8 @@ impl Queues {
         }
     }
 
-    /// The current deck of this user, if there is one, goes back to the front of the queue, to be read from its first card.
+    /// The current deck of this user, if there is one, goes back to the front of the queue, to be read from its first
+    /// card.
     pub fn put_back(&mut self, user: UserNo)
         ensures { self.new.held ≡ with_files user (put_back (files_of self.old.held user)) self.old.held }
     {
@@ -329,7 +342,8 @@ impl Queues {
 
     /// A reader of this user has read on.
     pub fn take_back(&mut self, user: UserNo, progress: Progress)
-        ensures { self.new.held ≡ with_files user (read_on progress.ended progress.place (files_of self.old.held user)) self.old.held }
+        ensures { self.new.held ≡ with_files user
+            (read_on progress.ended progress.place (files_of self.old.held user)) self.old.held }
     {
         for _done in 0..progress.ended {
             self.end_deck(user);

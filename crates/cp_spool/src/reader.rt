@@ -105,7 +105,12 @@ impl<'a> Model for FedReader<'a> {
 
     ghost Value = { FeedState };
 
-    ghost view = { λ f. record { decks = map deck_of (files_of f.queues.now.held f.user).decks; ended = f.progress.ended; place = f.progress.place; part = f.reader } };
+    ghost view = { λ f. record {
+      decks = map deck_of (files_of f.queues.now.held f.user).decks;
+      ended = f.progress.ended;
+      place = f.progress.place;
+      part = f.reader;
+    } };
 }
 
 impl<'a> Device for FedReader<'a> {
