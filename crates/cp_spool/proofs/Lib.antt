@@ -5,3 +5,5 @@ pub mod Moves
 pub mod Search
 pub mod Again
 pub mod Fed
+pub mod Walks
+pub mod Feeds

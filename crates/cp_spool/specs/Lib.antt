@@ -2,3 +2,4 @@ pub mod File
 pub mod Queues
 pub mod Keys
 pub mod Reader
+pub mod Alike
