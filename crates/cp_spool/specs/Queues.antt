@@ -1,9 +1,10 @@
 -- The spool files of all users as lists (docs/MACHINE.md, "Unit record devices and console"; docs/COMMANDS.md, "CLOSE",
 -- "PURGE", "LOGOFF").
-use Rattle.std.specs.Prelude.{ℕ, nat_lt, if◌then◌else◌, ◌+◌, ◌≤◌, ◌<◌, ◌==◌, List, [], ◌∷◌, ◌++◌, drop, length, remove, slice_index, slice_index_or, slice_set, Option, Some, None}
+use Rattle.std.specs.Prelude.{ℕ, Bool, false, filter_map, nat_lt, if◌then◌else◌, ◌+◌, ◌≤◌, ◌<◌, ◌==◌, List, [], ◌∷◌, ◌++◌, drop, length, remove, slice_index, slice_index_or, slice_set, Option, Some, None}
 use Rattle.std.specs.List.{position_from}
 use Rattle.unit_record.specs.declared.output.Target.{Target}
 use Rattle.unit_record.specs.declared.output.Target.TheVariants as targets
+use Rattle.unit_record.specs.declared.reader.Sender.{Sender}
 use Rattle.unit_record.specs.declared.reader.Sender.TheVariants as senders
 use Rattle.unit_record.specs.Reader.{currents}
 use Rattle.cp_spool.specs.declared.delivery.Delivery.{Delivery}
@@ -28,6 +29,18 @@ pub record Held : Type 0 where
 
 abbrev pub files_of : Held → ℕ → UserFiles
 files_of h user = slice_index_or h.users user no_files
+
+-- the files that a user's punch and printer made, in order
+abbrev pub is_from : Sender → ℕ → Bool
+is_from senders.System user = false
+is_from (senders.User number) user = number == user
+
+abbrev pub made_by : ℕ → Option SpoolFileValue → Option SpoolFileValue
+made_by user None = None
+made_by user (Some file) = if is_from file.sender user then Some file else None
+
+abbrev pub closed_of : Held → ℕ → List SpoolFileValue
+closed_of h user = filter_map (made_by user) h.numbered
 
 -- For how many more files and ids there is room, and of each user for how many more decks.
 pub record Room : Type 0 where

@@ -3,7 +3,7 @@ ghost use Rattle.std.specs.Prelude.{◌≡◌, ◌+◌, ◌<◌, ◌≤◌, [], 
 ghost use Rattle.std.specs.Option.{ForSome, option_copied};
 ghost use Rattle.unit_record.specs.Reader.{currents};
 ghost use Rattle.cp_spool.specs.File.{contents_of};
-ghost use Rattle.cp_spool.specs.Queues.{HasRoomFor, IsKnown, closed_by, delivered, delivery_of, files_of, given_to, next_id, purged_at, put_back, read_on, waiting_at, with_place, without_first, no_files, receiver, user_at, with_files, without_deck};
+ghost use Rattle.cp_spool.specs.Queues.{HasRoomFor, IsKnown, closed_by, closed_of, is_from, made_by, delivered, delivery_of, files_of, given_to, next_id, purged_at, put_back, read_on, waiting_at, with_place, without_first, no_files, receiver, user_at, with_files, without_deck};
 
 use crate::delivery::{Delivery, Outgoing};
 use crate::error::SpoolError;
@@ -323,6 +323,35 @@ impl Queues {
         }
     }
 
+    /// A file that this user's punch or printer made, in the order in which they were closed.
+    pub fn closed(&self, user: UserNo, index: usize) -> Option<&SpoolFile>
+        ensures { option_copied result ≡ slice_get (closed_of self.now.held user) index }
+    {
+        let mut left = index;
+        for number in 0..self.numbered.len() {
+            let Some(file) = self.made_by(user, number) else {
+                continue;
+            };
+            if left == 0 {
+                return Some(file);
+            }
+            left -= 1;
+        }
+        None
+    }
+
+    /// The file that has the id after this number, if this user's punch or printer made it.
+    fn made_by(&self, user: UserNo, number: usize) -> Option<&SpoolFile>
+        ensures { option_copied result ≡ made_by user (slice_index_or self.now.held.numbered number None) }
+    {
+        let file = self.numbered(number)?;
+        if is_from(file.sender(), user) {
+            Some(file)
+        } else {
+            None
+        }
+    }
+
     /// The current deck of this user, if there is one, goes back to the front of the queue, to be read from its first
     /// card.
     pub fn put_back(&mut self, user: UserNo)
@@ -367,5 +396,15 @@ impl Queues {
     {
         let key = self.users[user.index()].remove(index);
         discard(&mut self.files, key);
+    }
+}
+
+/// Whether this user is the sender.
+fn is_from(sender: Sender, user: UserNo) -> bool
+    ensures { result ≡ is_from sender user }
+{
+    match sender {
+        Sender::System => false,
+        Sender::User(number) => number == user.number(),
     }
 }
