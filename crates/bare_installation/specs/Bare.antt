@@ -7,8 +7,6 @@ use Rattle.unit_record.specs.declared.output.Target.TheVariants as targets
 use Rattle.unit_record.specs.declared.reader.Sender.TheVariants as senders
 use Rattle.unit_record.specs.Output.{FileValue}
 use Rattle.unit_record.specs.Reader.{DeckValue}
-use Rattle.cp_panel.specs.declared.machine.Mode.{Mode}
-use Rattle.cp_panel.specs.declared.machine.Mode.TheVariants.{Off, Stopped, Running}
 use Rattle.cp_panel.specs.Machine.{Machine, printed}
 use Rattle.cp_devices.specs.declared.line.Told.{Told}
 use Rattle.cp_devices.specs.declared.line.Told.TheVariants.{Silent, Said, Files, Sent, Loads, Closed}
@@ -16,9 +14,9 @@ use Rattle.cp_devices.specs.Devices.{DevicesValue}
 use Rattle.cp_devices.specs.Equipped.{Equipped}
 use Rattle.cp_devices.specs.Lines.{IsWholeLine, Outcome, outcome}
 use Rattle.cp_devices.specs.Spooling.{deck_punched, with_deck_queued}
-use Rattle.cp_devices.specs.World.{World}
-use Rattle.bare_installation.specs.declared.files.FileKind.{FileKind}
-use Rattle.bare_installation.specs.declared.files.FileKind.TheVariants as kinds
+use Rattle.cp_devices.specs.World.{World, is_logged_on}
+use Rattle.cp_devices.specs.declared.files.FileKind.{FileKind}
+use Rattle.cp_devices.specs.declared.files.FileKind.TheVariants as kinds
 
 -- the machine with its devices, and what each file was so far: the first has number 1
 pub record Bare : Type 0 where
@@ -27,11 +25,6 @@ pub record Bare : Type 0 where
 
 abbrev pub bare : List ℕ
 bare = codes "BARE"
-
-abbrev pub is_logged_on : Mode → Bool
-is_logged_on Off = false
-is_logged_on Stopped = true
-is_logged_on Running = true
 
 -- its user is all that is known of others
 abbrev pub alone : Bool → World

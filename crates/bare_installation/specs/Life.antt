@@ -18,7 +18,7 @@ use Rattle.cp_devices.specs.Lines.{IsWholeLine}
 use Rattle.cp_devices.specs.Serve.{IsServedAt}
 use Rattle.cp_devices.specs.Spooling.{deck_punched}
 use Rattle.cp_devices.specs.Stopped.{StopsAt}
-use Rattle.bare_installation.specs.declared.files.FileKind.{FileKind}
+use Rattle.cp_devices.specs.declared.files.FileKind.{FileKind}
 use Rattle.bare_installation.specs.declared.events.Event.{Event}
 use Rattle.bare_installation.specs.declared.events.Event.TheVariants as events
 use Rattle.bare_installation.specs.declared.events.Reply.{Reply}

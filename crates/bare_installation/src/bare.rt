@@ -12,15 +12,14 @@ ghost use Rattle.s370_subchannels.specs.declared.subchannel.Subchannel.{Subchann
 ghost use Rattle.cp_devices.specs.Devices.{AreAttached, devices_new, no_places};
 ghost use Rattle.cp_devices.specs.Lines.{IsIpl, IsLine, IsWholeLine};
 ghost use Rattle.cp_devices.specs.Serve.{IsServedAt};
-ghost use Rattle.bare_installation.specs.Bare.{IsTyped, is_logged_on, next_file, noted, printed_file, punched, received, with_deck, world_of};
+ghost use Rattle.bare_installation.specs.Bare.{IsTyped, next_file, noted, printed_file, punched, received, with_deck, world_of};
 ghost use Rattle.bare_installation.specs.Life.{AttentionAgreesThroughout, EachIsLife, IsApplied, LacksMemory, MayLackMemory};
 
 use crate::alone::Alone;
 use crate::events::{Event, Reply};
-use crate::files::FileKind;
 use cp_channels::{AttachedDisk, Own};
 use cp_console::responses::Response;
-use cp_devices::{AttachError, Devices, Places, Told};
+use cp_devices::{AttachError, Devices, FileKind, Places, Told, copy_of, is_logged_on};
 use cp_panel::{LineError, Machine, MachineRan, Mode};
 use s370_channel::ChannelError;
 use s370_intr::{Pending, RealCpu};
@@ -459,21 +458,3 @@ pub fn each_is_life()
 pub fn attention_agrees_throughout()
     ensures { AttentionAgreesThroughout }
 {}
-
-/// The same cards once more.
-fn copy_of(alloc: Global, cards: &[Card]) -> Result<Vec<Card>, AllocError>
-    ensures { IfOk result (λ copy. copy.items ≡ cards.now) }
-{
-    let copy = cards.to_vec(alloc)?;
-    Ok(copy)
-}
-
-/// Whether the user of a machine in this mode is logged on.
-fn is_logged_on(mode: Mode) -> bool
-    ensures { result ≡ is_logged_on mode }
-{
-    match mode {
-        Mode::Off => false,
-        Mode::Stopped | Mode::Running => true,
-    }
-}

@@ -18,9 +18,8 @@
 mod alone;
 mod bare;
 mod events;
-mod files;
 
 pub use alone::BARE;
 pub use bare::{Bare, attention_agrees_throughout, each_is_life};
+pub use cp_devices::FileKind;
 pub use events::{Event, Reply};
-pub use files::FileKind;

@@ -2,8 +2,8 @@
 use crate::loops::Loop;
 use anyhow::{Result, bail};
 use bare_installation::Bare;
-use cp_console::responses::Response;
 use cp_core::{Ended, Event, Sizes, System};
+use cp_devices::Told;
 use cp_directory::read_directory;
 use cp_users::UserNo;
 use s370_store::PlainStorage;
@@ -88,7 +88,7 @@ fn users_guest(alloc: Global, directory: &str, users: u8, guest: Loop) -> Result
 }
 
 /// A user types a line, and this is said.
-fn said(system: &mut System, user: UserNo, typed: &[u8]) -> Result<Option<Response>> {
+fn said(system: &mut System, user: UserNo, typed: &[u8]) -> Result<Told> {
     let reply = system.apply(Event::Line(user, typed))?;
     Ok(reply.said)
 }
@@ -106,7 +106,7 @@ fn of_user(system: &mut System, user: UserNo, units: u32) -> Option<u64> {
         Err(_) => return None,
     };
     // The prover finds the type of what was said only where a function names it.
-    let _said: Option<Response> = reply.said;
+    let _said: Told = reply.said;
     Some(match reply.ended {
         Ended::Ran(ran) => u64::from(ran.units),
         Ended::Done | Ended::FramesOut => 0,

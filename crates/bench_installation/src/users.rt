@@ -1,7 +1,7 @@
 //! The users whose costs are measured: each has a guest that stores into one page after another.
 use anyhow::Result;
-use cp_console::responses::Response;
 use cp_core::{Ended, Event, System};
+use cp_devices::Told;
 use cp_users::UserNo;
 use std::alloc::Global;
 
@@ -22,13 +22,13 @@ pub fn directory_of(alloc: Global, users: u8) -> Result<String> {
 }
 
 /// A user types a line, and this is said.
-fn said(system: &mut System, user: UserNo, typed: &[u8]) -> Result<Option<Response>> {
+fn said(system: &mut System, user: UserNo, typed: &[u8]) -> Result<Told> {
     let reply = system.apply(Event::Line(user, typed))?;
     Ok(reply.said)
 }
 
 /// Lets a user run: how many units were done, and what was said.
-fn ran(system: &mut System, user: UserNo, units: u32) -> Result<(u32, Option<Response>)> {
+fn ran(system: &mut System, user: UserNo, units: u32) -> Result<(u32, Told)> {
     let reply = system.apply(Event::Run(user, units))?;
     match reply.ended {
         Ended::Ran(ran) => Ok((ran.units, reply.said)),

@@ -11,22 +11,33 @@ use s370_channel::{Caw, ChannelError};
 use s370_store::Storage;
 use s370_walk::{Device, Ending};
 
-/// The channels of a machine with this storage.
-pub trait Channels<S: Storage> {
-    /// How a program is read that begins with this storage.
-    ghost reads: { Reading };
-
-    /// The disks, in the order in which they were attached.
+/// The disks of a machine, in the order in which they were attached.
+pub trait Disks {
+    /// The disks.
     ghost disks: { Self → List DiskAt };
-
-    /// Whether a program is run as a whole or not at all: one that names a page which is not present has done nothing.
-    /// Where it is not so, a program stops at the step that needs the page.
-    ghost is_whole: { Bool };
 
     /// The index of the first disk with this address.
     fn disk_at(&self, device: u16) -> Option<usize>
         ensures index { result ≡ position (is_disk_at device) (disks self.now) }
         ensures inside { IfSome result (λ index. index < length (disks self.now)) };
+
+    /// A system reset of the disks: the arms stay.
+    fn reset_disks(&mut self)
+        ensures { disks self.new ≡ map reset_disk (disks self.old) };
+
+    /// As for a LOGON: the arms stand over cylinder 0, with head 0 chosen.
+    fn clear_disks(&mut self)
+        ensures { disks self.new ≡ map cleared_disk (disks self.old) };
+}
+
+/// The channels of a machine with this storage, which have its disks.
+pub trait Channels<S: Storage>: Disks {
+    /// How a program is read that begins with this storage.
+    ghost reads: { Reading };
+
+    /// Whether a program is run as a whole or not at all: one that names a page which is not present has done nothing.
+    /// Where it is not so, a program stops at the step that needs the page.
+    ghost is_whole: { Bool };
 
     /// Runs the program with this start, for a device that is no disk. An error is told only where the program comes to
     /// a command that needs memory, or a page is not present that the program names.
@@ -40,7 +51,7 @@ pub trait Channels<S: Storage> {
             (λ ending. Walks reads D.machine start
             (memory_of (S.bytes storage.old) (S.keys storage.old)) device.old ending
             (memory_of (S.bytes storage.new) (S.keys storage.new)) device.new) }
-        ensures disks { disks self.new ≡ disks self.old }
+        ensures disks { Self.disks self.new ≡ Self.disks self.old }
         ensures away { IfErr result (TellsAway (S.present storage.old)) }
         ensures stopped { is_whole ≡ false
             → IfErr result (IsStopped D.machine D.needs_memory (S.present storage.old) start
@@ -48,7 +59,7 @@ pub trait Channels<S: Storage> {
         ensures whole { is_whole ≡ true
             → IfErr result (WhereAbsent
             ((S.bytes storage.new ≡ S.bytes storage.old) × (device.new ≡ device.old)
-            × (disks self.new ≡ disks self.old))) }
+            × (Self.disks self.new ≡ Self.disks self.old))) }
         ensures keys { S.keys storage.new ≡ S.keys storage.old }
         ensures rest { S.Keeps storage.old storage.new };
 
@@ -59,25 +70,17 @@ pub trait Channels<S: Storage> {
         start: Caw,
         index: usize,
     ) -> Result<Ending, ChannelError>
-        requires { index < length (disks self.old) }
+        requires { index < length (Self.disks self.old) }
         ensures walk { IfOk result
             (λ ending. WalksDisk reads start (memory_of (S.bytes storage.old) (S.keys storage.old))
-            (disks self.old) index ending (memory_of (S.bytes storage.new) (S.keys storage.new)) (disks self.new)) }
+            (Self.disks self.old) index ending (memory_of (S.bytes storage.new) (S.keys storage.new)) (Self.disks self.new)) }
         ensures away { IfErr result (TellsAway (S.present storage.old)) }
         ensures stopped { is_whole ≡ false
             → IfErr result (StopsDisk (S.present storage.old) start
-            (memory_of (S.bytes storage.old) (S.keys storage.old)) (slice_get (disks self.old) index)) }
+            (memory_of (S.bytes storage.old) (S.keys storage.old)) (slice_get (Self.disks self.old) index)) }
         ensures whole { is_whole ≡ true
             → IfErr result (WhereAbsent
-            ((S.bytes storage.new ≡ S.bytes storage.old) × (disks self.new ≡ disks self.old))) }
+            ((S.bytes storage.new ≡ S.bytes storage.old) × (Self.disks self.new ≡ Self.disks self.old))) }
         ensures keys { S.keys storage.new ≡ S.keys storage.old }
         ensures rest { S.Keeps storage.old storage.new };
-
-    /// A system reset of the disks: the arms stay.
-    fn reset_disks(&mut self)
-        ensures { disks self.new ≡ map reset_disk (disks self.old) };
-
-    /// As for a LOGON: the arms stand over cylinder 0, with head 0 chosen.
-    fn clear_disks(&mut self)
-        ensures { disks self.new ≡ map cleared_disk (disks self.old) };
 }

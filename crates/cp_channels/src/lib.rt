@@ -6,9 +6,11 @@
 
 mod channels;
 mod disks;
+mod none;
 mod own;
 mod running;
 
-pub use channels::Channels;
+pub use channels::{Channels, Disks};
 pub use disks::AttachedDisk;
+pub use none::NoDisks;
 pub use own::Own;

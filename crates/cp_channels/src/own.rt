@@ -5,7 +5,7 @@ ghost use Rattle.cp_channels.specs.Channels.{LoadsDisk, StopsLoadingDisk};
 ghost use Rattle.cp_channels.specs.Disks.{cleared_disk, reset_disk};
 ghost use Rattle.cp_channels.specs.Own.{disks_of};
 
-use crate::channels::Channels;
+use crate::channels::{Channels, Disks};
 use crate::disks::{AttachedDisk, clear_each, reset_each};
 use crate::running::run_live;
 use s370_channel::{Caw, ChannelError};
@@ -67,22 +67,33 @@ impl Own {
     }
 }
 
-impl<S: Storage> Channels<S> for Own {
-    ghost use Rattle.std.specs.Prelude.{false};
-    ghost use Rattle.s370_channel.specs.Reading.{as_reached};
+impl Disks for Own {
     ghost use Rattle.cp_channels.specs.Own.{disks_of};
 
-    ghost reads = { as_reached };
-
     ghost disks = { disks_of };
-
-    ghost is_whole = { false };
 
     fn disk_at(&self, device: u16) -> Option<usize> {
         self.disks
             .iter()
             .position(|disk| disk.address().get() == device)
     }
+
+    fn reset_disks(&mut self) {
+        self.reset();
+    }
+
+    fn clear_disks(&mut self) {
+        self.clear();
+    }
+}
+
+impl<S: Storage> Channels<S> for Own {
+    ghost use Rattle.std.specs.Prelude.{false};
+    ghost use Rattle.s370_channel.specs.Reading.{as_reached};
+
+    ghost reads = { as_reached };
+
+    ghost is_whole = { false };
 
     fn run<D: Device>(
         &mut self,
@@ -100,13 +111,5 @@ impl<S: Storage> Channels<S> for Own {
         index: usize,
     ) -> Result<Ending, ChannelError> {
         self.disks[index].run(storage, start)
-    }
-
-    fn reset_disks(&mut self) {
-        self.reset();
-    }
-
-    fn clear_disks(&mut self) {
-        self.clear();
     }
 }

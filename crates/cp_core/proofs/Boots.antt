@@ -7,11 +7,14 @@ use Rattle.cp_directory.specs.Users.{DirectoryUser}
 use Rattle.cp_frames.specs.declared.numbers.UserPage.{UserPage}
 use Rattle.cp_frames.specs.Layout.{FrameSupply}
 use Rattle.cp_dat.specs.Supplied.{IsBetweenUnits}
-use Rattle.cp_panel.specs.Machine.{Machine, unused}
-use Rattle.cp_panel.specs.Machine.{machine_of as parts_with}
-use Rattle.cp_core.specs.UserMachines.{UserParts, machine_of, Fits}
-use Rattle.cp_core.specs.System.{free_supply, machines_of, new_machine}
-use Rattle.cp_core.specs.Whole.{AreNew, IsNew, IsWhole, no_machine}
+use Rattle.cp_panel.specs.Machine.{Machine, machine_of, unused}
+use Rattle.cp_devices.specs.Devices.{DevicesValue, devices_new}
+use Rattle.cp_devices.specs.Equipped.{Equipped}
+use Rattle.cp_core.specs.UserMachines.{Fits, IsUnused, UserParts, user_with}
+use Rattle.cp_core.specs.Boot.{AreNewUsers, IsNewUser, free_supply, places_in}
+use Rattle.cp_core.specs.System.{SystemView, deliveries_of, users_of}
+use Rattle.cp_core.specs.Whole.{AreNew, IsNew, IsWhole, no_user}
+use Rattle.cp_core.specs.declared.delivery.Delivery.{Delivery}
 
 -- one seat more
 pub new_more : (seats : List UserParts) (users : List DirectoryUser) (seat : UserParts) (user : DirectoryUser) → AreNew seats users → IsNew seat user → AreNew (seats ++ seat ∷ []) (users ++ user ∷ [])
@@ -24,11 +27,17 @@ new_more (s ∷ ss) (u ∷ us) seat user h n = (h.0, new_more ss us seat user h.
 abbrev pub blank : List DirectoryUser → List (List ℕ)
 blank users = map (λ pages. replicate (pages * 4096) 0) (map (λ (user : DirectoryUser). user.pages) users)
 
-pub new_machines : (seats : List UserParts) (users : List DirectoryUser) → AreNew seats users → machines_of seats (blank users) ≡ map new_machine users
-new_machines [] [] h = refl
-new_machines [] (u ∷ us) h = absurd h
-new_machines (s ∷ ss) [] h = absurd h
-new_machines (s ∷ ss) (u ∷ us) h = rw (h.0.off, new_machines ss us h.1) refl
+pub new_users : (seats : List UserParts) (users : List DirectoryUser) → AreNew seats users → AreNewUsers users (users_of seats (blank users))
+new_users [] [] h = tt
+new_users [] (u ∷ us) h = absurd h
+new_users (s ∷ ss) [] h = absurd h
+new_users (s ∷ ss) (u ∷ us) h = (h.0.off, new_users ss us h.1)
+
+pub none_delivered : (seats : List UserParts) (users : List DirectoryUser) → AreNew seats users → deliveries_of seats ≡ map (λ (user : DirectoryUser). []) users
+none_delivered [] [] h = refl
+none_delivered [] (u ∷ us) h = absurd h
+none_delivered (s ∷ ss) [] h = absurd h
+none_delivered (s ∷ ss) (u ∷ us) h = rw (h.0.none, none_delivered ss us h.1) refl
 
 length_new : (seats : List UserParts) (users : List DirectoryUser) → AreNew seats users → length seats ≡ length users
 length_new [] [] h = refl
@@ -42,11 +51,11 @@ length_blank (u ∷ us) = ap suc (length_blank us)
 
 fits_new : (seat : UserParts) (user : DirectoryUser) → IsNew seat user → Fits seat (replicate (user.pages * 4096) 0)
 fits_new seat user n =
-    let keys : length seat.keys ≡ user.pages * 2 = ap (λ (m : Machine). length m.core.processor.keys) n.off ∙ length-replicate {A = ℕ} (length {A = ℕ} (replicate (user.pages * 2) 0)) 0 ∙ length-replicate {A = ℕ} (user.pages * 2) 0 in
+    let keys : length seat.keys ≡ user.pages * 2 = ap (λ (m : Equipped). length m.machine.core.processor.keys) n.off.new ∙ length-replicate {A = ℕ} (length {A = ℕ} (replicate (user.pages * 2) 0)) 0 ∙ length-replicate {A = ℕ} (user.pages * 2) 0 in
     let bytes : length {A = ℕ} (replicate (user.pages * 4096) 0) ≡ user.pages * 4096 = length-replicate {A = ℕ} (user.pages * 4096) 0 in
     record { large = omega (arith, bytes, n.sized); keyed = omega (arith, bytes, keys) }
 
-all_fit : (seats : List UserParts) (users : List DirectoryUser) → AreNew seats users → (k : ℕ) → k < length users → Fits (get_or seats k no_machine) (get_or (blank users) k [])
+all_fit : (seats : List UserParts) (users : List DirectoryUser) → AreNew seats users → (k : ℕ) → k < length users → Fits (get_or seats k no_user) (get_or (blank users) k [])
 all_fit [] [] h k l = absurd (omega arith)
 all_fit [] (u ∷ us) h k l = absurd h
 all_fit (s ∷ ss) [] h k l = absurd h
@@ -69,11 +78,21 @@ between_new supply frames slots is enough =
     let none : IsBetweenUnits (free_supply frames slots) = record { idle = ap (λ (n : ℕ). replicate n false) (sym count); many = omega (arith, count, enough) } in
     subst (λ (s : FrameSupply). IsBetweenUnits s) (sym is) none
 
+as_seen : (m m' : Machine) (d d' : DevicesValue) → m ≡ m' → d ≡ d' → (let e : Equipped = record { machine = m; devices = d; disks = [] } in e ≡ record { machine = m'; devices = d'; disks = [] })
+as_seen m m' d d' a b = rw (a, b) refl
+
 -- a user's machine at boot, by what it is with any storage of zeros
-pub off_new : (u : UserParts) (user : DirectoryUser) → u.keys ≡ replicate (user.pages * 2) 0 → ((bytes keys : List ℕ) → parts_with u.parts (replicate (length bytes) 0) (replicate (length keys) 0) ≡ unused bytes keys []) → machine_of u (replicate (user.pages * 4096) 0) ≡ new_machine user
-off_new u user k h =
+pub off_new : (u : UserParts) (user : DirectoryUser) → u.keys ≡ replicate (user.pages * 2) 0 → IsUnused u.parts (devices_new (places_in user.devices)) → u.devices ≡ devices_new (places_in user.devices) → IsNewUser user (user_with u (replicate (user.pages * 4096) 0))
+off_new u user k h d =
     let bytes : List ℕ = replicate (user.pages * 4096) 0 in
     let keys : List ℕ = replicate (user.pages * 2) 0 in
     let b : replicate (length bytes) 0 ≡ bytes = ap (λ (n : ℕ). replicate n 0) (length-replicate {A = ℕ} (user.pages * 4096) 0) in
     let e : replicate (length keys) 0 ≡ u.keys = ap (λ (n : ℕ). replicate n 0) (length-replicate {A = ℕ} (user.pages * 2) 0) ∙ sym k in
-    sym (ap (λ (xs : List ℕ). parts_with u.parts xs (replicate (length keys) 0)) b ∙ ap (λ (xs : List ℕ). parts_with u.parts bytes xs) e) ∙ h bytes keys
+    let m : machine_of u.parts bytes u.keys ≡ unused bytes keys h.subchannels =
+    sym (ap (λ (xs : List ℕ). machine_of u.parts xs (replicate (length keys) 0)) b ∙ ap (λ (xs : List ℕ). machine_of u.parts bytes xs) e) ∙ h.off bytes keys in
+    record { subchannels = h.subchannels; attached = h.attached; new = as_seen _ _ _ _ m d }
+
+-- the system at boot, by its parts
+pub boot_seen : (us : List Equipped) (directory : List DirectoryUser) (supply supply' : FrameSupply) (ds ds' : List (List Delivery)) → supply ≡ supply' → ds ≡ ds'
+    → (let s : SystemView = record { users = us; directory = directory; supply = supply; files = []; deliveries = ds; is_spent = false } in s ≡ record { users = us; directory = directory; supply = supply'; files = []; deliveries = ds'; is_spent = false })
+boot_seen us directory supply supply' ds ds' b c = rw (b, c) refl

@@ -1,61 +1,114 @@
--- What an event is to each user, and what a whole history is.
-use Rattle.std.proofs.Common.{◌≡◌, ◌≢◌, ℕ, Bool, true, false, List, [], ◌∷◌, ◌++◌, get_or, set, Option, refl, sym, ◌∙◌, ap, subst, get_or-set_other, ◌==◌}
+-- What a whole history is to each user.
+use Rattle.std.proofs.Common.{◌≡◌, ℕ, ◌==◌, Bool, true, false, List, [], ◌∷◌, ◌++◌, Option, Some, None, refl, ap}
 use Rattle.std.specs.Prelude.{if◌then◌else◌}
-use Rattle.std.proofs.lemmas.Grind.{common_steps}
-use Rattle.std.proofs.Common.{arith}
-use Rattle.cp_panel.specs.Machine.{Machine}
-use Rattle.s370_intr.specs.declared.next.Reason.{Reason}
-use Rattle.s370_intr.specs.declared.next.Reason.TheVariants.{Stopped, Count, EcMode, Wait, DisabledWait, FramesOut as RunFramesOut}
-use Rattle.cp_console.specs.declared.responses.Response.{Response}
-use Rattle.cp_panel.specs.Run.{MachineRun, TellsRun}
-use Rattle.cp_panel.specs.Panel.{Answer, line}
-use Rattle.cp_panel.specs.Tick.{ticked}
-use Rattle.cp_panel.specs.Life.{Event as Local, life, after}
+use Rattle.s370_channel.specs.Reading.{as_begun, as_reached}
+use Rattle.cp_console.specs.declared.device_commands.DeviceCommand.TheVariants as commands
+use Rattle.cp_devices.specs.declared.request.Request.{Request}
+use Rattle.cp_devices.specs.declared.request.Request.TheVariants.{LogsOn, LogsOff, Resets, Types, Asks, Elsewhere}
+use Rattle.cp_devices.specs.Equipped.{Equipped}
+use Rattle.cp_devices.specs.Life.{Event as Local, Units, Serve, Line as Typing, Tick as Ticks, Deck as Gets, Message as Hears, Leaves, Lives}
+use Rattle.cp_devices.specs.Lines.{requested}
+use Rattle.cp_devices.specs.World.{World}
+use Rattle.cp_core.specs.Histories.{EachIsBare, IsHistory, own}
+use Rattle.cp_core.specs.Local.{Step, coming, comes_to, local, local_event, line_of, own_part, run_of, tick_of, typed_as}
+use Rattle.cp_core.specs.System.{SystemView, user_at, world_of}
+use Rattle.cp_core.specs.declared.delivery.Delivered.{Delivered}
+use Rattle.cp_core.specs.declared.delivery.Delivery.{Delivery}
+use Rattle.cp_core.specs.declared.delivery.Delivery.TheVariants as deliveries
+use Rattle.cp_core.specs.declared.events.Ended.{Ended}
 use Rattle.cp_core.specs.declared.events.Ended.TheVariants.{Ran, Done, FramesOut}
-use Rattle.cp_core.specs.System.{SystemView, nobody, machine_at, run_of, line_of, tick_of, local, own, EachIsBare}
+use Rattle.cp_core.specs.declared.events.Event.{Event}
+use Rattle.cp_core.specs.declared.events.Event.TheVariants as events
+use Rattle.cp_core.proofs.Led.{lives_on}
 
--- where one user's machine changes, and to that user the events do this, to every user his own events do what they do
-named_alone : (old new : SystemView) (user : ℕ) (events : List Local) → new.machines ≡ set old.machines user (machine_at new user) → machine_at new user ≡ life events (machine_at old user) → (u : ℕ) (b : Bool) → (user == u) ≡ b → machine_at new u ≡ life (if b then events else []) (machine_at old u)
-named_alone old new user events e h u true t =
-    let same : user ≡ u = grind (arith, common_steps) in
-    subst (λ (v : ℕ). machine_at new v ≡ life events (machine_at old v)) same h
-named_alone old new user events e h u false t =
-    let other : u ≢ user = grind (arith, common_steps) in
-    ap (λ (ms : List Machine). get_or ms u nobody) e ∙ (rw get_or-set_other refl)
+-- ---- events that run no channel program
 
-run_is : (asked units : ℕ) (reason : Reason) (notice : Option Response) (old new : Machine) (is_short : ℕ → Type 0) → TellsRun asked old (record { machine = new; units = units; reason = reason; notice = notice }) is_short → new ≡ life (run_of asked (Ran (record { units = units; reason = reason }))) old
-run_is asked units RunFramesOut notice old new is_short h = sym (ap (λ (r : MachineRun). r.machine) h.done)
-run_is asked units Stopped notice old new is_short h = sym (ap (λ (r : MachineRun). r.machine) h)
-run_is asked units Count notice old new is_short h = sym (ap (λ (r : MachineRun). r.machine) h)
-run_is asked units EcMode notice old new is_short h = sym (ap (λ (r : MachineRun). r.machine) h)
-run_is asked units Wait notice old new is_short h = sym (ap (λ (r : MachineRun). r.machine) h)
-run_is asked units DisabledWait notice old new is_short h = sym (ap (λ (r : MachineRun). r.machine) h)
+abbrev pub RunsNone : Local → Type 0
+RunsNone (Serve device) = ⊥
+RunsNone (Units count) = Unit {0}
+RunsNone (Typing world typed) = Unit {0}
+RunsNone Ticks = Unit {0}
+RunsNone (Gets deck) = Unit {0}
+RunsNone (Hears text) = Unit {0}
 
-pub run_applied : (old new : SystemView) (user asked units : ℕ) (reason : Reason) (notice : Option Response) (is_short : ℕ → Type 0) → new.machines ≡ set old.machines user (machine_at new user) → TellsRun asked (machine_at old user) (record { machine = machine_at new user; units = units; reason = reason; notice = notice }) is_short → (u : ℕ) → machine_at new u ≡ life (if user == u then run_of asked (Ran (record { units = units; reason = reason })) else []) (machine_at old u)
-run_applied old new user asked units reason notice is_short e h u =
-    named_alone old new user (run_of asked (Ran (record { units = units; reason = reason }))) e (run_is asked units reason notice (machine_at old user) (machine_at new user) is_short h) u (user == u) refl
+abbrev pub RunNone : List Local → Type 0
+RunNone [] = Unit {0}
+RunNone (event ∷ events) = RunsNone event × RunNone events
 
-pub line_applied : (old new : SystemView) (user : ℕ) (typed : List ℕ) (said : Option Response) → new.machines ≡ set old.machines user (machine_at new user) → line typed (machine_at old user) ≡ record { machine = machine_at new user; reply = said } → (u : ℕ) → machine_at new u ≡ life (if user == u then line_of typed Done else []) (machine_at old u)
-line_applied old new user typed said e h u =
-    named_alone old new user (line_of typed Done) e (sym (ap (λ (a : Answer). a.machine) h)) u (user == u) refl
+-- they leave the same, however programs are read
+leaves_reached : (event : Local) (a b : Equipped) → RunsNone event → Leaves as_begun event a b → Leaves as_reached event a b
+leaves_reached (Serve device) a b none h = absurd none
+leaves_reached (Units count) a b none h = h
+leaves_reached (Typing world typed) a b none h = h
+leaves_reached Ticks a b none h = h
+leaves_reached (Gets deck) a b none h = h
+leaves_reached (Hears text) a b none h = h
 
--- a line that nothing came of
-pub nothing_applied : (old new : SystemView) (user : ℕ) (typed : List ℕ) → new.machines ≡ set old.machines user (machine_at new user) → machine_at new user ≡ machine_at old user → (u : ℕ) → machine_at new u ≡ life (if user == u then line_of typed FramesOut else []) (machine_at old u)
-nothing_applied old new user typed e h u = named_alone old new user (line_of typed FramesOut) e h u (user == u) refl
+lives_reached : (es : List Local) (a b : Equipped) → RunNone es → Lives as_begun es a b → Lives as_reached es a b
+lives_reached [] a b none h = h
+lives_reached (e ∷ es) a b none h = (h.0, leaves_reached e a h.0 none.0 h.1, lives_reached es h.0 b none.1 h.2)
 
-pub tick_applied : (old new : SystemView) (user : ℕ) → new.machines ≡ set old.machines user (machine_at new user) → machine_at new user ≡ ticked (machine_at old user) → (u : ℕ) → machine_at new u ≡ life (if user == u then tick_of Done else []) (machine_at old u)
-tick_applied old new user e h u = named_alone old new user (tick_of Done) e h u (user == u) refl
+-- ---- the events of a step are such
 
--- a tick that nothing came of
-pub no_tick_applied : (old new : SystemView) (user : ℕ) → new.machines ≡ set old.machines user (machine_at new user) → machine_at new user ≡ machine_at old user → (u : ℕ) → machine_at new u ≡ life (if user == u then tick_of FramesOut else []) (machine_at old u)
-no_tick_applied old new user e h u = named_alone old new user (tick_of FramesOut) e h u (user == u) refl
+none_on : (es fs : List Local) → RunNone es → RunNone fs → RunNone (es ++ fs)
+none_on [] fs a b = b
+none_on (e ∷ es) fs a b = (a.0, none_on es fs a.1 b)
 
--- events and then more events
-life_on : (es fs : List Local) (m : Machine) → life (es ++ fs) m ≡ life fs (life es m)
-life_on [] fs m = refl
-life_on (e ∷ es) fs m = life_on es fs (after e m)
+none_typed : (q : Request) (w : World) (typed : List ℕ) → RunNone (typed_as q w typed)
+none_typed LogsOn w typed = (tt, tt)
+none_typed LogsOff w typed = (tt, tt)
+none_typed Resets w typed = (tt, tt)
+none_typed Types w typed = (tt, tt)
+none_typed Elsewhere w typed = (tt, tt)
+none_typed (Asks (commands.Ipl device)) w typed = tt
+none_typed (Asks commands.QueryFiles) w typed = (tt, tt)
+none_typed (Asks commands.QueryUsers) w typed = (tt, tt)
+none_typed (Asks (commands.Spool device name)) w typed = (tt, tt)
+none_typed (Asks (commands.Close device)) w typed = (tt, tt)
+none_typed (Asks (commands.Purge file)) w typed = (tt, tt)
+none_typed (Asks (commands.Message name text)) w typed = (tt, tt)
+
+none_run : (asked : ℕ) (ended : Ended) → RunNone (run_of asked ended)
+none_run asked (Ran ran) = (tt, tt)
+none_run asked Done = tt
+none_run asked FramesOut = tt
+
+none_line : (old : SystemView) (user : ℕ) (typed : List ℕ) (ended : Ended) → RunNone (line_of old user typed ended)
+none_line old user typed Done = none_typed (requested typed (user_at old user)) (world_of old user) typed
+none_line old user typed (Ran ran) = tt
+none_line old user typed FramesOut = tt
+
+none_tick : (ended : Ended) → RunNone (tick_of ended)
+none_tick Done = (tt, tt)
+none_tick (Ran ran) = tt
+none_tick FramesOut = tt
+
+none_event : (old : SystemView) (event : Event) (ended : Ended) → RunNone (local_event old event ended)
+none_event old (events.Run user asked) ended = none_run asked ended
+none_event old (events.Line user typed) ended = none_line old user typed.now ended
+none_event old (events.Tick user) ended = none_tick ended
+none_event old (events.Deck user cards) ended = tt
+
+none_if : (b : Bool) (es : List Local) → RunNone es → RunNone (if b then es else [])
+none_if true es none = none
+none_if false es none = tt
+
+none_coming : (old : SystemView) (step : Step) (what : Delivery) → RunsNone (coming old step what)
+none_coming old step (deliveries.Deck number) = tt
+none_coming old step (deliveries.Message line) = tt
+
+none_comes : (user : ℕ) (old : SystemView) (step : Step) (delivered : Option Delivered) → RunNone (comes_to user old step delivered)
+none_comes user old step None = tt
+none_comes user old step (Some delivered) = none_if (delivered.to == user) (coming old step delivered.what ∷ []) (none_coming old step delivered.what, tt)
+
+none_local : (user : ℕ) (old : SystemView) (step : Step) → RunNone (local user old step)
+none_local user old step = none_on (own_part user old step) (comes_to user old step step.reply.delivered) (none_if _ (local_event old step.event step.reply.ended) (none_event old step.event step.reply.ended)) (none_comes user old step step.reply.delivered)
+
+-- ---- a history
 
 pub history : EachIsBare
-history first last [] e user = ap (λ (s : SystemView). machine_at s user) e
+history first last [] e user = ap (λ (s : SystemView). user_at s user) e
 history first last (step ∷ steps) h user =
-    history step.seen last steps h.1 user ∙ ap (life (own user steps)) (h.0.applied user) ∙ sym (life_on (local user step.event step.reply) (own user steps) (machine_at first user))
+    lives_on as_reached (local user first step) (own user step.seen steps) (user_at first user) (user_at step.seen user) (user_at last user)
+    (lives_reached (local user first step) (user_at first user) (user_at step.seen user) (none_local user first step) (h.0.applied user))
+    (history step.seen last steps h.1 user)

@@ -1,7 +1,10 @@
-pub mod Stated
+pub mod Led
+pub mod Answered
 pub mod Systems
-pub mod Histories
 pub mod Boots
 pub mod Switches
 pub mod Kept
+pub mod Worked
+pub mod Steps
+pub mod Histories
 pub mod Loans

@@ -1,4 +1,4 @@
--- What is written to a lent frame, seen in the machines of a system.
+-- What is written to a lent frame, seen in the users of a system.
 use Rattle.std.proofs.Common.{◌≡◌, Option, None, Some, ℕ, ◌*◌, ◌≤◌, Bool, true, false, nat_lt, List, [], ◌∷◌, length, get_or, set, zero, suc, refl, ◌∙◌, ap, arith, sym}
 use Rattle.std.specs.Prelude.{if◌then◌else◌, IfNone, IfSome}
 use Rattle.std.proofs.lemmas.Bool.Decides.{nat_tests}
@@ -11,11 +11,13 @@ use Rattle.cp_frames.specs.Layout.{IsZeroPage, Pool, bytes_of, number_of, put_pa
 use Rattle.cp_frames.proofs.Layouts.{same_frame}
 use Rattle.cp_frames.specs.Layout.{written_page as pool_page, written_frame as pool_frame}
 use Rattle.cp_dat.specs.Supplied.{IsBetweenUnits}
-use Rattle.cp_panel.specs.Machine.{Machine}
-use Rattle.cp_core.specs.UserMachines.{UserParts, machine_of, Fits}
-use Rattle.cp_core.specs.System.{SystemView, machines_of, nobody}
+use Rattle.cp_devices.specs.Equipped.{Equipped}
+use Rattle.cp_core.specs.UserMachines.{UserParts, user_with, Fits}
+use Rattle.cp_core.specs.System.{SystemView, nobody, users_of}
+use Rattle.cp_core.proofs.Systems.{seen}
+use Rattle.cp_core.specs.declared.files.FileNote.{FileNote}
 use Rattle.cp_core.specs.Loan.{frame_at, slot_at, with_page, written_page, written_frame}
-use Rattle.cp_core.specs.Whole.{IsSystem, IsWhole, no_machine}
+use Rattle.cp_core.specs.Whole.{IsSystem, IsWhole, no_user}
 
 -- a page that is written leaves the size of its storage
 same_size : (bytes : List ℕ) (page : ℕ) (written : List ℕ) → length (put_page bytes page written) ≡ length bytes
@@ -41,7 +43,7 @@ whole_page seats pool users (Some there) written whole =
       seated = whole.seated;
       stored = length-set pool.storages user bytes ∙ whole.stored;
       few = whole.few;
-      fits = λ k less. fits_same (get_or seats k no_machine) (get_or pool.storages k []) (get_or (set pool.storages user bytes) k [])
+      fits = λ k less. fits_same (get_or seats k no_user) (get_or pool.storages k []) (get_or (set pool.storages user bytes) k [])
           (same_sizes pool.storages user k bytes (same_size (bytes_of pool user) there.page.0 written)) (whole.fits k less);
     }
 
@@ -61,27 +63,27 @@ system_written seats pool users frame written system = record {
 }
 
 set_written : (seats : List UserParts) (storages : List (List ℕ)) (user page : ℕ) (written : List ℕ)
-    → machines_of seats (set storages user (put_page (get_or storages user []) page written)) ≡ set (machines_of seats storages) user (with_page (get_or (machines_of seats storages) user nobody) page written)
+    → users_of seats (set storages user (put_page (get_or storages user []) page written)) ≡ set (users_of seats storages) user (with_page (get_or (users_of seats storages) user nobody) page written)
 set_written [] storages user page written = refl
 set_written (seat ∷ seats) [] zero page written = refl
 set_written (seat ∷ seats) [] (suc user) page written = refl
 set_written (seat ∷ seats) (bytes ∷ storages) zero page written = refl
-set_written (seat ∷ seats) (bytes ∷ storages) (suc user) page written = ap (λ (ms : List Machine). machine_of seat bytes ∷ ms) (set_written seats storages user page written)
+set_written (seat ∷ seats) (bytes ∷ storages) (suc user) page written = ap (λ (ms : List Equipped). user_with seat bytes ∷ ms) (set_written seats storages user page written)
 
 -- a system as it is seen, by its frames
-abbrev pub seen : List UserParts → List DirectoryUser → Bool → Pool → SystemView
-seen seats users is_spent pool = record { machines = machines_of seats pool.storages; users = users; supply = pool.supply; is_spent = is_spent }
+abbrev pub seen_with : List UserParts → List DirectoryUser → List FileNote → Bool → Pool → SystemView
+seen_with seats directory files is_spent pool = seen seats pool.storages directory pool.supply files is_spent
 
-seen_page : (seats : List UserParts) (users : List DirectoryUser) (is_spent : Bool) (pool : Pool) (o : Option UserPage) (written : List ℕ)
-    → seen seats users is_spent (pool_page pool o written) ≡ written_page (seen seats users is_spent pool) o written
-seen_page seats users is_spent pool None written = refl
-seen_page seats users is_spent pool (Some there) written =
-    ap (λ (ms : List Machine). record (seen seats users is_spent pool) { machines = ms }) (set_written seats pool.storages there.user there.page.0 written)
+seen_page : (seats : List UserParts) (directory : List DirectoryUser) (files : List FileNote) (is_spent : Bool) (pool : Pool) (o : Option UserPage) (written : List ℕ)
+    → seen_with seats directory files is_spent (pool_page pool o written) ≡ written_page (seen_with seats directory files is_spent pool) o written
+seen_page seats directory files is_spent pool None written = refl
+seen_page seats directory files is_spent pool (Some there) written =
+    ap (λ (us : List Equipped). record (seen_with seats directory files is_spent pool) { users = us }) (set_written seats pool.storages there.user there.page.0 written)
 
 -- what is written to a frame of the pool is written to that frame of the system
-pub seen_written : (seats : List UserParts) (users : List DirectoryUser) (is_spent : Bool) (pool : Pool) (frame : ℕ) (written : List ℕ)
-    → seen seats users is_spent (pool_frame pool frame written) ≡ written_frame (seen seats users is_spent pool) frame written
-seen_written seats users is_spent pool frame written = seen_page seats users is_spent pool (get_or pool.supply.owners frame None) written
+pub seen_written : (seats : List UserParts) (directory : List DirectoryUser) (files : List FileNote) (is_spent : Bool) (pool : Pool) (frame : ℕ) (written : List ℕ)
+    → seen_with seats directory files is_spent (pool_frame pool frame written) ≡ written_frame (seen_with seats directory files is_spent pool) frame written
+seen_written seats directory files is_spent pool frame written = seen_page seats directory files is_spent pool (get_or pool.supply.owners frame None) written
 
 -- ---- where a page stands
 

@@ -3,8 +3,8 @@ use Rattle.std.specs.Prelude.{◌≡◌, ℕ, ◌*◌, nat_lt, if◌then◌else�
 use Rattle.std.specs.Borrow.{LendsSo, MutBor, Fml, u8, Array}
 use Rattle.cp_frames.specs.declared.numbers.UserPage.{UserPage}
 use Rattle.cp_frames.specs.Layout.{frame_of, put_page}
-use Rattle.cp_panel.specs.Machine.{Machine}
-use Rattle.cp_core.specs.System.{SystemView, machine_at}
+use Rattle.cp_devices.specs.Equipped.{Equipped, with_bytes}
+use Rattle.cp_core.specs.System.{SystemView, machine_at, user_at}
 use Rattle.cp_core.specs.contracts.system.System.{the_row}
 
 -- the frame in which a page of a user's storage stands; a page past storage stands in none
@@ -16,15 +16,14 @@ abbrev pub slot_at : SystemView → ℕ → ℕ → Option ℕ
 slot_at s user page = if nat_lt (page * 4096) (length (machine_at s user).core.processor.bytes) then frame_of s.supply.slots user page else None
 
 -- a machine of which a page of storage has this content
-abbrev pub with_page : Machine → ℕ → List ℕ → Machine
-with_page m page written =
-    record m { core = record m.core { processor = record m.core.processor { bytes = put_page m.core.processor.bytes page written } } }
+abbrev pub with_page : Equipped → ℕ → List ℕ → Equipped
+with_page e page written = record e { machine = with_bytes e.machine (put_page e.machine.core.processor.bytes page written) }
 
 -- what is written to a page is its content, and all else stays
 abbrev pub written_page : SystemView → Option UserPage → List ℕ → SystemView
 written_page s None written = s
 written_page s (Some there) written =
-    record s { machines = slice_set s.machines there.user (with_page (machine_at s there.user) there.page.0 written) }
+    record s { users = slice_set s.users there.user (with_page (user_at s there.user) there.page.0 written) }
 
 -- what is written to a frame is the content of the page that stands in it
 abbrev pub written_frame : SystemView → ℕ → List ℕ → SystemView

@@ -1,8 +1,23 @@
--- What a line does to the frames and slots in which users' pages stand. What a run and a tick do is said by
+-- What an event does to the frames and slots in which users' pages stand. How pages come for units is said by
 -- cp_dat/specs/Supplied.antt.
-use Rattle.std.specs.Prelude.{◌≡◌, ℕ, ◌<◌, ◌⊎◌, All, length, IsSome, false}
+use Rattle.std.specs.Prelude.{◌≡◌, ℕ, ◌*◌, ◌<◌, ◌≤◌, ◌⊎◌, All, length, IsSome, Bool, true, false, List, [], ◌∷◌}
+use Rattle.std.specs.List.{concat}
+use Rattle.s370_store.specs.Access.{Touches}
+use Rattle.s370_intr.specs.Run.{AllNeeded, EachBrings}
+use Rattle.s370_intr.specs.Laws.{begun}
 use Rattle.cp_frames.specs.Layout.{FrameSupply, cleared_of, is_there}
-use Rattle.cp_dat.specs.Supplied.{HasSuch}
+use Rattle.cp_dat.specs.Supplied.{HasSuch, IsBetweenUnits, IsBroughtInUnits}
+use Rattle.cp_panel.specs.Machine.{Machine}
+use Rattle.cp_panel.specs.Panel.{line_needs, switches}
+use Rattle.cp_panel.specs.Tick.{TickNeeds}
+use Rattle.cp_core.specs.Events.{user_of}
+use Rattle.cp_core.specs.System.{SystemView, machine_at}
+use Rattle.cp_core.specs.declared.events.Ended.{Ended}
+use Rattle.cp_core.specs.declared.events.Ended.TheVariants.{Ran, Done, FramesOut}
+use Rattle.cp_core.specs.declared.events.Event.{Event}
+use Rattle.cp_core.specs.declared.events.Event.TheVariants.{Run, Line, Tick, Deck}
+
+-- ---- no room
 
 -- every slot is taken, and the page stands in none
 abbrev pub HasNoSlot : FrameSupply → ℕ → ℕ → Type 0
@@ -19,6 +34,8 @@ pub record IsShort (supply : FrameSupply) (user : ℕ) (needs : ℕ → Type 0) 
   pub full : All IsSome supply.owners
   pub stuck : HasNoSlot supply user page ⊎ NeedsAll supply user needs
 
+-- ---- pages that leave
+
 -- the user's pages have left their frames and slots, and no other page has
 pub record IsGivenBack (user : ℕ) (old new : FrameSupply) : Type 0 where
   pub owners : new.owners ≡ cleared_of user old.owners
@@ -26,3 +43,52 @@ pub record IsGivenBack (user : ℕ) (old new : FrameSupply) : Type 0 where
   pub gone : (page : ℕ) → is_there new.owners user page ≡ false
   pub gone_slots : (page : ℕ) → is_there new.slots user page ≡ false
   pub page_ins : new.page_ins ≡ old.page_ins
+
+-- whether an event switches a machine on or off, which gives back all the user's pages
+abbrev pub gives_back : SystemView → Event → Bool
+gives_back old (Run user asked) = false
+gives_back old (Line user typed) = switches typed.now (machine_at old user)
+gives_back old (Tick user) = false
+gives_back old (Deck user cards) = false
+
+-- ---- pages that come
+
+abbrev pub RunBrings : Machine → Ended → List (List ℕ) → Type 0
+RunBrings m (Ran ran) units =
+    EachBrings m.core 0 units × (length units ≤ begun ran.units ran.reason) × (length (concat units) ≤ 9 * begun ran.units ran.reason)
+RunBrings m Done units = ⊥
+RunBrings m FramesOut units = ⊥
+
+-- there is one unit, and it needs all that it brings
+abbrev pub OneBrings : (ℕ → Type 0) → List (List ℕ) → Type 0
+OneBrings needs units = (pages : List ℕ) × (units ≡ pages ∷ []) × AllNeeded needs pages
+
+-- what the units of an event may bring: each unit of a run, and the one that lacked a page, nine pages that it needs; a line, as
+-- one unit, those of the bytes that it shows or changes; a tick the page of the timer, of a machine that runs; a deck none
+abbrev pub MayBring : SystemView → Event → Ended → List (List ℕ) → Type 0
+MayBring old (Run user asked) ended units = RunBrings (machine_at old user) ended units
+MayBring old (Line user typed) ended units = OneBrings (Touches (line_needs typed.now (machine_at old user))) units
+MayBring old (Tick user) ended units = OneBrings (TickNeeds (machine_at old user)) units × (length (concat units) ≤ 1)
+MayBring old (Deck user cards) ended units = units ≡ []
+
+-- pages came as an event's units may bring them, and no others
+abbrev pub IsBroughtBy : SystemView → Event → Ended → SystemView → Type 0
+IsBroughtBy old event ended new =
+    (units : List (List ℕ)) × IsBroughtInUnits (user_of event) units old.supply new.supply × MayBring old event ended units
+
+-- ---- an event
+
+-- no frame is pinned before or after an event; where the user's machine is switched on or off, all his pages are given back, and
+-- else only pages that its units need are brought
+pub record IsSupplied (old : SystemView) (event : Event) (ended : Ended) (new : SystemView) : Type 0 where
+  pub between_before : IsBetweenUnits old.supply
+  pub between : IsBetweenUnits new.supply
+  pub given_back : gives_back old event ≡ true → IsGivenBack (user_of event) old.supply new.supply
+  pub brought : gives_back old event ≡ false → IsBroughtBy old event ended new
+
+-- the same where memory was refused, which may be before all pages are given back
+pub record IsSuppliedInPart (old : SystemView) (event : Event) (new : SystemView) : Type 0 where
+  pub between_before : IsBetweenUnits old.supply
+  pub between : IsBetweenUnits new.supply
+  pub given_back : gives_back old event ≡ true → IsGivenBack (user_of event) old.supply new.supply ⊎ (new.supply ≡ old.supply)
+  pub brought : gives_back old event ≡ false → IsBroughtBy old event Done new

@@ -1,13 +1,13 @@
 //! Boot: a system from a directory.
-ghost use Rattle.std.specs.Prelude.{◌≡◌, ◌*◌, ◌<◌, ◌≤◌, ◌↔◌, ℕ, nat_lt, true, All, Err, IfOk, IfSome, IsSome, length, map};
-ghost use Rattle.cp_directory.specs.Users.{addresses_of};
-ghost use Rattle.cp_core.specs.System.{booted, has_devices};
+ghost use Rattle.std.specs.Prelude.{◌≡◌, ◌<◌, ◌≤◌, ◌↔◌, ℕ, All, Err, IfOk, IfSome, IsOk, IsSome, List, None, Some, length, map};
+ghost use Rattle.cp_core.specs.Boot.{IsBooted, first_volume, places_in};
 ghost use Rattle.cp_core.specs.Whole.{AreNew};
 
 use crate::events::BootError;
 use crate::system::System;
 use crate::user_machine::UserMachine;
-use cp_directory::{Directory, User};
+use cp_devices::{AttachError, Places};
+use cp_directory::{Directory, User, UserDevices, Volser};
 use cp_frames::Frames;
 use std::alloc::{AllocError, Global};
 use std::marker::Model;
@@ -68,23 +68,25 @@ impl Sizes {
 }
 
 impl System {
-    /// The system that a directory states, on so many frames and slots: every user is off, and storage is zero. Users
-    /// have no devices yet.
+    /// The system that a directory states, on so many frames and slots: every user is off, and storage is zero. Where a
+    /// user has a minidisk, its volume is not there.
     pub fn boot(alloc: Global, directory: Directory, sizes: Sizes) -> Result<System, BootError>
         requires { length directory ≤ 64 }
-        ensures ok { IfOk result (λ system. system ≡ booted directory sizes.frames sizes.slots) }
+        ensures ok { IfOk result (λ system. IsBooted directory sizes.frames sizes.slots system) }
         ensures too_few { (result ≡ Err BootError.TooFewFrames) ↔ (sizes.frames < 16) }
-        ensures devices { (result ≡ Err BootError.Devices) ↔ ((16 ≤ sizes.frames) × (has_devices directory ≡ true)) }
+        ensures no_volume { (volser : List ℕ) → result ≡ Err (BootError.NoVolume volser)
+            → first_volume directory ≡ Some volser }
+        ensures volumes { IsOk result → first_volume directory ≡ None }
     {
         if sizes.frames() < 16 {
             return Err(BootError::TooFewFrames);
         }
-        if has_devices(directory.users()) {
-            return Err(BootError::Devices);
+        if let Some(volser) = first_volume(directory.users()) {
+            return Err(BootError::NoVolume(volser));
         }
-        let machines = match machines_of(alloc, directory.users()) {
-            Ok(machines) => machines,
-            Err(_) => return Err(BootError::Memory),
+        let users = match machines_of(alloc, directory.users()) {
+            Ok(users) => users,
+            Err(error) => return Err(boot_error(error)),
         };
         let pages = match pages_of(alloc, directory.users()) {
             Ok(pages) => pages,
@@ -92,9 +94,11 @@ impl System {
         };
         match Frames::new(alloc, sizes.frames(), sizes.slots(), pages) {
             Ok(frames) => Ok(System {
+                alloc,
                 directory,
-                machines,
+                users,
                 frames,
+                files: Vec::new(alloc),
                 is_spent: false,
             }),
             Err(_) => Err(BootError::Memory),
@@ -102,29 +106,52 @@ impl System {
     }
 }
 
-/// Whether one of these users has a device.
-fn has_devices(users: &[User]) -> bool
-    ensures { result ≡ has_devices users.now }
+/// The volume of the first minidisk, in the order of the users.
+fn first_volume(users: &[User]) -> Option<Volser>
+    ensures { result ≡ first_volume users.now }
 {
-    users.iter().any(|user| has_device(user))
+    for user in users {
+        if let Some(disk) = user.minidisks().first() {
+            return Some(disk.extent.volser());
+        }
+    }
+    None
 }
 
-/// Whether a user has any device.
-#[tactic(auto, using(crate::proofs::Stated::device_count))]
-fn has_device(user: &User) -> bool
-    ensures { result ≡ nat_lt 0 (length (addresses_of user.now)) }
+/// Why no system is booted whose devices are not attached.
+fn boot_error(error: AttachError) -> BootError
+    ensures memory { (result ≡ BootError.Memory) ↔ (error ≡ AttachError.Memory) }
+    ensures other { (result ≡ BootError.DuplicateDevice) ↔ (error ≡ AttachError.Address) }
 {
-    user.devices().count() + user.minidisks().len() > 0
+    match error {
+        AttachError::Memory => BootError::Memory,
+        AttachError::Address => BootError::DuplicateDevice,
+    }
+}
+
+/// Where the devices of a user are.
+fn places_in(devices: UserDevices) -> Places
+    ensures { result ≡ places_in devices }
+{
+    Places {
+        console: devices.console,
+        reader: devices.reader,
+        punch: devices.punch,
+        printer: devices.printer,
+    }
 }
 
 /// A machine for each user.
-fn machines_of(alloc: Global, users: &[User]) -> Result<Vec<UserMachine>, AllocError>
+fn machines_of(alloc: Global, users: &[User]) -> Result<Vec<UserMachine>, AttachError>
     ensures { IfOk result (λ machines. AreNew machines.items users.now) }
 {
     let mut machines = Vec::new(alloc);
     for user in users {
-        let machine = UserMachine::new(alloc, user.storage().pages())?;
-        machines.push(machine)?;
+        let machine = UserMachine::new(alloc, user.storage().pages(), places_in(user.devices()))?;
+        match machines.push(machine) {
+            Ok(()) => {}
+            Err(_) => return Err(AttachError::Memory),
+        }
     }
     Ok(machines)
 }

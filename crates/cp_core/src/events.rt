@@ -1,10 +1,14 @@
 //! What happens to the system, and what it answers.
 ghost use Rattle.std.specs.Prelude.{◌≡◌};
+ghost use Rattle.cp_core.specs.Replies.{silent};
 
-use cp_console::responses::Response;
+use crate::delivery::Delivered;
+use cp_devices::Told;
+use cp_directory::Volser;
 use cp_users::UserNo;
 use s370_intr::Ran;
 use thiserror::Error;
+use unit_record::Card;
 
 /// What happens to the system.
 #[derive(Clone, Copy, Debug, PartialEq, Eq)]
@@ -15,6 +19,8 @@ pub enum Event<'a> {
     Line(UserNo, &'a [u8]),
     /// The interval timer of a user's machine ticks.
     Tick(UserNo),
+    /// The operator gives a deck of these cards to a user's reader; no cards are no deck.
+    Deck(UserNo, &'a [Card]),
 }
 
 impl<'a> Event<'a> {
@@ -28,6 +34,7 @@ impl<'a> Event<'a> {
             Event::Run(user, _) => *user,
             Event::Line(user, _) => *user,
             Event::Tick(user) => *user,
+            Event::Deck(user, _) => *user,
         }
     }
 }
@@ -43,28 +50,32 @@ pub enum Ended {
     FramesOut,
 }
 
-/// What the system answers to an event.
+/// What the system answers to an event. It has no memory of its own.
 #[derive(Clone, Copy, PartialEq, Eq)]
 pub struct Reply {
     /// How the event ended.
     pub ended: Ended,
-    /// The line that is printed at the terminal of the user whom the event names, if there is one: the response to a
-    /// line, or the notice of a machine that stopped.
-    pub said: Option<Response>,
+    /// What is said to the user whom the event names: the answer to his line, or the notice of a machine that stopped.
+    /// Of his files only that they are to be listed is told; they are the decks of his reader.
+    pub said: Told,
+    /// How many lines have joined the console of that user, the last of its output.
+    pub lines: usize,
+    /// What was delivered, and to whom. The cards of a deck are those of the last deck of his reader.
+    pub delivered: Option<Delivered>,
 }
 
 impl Reply {
-    /// The event is done, and nothing is said.
-    pub(crate) const DONE: Reply = Reply {
-        ended: Ended::Done,
-        said: None,
-    };
-
-    /// There is no room for a page, and nothing is said.
-    pub(crate) const OUT_OF_FRAMES: Reply = Reply {
-        ended: Ended::FramesOut,
-        said: None,
-    };
+    /// Nothing is said, and nothing was delivered.
+    pub(crate) fn silent(ended: Ended) -> Reply
+        ensures { result ≡ silent ended }
+    {
+        Reply {
+            ended,
+            said: Told::Silent,
+            lines: 0,
+            delivered: None,
+        }
+    }
 }
 
 /// Why an event was refused.
@@ -90,7 +101,10 @@ pub enum BootError {
     /// A system has at least 16 frames.
     #[error("fewer than 16 frames")]
     TooFewFrames,
-    /// A user has a device, and no user can have one yet.
-    #[error("users have no devices yet")]
-    Devices,
+    /// The volume of this serial number, of which a user has a minidisk, is not there: no volume is there yet.
+    #[error("a volume of the directory is not there")]
+    NoVolume(Volser),
+    /// Two devices of a user have one address.
+    #[error("two devices of a user have one address")]
+    DuplicateDevice,
 }

@@ -17,14 +17,21 @@
 #![tactic(auto)]
 
 mod boot;
+mod delivery;
 mod events;
+mod files;
+mod lines;
 mod loan;
 mod ready;
 mod system;
 mod user_machine;
 mod views;
+mod work;
+mod world;
 
 pub use boot::Sizes;
 pub use cp_frames::{FRAME_SIZE, FrameNo};
+pub use delivery::{Delivered, Delivery};
 pub use events::{BootError, CpError, Ended, Event, Reply};
+pub use files::FileNote;
 pub use system::{System, each_is_bare};

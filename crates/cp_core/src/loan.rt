@@ -16,7 +16,7 @@ impl System {
     /// Whether a user's storage has this page.
     fn has_page(&self, user: UserNo, page: Page) -> bool
         ensures inside { result ≡ nat_lt (page.0 * 4096) (length (machine_at self.now user).core.processor.bytes) }
-        ensures user { result ≡ true → user < length self.now.machines }
+        ensures user { result ≡ true → user < length self.now.users }
     {
         if user.index() >= self.users() {
             return false;

@@ -13,8 +13,8 @@ impl System {
     pub fn is_ready(&self, user: UserNo) -> bool
         ensures { result ≡ is_ready (machine_at self.now user) }
     {
-        match self.machine(user) {
-            Some(machine) => machine.machine.is_ready(),
+        match self.user(user) {
+            Some(user) => user.machine.is_ready(),
             None => false,
         }
     }

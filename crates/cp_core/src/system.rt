@@ -1,67 +1,75 @@
-//! The system: its users, their machines and the frames that they share.
-ghost use Rattle.std.specs.Prelude.{◌≡◌, ◌<◌, ◌≤◌, ◌↔◌, ℕ, List, [], ◌∷◌, Err, true, false, IsOk, IfOk, OnErr, OnOk, length, slice_set};
-ghost use Rattle.s370_store.specs.Access.{Touches};
-ghost use Rattle.s370_intr.specs.Laws.{begun};
-ghost use Rattle.s370_intr.specs.Run.{AllNeeded, EachBrings, IsLacking};
-ghost use Rattle.cp_panel.specs.declared.line.LineError.TheVariants as errors;
-ghost use Rattle.cp_panel.specs.Run.{TellsRun, notice_of};
-ghost use Rattle.cp_panel.specs.Panel.{line, line_needs, line_room, switches};
-ghost use Rattle.cp_panel.specs.Tick.{TickNeeds, ticked};
-ghost use Rattle.cp_core.specs.declared.events.Reply.{Reply};
+//! The system: its users, their machines with their devices, and the frames that they share.
+ghost use Rattle.std.specs.Prelude.{◌≡◌, ◌<◌, ◌≤◌, ◌↔◌, ℕ, [], ◌∷◌, ◌++◌, Err, true, false, IsOk, IfOk, OnErr, OnOk, length, slice_set};
+ghost use Rattle.s370_channel.specs.Reading.{as_begun};
+ghost use Rattle.cp_dat.specs.Supplied.{IsBetweenUnits};
+ghost use Rattle.cp_devices.specs.Life.{Leaves};
+ghost use Rattle.cp_core.specs.declared.events.Ended.TheVariants.{Done};
 ghost use Rattle.cp_core.specs.Events.{IsNoRun, user_of};
-ghost use Rattle.cp_core.specs.Supply.{IsGivenBack, IsShort};
-ghost use Rattle.cp_dat.specs.Supplied.{HasNoRoom, IsBetweenUnits, IsBroughtInUnits};
-ghost use Rattle.cp_core.specs.System.{EachIsBare, IsApplied, IsSupplied, IsTold, MayTakeMemory, SystemView, machine_at};
+ghost use Rattle.cp_core.specs.Files.{next_file};
+ghost use Rattle.cp_core.specs.Histories.{EachIsBare, IsStep};
+ghost use Rattle.cp_core.specs.Local.{IsApplied};
+ghost use Rattle.cp_core.specs.Memory.{MayTakeMemory, is_cut_short};
+ghost use Rattle.cp_core.specs.Parcels.{contents, note_of};
+ghost use Rattle.cp_core.specs.Supply.{IsSupplied, IsSuppliedInPart};
+ghost use Rattle.cp_core.specs.System.{SystemView, deliveries_at, machine_at, user_at};
+ghost use Rattle.cp_core.specs.Told.{IsTold};
 
+use crate::delivery::Parcel;
 use crate::events::{CpError, Ended, Event, Reply};
+use crate::files::FileNote;
 use crate::user_machine::UserMachine;
-use cp_console::responses::Response;
+use crate::work::{Tick, Units, Work};
+use cp_devices::{FileKind, Told};
 use cp_directory::Directory;
 use cp_frames::Frames;
-use cp_panel::{LineError, notice_of};
+use cp_panel::notice_of;
 use cp_users::UserNo;
-use s370_intr::Ran;
-use s370_store::FramesOut;
+use std::alloc::{AllocError, Global};
 use std::marker::Model;
 
-/// Many users' machines on shared frames.
+/// Many users' machines with their devices, on shared frames.
 #[derive(Drop)]
 pub struct System {
+    pub(crate) alloc: Global,
     pub(crate) directory: Directory,
-    pub(crate) machines: Vec<UserMachine>,
+    pub(crate) users: Vec<UserMachine>,
     pub(crate) frames: Frames,
+    pub(crate) files: Vec<FileNote>,
     pub(crate) is_spent: bool,
 }
 
 impl Model for System {
-    ghost use Rattle.cp_core.specs.System.{SystemView, machines_of};
+    ghost use Rattle.cp_core.specs.System.{SystemView, deliveries_of, users_of};
     ghost use Rattle.cp_core.specs.Whole.{IsSystem};
 
     ghost Value = { SystemView };
 
     ghost view = { λ s. record {
-      machines = machines_of s.machines.items s.frames.storages;
-      users = s.directory;
+      users = users_of s.users.items s.frames.storages;
+      directory = s.directory;
       supply = s.frames.supply;
+      files = s.files.items;
+      deliveries = deliveries_of s.users.items;
       is_spent = s.is_spent;
     } };
 
-    ghost invariant = { λ s. IsSystem s.machines.items s.frames s.directory };
+    ghost invariant = { λ s. IsSystem s.users.items s.frames s.directory };
 }
 
 impl System {
     /// How many users the directory has.
     pub fn users(&self) -> usize
-        ensures value { result ≡ length self.now.machines }
-        ensures directory { result ≡ length self.now.users }
+        ensures value { result ≡ length self.now.users }
+        ensures directory { result ≡ length self.now.directory }
+        ensures deliveries { result ≡ length self.now.deliveries }
         ensures few { result ≤ 64 }
     {
-        self.machines.len()
+        self.users.len()
     }
 
     /// The directory.
     pub fn directory(&self) -> &Directory
-        ensures { result.now ≡ self.now.users }
+        ensures { result.now ≡ self.now.directory }
     {
         &self.directory
     }
@@ -72,9 +80,11 @@ impl System {
     {
         // All its fields: what is added to them is seen here. Storage of guests is in the frames alone.
         let System {
+            alloc: _,
             directory: _,
-            machines: _,
+            users: _,
             frames: _,
+            files: _,
             is_spent,
         } = self;
         *is_spent
@@ -87,22 +97,38 @@ impl System {
         self.frames.page_ins()
     }
 
+    /// What each file was when it got its number, and whose it is: the first has number 1.
+    pub fn files(&self) -> &[FileNote]
+        ensures { result.now ≡ self.now.files }
+    {
+        &self.files
+    }
+
+    /// The number of the next file.
+    pub(crate) fn next_file(&self) -> u64
+        ensures { result ≡ next_file self.now.files }
+    {
+        self.files.len() as u64 + 1
+    }
+
     /// Ends the system for want of memory.
-    fn spend(&mut self)
-        ensures { self.new ≡ record self.old { is_spent = true } }
+    fn spend(&mut self) -> CpError
+        ensures error { result ≡ CpError.Memory }
+        ensures spent { self.new ≡ record self.old { is_spent = true } }
     {
         self.is_spent = true;
+        CpError::Memory
     }
 
     /// The place of a user's machine, in a system that applies events.
     fn place_of(&self, user: UserNo) -> Result<usize, CpError>
         ensures place { IfOk result (λ place. place ≡ user) }
-        ensures inside { IsOk result → user < length self.now.machines }
+        ensures inside { IsOk result → user < length self.now.users }
         ensures alive { IsOk result → self.now.is_spent ≡ false }
         ensures spent { (result ≡ Err CpError.Spent) ↔ (self.now.is_spent ≡ true) }
         ensures no_such_user { (result ≡ Err CpError.NoSuchUser)
-            ↔ ((self.now.is_spent ≡ false) × (length self.now.machines ≤ user)) }
-        ensures not_stated { result ≡ Err CpError.NoSuchUser → length self.now.users ≤ user }
+            ↔ ((self.now.is_spent ≡ false) × (length self.now.users ≤ user)) }
+        ensures not_stated { result ≡ Err CpError.NoSuchUser → length self.now.directory ≤ user }
         ensures memory { result ≡ Err CpError.Memory → ⊥ }
     {
         if self.is_spent() {
@@ -115,108 +141,92 @@ impl System {
         Ok(place)
     }
 
-    /// Lets a user's machine run. This takes no memory.
-    fn run(&mut self, user: usize, units: u32) -> Ran
-        requires { user < length self.old.machines }
-        ensures told { TellsRun units (machine_at self.old user)
-            (record {
-              machine = machine_at self.new user;
-              units = result.units;
-              reason = result.reason;
-              notice = notice_of result.reason;
-            }) (HasNoRoom self.new.supply user) }
-        ensures supply { (units : List (List ℕ)) × IsBroughtInUnits user units self.old.supply self.new.supply
-            × EachBrings (machine_at self.old user).core 0 units × (length units ≤ begun result.units result.reason) }
-        ensures machines { self.new.machines ≡ slice_set self.old.machines user (machine_at self.new user) }
-        ensures between_before { IsBetweenUnits self.old.supply }
-        ensures between { IsBetweenUnits self.new.supply }
-        ensures users { self.new.users ≡ self.old.users }
-        ensures spent { self.new.is_spent ≡ self.old.is_spent }
+    /// How many lines the console of a user has printed.
+    pub(crate) fn printed_by(&self, user: usize) -> usize
+        requires { user < length self.now.users }
+        ensures { result ≡ length (machine_at self.now user).output }
     {
-        let machine = &mut self.machines[user];
-        machine.run(&mut self.frames, UserNo::new(user as u8), units)
+        self.users[user].machine.printed()
     }
 
-    /// A tick of the timer of a user's machine. This takes no memory.
-    fn tick(&mut self, user: usize) -> Result<(), FramesOut>
-        requires { user < length self.old.machines }
-        ensures ok { OnOk result (machine_at self.new user ≡ ticked (machine_at self.old user)) }
-        ensures err { OnErr result (machine_at self.new user ≡ machine_at self.old user) }
-        ensures frames { OnErr result
-            (IsLacking (TickNeeds (machine_at self.old user)) (length (machine_at self.old user).core.processor.bytes)
-            (HasNoRoom self.new.supply user)) }
-        ensures supply { (pages : List ℕ) × IsBroughtInUnits user (pages ∷ []) self.old.supply self.new.supply
-            × AllNeeded (TickNeeds (machine_at self.old user)) pages × (length pages ≤ 1) }
-        ensures machines { self.new.machines ≡ slice_set self.old.machines user (machine_at self.new user) }
+    /// Does a work with the machine of a user, whose storage is lent to it.
+    #[inline(always)]
+    pub(crate) fn lend<W: Work>(&mut self, user: usize, work: &W) -> W::Answer
+        requires { user < length self.old.users }
+        ensures does { W.Does work.now self.old.directory user (user_at self.old user) self.old.supply result
+            (user_at self.new user) self.new.supply }
+        ensures rest { self.new ≡ record self.old {
+          users = slice_set self.old.users user (user_at self.new user);
+          supply = self.new.supply;
+        } }
         ensures between_before { IsBetweenUnits self.old.supply }
         ensures between { IsBetweenUnits self.new.supply }
-        ensures users { self.new.users ≡ self.old.users }
-        ensures spent { self.new.is_spent ≡ self.old.is_spent }
     {
-        let machine = &mut self.machines[user];
-        machine.tick(&mut self.frames, UserNo::new(user as u8))
+        let machine = &mut self.users[user];
+        machine.lend(
+            &mut self.frames,
+            UserNo::new(user as u8),
+            &self.directory,
+            work,
+        )
     }
 
-    /// A line that a user types.
-    fn line(&mut self, user: usize, typed: &[u8]) -> Result<Option<Response>, LineError>
-        requires { user < length self.old.machines }
-        ensures ok { IfOk result (λ reply. line typed.now (machine_at self.old user)
-            ≡ record { machine = machine_at self.new user; reply = reply }) }
-        ensures err { OnErr result (machine_at self.new user ≡ machine_at self.old user) }
-        ensures memory { result ≡ Err errors.Memory → 0 < line_room typed.now (machine_at self.old user) }
-        ensures frames { result ≡ Err errors.FramesOut
-            → IsLacking (Touches (line_needs typed.now (machine_at self.old user)))
-            (length (machine_at self.old user).core.processor.bytes)
-            (IsShort self.new.supply user (Touches (line_needs typed.now (machine_at self.old user)))) }
-        ensures cleared { switches typed.now (machine_at self.old user) ≡ true
-            → IsGivenBack user self.old.supply self.new.supply }
-        ensures supply { switches typed.now (machine_at self.old user) ≡ false
-            → ((pages : List ℕ) × IsBroughtInUnits user (pages ∷ []) self.old.supply self.new.supply
-            × AllNeeded (Touches (line_needs typed.now (machine_at self.old user))) pages) }
-        ensures machines { self.new.machines ≡ slice_set self.old.machines user (machine_at self.new user) }
-        ensures between_before { IsBetweenUnits self.old.supply }
-        ensures between { IsBetweenUnits self.new.supply }
-        ensures users { self.new.users ≡ self.old.users }
-        ensures spent { self.new.is_spent ≡ self.old.is_spent }
+    /// A parcel comes to a user. Where memory is refused, each user's machine stays.
+    pub(crate) fn deliver(&mut self, to: usize, parcel: Parcel) -> Result<(), AllocError>
+        requires { to < length self.old.users }
+        ensures ok { OnOk result (Leaves as_begun (contents parcel) (user_at self.old to) (user_at self.new to)) }
+        ensures rest { OnOk result (self.new ≡ record self.old {
+          users = slice_set self.old.users to (user_at self.new to);
+          deliveries = slice_set self.old.deliveries to (deliveries_at self.old to ++ note_of parcel ∷ []);
+        }) }
+        ensures err { OnErr result (self.new ≡ record self.old { deliveries = self.new.deliveries }) }
     {
-        let machine = &mut self.machines[user];
-        machine.line(&mut self.frames, UserNo::new(user as u8), typed)
+        self.users[to].receive(parcel)
     }
 
-    /// Applies an event. To the user whom it names it is what a bare machine does; every other user's machine stays.
+    /// A file of a user gets the next number.
+    pub(crate) fn note(&mut self, user: UserNo, kind: FileKind) -> Result<(), AllocError>
+        ensures ok { OnOk result (self.new
+            ≡ record self.old { files = self.old.files ++ record { user = user; kind = kind } ∷ [] }) }
+        ensures err { OnErr result (self.new ≡ self.old) }
+    {
+        self.files.push(FileNote { user, kind })?;
+        Ok(())
+    }
+
+    /// Applies an event: to the user whom it names, and to whom it delivers something, it is what happens to a machine
+    /// of his own; every other user's machine stays.
     ///
     /// A system for which memory was refused is spent: from then on it answers nothing else.
     #[inline(always)]
     pub fn apply(&mut self, event: Event<'_>) -> Result<Reply, CpError>
-        ensures views { IfOk result (λ reply. IsApplied self.old event.entry reply self.new) }
-        ensures told { IfOk result (λ reply. IsTold self.old event.entry reply self.new) }
-        ensures supplied { IfOk result (λ reply. IsSupplied self.old event.entry reply self.new) }
-        ensures supplied_without_memory { result ≡ Err CpError.Memory → (reply : Reply)
-            → IsSupplied self.old event.entry reply self.new }
-        ensures user { IsOk result → user_of event.entry < length self.old.machines }
-        ensures users { self.new.users ≡ self.old.users }
+        ensures views { IfOk result
+            (λ reply. IsApplied self.old (record { event = event.entry; reply = reply; seen = self.new })) }
+        ensures told { IfOk result
+            (λ reply. IsTold self.old (record { event = event.entry; reply = reply; seen = self.new })) }
+        ensures supplied { IfOk result (λ reply. IsSupplied self.old event.entry reply.ended self.new) }
+        ensures supplied_without_memory { result ≡ Err CpError.Memory → IsSuppliedInPart self.old event.entry self.new }
+        ensures user { IsOk result → user_of event.entry < length self.old.users }
+        ensures directory { self.new.directory ≡ self.old.directory }
         ensures alive { IsOk result → self.new.is_spent ≡ false }
         ensures spent { (result ≡ Err CpError.Spent) ↔ (self.old.is_spent ≡ true) }
         ensures unchanged_if_spent { result ≡ Err CpError.Spent → self.new ≡ self.old }
         ensures no_such_user { (result ≡ Err CpError.NoSuchUser)
-            ↔ ((self.old.is_spent ≡ false) × (length self.old.machines ≤ user_of event.entry)) }
-        ensures not_stated { result ≡ Err CpError.NoSuchUser → length self.old.users ≤ user_of event.entry }
+            ↔ ((self.old.is_spent ≡ false) × (length self.old.users ≤ user_of event.entry)) }
+        ensures not_stated { result ≡ Err CpError.NoSuchUser → length self.old.directory ≤ user_of event.entry }
         ensures unchanged_for_nobody { result ≡ Err CpError.NoSuchUser → self.new ≡ self.old }
         ensures memory { result ≡ Err CpError.Memory → (self.new.is_spent ≡ true) × MayTakeMemory self.old event.entry }
         ensures unchanged_without_memory { result ≡ Err CpError.Memory → (user : ℕ)
-            → machine_at self.new user ≡ machine_at self.old user }
+            → is_cut_short self.old event.entry user ≡ false → user_at self.new user ≡ user_at self.old user }
     {
         match event {
             Event::Run(user, units) => {
                 let place = self.place_of(user)?;
-                let ran = self.run(place, units);
-                Ok(Reply {
-                    ended: Ended::Ran(ran),
-                    said: notice_of(ran.reason),
-                })
+                Ok(self.run(place, units))
             }
             Event::Line(user, typed) => self.apply_apart(Event::Line(user, typed)),
             Event::Tick(user) => self.apply_apart(Event::Tick(user)),
+            Event::Deck(user, cards) => self.apply_apart(Event::Deck(user, cards)),
         }
     }
 
@@ -224,52 +234,78 @@ impl System {
     #[inline(never)]
     fn apply_apart(&mut self, event: Event<'_>) -> Result<Reply, CpError>
         requires { IsNoRun event }
-        ensures views { IfOk result (λ reply. IsApplied self.old event.entry reply self.new) }
-        ensures told { IfOk result (λ reply. IsTold self.old event.entry reply self.new) }
-        ensures supplied { IfOk result (λ reply. IsSupplied self.old event.entry reply self.new) }
-        ensures supplied_without_memory { result ≡ Err CpError.Memory → (reply : Reply)
-            → IsSupplied self.old event.entry reply self.new }
-        ensures user { IsOk result → user_of event.entry < length self.old.machines }
-        ensures users { self.new.users ≡ self.old.users }
+        ensures step { IfOk result
+            (λ reply. IsStep self.old (record { event = event.entry; reply = reply; seen = self.new })) }
+        ensures supplied_without_memory { result ≡ Err CpError.Memory → IsSuppliedInPart self.old event.entry self.new }
+        ensures user { IsOk result → user_of event.entry < length self.old.users }
+        ensures directory { self.new.directory ≡ self.old.directory }
         ensures alive { IsOk result → self.new.is_spent ≡ false }
         ensures spent { (result ≡ Err CpError.Spent) ↔ (self.old.is_spent ≡ true) }
         ensures unchanged_if_spent { result ≡ Err CpError.Spent → self.new ≡ self.old }
         ensures no_such_user { (result ≡ Err CpError.NoSuchUser)
-            ↔ ((self.old.is_spent ≡ false) × (length self.old.machines ≤ user_of event.entry)) }
-        ensures not_stated { result ≡ Err CpError.NoSuchUser → length self.old.users ≤ user_of event.entry }
+            ↔ ((self.old.is_spent ≡ false) × (length self.old.users ≤ user_of event.entry)) }
+        ensures not_stated { result ≡ Err CpError.NoSuchUser → length self.old.directory ≤ user_of event.entry }
         ensures unchanged_for_nobody { result ≡ Err CpError.NoSuchUser → self.new ≡ self.old }
         ensures memory { result ≡ Err CpError.Memory → (self.new.is_spent ≡ true) × MayTakeMemory self.old event.entry }
         ensures unchanged_without_memory { result ≡ Err CpError.Memory → (user : ℕ)
-            → machine_at self.new user ≡ machine_at self.old user }
+            → is_cut_short self.old event.entry user ≡ false → user_at self.new user ≡ user_at self.old user }
     {
         match event {
             Event::Run(_, _) => unreachable!(),
             Event::Line(user, typed) => {
                 let place = self.place_of(user)?;
                 match self.line(place, typed) {
-                    Ok(said) => Ok(Reply {
-                        ended: Ended::Done,
-                        said,
-                    }),
-                    Err(LineError::FramesOut) => Ok(Reply::OUT_OF_FRAMES),
-                    Err(LineError::Memory) => {
-                        self.spend();
-                        Err(CpError::Memory)
-                    }
+                    Ok(reply) => Ok(reply),
+                    Err(_) => Err(self.spend()),
                 }
             }
             Event::Tick(user) => {
                 let place = self.place_of(user)?;
-                match self.tick(place) {
-                    Ok(()) => Ok(Reply::DONE),
-                    Err(FramesOut) => Ok(Reply::OUT_OF_FRAMES),
+                Ok(self.tick(place))
+            }
+            Event::Deck(user, cards) => {
+                let place = self.place_of(user)?;
+                match self.deck(place, cards) {
+                    Ok(reply) => Ok(reply),
+                    Err(_) => Err(self.spend()),
                 }
             }
         }
     }
+
+    /// Lets a user's machine run. This takes no memory.
+    #[inline(always)]
+    fn run(&mut self, user: usize, units: u32) -> Reply
+        requires { user < length self.old.users }
+        ensures step { IsStep self.old (record { event = Event.Run user units; reply = result; seen = self.new }) }
+        ensures directory { self.new.directory ≡ self.old.directory }
+        ensures spent { self.new.is_spent ≡ self.old.is_spent }
+    {
+        let before = self.printed_by(user);
+        let ran = self.lend(user, &Units(units));
+        Reply {
+            ended: Ended::Ran(ran),
+            said: Told::of(notice_of(ran.reason)),
+            lines: self.printed_by(user).saturating_sub(before),
+            delivered: None,
+        }
+    }
+
+    /// The timer of a user's machine ticks. This takes no memory.
+    fn tick(&mut self, user: usize) -> Reply
+        requires { user < length self.old.users }
+        ensures step { IsStep self.old (record { event = Event.Tick user; reply = result; seen = self.new }) }
+        ensures directory { self.new.directory ≡ self.old.directory }
+        ensures spent { self.new.is_spent ≡ self.old.is_spent }
+    {
+        match self.lend(user, &Tick) {
+            Ok(()) => Reply::silent(Ended::Done),
+            Err(_) => Reply::silent(Ended::FramesOut),
+        }
+    }
 }
 
-/// Whatever the events: each user's machine is the bare machine that was given that user's own.
+/// Whatever the events: each user's machine with its devices is the bare machine that was given that user's own.
 pub fn each_is_bare()
     ensures { EachIsBare }
 {}

@@ -1,86 +1,101 @@
-//! What is seen of a user's machine. No view takes memory; where there is no such user the answer is `None`.
+//! What is seen of a user's machine with its devices. No view takes memory; where there is no such user the answer is
+//! `None`.
 ghost use Rattle.std.specs.Prelude.{◌≡◌, ◌<◌, ◌↔◌, IfSome, IsSome, length, slice_get};
 ghost use Rattle.std.specs.Option.{option_map};
 ghost use Rattle.cp_console.specs.Responses.{text_of};
-ghost use Rattle.cp_core.specs.UserMachines.{machine_of};
-ghost use Rattle.cp_core.specs.System.{machine_at};
+ghost use Rattle.cp_core.specs.UserMachines.{user_with};
+ghost use Rattle.cp_core.specs.System.{deliveries_at, machine_at, user_at};
 
+use crate::delivery::Delivery;
 use crate::system::System;
 use crate::user_machine::UserMachine;
 use cp_console::responses::Response;
+use cp_devices::Devices;
 use cp_panel::Mode;
 use cp_users::UserNo;
 use s370_intr::Pending;
 use s370_num::StorageKey;
 use s370_psw::Psw;
-use s370_rows::Cpu;
+use s370_subchannels::Subchannel;
 
 impl System {
-    /// A user's machine but for the bytes of its storage.
-    pub(crate) fn machine(&self, user: UserNo) -> Option<&UserMachine>
-        ensures some { IsSome result ↔ (user < length self.now.machines) }
-        ensures machine { IfSome result
-            (λ machine. machine_at self.now user
-            ≡ machine_of machine.now (machine_at self.now user).core.processor.bytes) }
+    /// A user's machine with its devices but for the bytes of its storage.
+    pub(crate) fn user(&self, user: UserNo) -> Option<&UserMachine>
+        ensures some { IsSome result ↔ (user < length self.now.users) }
+        ensures user { IfSome result
+            (λ found. user_at self.now user ≡ user_with found.now (machine_at self.now user).core.processor.bytes) }
+        ensures deliveries { IfSome result (λ found. deliveries_at self.now user ≡ found.now.deliveries) }
     {
         let place = user.index();
         if place >= self.users() {
             return None;
         }
-        Some(&self.machines[place])
+        Some(&self.users[place])
     }
 
     /// The general registers.
     pub fn registers(&self, user: UserNo) -> Option<[u32; 16]>
-        ensures some { IsSome result ↔ (user < length self.now.machines) }
+        ensures some { IsSome result ↔ (user < length self.now.users) }
         ensures value { IfSome result (λ general. general ≡ (machine_at self.now user).core.processor.cpu.general) }
     {
-        match self.machine(user) {
-            Some(machine) => Some(machine.general()),
+        match self.user(user) {
+            Some(user) => Some(user.machine.cpu().general),
             None => None,
         }
     }
 
     /// The control registers.
     pub fn control(&self, user: UserNo) -> Option<[u32; 16]>
-        ensures some { IsSome result ↔ (user < length self.now.machines) }
+        ensures some { IsSome result ↔ (user < length self.now.users) }
         ensures value { IfSome result (λ control. control ≡ (machine_at self.now user).core.processor.cpu.control) }
     {
-        match self.machine(user) {
-            Some(machine) => Some(machine.control()),
+        match self.user(user) {
+            Some(user) => Some(user.machine.cpu().control),
             None => None,
         }
     }
 
     /// The PSW.
     pub fn psw(&self, user: UserNo) -> Option<Psw>
-        ensures some { IsSome result ↔ (user < length self.now.machines) }
+        ensures some { IsSome result ↔ (user < length self.now.users) }
         ensures value { IfSome result (λ psw. psw ≡ (machine_at self.now user).core.processor.cpu.psw) }
     {
-        match self.machine(user) {
-            Some(machine) => Some(machine.psw()),
+        match self.user(user) {
+            Some(user) => Some(user.machine.cpu().psw),
             None => None,
         }
     }
 
     /// Whether the machine is on, and whether it runs.
     pub fn mode(&self, user: UserNo) -> Option<Mode>
-        ensures some { IsSome result ↔ (user < length self.now.machines) }
+        ensures some { IsSome result ↔ (user < length self.now.users) }
         ensures value { IfSome result (λ mode. mode ≡ (machine_at self.now user).mode) }
     {
-        match self.machine(user) {
-            Some(machine) => Some(machine.mode()),
+        match self.user(user) {
+            Some(user) => Some(user.machine.mode()),
             None => None,
         }
     }
 
     /// The external conditions that are pending.
     pub fn pending(&self, user: UserNo) -> Option<Pending>
-        ensures some { IsSome result ↔ (user < length self.now.machines) }
+        ensures some { IsSome result ↔ (user < length self.now.users) }
         ensures value { IfSome result (λ pending. pending ≡ (machine_at self.now user).core.pending) }
     {
-        match self.machine(user) {
-            Some(machine) => Some(machine.pending()),
+        match self.user(user) {
+            Some(user) => Some(user.machine.pending()),
+            None => None,
+        }
+    }
+
+    /// The subchannels of the devices, in the order of their addresses: each with the state of its device, and the
+    /// program that it was given or the status that is pending.
+    pub fn subchannels(&self, user: UserNo) -> Option<&[Subchannel]>
+        ensures some { IsSome result ↔ (user < length self.now.users) }
+        ensures value { IfSome result (λ list. list.now ≡ (machine_at self.now user).core.subchannels) }
+    {
+        match self.user(user) {
+            Some(user) => Some(user.machine.subchannels()),
             None => None,
         }
     }
@@ -89,29 +104,8 @@ impl System {
     pub fn key(&self, user: UserNo, block: u32) -> Option<StorageKey>
         ensures { result ≡ slice_get (machine_at self.now user).core.processor.keys block }
     {
-        match self.machine(user) {
-            Some(machine) => machine.key(block),
-            None => None,
-        }
-    }
-
-    /// How many lines the console has printed.
-    pub fn printed(&self, user: UserNo) -> Option<usize>
-        ensures some { IsSome result ↔ (user < length self.now.machines) }
-        ensures value { IfSome result (λ lines. lines ≡ length (machine_at self.now user).output) }
-    {
-        match self.machine(user) {
-            Some(machine) => Some(machine.printed()),
-            None => None,
-        }
-    }
-
-    /// A line that the console has printed, as the response that it says; `None` past the last line too.
-    pub fn console_output(&self, user: UserNo, line: usize) -> Option<Response>
-        ensures { option_map text_of result ≡ slice_get (machine_at self.now user).output line }
-    {
-        match self.machine(user) {
-            Some(machine) => machine.console_output(line),
+        match self.user(user) {
+            Some(user) => user.keys.get(block as usize).copied(),
             None => None,
         }
     }
@@ -125,65 +119,49 @@ impl System {
         }
         self.frames.byte(user, address)
     }
-}
 
-impl UserMachine {
-    fn general(&self) -> [u32; 16]
-        ensures { result ≡ self.now.parts.cpu.general }
+    /// How many lines the console has printed.
+    pub fn printed(&self, user: UserNo) -> Option<usize>
+        ensures some { IsSome result ↔ (user < length self.now.users) }
+        ensures value { IfSome result (λ lines. lines ≡ length (machine_at self.now user).output) }
     {
-        // All its fields: what is added to them is seen here.
-        let Cpu {
-            general,
-            control: _,
-            psw: _,
-        } = self.machine.cpu();
-        *general
+        match self.user(user) {
+            Some(user) => Some(user.machine.printed()),
+            None => None,
+        }
     }
 
-    fn control(&self) -> [u32; 16]
-        ensures { result ≡ self.now.parts.cpu.control }
+    /// A line that the console has printed, as the response that it says; `None` past the last line too. The line that
+    /// is not finished and those that wait are in [`System::spool`]'s console.
+    pub fn console_output(&self, user: UserNo, line: usize) -> Option<Response>
+        ensures { option_map text_of result ≡ slice_get (machine_at self.now user).output line }
     {
-        self.machine.cpu().control
+        match self.user(user) {
+            Some(user) => user.machine.console_output(line),
+            None => None,
+        }
     }
 
-    fn psw(&self) -> Psw
-        ensures { result ≡ self.now.parts.cpu.psw }
+    /// The console, reader, punch and printer: the reader's decks with their numbers, the open files of punch and
+    /// printer, and those that they have closed, each with its target.
+    pub fn spool(&self, user: UserNo) -> Option<&Devices>
+        ensures some { IsSome result ↔ (user < length self.now.users) }
+        ensures value { IfSome result (λ devices. devices.now ≡ (user_at self.now user).devices) }
     {
-        self.machine.cpu().psw
+        match self.user(user) {
+            Some(user) => Some(&user.devices),
+            None => None,
+        }
     }
 
-    fn mode(&self) -> Mode
-        ensures { result ≡ self.now.parts.mode }
+    /// What replies told as delivered to the user since boot, in order.
+    pub fn deliveries(&self, user: UserNo) -> Option<&[Delivery]>
+        ensures some { IsSome result ↔ (user < length self.now.users) }
+        ensures value { IfSome result (λ list. list.now ≡ deliveries_at self.now user) }
     {
-        self.machine.mode()
-    }
-
-    fn pending(&self) -> Pending
-        ensures { result ≡ self.now.parts.pending }
-    {
-        let pending = self.machine.pending();
-        // All its fields: what is added to them is seen here.
-        let Pending { timer: _, key: _ } = pending;
-        pending
-    }
-
-    fn key(&self, block: u32) -> Option<StorageKey>
-        ensures { result ≡ slice_get self.now.keys block }
-    {
-        // All its fields: what is added to them is seen here.
-        let UserMachine { machine: _, keys } = self;
-        keys.get(block as usize).copied()
-    }
-
-    fn printed(&self) -> usize
-        ensures { result ≡ length self.now.parts.output }
-    {
-        self.machine.printed()
-    }
-
-    fn console_output(&self, line: usize) -> Option<Response>
-        ensures { option_map text_of result ≡ slice_get self.now.parts.output line }
-    {
-        self.machine.console_output(line)
+        match self.user(user) {
+            Some(user) => Some(user.deliveries.as_slice()),
+            None => None,
+        }
     }
 }

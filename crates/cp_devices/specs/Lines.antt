@@ -1,5 +1,5 @@
 -- What a line does to a machine and its devices, and what is told (docs/COMMANDS.md).
-use Rattle.std.specs.Prelude.{ℕ, ◌≡◌, ◌⊎◌, Bool, true, false, if◌then◌else◌, List, [], ◌∷◌, codes, is_some, map, set, slice_get, take, Option, Some, None}
+use Rattle.std.specs.Prelude.{ℕ, ◌≡◌, ◌<◌, Bool, true, false, if◌then◌else◌, List, [], ◌∷◌, codes, is_some, map, set, slice_get, take, Option, Some, None}
 use Rattle.std.specs.Str.{bytes_eq}
 use Rattle.cp_users.specs.Users.{user_of}
 use Rattle.cp_console.specs.ConsoleLine.{characters_of}
@@ -15,9 +15,8 @@ use Rattle.unit_record.specs.declared.output.Target.TheVariants as targets
 use Rattle.unit_record.specs.Console.{has_room, with_typed}
 use Rattle.unit_record.specs.Reader.{DeckValue, queued_at, reader_machine}
 use Rattle.ckd_volume.specs.Unit.{Disk, disk_machine, rested}
-use Rattle.s370_intr.specs.Run.{IsLacking}
 use Rattle.cp_panel.specs.Machine.{cleared, printed, reset, switched_off}
-use Rattle.cp_panel.specs.Panel.{line}
+use Rattle.cp_panel.specs.Panel.{line, line_room}
 use Rattle.cp_devices.specs.declared.line.Told.{Told}
 use Rattle.cp_devices.specs.declared.line.Told.TheVariants.{Silent, Said, Files, Sent, Loads, Closed}
 use Rattle.cp_devices.specs.declared.places.Kind.{Kind}
@@ -227,8 +226,24 @@ pub record IsWholeLine (w : World) (typed : List ℕ) (old : Equipped) (told : T
   pub line : IsLine w typed old first next
   pub followed : IsFollowed (loads_from first) first next told new
 
--- ---- where there is no room for a page
+-- ---- where memory may be refused
 
--- a page that a machine alone needs for a line, or one that is not present
-abbrev pub LacksPage : (ℕ → Type 0) → ℕ → (ℕ → Type 0) → (ℕ → Bool) → Type 0
-LacksPage needs size is_short present = IsLacking needs size is_short ⊎ ((page : ℕ) × (present page ≡ false))
+-- a file that is closed and a message that is sent take memory
+abbrev pub CommandMayTakeMemory : DeviceCommand → Type 0
+CommandMayTakeMemory (commands.Close device) = Unit {0}
+CommandMayTakeMemory (commands.Message name text) = Unit {0}
+CommandMayTakeMemory (commands.Ipl device) = ⊥
+CommandMayTakeMemory commands.QueryFiles = ⊥
+CommandMayTakeMemory commands.QueryUsers = ⊥
+CommandMayTakeMemory (commands.Spool device name) = ⊥
+CommandMayTakeMemory (commands.Purge file) = ⊥
+
+-- and so do the files that LOGOFF closes, the answer to a reset, a line that waits for the console, and what a machine alone
+-- makes room for
+abbrev pub MayTakeMemory : Request → List ℕ → Equipped → Type 0
+MayTakeMemory LogsOn typed e = ⊥
+MayTakeMemory LogsOff typed e = Unit {0}
+MayTakeMemory Resets typed e = Unit {0}
+MayTakeMemory Types typed e = Unit {0}
+MayTakeMemory (Asks command) typed e = CommandMayTakeMemory command
+MayTakeMemory Elsewhere typed e = 0 < line_room typed e.machine

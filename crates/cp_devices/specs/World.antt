@@ -1,5 +1,13 @@
 -- What the control program knows beside one machine.
-use Rattle.std.specs.Prelude.{ℕ, Bool, false, List, count_by, slice_index_or}
+use Rattle.std.specs.Prelude.{ℕ, Bool, true, false, List, count_by, slice_index_or}
+use Rattle.cp_panel.specs.declared.machine.Mode.{Mode}
+use Rattle.cp_panel.specs.declared.machine.Mode.TheVariants.{Off, Stopped, Running}
+
+-- whether the user of a machine in this mode is logged on
+abbrev pub is_logged_on : Mode → Bool
+is_logged_on Off = false
+is_logged_on Stopped = true
+is_logged_on Running = true
 
 pub record World : Type 0 where
   -- the names of all users, in their order, and that of the machine's own one

@@ -4,8 +4,7 @@ ghost use Rattle.cp_devices.specs.Devices.{IsAttached, devices_new, kind_at, par
 ghost use Rattle.cp_devices.specs.Resets.{devices_reset};
 
 use crate::places::{Kind, Places, is_there};
-use cp_channels::Channels;
-use s370_store::Storage;
+use cp_channels::Disks;
 use std::alloc::Global;
 use std::marker::Model;
 use unit_record::{Console, Printer, Punch, Reader, Target};
@@ -70,14 +69,14 @@ impl Devices {
         }
     }
 
-    /// What has this address, if anything has, a disk of these channels included.
-    pub fn kind_at<S: Storage, C: Channels<S>>(&self, channels: &C, device: u16) -> Option<Kind>
-        ensures kind { result ≡ kind_at self.now (C.disks channels.now) device }
-        ensures inside { IfSome result (IsAttached (C.disks channels.now)) }
+    /// What has this address, if anything has, these disks included.
+    pub fn kind_at<D: Disks>(&self, disks: &D, device: u16) -> Option<Kind>
+        ensures kind { result ≡ kind_at self.now (D.disks disks.now) device }
+        ensures inside { IfSome result (IsAttached (D.disks disks.now)) }
     {
         match self.part_at(device) {
             Some(part) => Some(part),
-            None => match channels.disk_at(device) {
+            None => match disks.disk_at(device) {
                 Some(index) => Some(Kind::Disk(index)),
                 None => None,
             },

@@ -1,4 +1,4 @@
-//! The lines that `QUERY FILES` tells.
+//! What files of the control program are, and the lines that `QUERY FILES` tells.
 ghost use Rattle.std.specs.Prelude.{◌≡◌, IfOk, map};
 ghost use Rattle.cp_devices.specs.Files.{deck_line, sender_name};
 
@@ -6,6 +6,17 @@ use cp_console::printing::file_line;
 use cp_users::Named;
 use std::alloc::{AllocError, Global};
 use unit_record::{Deck, Sender};
+
+/// What a file was when it got its number.
+#[derive(Clone, Copy, Debug, PartialEq, Eq)]
+pub enum FileKind {
+    /// A deck that the operator gave.
+    Deck,
+    /// A file of the punch.
+    Punch,
+    /// A file of the printer.
+    Printer,
+}
 
 /// The line that tells of a deck of the reader, where these are all users: its number, from whom it comes, and how many
 /// cards it has. Only want of memory is an error.

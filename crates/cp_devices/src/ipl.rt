@@ -9,7 +9,7 @@ use crate::devices::Devices;
 use crate::line::Told;
 use crate::loading::{load, start_loaded};
 use crate::places::Kind;
-use cp_channels::{Channels, Own};
+use cp_channels::Own;
 use cp_console::responses::Response;
 use cp_panel::{LineError, Machine};
 use s370_channel::ChannelError;
@@ -46,7 +46,7 @@ impl Devices {
         ensures frames { result ≡ Err LineError.FramesOut → ((page : ℕ) × (S.present storage.old page ≡ false)) }
         ensures size { length (S.bytes storage.new) ≡ length (S.bytes storage.old) }
     {
-        match self.kind_at::<S, Own>(channels, device.get()) {
+        match self.kind_at(channels, device.get()) {
             Some(Kind::Reader) => self.load_reader(machine, storage, channels, device),
             Some(Kind::Disk(index)) => self.load_disk(machine, storage, channels, device, index),
             _ => Ok(Told::Said(Response::DeviceNotFound)),

@@ -27,8 +27,9 @@ mod world;
 
 pub use attaching::AttachError;
 pub use devices::Devices;
-pub use files::deck_line;
+pub use files::{FileKind, deck_line};
 pub use laws::attention_agrees;
 pub use line::Told;
 pub use places::{Kind, Places};
-pub use world::World;
+pub use spooling::copy_of;
+pub use world::{World, is_logged_on};

@@ -1,21 +1,22 @@
 //! Lines that are typed to a machine with devices.
-ghost use Rattle.std.specs.Prelude.{◌≡◌, ◌≤◌, ℕ, List, IfOk, OnErr, Err, length};
+ghost use Rattle.std.specs.Prelude.{◌≡◌, ◌≤◌, ℕ, List, [], IfOk, OnErr, OnOk, Err, false, true, length};
 ghost use Rattle.s370_store.specs.Access.{Touches};
 ghost use Rattle.cp_channels.specs.Disks.{DiskAt};
-ghost use Rattle.cp_panel.specs.Panel.{line_needs};
+ghost use Rattle.s370_intr.specs.Run.{AllNeeded, IsLacking};
+ghost use Rattle.cp_panel.specs.Panel.{line_needs, switches};
 ghost use Rattle.cp_devices.specs.Equipped.{equipped};
-ghost use Rattle.cp_devices.specs.Lines.{IsLine, LacksPage, loads_from, logged_off, outcome, said, typed_at, was_reset};
+ghost use Rattle.cp_devices.specs.Lines.{IsLine, MayTakeMemory, loads_from, logged_off, outcome, said, requested, typed_at, was_reset};
 
 use crate::devices::Devices;
 use crate::request::{Request, request_of};
 use crate::world::World;
-use cp_channels::Channels;
+use cp_channels::Disks;
 use cp_console::console_line::ConsoleLine;
 use cp_console::lines::ConsoleText;
 use cp_console::responses::Response;
 use cp_panel::{LineError, Machine};
 use s370_num::DevAddr;
-use s370_store::{Storage, Supply};
+use s370_store::Supply;
 use std::alloc::Global;
 use unit_record::Arrival;
 
@@ -37,6 +38,17 @@ pub enum Told {
 }
 
 impl Told {
+    /// A response that is said, where there is one.
+    #[inline]
+    pub fn of(response: Option<Response>) -> Told
+        ensures { result ≡ said response }
+    {
+        match response {
+            None => Told::Silent,
+            Some(response) => Told::Said(response),
+        }
+    }
+
     /// The device from which its owner is to load the machine, where that is told.
     pub fn loads_from(&self) -> Option<DevAddr>
         ensures { result ≡ loads_from self.now }
@@ -48,44 +60,48 @@ impl Told {
     }
 }
 
-/// What the machine alone answers.
-fn told_of(response: Option<Response>) -> Told
-    ensures { result ≡ said response }
-{
-    match response {
-        None => Told::Silent,
-        Some(response) => Told::Said(response),
-    }
-}
-
 impl Devices {
     /// A line that is typed to a machine with these devices, and what is told. Where it is not obeyed, nothing has
     /// happened.
-    pub fn line<S: Supply, C: Channels<S>, W: World>(
+    pub fn line<S: Supply, D: Disks, W: World>(
         &mut self,
         alloc: Global,
         machine: &mut Machine,
         storage: &mut S,
-        channels: &mut C,
+        disks: &mut D,
         world: &W,
         typed: &[u8],
     ) -> Result<Told, LineError>
         requires size { 8192 ≤ length (S.Storage.bytes storage.old) }
-        ensures ok { let before = equipped machine.old self.old (C.disks channels.old) (S.Storage.bytes storage.old)
+        ensures ok { let before = equipped machine.old self.old (D.disks disks.old) (S.Storage.bytes storage.old)
             (S.Storage.keys storage.old) in
-            let after = equipped machine.new self.new (C.disks channels.new) (S.Storage.bytes storage.new)
+            let after = equipped machine.new self.new (D.disks disks.new) (S.Storage.bytes storage.new)
             (S.Storage.keys storage.new) in
             IfOk result (λ told. IsLine (W.known world.now) typed.now before told after) }
-        ensures err { let before = equipped machine.old self.old (C.disks channels.old) (S.Storage.bytes storage.old)
+        ensures err { let before = equipped machine.old self.old (D.disks disks.old) (S.Storage.bytes storage.old)
             (S.Storage.keys storage.old) in
-            let after = equipped machine.new self.new (C.disks channels.new) (S.Storage.bytes storage.new)
+            let after = equipped machine.new self.new (D.disks disks.new) (S.Storage.bytes storage.new)
             (S.Storage.keys storage.new) in
             OnErr result (after ≡ before) }
-        ensures frames { let before = equipped machine.old self.old (C.disks channels.old) (S.Storage.bytes storage.old)
+        ensures memory { let before = equipped machine.old self.old (D.disks disks.old) (S.Storage.bytes storage.old)
+            (S.Storage.keys storage.old) in
+            result ≡ Err LineError.Memory → MayTakeMemory (requested typed.now before) typed.now before }
+        ensures frames { let before = equipped machine.old self.old (D.disks disks.old) (S.Storage.bytes storage.old)
             (S.Storage.keys storage.old) in
             result ≡ Err LineError.FramesOut
-            → LacksPage (Touches (line_needs typed.now before.machine)) (length (S.Storage.bytes storage.old))
-            (S.IsShort storage.new) (S.Storage.present storage.old) }
+            → IsLacking (Touches (line_needs typed.now before.machine)) (length (S.Storage.bytes storage.old))
+            (S.IsShort storage.new) }
+        ensures cleared { let before = equipped machine.old self.old (D.disks disks.old) (S.Storage.bytes storage.old)
+            (S.Storage.keys storage.old) in
+            switches typed.now before.machine ≡ true → OnOk result (S.Cleared storage.old storage.new) }
+        ensures not_cleared { let before = equipped machine.old self.old (D.disks disks.old)
+            (S.Storage.bytes storage.old) (S.Storage.keys storage.old) in
+            switches typed.now before.machine ≡ true → OnErr result (S.Brought storage.old [] storage.new) }
+        ensures supply { let before = equipped machine.old self.old (D.disks disks.old) (S.Storage.bytes storage.old)
+            (S.Storage.keys storage.old) in
+            switches typed.now before.machine ≡ false
+            → ((pages : List ℕ) × S.Brought storage.old pages storage.new
+            × AllNeeded (Touches (line_needs typed.now before.machine)) pages) }
         ensures size { length (S.Storage.bytes storage.new) ≡ length (S.Storage.bytes storage.old) }
     {
         let text = ConsoleText::new(typed);
@@ -94,39 +110,41 @@ impl Devices {
             Request::LogsOn => {
                 machine.clear(storage);
                 self.reset();
-                channels.clear_disks();
+                disks.clear_disks();
                 Ok(Told::Said(Response::LogonOk))
             }
-            Request::LogsOff => self.leave(alloc, machine, storage, channels),
-            Request::Resets => self.reset_machine::<S, C>(machine, channels),
+            Request::LogsOff => self.leave(alloc, machine, storage, disks),
+            Request::Resets => self.reset_machine(machine, disks),
             Request::Types => self.type_line(machine, text.as_slice()),
             Request::Asks(command) => self.obey(alloc, world, &command),
             Request::Elsewhere => match machine.line(storage, typed) {
-                Ok(response) => Ok(told_of(response)),
+                Ok(response) => Ok(Told::of(response)),
                 Err(error) => Err(error),
             },
         }
     }
 
     /// LOGOFF.
-    fn leave<S: Supply, C: Channels<S>>(
+    fn leave<S: Supply, D: Disks>(
         &mut self,
         alloc: Global,
         machine: &mut Machine,
         storage: &mut S,
-        channels: &mut C,
+        disks: &mut D,
     ) -> Result<Told, LineError>
-        ensures ok { let before = equipped machine.old self.old (C.disks channels.old) (S.Storage.bytes storage.old)
+        ensures ok { let before = equipped machine.old self.old (D.disks disks.old) (S.Storage.bytes storage.old)
             (S.Storage.keys storage.old) in
-            let after = equipped machine.new self.new (C.disks channels.new) (S.Storage.bytes storage.new)
+            let after = equipped machine.new self.new (D.disks disks.new) (S.Storage.bytes storage.new)
             (S.Storage.keys storage.new) in
             IfOk result (λ told. outcome after told ≡ logged_off before) }
-        ensures err { let before = equipped machine.old self.old (C.disks channels.old) (S.Storage.bytes storage.old)
+        ensures err { let before = equipped machine.old self.old (D.disks disks.old) (S.Storage.bytes storage.old)
             (S.Storage.keys storage.old) in
-            let after = equipped machine.new self.new (C.disks channels.new) (S.Storage.bytes storage.new)
+            let after = equipped machine.new self.new (D.disks disks.new) (S.Storage.bytes storage.new)
             (S.Storage.keys storage.new) in
             OnErr result (after ≡ before) }
         ensures memory { result ≡ Err LineError.FramesOut → ⊥ }
+        ensures cleared { OnOk result (S.Cleared storage.old storage.new) }
+        ensures not_cleared { OnErr result (S.Brought storage.old [] storage.new) }
         ensures size { length (S.Storage.bytes storage.new) ≡ length (S.Storage.bytes storage.old) }
     {
         match self.log_off(alloc) {
@@ -135,22 +153,22 @@ impl Devices {
         }
         machine.switch_off(storage);
         self.reset();
-        channels.clear_disks();
+        disks.clear_disks();
         Ok(Told::Said(Response::LogoffOk))
     }
 
     /// SYSTEM RESET.
-    fn reset_machine<S: Storage, C: Channels<S>>(
+    fn reset_machine<D: Disks>(
         &mut self,
         machine: &mut Machine,
-        channels: &mut C,
+        disks: &mut D,
     ) -> Result<Told, LineError>
         ensures ok { (bytes keys : List ℕ)
-            → IfOk result (λ told. outcome (equipped machine.new self.new (C.disks channels.new) bytes keys) told
-            ≡ was_reset (equipped machine.old self.old (C.disks channels.old) bytes keys)) }
+            → IfOk result (λ told. outcome (equipped machine.new self.new (D.disks disks.new) bytes keys) told
+            ≡ was_reset (equipped machine.old self.old (D.disks disks.old) bytes keys)) }
         ensures err { (bytes keys : List ℕ)
-            → OnErr result (equipped machine.new self.new (C.disks channels.new) bytes keys
-            ≡ equipped machine.old self.old (C.disks channels.old) bytes keys) }
+            → OnErr result (equipped machine.new self.new (D.disks disks.new) bytes keys
+            ≡ equipped machine.old self.old (D.disks disks.old) bytes keys) }
         ensures memory { result ≡ Err LineError.FramesOut → ⊥ }
     {
         match machine.system_reset() {
@@ -158,7 +176,7 @@ impl Devices {
             Err(_) => return Err(LineError::Memory),
         }
         self.reset();
-        channels.reset_disks();
+        disks.reset_disks();
         Ok(Told::Said(Response::SystemReset))
     }
 

@@ -6,7 +6,7 @@ ghost use Rattle.cp_panel.specs.Machine.{Machine as WholeMachine};
 ghost use Rattle.unit_record.specs.Reader.{queued_at};
 ghost use Rattle.cp_channels.specs.Disks.{DiskAt};
 ghost use Rattle.cp_devices.specs.Devices.{part_at};
-ghost use Rattle.cp_devices.specs.Lines.{IsObeyed, SendsTo, close_answered, files_told, outcome, spool_answered, target_of, with_closed};
+ghost use Rattle.cp_devices.specs.Lines.{CommandMayTakeMemory, IsObeyed, SendsTo, close_answered, files_told, outcome, spool_answered, target_of, with_closed};
 ghost use Rattle.cp_devices.specs.Spooling.{with_deck_purged};
 
 use crate::devices::Devices;
@@ -66,7 +66,8 @@ impl Devices {
             (record { machine = m; devices = self.old; disks = disks }) told
             (record { machine = m; devices = self.new; disks = disks })) }
         ensures err { OnErr result (self.new ≡ self.old) }
-        ensures memory { result ≡ Err LineError.FramesOut → ⊥ }
+        ensures memory { result ≡ Err LineError.Memory → CommandMayTakeMemory command.now }
+        ensures frames { result ≡ Err LineError.FramesOut → ⊥ }
     {
         match command {
             DeviceCommand::Ipl(device) => Ok(Told::Loads(*device)),

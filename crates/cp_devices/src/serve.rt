@@ -48,7 +48,7 @@ impl Devices {
         ensures keys { S.keys storage.new ≡ S.keys storage.old }
         ensures rest { S.Keeps storage.old storage.new }
     {
-        let Some(kind) = self.kind_at::<S, C>(channels, device.get()) else {
+        let Some(kind) = self.kind_at(channels, device.get()) else {
             return Ok(false);
         };
         let Some(start) = machine.program(device) else {

@@ -139,3 +139,11 @@ fn card_of(bytes: &[u8]) -> Card
     card[..punched].copy_from_slice(&bytes[..punched]);
     card
 }
+
+/// The same cards once more.
+pub fn copy_of(alloc: Global, cards: &[Card]) -> Result<Vec<Card>, AllocError>
+    ensures { IfOk result (λ copy. copy.items ≡ cards.now) }
+{
+    let copy = cards.to_vec(alloc)?;
+    Ok(copy)
+}

@@ -1,7 +1,9 @@
 //! What a line of one machine may ask of the others.
 ghost use Rattle.std.specs.Prelude.{◌≡◌};
 ghost use Rattle.cp_users.specs.Users.{user_of};
-ghost use Rattle.cp_devices.specs.World.{World as Known, is_on, users_on};
+ghost use Rattle.cp_devices.specs.World.{World as Known, is_logged_on, is_on, users_on};
+
+use cp_panel::Mode;
 
 /// What the control program knows beside one machine: its users, and who of them is logged on.
 pub trait World {
@@ -23,4 +25,14 @@ pub trait World {
     /// How many users are logged on.
     fn users_on(&self) -> u64
         ensures { result ≡ users_on (known self.now) };
+}
+
+/// Whether the user of a machine in this mode is logged on.
+pub fn is_logged_on(mode: Mode) -> bool
+    ensures { result ≡ is_logged_on mode }
+{
+    match mode {
+        Mode::Off => false,
+        Mode::Stopped | Mode::Running => true,
+    }
 }

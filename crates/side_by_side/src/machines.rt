@@ -35,6 +35,16 @@ fn response_of(told: Told) -> Option<Response> {
     }
 }
 
+/// The reply to an event that ended so, where this was told and so many lines joined the console.
+fn reply(ended: Ended, said: Told, lines: usize) -> Reply {
+    Reply {
+        ended,
+        said,
+        lines,
+        delivered: None,
+    }
+}
+
 /// An error where two views differ.
 fn same(is_same: bool, view: View) -> Result<(), SideError> {
     if is_same {
@@ -75,37 +85,35 @@ impl SideBySide {
         user: UserNo,
         typed: &[u8],
     ) -> Result<Option<Response>, SideError> {
-        let said = response_of(self.bare_mut(user)?.line(alloc, typed)?);
-        let reply = self.system.apply(Event::Line(user, typed))?;
-        let wanted = Reply {
-            ended: Ended::Done,
-            said,
-        };
-        same(reply == wanted, View::Answer)?;
-        Ok(said)
+        let bare = self.bare_mut(user)?;
+        let before = bare.printed();
+        let told = bare.line(alloc, typed)?;
+        let lines = bare.printed().saturating_sub(before);
+        let answered = self.system.apply(Event::Line(user, typed))?;
+        same(answered == reply(Ended::Done, told, lines), View::Answer)?;
+        Ok(response_of(told))
     }
 
     /// Lets both run for at most so many units, and tells how many both did and why no more.
     pub fn run(&mut self, user: UserNo, units: u32) -> Result<Ran, SideError> {
-        let told = self.bare_mut(user)?.units(units);
-        let reply = self.system.apply(Event::Run(user, units))?;
-        let wanted = Reply {
-            ended: Ended::Ran(told.ran),
-            said: told.notice,
-        };
-        same(reply == wanted, View::Answer)?;
+        let bare = self.bare_mut(user)?;
+        let before = bare.printed();
+        let told = bare.units(units);
+        let lines = bare.printed().saturating_sub(before);
+        let answered = self.system.apply(Event::Run(user, units))?;
+        let wanted = reply(Ended::Ran(told.ran), Told::of(told.notice), lines);
+        same(answered == wanted, View::Answer)?;
         Ok(told.ran)
     }
 
     /// Lets the timers of both tick.
     pub fn tick(&mut self, user: UserNo) -> Result<(), SideError> {
         self.bare_mut(user)?.tick();
-        let reply = self.system.apply(Event::Tick(user))?;
-        let wanted = Reply {
-            ended: Ended::Done,
-            said: None,
-        };
-        same(reply == wanted, View::Answer)
+        let answered = self.system.apply(Event::Tick(user))?;
+        same(
+            answered == reply(Ended::Done, Told::Silent, 0),
+            View::Answer,
+        )
     }
 
     /// Compares all views of a user, the bytes of storage and the whole console among them.

@@ -7,7 +7,7 @@
 use anyhow::{Result, bail};
 use cp_console::responses::Response;
 use cp_core::{BootError, CpError, Event, FrameNo, Sizes, System};
-use cp_directory::read_directory;
+use cp_directory::{Volser, read_directory};
 use cp_users::UserNo;
 use s370_store::Page;
 use std::alloc::Global;
@@ -99,18 +99,16 @@ fn too_few_frames(alloc: Global) -> Result<()> {
     Ok(())
 }
 
-fn users_with_devices(alloc: Global) -> Result<()> {
-    for text in [
-        "USER A PW 8K\nCONSOLE 009 3215\n",
-        "USER A PW 8K\nUSER B PW 8K\nMDISK 190 3330 0 10 PACK01 W\n",
-    ] {
-        let refused = match boot_of(alloc, text.as_bytes(), FEWEST_FRAMES)? {
-            Ok(_) => false,
-            Err(error) => error == BootError::Devices,
-        };
-        see(refused, "users have no devices yet")?;
-    }
-    Ok(())
+fn users_with_minidisks(alloc: Global) -> Result<()> {
+    let text = "USER A PW 8K\nUSER B PW 8K\nMDISK 190 3330 0 10 PACK01 W\n";
+    let Some(volume) = Volser::new(b"PACK01") else {
+        bail!("PACK01 is a serial number");
+    };
+    let refused = match boot_of(alloc, text.as_bytes(), FEWEST_FRAMES)? {
+        Ok(_) => false,
+        Err(error) => error == BootError::NoVolume(volume),
+    };
+    see(refused, "no volume is there yet")
 }
 
 fn machine_of_nobody(system: &mut System) -> Result<()> {
@@ -338,7 +336,7 @@ fn an_overflow_of_seven_pages(system: &mut System) -> Result<()> {
 fn main(rt: HostRuntime) -> Result<()> {
     let alloc = rt.alloc();
     too_few_frames(alloc)?;
-    users_with_devices(alloc)?;
+    users_with_minidisks(alloc)?;
     machine_of_nobody(&mut booted(alloc, FEWEST_FRAMES)??)?;
     kept_lines(&mut booted(alloc, FEWEST_FRAMES)??)?;
     a_lent_frame(&mut booted(alloc, FEWEST_FRAMES)??)?;

@@ -29,7 +29,7 @@ fn failure_of(words: &[&str]) -> Result<Failure> {
         )),
         ["directory-memory"] => Failure::Directory(DirError::Memory),
         ["too-few-frames"] => Failure::Boot(BootError::TooFewFrames),
-        ["devices"] => Failure::Boot(BootError::Devices),
+        ["address-twice"] => Failure::Boot(BootError::DuplicateDevice),
         ["boot-memory"] => Failure::Boot(BootError::Memory),
         ["script", line] => Failure::Script(u64::from(decimal(line)?)),
         ["file", count] => Failure::File(u64::from(decimal(count)?)),

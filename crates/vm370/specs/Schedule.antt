@@ -6,7 +6,9 @@ use Rattle.cp_panel.specs.declared.machine.Mode.{Mode}
 use Rattle.cp_panel.specs.declared.machine.Mode.TheVariants.{Off, Stopped, Running}
 use Rattle.cp_panel.specs.Ready.{is_ready}
 use Rattle.cp_core.specs.Events.{user_of}
-use Rattle.cp_core.specs.System.{SystemView, Step, IsStep, machine_at}
+use Rattle.cp_core.specs.Histories.{IsStep}
+use Rattle.cp_core.specs.Local.{Step}
+use Rattle.cp_core.specs.System.{SystemView, machine_at}
 use Rattle.cp_script.specs.Script.{Said, Run, Line, Tick, Serve, Auto}
 use Rattle.vm370.specs.Script.{as_said}
 

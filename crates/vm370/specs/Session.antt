@@ -1,10 +1,13 @@
 -- What a session reads, does and writes.
-use Rattle.std.specs.Prelude.{◌≡◌, ◌<◌, ℕ, true, List, [], ◌∷◌, ◌++◌, ◌⊎◌, length, map, Option, Result, Ok, Err}
+use Rattle.std.specs.Prelude.{◌≡◌, ◌<◌, ℕ, true, false, List, [], ◌∷◌, ◌++◌, ◌⊎◌, length, map, Option, Result, Ok, Err}
 use Rattle.std.specs.Io.KnownBytes.{Appends, Consumes, IsAtEnd}
 use Rattle.s370_num.specs.Host.{AppendsFront, IsCounted}
 use Rattle.s370_num.specs.declared.host.HostFault.{HostFault}
 use Rattle.s370_num.specs.declared.host.HostFault.TheVariants as faults
-use Rattle.cp_core.specs.System.{SystemView, IsHistory, IsStep, machine_at}
+use Rattle.cp_core.specs.Histories.{IsHistory, IsStep}
+use Rattle.cp_core.specs.Local.{Step}
+use Rattle.cp_core.specs.Memory.{is_cut_short}
+use Rattle.cp_core.specs.System.{SystemView, user_at}
 use Rattle.cp_core.specs.declared.events.Event.{Event}
 use Rattle.cp_core.specs.declared.events.Reply.{Reply}
 use Rattle.cp_script.specs.Users.{KnownUser}
@@ -19,15 +22,15 @@ use Rattle.vm370.specs.declared.session.SessionError.TheVariants as errors
 
 -- the names of the users
 abbrev pub names_of : SystemView → List (List ℕ)
-names_of s = map (λ user. user.name) s.users
+names_of s = map (λ user. user.name) s.directory
 
 -- the users whom a script may name
 abbrev pub users_of : SystemView → List KnownUser
-users_of s = known_users s.users
+users_of s = known_users s.directory
 
 -- a session begins with the users in the queue who are on
 abbrev pub at_first : SystemView → Scene
-at_first s = scene s (first_queue s (length s.users))
+at_first s = scene s (first_queue s (length s.directory))
 
 -- the transcript of what was done
 abbrev pub transcript : List (List ℕ) → List Entry → List ℕ
@@ -53,11 +56,12 @@ pub record IsSession (old new : SystemView) (reader_old reader_new writer_old wr
   pub history : IsHistory old (steps_of entries) new
   pub written : Appends writer_old writer_new (transcript (names_of old) entries)
 
--- an event was refused memory: every machine is as it was, and the system is spent
+-- an event was refused memory: each user is as he was, but for one whose own line closes files, and the system is spent
 pub record IsSpent (last new : SystemView) : Type 0 where
+  pub event : Event
   pub spent : new.is_spent ≡ true
-  pub users : new.users ≡ last.users
-  pub machines : (user : ℕ) → machine_at new user ≡ machine_at last user
+  pub directory : new.directory ≡ last.directory
+  pub others : (user : ℕ) → is_cut_short last event user ≡ false → user_at new user ≡ user_at last user
 
 -- of what was left to be done the first was refused memory
 pub record IsSpentOn (last new : SystemView) (rest : List Act) : Type 0 where
@@ -109,7 +113,7 @@ pub record IsAnswered (said : Said) (old new : SystemView) (before after : Optio
   pub named : as_said event ≡ said
   pub reply : Reply
   pub step : IsStep old (record { event = event; reply = reply; seen = new })
-  pub written : Appends before after (ended (event_lines (names_of old) event reply))
+  pub written : Appends before after (ended (event_lines (names_of old) (record { event = event; reply = reply; seen = new })))
 
 -- the event that was said was applied, and a beginning of its lines was written
 pub record IsAnsweredPartly (said : Said) (old new : SystemView) (before after : Option (List ℕ)) : Type 0 where
@@ -117,7 +121,7 @@ pub record IsAnsweredPartly (said : Said) (old new : SystemView) (before after :
   pub named : as_said event ≡ said
   pub reply : Reply
   pub step : IsStep old (record { event = event; reply = reply; seen = new })
-  pub written : AppendsFront before after (ended (event_lines (names_of old) event reply))
+  pub written : AppendsFront before after (ended (event_lines (names_of old) (record { event = event; reply = reply; seen = new })))
 
 -- no event was applied, and nothing was written
 pub record IsUnanswered (old new : SystemView) (before after : Option (List ℕ)) : Type 0 where

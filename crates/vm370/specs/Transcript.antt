@@ -1,5 +1,5 @@
 -- The lines of an event and its reply.
-use Rattle.std.specs.Prelude.{ℕ, List, [], ◌∷◌, ◌++◌, ◌≡◌, ◌≢◌, All, codes, Option, Some, None}
+use Rattle.std.specs.Prelude.{ℕ, List, [], ◌∷◌, ◌++◌, ◌≡◌, ◌≢◌, All, codes, map, Option, Some, None}
 use Rattle.std.specs.Fmt.{decimal}
 use Rattle.s370_intr.specs.declared.next.Reason.{Reason}
 use Rattle.s370_intr.specs.declared.next.Reason.TheVariants as reasons
@@ -8,10 +8,19 @@ use Rattle.cp_text.specs.Lines.{lines_of}
 use Rattle.cp_users.specs.Users.{name_of}
 use Rattle.cp_console.specs.Responses.{text_of}
 use Rattle.cp_console.specs.declared.responses.Response.{Response}
+use Rattle.cp_console.specs.ConsoleLine.{characters_of}
+use Rattle.unit_record.specs.Reader.{DeckValue}
+use Rattle.cp_devices.specs.declared.line.Told.{Told}
+use Rattle.cp_devices.specs.declared.line.Told.TheVariants.{Silent, Said, Files, Sent, Loads, Closed}
+use Rattle.cp_devices.specs.Files.{file_lines}
 use Rattle.cp_core.specs.Events.{user_of}
+use Rattle.cp_core.specs.Local.{Step}
+use Rattle.cp_core.specs.System.{user_at}
 use Rattle.cp_core.specs.declared.events.Ended.{Ended}
 use Rattle.cp_core.specs.declared.events.Ended.TheVariants.{Ran, Done, FramesOut}
-use Rattle.cp_core.specs.declared.events.Event.{Event}
+use Rattle.cp_core.specs.declared.delivery.Delivered.{Delivered}
+use Rattle.cp_core.specs.declared.delivery.Delivery.{Delivery}
+use Rattle.cp_core.specs.declared.delivery.Delivery.TheVariants as deliveries
 use Rattle.cp_core.specs.declared.events.Reply.{Reply}
 use Rattle.vm370.specs.Schedule.{Entry, Answered, Idle}
 
@@ -19,10 +28,27 @@ use Rattle.vm370.specs.Schedule.{Entry, Answered, Idle}
 abbrev pub told_line : List ℕ → List ℕ → List ℕ
 told_line name text = name ++ codes ": " ++ text
 
--- the line at the user's terminal, where something was said
-abbrev pub said_lines : List ℕ → Option Response → List (List ℕ)
-said_lines name None = []
-said_lines name (Some response) = told_line name (text_of response) ∷ []
+-- a line for each deck of a user's reader, in their order
+abbrev pub queue_lines : List (List ℕ) → List ℕ → List DeckValue → List (List ℕ)
+queue_lines names name decks = map (told_line name) (file_lines names decks)
+
+-- the lines at the user's terminal, where something was said to him, whose reader has these decks
+abbrev pub said_lines : List (List ℕ) → List ℕ → List DeckValue → Told → List (List ℕ)
+said_lines names name decks Silent = []
+said_lines names name decks (Said response) = told_line name (text_of response) ∷ []
+said_lines names name decks Files = queue_lines names name decks
+said_lines names name decks (Sent user line) = []
+said_lines names name decks (Loads device) = []
+said_lines names name decks Closed = []
+
+-- a message stands at its receiver's terminal, and a deck at nobody's
+abbrev pub delivery_lines : List (List ℕ) → ℕ → Delivery → List (List ℕ)
+delivery_lines names to (deliveries.Deck number) = []
+delivery_lines names to (deliveries.Message line) = told_line (name_of names to) (characters_of line) ∷ []
+
+abbrev pub delivered_lines : List (List ℕ) → Option Delivered → List (List ℕ)
+delivered_lines names None = []
+delivered_lines names (Some delivered) = delivery_lines names delivered.to delivered.what
 
 -- why a run ended, in one word
 abbrev pub reason_word : Reason → List ℕ
@@ -47,13 +73,14 @@ ending_lines name (Ran ran) = ran_line name ran ∷ []
 ending_lines name Done = []
 ending_lines name FramesOut = frames_line name ∷ []
 
--- what was said to the user of this name, and then how the event ended
-abbrev pub reply_lines : List ℕ → Reply → List (List ℕ)
-reply_lines name reply = said_lines name reply.said ++ ending_lines name reply.ended
+-- what was said to this user, whose reader has these decks, what stands at another's terminal, and then how the event ended
+abbrev pub reply_lines : List (List ℕ) → ℕ → List DeckValue → Reply → List (List ℕ)
+reply_lines names user decks reply =
+    said_lines names (name_of names user) decks reply.said ++ delivered_lines names reply.delivered ++ ending_lines (name_of names user) reply.ended
 
 -- the lines of an event that was answered so
-abbrev pub event_lines : List (List ℕ) → Event → Reply → List (List ℕ)
-event_lines names event reply = reply_lines (name_of names (user_of event)) reply
+abbrev pub event_lines : List (List ℕ) → Step → List (List ℕ)
+event_lines names step = let user = user_of step.event in reply_lines names user (user_at step.seen user).devices.reader.decks step.reply
 
 -- `= IDLE`
 abbrev pub idle_line : List ℕ
@@ -61,7 +88,7 @@ idle_line = codes "= IDLE"
 
 -- the lines of an event and its reply, or of a turn that nobody had
 abbrev pub entry_lines : List (List ℕ) → Entry → List (List ℕ)
-entry_lines names (Answered step) = event_lines names step.event step.reply
+entry_lines names (Answered step) = event_lines names step
 entry_lines names Idle = idle_line ∷ []
 
 -- lines as bytes, each ended by LF

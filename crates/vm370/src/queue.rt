@@ -47,8 +47,8 @@ pub(crate) fn note(policy: &mut Policy, user: UserNo, was_on: bool, is_on: bool)
 
 /// The policy for the users of a system: those who are on stand in the queue by their numbers.
 pub(crate) fn first_policy(alloc: Global, system: &System) -> Result<Policy, AllocError>
-    ensures users { IfOk result (λ policy. policy.users ≡ first_queue system.now (length system.now.users)) }
-    ensures seats { IfOk result (λ policy. policy.most_users ≡ length system.now.users) }
+    ensures users { IfOk result (λ policy. policy.users ≡ first_queue system.now (length system.now.directory)) }
+    ensures seats { IfOk result (λ policy. policy.most_users ≡ length system.now.directory) }
 {
     let users = system.users();
     let mut policy = Policy::new(alloc, users, 0)?;
@@ -62,7 +62,7 @@ pub(crate) fn first_policy(alloc: Global, system: &System) -> Result<Policy, All
 /// Who is ready for a slice.
 pub(crate) fn ready_users(system: &System) -> Ready
     ensures ready { (user : ℕ) → is_flagged result user ≡ ready_in system.now user }
-    ensures users { (user : ℕ) → is_flagged result user ≡ true → user < length system.now.users }
+    ensures users { (user : ℕ) → is_flagged result user ≡ true → user < length system.now.directory }
 {
     let mut ready = Ready::nobody();
     for number in 0..system.users() {

@@ -136,9 +136,9 @@ fn play<W: HostWriter>(
     events: &[ScriptEvent<'_>],
     writer: &mut W,
 ) -> Result<(), SessionError>
-    requires users { All (IsOfUser (length system.old.users)) events.now }
+    requires users { All (IsOfUser (length system.old.directory)) events.now }
     requires devices { All NamesNoDevice events.now }
-    requires seats { policy.old.most_users ≡ length system.old.users }
+    requires seats { policy.old.most_users ≡ length system.old.directory }
     ensures ok { OnOk result (IsPlayed (acts (map said events.now)) (scene system.old policy.old.users)
         (scene system.new policy.new.users) (W.contents writer.old) (W.contents writer.new)) }
     ensures err { OnErr result
@@ -164,15 +164,15 @@ fn act<W: HostWriter>(
     event: &ScriptEvent<'_>,
     writer: &mut W,
 ) -> Result<(), SessionError>
-    requires user { IsOfUser (length system.old.users) event.now }
+    requires user { IsOfUser (length system.old.directory) event.now }
     requires device { NamesNoDevice event.now }
-    requires seats { policy.old.most_users ≡ length system.old.users }
+    requires seats { policy.old.most_users ≡ length system.old.directory }
     ensures ok { OnOk result (IsPlayed (acts_of (said event.now)) (scene system.old policy.old.users)
         (scene system.new policy.new.users) (W.contents writer.old) (W.contents writer.new)) }
     ensures err { OnErr result
         (IsPartly (acts_of (said event.now)) (scene system.old policy.old.users) system.new (W.contents writer.old)
         (W.contents writer.new)) }
-    ensures users { system.new.users ≡ system.old.users }
+    ensures directory { system.new.directory ≡ system.old.directory }
     ensures seats { policy.new.most_users ≡ policy.old.most_users }
     ensures line { (n : ℕ) → result ≡ Err (SessionError.Line n) → ⊥ }
     ensures alive { OnOk result (system.new.is_spent ≡ true → system.old.is_spent ≡ true) }
@@ -194,15 +194,15 @@ fn apply<W: HostWriter>(
     event: &ScriptEvent<'_>,
     writer: &mut W,
 ) -> Result<(), SessionError>
-    requires user { IsOfUser (length system.old.users) event.now }
+    requires user { IsOfUser (length system.old.directory) event.now }
     requires event { IsApplicable event.now }
-    requires seats { policy.old.most_users ≡ length system.old.users }
+    requires seats { policy.old.most_users ≡ length system.old.directory }
     ensures ok { OnOk result (IsPlayed (Applies (said event.now) ∷ []) (scene system.old policy.old.users)
         (scene system.new policy.new.users) (W.contents writer.old) (W.contents writer.new)) }
     ensures err { OnErr result
         (IsPartly (Applies (said event.now) ∷ []) (scene system.old policy.old.users) system.new (W.contents writer.old)
         (W.contents writer.new)) }
-    ensures users { system.new.users ≡ system.old.users }
+    ensures directory { system.new.directory ≡ system.old.directory }
     ensures seats { policy.new.most_users ≡ policy.old.most_users }
     ensures line { (n : ℕ) → result ≡ Err (SessionError.Line n) → ⊥ }
     ensures alive { OnOk result (system.new.is_spent ≡ true → system.old.is_spent ≡ true) }
@@ -225,13 +225,13 @@ fn deal<W: HostWriter>(
     turns: u32,
     writer: &mut W,
 ) -> Result<(), SessionError>
-    requires seats { policy.old.most_users ≡ length system.old.users }
+    requires seats { policy.old.most_users ≡ length system.old.directory }
     ensures ok { OnOk result (IsPlayed (replicate turns Deals) (scene system.old policy.old.users)
         (scene system.new policy.new.users) (W.contents writer.old) (W.contents writer.new)) }
     ensures err { OnErr result
         (IsPartly (replicate turns Deals) (scene system.old policy.old.users) system.new (W.contents writer.old)
         (W.contents writer.new)) }
-    ensures users { system.new.users ≡ system.old.users }
+    ensures directory { system.new.directory ≡ system.old.directory }
     ensures seats { policy.new.most_users ≡ policy.old.most_users }
     ensures line { (n : ℕ) → result ≡ Err (SessionError.Line n) → ⊥ }
     ensures alive { OnOk result (system.new.is_spent ≡ true → system.old.is_spent ≡ true) }
@@ -257,7 +257,7 @@ fn turn<W: HostWriter>(
     ensures err { OnErr result
         (IsPartly (Deals ∷ []) (scene system.old policy.old.users) system.new (W.contents writer.old)
         (W.contents writer.new)) }
-    ensures users { system.new.users ≡ system.old.users }
+    ensures directory { system.new.directory ≡ system.old.directory }
     ensures seats { policy.new.most_users ≡ policy.old.most_users }
     ensures line { (n : ℕ) → result ≡ Err (SessionError.Line n) → ⊥ }
     ensures alive { OnOk result (system.new.is_spent ≡ true → system.old.is_spent ≡ true) }
@@ -281,14 +281,14 @@ fn answer<W: HostWriter>(
     event: &ScriptEvent<'_>,
     writer: &mut W,
 ) -> Result<(), SessionError>
-    requires user { IsOfUser (length system.old.users) event.now }
+    requires user { IsOfUser (length system.old.directory) event.now }
     requires event { IsApplicable event.now }
     ensures ok { OnOk result (IsAnswered (said event.now) system.old system.new (W.contents writer.old)
         (W.contents writer.new)) }
     ensures err { OnErr result
         (IsUnanswered system.old system.new (W.contents writer.old) (W.contents writer.new)
         ⊎ IsAnsweredPartly (said event.now) system.old system.new (W.contents writer.old) (W.contents writer.new)) }
-    ensures users { system.new.users ≡ system.old.users }
+    ensures directory { system.new.directory ≡ system.old.directory }
     ensures line { (n : ℕ) → result ≡ Err (SessionError.Line n) → ⊥ }
     ensures alive { OnOk result (system.new.is_spent ≡ false) }
     ensures spent { (result ≡ Err SessionError.Spent) ↔ (system.old.is_spent ≡ true) }
@@ -301,7 +301,11 @@ fn answer<W: HostWriter>(
         Err(CpError::Spent) => return Err(SessionError::Spent),
         Err(CpError::NoSuchUser) => unreachable!(),
     };
-    let lines = print_reply(alloc, system.directory().users(), user, &reply)?;
+    let Some(devices) = system.spool(user) else {
+        unreachable!();
+    };
+    let reader = devices.reader();
+    let lines = print_reply(alloc, system.directory().users(), user, reader, &reply)?;
     write_all(writer, &lines)?;
     Ok(())
 }

@@ -2,47 +2,96 @@
 ghost use Rattle.std.specs.Prelude.{◌≡◌, ◌++◌, ◌∷◌, [], IfOk, OnOk, map};
 ghost use Rattle.cp_users.specs.Users.{name_of};
 ghost use Rattle.vm370.specs.Schedule.{Idle};
-ghost use Rattle.vm370.specs.Transcript.{CutsBack, ended, ending_lines, entry_lines, frames_line, ran_line, reason_word, reply_lines, said_lines, told_line};
+ghost use Rattle.vm370.specs.Transcript.{CutsBack, delivered_lines, ended, ending_lines, entry_lines, frames_line, queue_lines, ran_line, reason_word, reply_lines, said_lines, told_line};
 
 use cp_console::printing;
-use cp_console::responses::Response;
-use cp_core::{Ended, Reply};
+use cp_core::{Delivered, Delivery, Ended, Reply};
+use cp_devices::{Told, deck_line};
 use cp_users::{Named, UserNo, name_of};
 use s370_intr::{Ran, Reason};
 use std::alloc::{AllocError, Global};
+use unit_record::Reader;
 
-/// The transcript's lines for a reply to an event of this user, each ended by LF: what was said to the user,
-/// and then how the event ended.
+/// The transcript's lines for a reply to an event of this user, who has this reader, each ended by LF: what was said to
+/// the user, what stands at another's terminal, and then how the event ended.
 #[tactic(auto, using(crate::proofs::Endings::reply_ended))]
 pub fn print_reply<N: Named>(
     alloc: Global,
     users: &[N],
     user: UserNo,
+    reader: &Reader,
     reply: &Reply,
 ) -> Result<Vec<u8>, AllocError>
-    ensures { IfOk result (λ text. text.items ≡ ended (reply_lines (name_of (map N.name users.now) user) reply.now)) }
+    ensures { IfOk result (λ text. text.items
+        ≡ ended (reply_lines (map N.name users.now) user reader.now.decks reply.now)) }
 {
     let name = name_of(users, user);
     let mut text = Vec::new(alloc);
-    print_said(alloc, &mut text, name, reply.said)?;
+    print_said(alloc, &mut text, users, name, reader, reply.said)?;
+    print_delivered(&mut text, users, reply.delivered)?;
     print_ending(alloc, &mut text, name, reply.ended)?;
     Ok(text)
 }
 
-/// Adds the line `u: text`, where something was said.
-fn print_said(
+/// Adds the lines of what was said to the user of this name.
+fn print_said<N: Named>(
     alloc: Global,
     out: &mut Vec<u8>,
+    users: &[N],
     name: &[u8],
-    said: Option<Response>,
+    reader: &Reader,
+    said: Told,
 ) -> Result<(), AllocError>
-    ensures { OnOk result (out.new.items ≡ out.old.items ++ ended (said_lines name.now said)) }
+    ensures { OnOk result (out.new.items ≡ out.old.items
+        ++ ended (said_lines (map N.name users.now) name.now reader.now.decks said)) }
 {
-    let Some(said) = said else {
+    match said {
+        Told::Said(response) => {
+            let text = printing::reply(alloc, &response)?;
+            print_line(out, name, &text)
+        }
+        Told::Files => print_queue(alloc, out, users, name, reader),
+        Told::Silent | Told::Sent(_, _) | Told::Loads(_) | Told::Closed => Ok(()),
+    }
+}
+
+/// Adds a line for each deck of the reader, in their order.
+#[tactic(auto, using(crate::proofs::Decks::one_more, crate::proofs::Decks::no_more))]
+fn print_queue<N: Named>(
+    alloc: Global,
+    out: &mut Vec<u8>,
+    users: &[N],
+    name: &[u8],
+    reader: &Reader,
+) -> Result<(), AllocError>
+    ensures { OnOk result (out.new.items ≡ out.old.items
+        ++ ended (queue_lines (map N.name users.now) name.now reader.now.decks)) }
+{
+    for index in 0..reader.len() {
+        let Some(deck) = reader.get(index) else {
+            unreachable!();
+        };
+        let line = deck_line(alloc, users, deck)?;
+        print_line(out, name, &line)?;
+    }
+    Ok(())
+}
+
+/// Adds the line of a message at its receiver's terminal.
+fn print_delivered<N: Named>(
+    out: &mut Vec<u8>,
+    users: &[N],
+    delivered: Option<Delivered>,
+) -> Result<(), AllocError>
+    ensures { OnOk result (out.new.items ≡ out.old.items ++ ended (delivered_lines (map N.name users.now) delivered)) }
+{
+    let Some(Delivered { to, what }) = delivered else {
         return Ok(());
     };
-    let text = printing::reply(alloc, &said)?;
-    print_line(out, name, &text)
+    match what {
+        Delivery::Deck(_) => Ok(()),
+        Delivery::Message(line) => print_line(out, name_of(users, to), line.as_slice()),
+    }
 }
 
 /// Adds the line `u: text`.

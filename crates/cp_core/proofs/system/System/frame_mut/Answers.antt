@@ -3,12 +3,12 @@ use Rattle.cp_frames.specs.Layout.{Pool}
 use Rattle.cp_core.specs.System.{SystemView}
 use Rattle.cp_core.specs.Whole.{IsSystem}
 use Rattle.cp_core.specs.Loan.{written_frame}
-use Rattle.cp_core.proofs.Loans.{seen, seen_written, system_written}
+use Rattle.cp_core.proofs.Loans.{seen_with, seen_written, system_written}
 use Rattle.cp_core.proofs.system.System.frame_mut.Goals as goal
 
 pub invariant_of-self-lent : goal.invariant_of-self-lent
 invariant_of-self-lent c =
-    let seats = c.self.inside.machines.items in
+    let seats = c.self.inside.users.items in
     let users = c.self.inside.directory in
     let pool = c.self.inside.frames in
     let fits : (p q : Pool) → p ≡ q → IsSystem seats q users → IsSystem seats p users = λ p q e whole. subst (λ (p : Pool). IsSystem seats p users) (sym e) whole in
@@ -19,13 +19,13 @@ invariant_of-self-lent c =
 
 pub returns : goal.returns
 returns c =
-    let seats = c.self.inside.machines.items in
+    let seats = c.self.inside.users.items in
     let users = c.self.inside.directory in
     let pool = c.self.inside.frames in
-    let see = seen seats users c.self.inside.is_spent in (
+    let see = seen_with seats users c.self.inside.files.items c.self.inside.is_spent in (
       (
         refl,
-        λ w. ap see (c.frame_mut.follows.holds w) ∙ (seen_written seats users c.self.inside.is_spent pool c.args.frame.0 w ∙ ap (λ (s : SystemView). written_frame s c.args.frame.0 w) c.self.view_is),
+        λ w. ap see (c.frame_mut.follows.holds w) ∙ (seen_written seats users c.self.inside.files.items c.self.inside.is_spent pool c.args.frame.0 w ∙ ap (λ (s : SystemView). written_frame s c.args.frame.0 w) c.self.view_is),
         ap see c.frame_mut.follows.holds-at-none ∙ c.self.view_is,
       ),
       record { writes_back = tt; some = rw (← c.self.view_is) c.frame_mut.ensures.some },

@@ -16,8 +16,8 @@ returns-clause-runs g c =
     let keys = g.S.Storage.keys c.args.storage.now in
     let bytes_left = g.S.Storage.bytes c.run.new.storage in
     let keys_left = g.S.Storage.keys c.run.new.storage in
-    let disks = g.C.Channels.disks c.args.channels.now in
-    let disks_left = g.C.Channels.disks c.run.new.self in
+    let disks = g.C.Disks.disks c.args.channels.now in
+    let disks_left = g.C.Disks.disks c.run.new.self in
     let old : DevicesValue = record { places = c.self.inside.places; console = c.self.inside.console; reader = c.self.inside.reader; punch = c.self.inside.punch; printer = c.self.inside.printer; target = c.self.inside.target } in
     let new : DevicesValue = with_console old c.forget_lines.new.self in
     subst (λ (d : DevicesValue). RunsConsole g.C.Channels.reads c.args.device c.args.start (equipped c.args.machine.now d disks bytes keys) (equipped c.print_written.new.machine new disks_left bytes_left keys_left)) c.self.view_is

@@ -1,0 +1,21 @@
+//! No disks.
+
+use crate::channels::Disks;
+
+/// The disks of a machine that has none.
+#[derive(Clone, Copy)]
+pub struct NoDisks;
+
+impl Disks for NoDisks {
+    ghost use Rattle.std.specs.Prelude.{[]};
+
+    ghost disks = { λ _. [] };
+
+    fn disk_at(&self, _device: u16) -> Option<usize> {
+        None
+    }
+
+    fn reset_disks(&mut self) {}
+
+    fn clear_disks(&mut self) {}
+}

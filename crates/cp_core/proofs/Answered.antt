@@ -1,0 +1,319 @@
+-- What an answer to a line leaves alone.
+use Rattle.std.proofs.Common.{◌≡◌, ◌⊎◌, ℕ, ◌<◌, Bool, true, false, List, [], ◌∷◌, length, Option, Some, None, refl, sym, ap, subst, inl, inr, arith}
+use Rattle.std.specs.Prelude.{if◌then◌else◌}
+use Rattle.s370_channel.specs.Reading.{as_begun}
+use Rattle.unit_record.specs.declared.output.Target.{Target}
+use Rattle.unit_record.specs.Reader.{DeckValue}
+use Rattle.unit_record.specs.Console.{has_room}
+use Rattle.cp_users.specs.Users.{user_of}
+use Rattle.cp_console.specs.Lines.{cleaned}
+use Rattle.cp_console.specs.declared.console_line.ConsoleLine.{ConsoleLine}
+use Rattle.cp_console.specs.declared.device_commands.DeviceCommand.{DeviceCommand}
+use Rattle.cp_console.specs.declared.device_commands.DeviceCommand.TheVariants as commands
+use Rattle.cp_console.specs.declared.responses.Response.{Response}
+use Rattle.cp_console.specs.declared.responses.Response.TheVariants as responses
+use Rattle.cp_panel.specs.Panel.{line}
+use Rattle.cp_devices.specs.declared.line.Told.{Told}
+use Rattle.cp_devices.specs.declared.line.Told.TheVariants.{Silent, Said, Files, Sent, Loads, Closed}
+use Rattle.cp_devices.specs.declared.places.Kind.{Kind}
+use Rattle.cp_devices.specs.declared.request.Request.{Request}
+use Rattle.cp_devices.specs.declared.request.Request.TheVariants.{LogsOn, LogsOff, Resets, Types, Asks, Elsewhere}
+use Rattle.cp_devices.specs.Devices.{DevicesValue, part_at}
+use Rattle.cp_devices.specs.Equipped.{Equipped}
+use Rattle.cp_devices.specs.Life.{Line as Typing, Lives}
+use Rattle.cp_devices.specs.Lines.{IsAnswered, IsFollowed, IsLine, IsObeyed, MayTakeMemory, Outcome, SendsTo, SendsWhere, answered_alone, close_answered, closed_where, files_told, loads_from, logged_off, logged_on, outcome, purge_answered, requested, said, spool_answered, spooled_to, target_of, typed_at, typed_where, was_reset}
+use Rattle.cp_devices.specs.Spooling.{is_punch, output_of, spooled}
+use Rattle.cp_devices.specs.World.{World, is_on}
+use Rattle.cp_core.specs.Come.{HasClosed, NeedsMemory, is_sent}
+use Rattle.cp_core.specs.Local.{typed_as}
+use Rattle.cp_core.specs.Memory.{closes, command_closes}
+
+-- a message that is sent leaves its sender's machine
+abbrev pub SentSame : Equipped → Told → Equipped → Type 0
+SentSame old (Sent user line) new = new ≡ old
+SentSame old Silent new = Unit {0}
+SentSame old (Said response) new = Unit {0}
+SentSame old Files new = Unit {0}
+SentSame old (Loads device) new = Unit {0}
+SentSame old Closed new = Unit {0}
+
+-- no loading is told, and no file is closed where the line closes none
+pub record IsMild (closing sends : Bool) (old : Equipped) (o : Outcome) : Type 0 where
+  pub no_load : loads_from o.told ≡ None
+  pub sent : SentSame old o.told o.equipped
+  pub unsent : sends ≡ false → is_sent o.told ≡ false
+  pub punched : closing ≡ false → o.equipped.devices.punch.closed ≡ old.devices.punch.closed
+  pub printed : closing ≡ false → o.equipped.devices.printer.closed ≡ old.devices.printer.closed
+
+said_none : (r : Option Response) → loads_from (said r) ≡ None
+said_none None = refl
+said_none (Some response) = refl
+
+said_sent : (r : Option Response) (old new : Equipped) → SentSame old (said r) new
+said_sent None old new = tt
+said_sent (Some response) old new = tt
+
+said_unsent : (r : Option Response) → is_sent (said r) ≡ false
+said_unsent None = refl
+said_unsent (Some response) = refl
+
+alone_mild : (typed : List ℕ) (e : Equipped) → IsMild false false e (answered_alone typed e)
+alone_mild typed e = record {
+  no_load = said_none (line typed e.machine).reply;
+  sent = said_sent (line typed e.machine).reply e (answered_alone typed e).equipped;
+  unsent = λ none. said_unsent (line typed e.machine).reply;
+  punched = λ none. refl;
+  printed = λ none. refl;
+}
+
+typed_where_mild : (room : Bool) (device : ℕ) (text : List ℕ) (e : Equipped) → IsMild false false e (typed_where room device text e)
+typed_where_mild true device text e = record { no_load = refl; sent = tt; unsent = λ none. refl; punched = λ none. refl; printed = λ none. refl }
+typed_where_mild false device text e = record { no_load = refl; sent = tt; unsent = λ none. refl; punched = λ none. refl; printed = λ none. refl }
+
+typed_mild : (place : Option ℕ) (text : List ℕ) (e : Equipped) → IsMild false false e (typed_at place text e)
+typed_mild None text e = record { no_load = refl; sent = tt; unsent = λ none. refl; punched = λ none. refl; printed = λ none. refl }
+typed_mild (Some device) text e = typed_where_mild (has_room e.devices.console) device text e
+
+logon_mild : (e : Equipped) → IsMild false false e (logged_on e)
+logon_mild e = record { no_load = refl; sent = tt; unsent = λ none. refl; punched = λ none. refl; printed = λ none. refl }
+
+reset_mild : (e : Equipped) → IsMild false false e (was_reset e)
+reset_mild e = record { no_load = refl; sent = tt; unsent = λ none. refl; punched = λ none. refl; printed = λ none. refl }
+
+logoff_mild : (e : Equipped) → IsMild true false e (logged_off e)
+logoff_mild e = record { no_load = refl; sent = tt; unsent = λ none. refl; punched = λ none. cc; printed = λ none. cc }
+
+-- ---- commands
+
+files_mild : (decks : List DeckValue) (e : Equipped) → IsMild false false e (outcome e (files_told decks))
+files_mild [] e = record { no_load = refl; sent = tt; unsent = λ none. refl; punched = λ none. refl; printed = λ none. refl }
+files_mild (deck ∷ decks) e = record { no_load = refl; sent = tt; unsent = λ none. refl; punched = λ none. refl; printed = λ none. refl }
+
+said_mild : (response : Response) (e : Equipped) → IsMild false false e (outcome e (Said response))
+said_mild response e = record { no_load = refl; sent = tt; unsent = λ none. refl; punched = λ none. refl; printed = λ none. refl }
+
+spooled_punched : (b : Bool) (d : DevicesValue) (target : Target) → (if b then record d { target = target } else d).punch.closed ≡ d.punch.closed
+spooled_punched true d target = refl
+spooled_punched false d target = refl
+
+spooled_printed : (b : Bool) (d : DevicesValue) (target : Target) → (if b then record d { target = target } else d).printer.closed ≡ d.printer.closed
+spooled_printed true d target = refl
+spooled_printed false d target = refl
+
+spooled_mild : (target : Option Target) (device : ℕ) (e : Equipped) → IsMild false false e (spooled_to target device e)
+spooled_mild None device e = record { no_load = refl; sent = tt; unsent = λ none. refl; punched = λ none. refl; printed = λ none. refl }
+spooled_mild (Some target) device e = record {
+  no_load = refl;
+  sent = tt;
+  unsent = λ none. refl;
+  punched = λ none. spooled_punched (is_punch (part_at e.devices device)) e.devices target;
+  printed = λ none. spooled_printed (is_punch (part_at e.devices device)) e.devices target;
+}
+
+spool_where : (b : Bool) (target : Option Target) (device : ℕ) (e : Equipped) → IsMild false false e (if b then spooled_to target device e else outcome e (Said responses.DeviceNotFound))
+spool_where true target device e = spooled_mild target device e
+spool_where false target device e = said_mild responses.DeviceNotFound e
+
+close_mild : (output : Option Bool) (kind : Option Kind) (e : Equipped) → IsMild true false e (closed_where output kind e)
+close_mild None kind e = record { no_load = refl; sent = tt; unsent = λ none. refl; punched = λ none. cc; printed = λ none. cc }
+close_mild (Some false) kind e = record { no_load = refl; sent = tt; unsent = λ none. refl; punched = λ none. cc; printed = λ none. cc }
+close_mild (Some true) kind e = record { no_load = refl; sent = tt; unsent = λ none. refl; punched = λ none. cc; printed = λ none. cc }
+
+purge_mild : (file : ℕ) (e : Equipped) → IsMild false false e (purge_answered file e)
+purge_mild file e = record { no_load = refl; sent = tt; unsent = λ none. refl; punched = λ none. refl; printed = λ none. refl }
+
+message_mild : (told : Told) (e : Equipped) → loads_from told ≡ None → IsMild false true e (outcome e told)
+message_mild Silent e none = record { no_load = refl; sent = tt; unsent = λ sends. cc; punched = λ closing. refl; printed = λ closing. refl }
+message_mild (Said response) e none = record { no_load = refl; sent = tt; unsent = λ sends. cc; punched = λ closing. refl; printed = λ closing. refl }
+message_mild Files e none = record { no_load = refl; sent = tt; unsent = λ sends. cc; punched = λ closing. refl; printed = λ closing. refl }
+message_mild (Sent user line) e none = record { no_load = refl; sent = refl; unsent = λ sends. cc; punched = λ closing. refl; printed = λ closing. refl }
+message_mild (Loads device) e none = cc
+message_mild Closed e none = record { no_load = refl; sent = tt; unsent = λ sends. cc; punched = λ closing. refl; printed = λ closing. refl }
+
+sends_where : (on : Bool) (user : ℕ) (w : World) (text : List ℕ) (told : Told) → SendsWhere on user w text told → loads_from told ≡ None
+sends_where true user w text told h = ap loads_from h.2
+sends_where false user w text told h = ap loads_from h
+
+sends_to : (found : Option ℕ) (w : World) (text : List ℕ) (told : Told) → SendsTo found w text told → loads_from told ≡ None
+sends_to None w text told h = ap loads_from h
+sends_to (Some user) w text told h = sends_where (is_on w user) user w text told h
+
+-- ---- a line
+
+from : (closing sends : Bool) (old new : Equipped) (told : Told) (o : Outcome) → outcome new told ≡ o → IsMild closing sends old o → IsMild closing sends old (outcome new told)
+from closing sends old new told o h mild = subst (λ (x : Outcome). IsMild closing sends old x) (sym h) mild
+
+-- a request that is no IPL
+abbrev pub is_ipl : Request → Bool
+is_ipl (Asks (commands.Ipl device)) = true
+is_ipl other = false
+
+-- a command that sends a message
+abbrev pub command_sends : DeviceCommand → Bool
+command_sends (commands.Message name text) = true
+command_sends (commands.Ipl device) = false
+command_sends commands.QueryFiles = false
+command_sends commands.QueryUsers = false
+command_sends (commands.Spool device name) = false
+command_sends (commands.Close device) = false
+command_sends (commands.Purge file) = false
+
+abbrev pub sends : Request → Bool
+sends (Asks command) = command_sends command
+sends LogsOn = false
+sends LogsOff = false
+sends Resets = false
+sends Types = false
+sends Elsewhere = false
+
+obeyed_mild : (w : World) (command : DeviceCommand) (old : Equipped) (told : Told) (new : Equipped) → is_ipl (Asks command) ≡ false → IsObeyed w command old told new → IsMild (command_closes command) (command_sends command) old (outcome new told)
+obeyed_mild w (commands.Ipl device) old told new not h = cc
+obeyed_mild w commands.QueryFiles old told new not h = from false false old new told _ h (files_mild old.devices.reader.decks old)
+obeyed_mild w commands.QueryUsers old told new not h = from false false old new told _ h (said_mild _ old)
+obeyed_mild w (commands.Spool device name) old told new not h = from false false old new told _ h (spool_where (is_punch (part_at old.devices device)) (target_of w name) device old)
+obeyed_mild w (commands.Close device) old told new not h = from true false old new told _ h (close_mild (output_of old.devices (part_at old.devices device)) (part_at old.devices device) old)
+obeyed_mild w (commands.Purge file) old told new not h = from false false old new told _ h (purge_mild file old)
+obeyed_mild w (commands.Message name text) old told new not h =
+    from false true old new told (outcome old told) (ap (λ (e : Equipped). outcome e told) h.0) (message_mild told old (sends_to (user_of w.names name) w text told h.1))
+
+pub mild : (q : Request) (w : World) (typed : List ℕ) (old : Equipped) (told : Told) (new : Equipped) → is_ipl q ≡ false → IsAnswered q w typed old told new → IsMild (closes q) (sends q) old (outcome new told)
+mild LogsOn w typed old told new not h = from false false old new told _ h (logon_mild old)
+mild LogsOff w typed old told new not h = from true false old new told _ h (logoff_mild old)
+mild Resets w typed old told new not h = from false false old new told _ h (reset_mild old)
+mild Types w typed old told new not h = from false false old new told _ h (typed_mild old.devices.places.console (cleaned typed) old)
+mild (Asks command) w typed old told new not h = obeyed_mild w command old told new not h
+mild Elsewhere w typed old told new not h = from false false old new told _ h (alone_mild typed old)
+
+-- a line is what a machine of its own does, where it does not ask for an IPL
+followed : (told : Told) (new : Equipped) → loads_from told ≡ None → IsFollowed (loads_from told) told new told new
+followed told new none = subst (λ (d : Option ℕ). IsFollowed d told new told new) (sym none) refl
+
+whole : (w : World) (typed : List ℕ) (old : Equipped) (told : Told) (new : Equipped) → IsLine w typed old told new → loads_from told ≡ None → Lives as_begun (Typing w typed ∷ []) old new
+whole w typed old told new h none =
+    (new, (told, record { first = told; next = new; line = h; followed = followed told new none }), refl)
+
+lives_as : (q : Request) (w : World) (typed : List ℕ) (old : Equipped) (told : Told) (new : Equipped) → IsLine w typed old told new → IsAnswered q w typed old told new → Lives as_begun (typed_as q w typed) old new
+lives_as LogsOn w typed old told new h a = whole w typed old told new h (mild LogsOn w typed old told new refl a).no_load
+lives_as LogsOff w typed old told new h a = whole w typed old told new h (mild LogsOff w typed old told new refl a).no_load
+lives_as Resets w typed old told new h a = whole w typed old told new h (mild Resets w typed old told new refl a).no_load
+lives_as Types w typed old told new h a = whole w typed old told new h (mild Types w typed old told new refl a).no_load
+lives_as Elsewhere w typed old told new h a = whole w typed old told new h (mild Elsewhere w typed old told new refl a).no_load
+lives_as (Asks (commands.Ipl device)) w typed old told new h a = ap (λ (o : Outcome). o.equipped) a
+lives_as (Asks commands.QueryFiles) w typed old told new h a = whole w typed old told new h (mild (Asks commands.QueryFiles) w typed old told new refl a).no_load
+lives_as (Asks commands.QueryUsers) w typed old told new h a = whole w typed old told new h (mild (Asks commands.QueryUsers) w typed old told new refl a).no_load
+lives_as (Asks (commands.Spool device name)) w typed old told new h a = whole w typed old told new h (mild (Asks (commands.Spool device name)) w typed old told new refl a).no_load
+lives_as (Asks (commands.Close device)) w typed old told new h a = whole w typed old told new h (mild (Asks (commands.Close device)) w typed old told new refl a).no_load
+lives_as (Asks (commands.Purge file)) w typed old told new h a = whole w typed old told new h (mild (Asks (commands.Purge file)) w typed old told new refl a).no_load
+lives_as (Asks (commands.Message name text)) w typed old told new h a = whole w typed old told new h (mild (Asks (commands.Message name text)) w typed old told new refl a).no_load
+
+-- a line is to its user's machine what it is to a machine of its own; one that asks for an IPL changes nothing
+pub lives_line : (w : World) (typed : List ℕ) (old : Equipped) (told : Told) (new : Equipped) → IsLine w typed old told new → Lives as_begun (typed_as (requested typed old) w typed) old new
+lives_line w typed old told new h = lives_as (requested typed old) w typed old told new h h
+
+-- ---- where memory was refused for what comes of a line
+
+-- what is sent leaves its sender's machine
+sent_is : (old : Equipped) (told : Told) (new : Equipped) → is_sent told ≡ true → SentSame old told new → new ≡ old
+sent_is old (Sent user line) new is same = same
+sent_is old Silent new is same = cc
+sent_is old (Said response) new is same = cc
+sent_is old Files new is same = cc
+sent_is old (Loads device) new is same = cc
+sent_is old Closed new is same = cc
+
+-- nothing was closed where both lists are as long
+none_closed : {A B : Type 0} (xs xs' : List A) (ys ys' : List B) → xs' ≡ xs → ys' ≡ ys → (length xs < length xs') ⊎ (length ys < length ys') → ⊥
+none_closed xs xs' ys ys' p q h = elim h [ inl more ↦ omega (arith, more, ap length p) | inr more ↦ omega (arith, more, ap length q) ]
+
+not_closed : (old new : Equipped) → new.devices.punch.closed ≡ old.devices.punch.closed → new.devices.printer.closed ≡ old.devices.printer.closed → HasClosed (length old.devices.punch.closed) (length old.devices.printer.closed) new → ⊥
+not_closed old new p q h = none_closed old.devices.punch.closed new.devices.punch.closed old.devices.printer.closed new.devices.printer.closed p q h
+
+-- such a line may take memory
+closing_may : (q : Request) (typed : List ℕ) (e : Equipped) → closes q ≡ true → MayTakeMemory q typed e
+closing_may LogsOff typed e is = tt
+closing_may (Asks (commands.Close device)) typed e is = tt
+closing_may (Asks (commands.Ipl device)) typed e is = cc
+closing_may (Asks commands.QueryFiles) typed e is = cc
+closing_may (Asks commands.QueryUsers) typed e is = cc
+closing_may (Asks (commands.Spool device name)) typed e is = cc
+closing_may (Asks (commands.Purge file)) typed e is = cc
+closing_may (Asks (commands.Message name text)) typed e is = cc
+closing_may LogsOn typed e is = cc
+closing_may Resets typed e is = cc
+closing_may Types typed e is = cc
+closing_may Elsewhere typed e is = cc
+
+sending_may : (q : Request) (typed : List ℕ) (e : Equipped) → sends q ≡ true → MayTakeMemory q typed e
+sending_may (Asks (commands.Message name text)) typed e is = tt
+sending_may (Asks (commands.Close device)) typed e is = cc
+sending_may (Asks (commands.Ipl device)) typed e is = cc
+sending_may (Asks commands.QueryFiles) typed e is = cc
+sending_may (Asks commands.QueryUsers) typed e is = cc
+sending_may (Asks (commands.Spool device name)) typed e is = cc
+sending_may (Asks (commands.Purge file)) typed e is = cc
+sending_may LogsOn typed e is = cc
+sending_may LogsOff typed e is = cc
+sending_may Resets typed e is = cc
+sending_may Types typed e is = cc
+sending_may Elsewhere typed e is = cc
+
+true_or_false : (b : Bool) → (b ≡ true) ⊎ (b ≡ false)
+true_or_false true = inl refl
+true_or_false false = inr refl
+
+-- an IPL tells its loading, and changes nothing
+ipl_same : (q : Request) (w : World) (typed : List ℕ) (old : Equipped) (told : Told) (new : Equipped) → is_ipl q ≡ true → IsAnswered q w typed old told new → (new ≡ old) × (is_sent told ≡ false)
+ipl_same (Asks (commands.Ipl device)) w typed old told new is h = (ap (λ (o : Outcome). o.equipped) h, ap (λ (o : Outcome). is_sent o.told) h)
+ipl_same (Asks commands.QueryFiles) w typed old told new is h = cc
+ipl_same (Asks commands.QueryUsers) w typed old told new is h = cc
+ipl_same (Asks (commands.Spool device name)) w typed old told new is h = cc
+ipl_same (Asks (commands.Close device)) w typed old told new is h = cc
+ipl_same (Asks (commands.Purge file)) w typed old told new is h = cc
+ipl_same (Asks (commands.Message name text)) w typed old told new is h = cc
+ipl_same LogsOn w typed old told new is h = cc
+ipl_same LogsOff w typed old told new is h = cc
+ipl_same Resets w typed old told new is h = cc
+ipl_same Types w typed old told new is h = cc
+ipl_same Elsewhere w typed old told new is h = cc
+
+not_both : {b : Bool} → b ≡ false → b ≡ true → ⊥
+not_both off on = cc
+
+-- an IPL brings about nothing that takes memory
+ipl_none : (old : Equipped) (told : Told) (new : Equipped) → new ≡ old → is_sent told ≡ false → NeedsMemory (length old.devices.punch.closed) (length old.devices.printer.closed) told new → ⊥
+ipl_none old told new same unsent h = elim h [
+  | inl sent ↦ not_both unsent sent
+  | inr closed ↦ not_closed old new (ap (λ (e : Equipped). e.devices.punch.closed) same) (ap (λ (e : Equipped). e.devices.printer.closed) same) closed
+]
+
+may_mild : (q : Request) (typed : List ℕ) (old : Equipped) (told : Told) (new : Equipped) → IsMild (closes q) (sends q) old (outcome new told) → NeedsMemory (length old.devices.punch.closed) (length old.devices.printer.closed) told new → MayTakeMemory q typed old
+may_mild q typed old told new mild h = elim (true_or_false (closes q)) [
+  | inl closing ↦ closing_may q typed old closing
+  | inr none ↦ elim (true_or_false (sends q)) [
+    | inl sending ↦ sending_may q typed old sending
+    | inr silent ↦ absurd (elim h [
+      | inl sent ↦ not_both (mild.unsent silent) sent
+      | inr closed ↦ not_closed old new (mild.punched none) (mild.printed none) closed
+    ])
+  ]
+]
+
+same_mild : (q : Request) (old : Equipped) (told : Told) (new : Equipped) → closes q ≡ false → IsMild (closes q) (sends q) old (outcome new told) → NeedsMemory (length old.devices.punch.closed) (length old.devices.printer.closed) told new → new ≡ old
+same_mild q old told new none mild h = elim h [
+  | inl sent ↦ sent_is old told new sent mild.sent
+  | inr closed ↦ absurd (not_closed old new (mild.punched none) (mild.printed none) closed)
+]
+
+-- what comes of a line takes memory only where the line may
+pub follow_may : (q : Request) (w : World) (typed : List ℕ) (old : Equipped) (told : Told) (new : Equipped) → IsAnswered q w typed old told new → NeedsMemory (length old.devices.punch.closed) (length old.devices.printer.closed) told new → MayTakeMemory q typed old
+follow_may q w typed old told new h needs = elim (true_or_false (is_ipl q)) [
+  | inl ipl ↦ (let s = ipl_same q w typed old told new ipl h in absurd (ipl_none old told new s.0 s.1 needs))
+  | inr other ↦ may_mild q typed old told new (mild q w typed old told new other h) needs
+]
+
+-- and a line that closes no file has changed nothing then
+pub follow_same : (q : Request) (w : World) (typed : List ℕ) (old : Equipped) (told : Told) (new : Equipped) → closes q ≡ false → IsAnswered q w typed old told new → NeedsMemory (length old.devices.punch.closed) (length old.devices.printer.closed) told new → new ≡ old
+follow_same q w typed old told new none h needs = elim (true_or_false (is_ipl q)) [
+  | inl ipl ↦ (ipl_same q w typed old told new ipl h).0
+  | inr other ↦ same_mild q old told new none (mild q w typed old told new other h) needs
+]

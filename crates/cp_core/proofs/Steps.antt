@@ -1,0 +1,368 @@
+-- What each event leaves is a step: to every user, as the reply tells, and of the frames.
+use Rattle.std.proofs.Common.{◌≡◌, ◌∙◌, ◌⊎◌, ℕ, ◌+◌, ◌-◌, ◌<◌, ◌==◌, Bool, true, false, List, [], ◌∷◌, ◌++◌, length, get_or, set, Option, Some, None, Result, Ok, Err, refl, sym, ap, subst, inl, inr, arith, nat_lt}
+use Rattle.std.specs.Prelude.{slice_get, if◌then◌else◌}
+use Rattle.std.specs.Borrow.{Bor}
+use Rattle.std.proofs.lemmas.Bool.{false≢true}
+use Rattle.std.proofs.lemmas.Bool.Decides.{nat_tests}
+use Rattle.std.proofs.lemmas.List.{append-nil, length-set}
+use Rattle.s370_store.specs.declared.supply.FramesOut.{FramesOut as NoRoom}
+use Rattle.s370_channel.specs.Reading.{as_begun}
+use Rattle.s370_intr.specs.declared.next.Reason.{Reason}
+use Rattle.s370_intr.specs.declared.next.Reason.TheVariants.{Stopped, Count, EcMode, Wait, DisabledWait, FramesOut as RunFramesOut}
+use Rattle.s370_intr.specs.declared.run.Ran.{Ran as RanUnits}
+use Rattle.unit_record.specs.declared.reader.Sender.TheVariants as senders
+use Rattle.unit_record.specs.Punch.{PunchState}
+use Rattle.unit_record.specs.Printer.{PrinterState}
+use Rattle.cp_console.specs.declared.responses.Response.{Response}
+use Rattle.cp_frames.specs.Layout.{FrameSupply}
+use Rattle.cp_dat.specs.Lent.{set_own}
+use Rattle.cp_dat.specs.Supplied.{IsBetweenUnits, IsBroughtFor, IsBroughtInUnits}
+use Rattle.cp_panel.specs.declared.line.LineError.TheVariants as errors
+use Rattle.cp_panel.specs.declared.machine.Mode.{Mode}
+use Rattle.cp_panel.specs.declared.machine.Mode.TheVariants as modes
+use Rattle.cp_panel.specs.Machine.{Machine}
+use Rattle.cp_panel.specs.Run.{MachineRun, TellsRun, notice_of, run}
+use Rattle.cp_panel.specs.Tick.{ticked, ticked_in}
+use Rattle.cp_devices.specs.declared.line.Told.{Told}
+use Rattle.cp_devices.specs.declared.line.Told.TheVariants.{Silent}
+use Rattle.cp_devices.specs.declared.files.FileKind.TheVariants as kinds
+use Rattle.cp_devices.specs.Equipped.{Equipped}
+use Rattle.cp_devices.specs.Life.{Event as Local, Units, Tick as Ticks, Deck as Gets, Leaves, Lives}
+use Rattle.cp_devices.specs.Lines.{requested, said}
+use Rattle.cp_devices.specs.Spooling.{cards_of}
+use Rattle.cp_core.specs.Come.{HasCome, NeedsMemory, comes_by_line, comes_from_operator}
+use Rattle.cp_core.specs.Files.{closed_by, closed_since, next_file, note_where}
+use Rattle.cp_core.specs.Histories.{IsStep}
+use Rattle.cp_core.specs.Local.{Step, coming, run_of, typed_as, units_of}
+use Rattle.cp_core.specs.Memory.{IsCutShort, closes}
+use Rattle.cp_core.specs.Replies.{silent}
+use Rattle.cp_core.specs.Supply.{IsGivenBack}
+use Rattle.cp_core.specs.System.{SystemView, machine_at, nobody, user_at, world_of}
+use Rattle.cp_core.specs.Told.{deck_noted, delivered_by, given, said_to_line, with_delivered}
+use Rattle.cp_core.specs.Work.{HasRun, HasTicked, HasTyped}
+use Rattle.cp_core.specs.declared.delivery.Delivered.{Delivered}
+use Rattle.cp_core.specs.declared.delivery.Delivery.{Delivery}
+use Rattle.cp_core.specs.declared.delivery.Delivery.TheVariants as deliveries
+use Rattle.cp_core.specs.declared.events.Ended.TheVariants.{Ran, Done, FramesOut}
+use Rattle.cp_core.specs.declared.events.Event.TheVariants.{Run, Line, Tick, Deck}
+use Rattle.cp_core.specs.declared.events.Reply.{Reply}
+use Rattle.cp_core.specs.declared.files.FileNote.{FileNote}
+use Rattle.cp_core.proofs.Answered.{follow_may, follow_same, lives_line}
+use Rattle.cp_core.proofs.Kept.{nine_each}
+use Rattle.cp_core.proofs.Led.{come_led, led_alone, lives_on, others_stay, printer_stays, punch_stays, stays_each}
+use Rattle.cp_core.proofs.Switches.{switch_needs_none}
+
+-- a work on one user's machine changes him and the frames alone
+abbrev pub IsLent : SystemView → ℕ → SystemView → Type 0
+IsLent old user new = new ≡ record old { users = set old.users user (user_at new user); supply = new.supply }
+
+-- where nothing happened to him, nothing but the frames has changed
+unchanged : (old new : SystemView) (user : ℕ) → IsLent old user new → user_at new user ≡ user_at old user → new ≡ record old { supply = new.supply }
+unchanged old new user lent same =
+    lent ∙ ap (λ (us : List Equipped). record old { users = us; supply = new.supply }) (ap (set old.users user) same ∙ sym (set_own old.users user nobody))
+
+same_lines : (a b : Equipped) → a.machine.output ≡ b.machine.output → 0 ≡ length a.machine.output - length b.machine.output
+same_lines a b same = omega (arith, ap (λ (lines : List (List ℕ)). length lines) same)
+
+-- to each user a step is his own part of it alone, where nothing comes of it
+alone : (old new : SystemView) (user : ℕ) (events : List Local) → IsLent old user new → Lives as_begun events (user_at old user) (user_at new user) → (u : ℕ) → Lives as_begun ((if user == u then events else []) ++ []) (user_at old u) (user_at new u)
+alone old new user events lent lives u =
+    subst (λ (es : List Local). Lives as_begun es (user_at old u) (user_at new u)) (sym (append-nil (if user == u then events else [])))
+    (led_alone user events old.users new.users (ap (λ (s : SystemView). s.users) lent) lives u)
+
+-- ---- a run
+
+run_is : (asked units : ℕ) (reason : Reason) (notice : Option Response) (old new : Machine) (is_short : ℕ → Type 0) → TellsRun asked old (record { machine = new; units = units; reason = reason; notice = notice }) is_short → (run (units_of asked (record { units = units; reason = reason })) old).machine ≡ new
+run_is asked units RunFramesOut notice old new is_short h = ap (λ (r : MachineRun). r.machine) h.done
+run_is asked units Stopped notice old new is_short h = ap (λ (r : MachineRun). r.machine) h
+run_is asked units Count notice old new is_short h = ap (λ (r : MachineRun). r.machine) h
+run_is asked units EcMode notice old new is_short h = ap (λ (r : MachineRun). r.machine) h
+run_is asked units Wait notice old new is_short h = ap (λ (r : MachineRun). r.machine) h
+run_is asked units DisabledWait notice old new is_short h = ap (λ (r : MachineRun). r.machine) h
+
+run_lives : (asked user : ℕ) (old new : Equipped) (before after : FrameSupply) (ran : RanUnits) → HasRun asked user old before ran new after → Lives as_begun (run_of asked (Ran ran)) old new
+run_lives asked user old new before after ran h =
+    (new, (sym (run_is asked ran.units ran.reason (notice_of ran.reason) old.machine new.machine _ h.told), h.devices, h.disks), refl)
+
+pub run_step : (old new : SystemView) (user asked : ℕ) (ran : RanUnits) (told : Told) (lines : ℕ) → HasRun asked user (user_at old user) old.supply ran (user_at new user) new.supply → IsLent old user new → IsBetweenUnits old.supply → IsBetweenUnits new.supply → told ≡ said (notice_of ran.reason) → lines ≡ length (machine_at new user).output - length (machine_at old user).output
+    → IsStep old (record { event = Run user asked; reply = record { ended = Ran ran; said = told; lines = lines; delivered = None }; seen = new })
+run_step old new user asked ran told lines h lent rest between s l = record {
+  applied = alone old new user (run_of asked (Ran ran)) lent (run_lives asked user (user_at old user) (user_at new user) old.supply new.supply ran h);
+  told = record {
+    tells = (h.told, s, refl);
+    lines = l;
+    files = ap (λ (x : SystemView). x.files) lent ∙ sym (append-nil old.files);
+    deliveries = ap (λ (x : SystemView). x.deliveries) lent;
+  };
+  supplied = record {
+    between_before = rest;
+    between = between;
+    given_back = λ on. absurd (false≢true on);
+    brought = λ off. (h.brought.0, h.brought.1, (h.brought.2, h.brought.3, omega (arith, h.brought.3, nine_each (machine_at old user).core 0 h.brought.0 h.brought.2)));
+  };
+}
+
+-- ---- a tick
+
+ticked_output : (mode : Mode) (m : Machine) → (ticked_in mode m).output ≡ m.output
+ticked_output modes.Running m = refl
+ticked_output modes.Stopped m = refl
+ticked_output modes.Off m = refl
+
+pub tick_done : (old new : SystemView) (user : ℕ) (done : Unit {0}) → HasTicked user (user_at old user) old.supply (Ok done) (user_at new user) new.supply → IsLent old user new → IsBetweenUnits old.supply → IsBetweenUnits new.supply → IsStep old (record { event = Tick user; reply = silent Done; seen = new })
+tick_done old new user done h lent rest between =
+    let m : (machine_at new user).output ≡ (machine_at old user).output = ap (λ (x : Machine). x.output) h.leaves.0 ∙ ticked_output (machine_at old user).mode (machine_at old user) in
+    record {
+      applied = alone old new user (Ticks ∷ []) lent (user_at new user, (h.leaves.0, h.leaves.1, h.leaves.2), refl);
+      told = record {
+        tells = (refl, refl);
+        lines = same_lines (user_at new user) (user_at old user) m;
+        files = ap (λ (x : SystemView). x.files) lent ∙ sym (append-nil old.files);
+        deliveries = ap (λ (x : SystemView). x.deliveries) lent;
+      };
+      supplied = record {
+        between_before = rest;
+        between = between;
+        given_back = λ on. absurd (false≢true on);
+        brought = λ off. (h.brought.0 ∷ [], h.brought.1, ((h.brought.0, refl, h.brought.2), omega (arith, h.brought.3, ap (λ (xs : List ℕ). length xs) (append-nil h.brought.0))));
+      };
+    }
+
+pub tick_out : (old new : SystemView) (user : ℕ) (out : NoRoom) → HasTicked user (user_at old user) old.supply (Err out) (user_at new user) new.supply → IsLent old user new → IsBetweenUnits old.supply → IsBetweenUnits new.supply → IsStep old (record { event = Tick user; reply = silent FramesOut; seen = new })
+tick_out old new user out h lent rest between = record {
+  applied = alone old new user [] lent h.leaves.0;
+  told = record {
+    tells = record { silent = refl; none = refl; same = unchanged old new user lent h.leaves.0; lacking = h.leaves.1 };
+    lines = same_lines (user_at new user) (user_at old user) (ap (λ (e : Equipped). e.machine.output) h.leaves.0);
+    files = ap (λ (x : SystemView). x.files) lent ∙ sym (append-nil old.files);
+    deliveries = ap (λ (x : SystemView). x.deliveries) lent;
+  };
+  supplied = record {
+    between_before = rest;
+    between = between;
+    given_back = λ on. absurd (false≢true on);
+    brought = λ off. (h.brought.0 ∷ [], h.brought.1, ((h.brought.0, refl, h.brought.2), omega (arith, h.brought.3, ap (λ (xs : List ℕ). length xs) (append-nil h.brought.0))));
+  };
+}
+
+-- ---- a line
+
+deck_from : (number user : ℕ) (p : PunchState) (index : ℕ) → Local
+deck_from number user p index = Gets (record { label = number; sender = senders.User user; cards = cards_of (slice_get p.closed index) })
+
+-- what comes of it is told as it has come
+come_same : (old middle seen : SystemView) (user punched : ℕ) (typed : Bor (List ℕ)) (reply : Reply) → punched ≡ length (user_at old user).devices.punch.closed → (user_at seen user).devices.punch ≡ (user_at middle user).devices.punch → (what : Delivery) → comes_by_line user punched (user_at middle user) what ≡ coming old (record { event = Line user typed; reply = reply; seen = seen }) what
+unfolding deck_from
+come_same old middle seen user punched typed reply at same (deliveries.Deck number) =
+    ap (λ (p : PunchState). deck_from number user p punched) (sym same) ∙ ap (deck_from number user (user_at seen user).devices.punch) at
+come_same old middle seen user punched typed reply at same (deliveries.Message line) = refl
+
+noted_same : (user a a' b b' : ℕ) (e e' : Equipped) → a ≡ a' → b ≡ b' → e.devices.punch ≡ e'.devices.punch → e.devices.printer ≡ e'.devices.printer → closed_since user a b e ≡ closed_since user a' b' e'
+noted_same user a a' b b' e e' p q r s =
+    ap (λ (n : ℕ). closed_since user n b e) p ∙ ap (λ (n : ℕ). closed_since user a' n e) q
+    ∙ ap (λ (x : PunchState). note_where (nat_lt a' (length x.closed)) user kinds.Punch ++ note_where (nat_lt b' (length e.devices.printer.closed)) user kinds.Printer) r
+    ∙ ap (λ (x : PrinterState). note_where (nat_lt a' (length e'.devices.punch.closed)) user kinds.Punch ++ note_where (nat_lt b' (length x.closed)) user kinds.Printer) s
+
+delivered_same : (d : Option Delivered) (s t : SystemView) → s.deliveries ≡ t.deliveries → with_delivered d s ≡ with_delivered d t
+delivered_same None s t h = h
+delivered_same (Some d) s t h = ap (λ (ds : List (List Delivery)). set ds d.to (get_or ds d.to [] ++ d.what ∷ [])) h
+
+pub line_done : (old middle new : SystemView) (user : ℕ) (typed : Bor (List ℕ)) (told said' : Told) (lines : ℕ) (delivered : Option Delivered) (punched printed : ℕ)
+    → HasTyped (world_of old user) user typed.now (user_at old user) old.supply (Ok told) (user_at middle user) middle.supply
+    → IsLent old user middle → IsBetweenUnits old.supply → IsBetweenUnits middle.supply
+    → punched ≡ length (user_at old user).devices.punch.closed → printed ≡ length (user_at old user).devices.printer.closed
+    → delivered ≡ delivered_by (length middle.users) (next_file middle.files) punched told (user_at middle user)
+    → new.files ≡ middle.files ++ closed_since user punched printed (user_at middle user)
+    → HasCome (comes_by_line user punched (user_at middle user)) delivered middle new
+    → new.deliveries ≡ with_delivered delivered middle
+    → new.supply ≡ middle.supply
+    → said' ≡ said_to_line (next_file old.files) told
+    → lines ≡ length (machine_at new user).output - length (machine_at old user).output
+    → IsStep old (record { event = Line user typed; reply = record { ended = Done; said = said'; lines = lines; delivered = delivered }; seen = new })
+line_done old middle new user typed told said' lines delivered punched printed h lent rest between at_punch at_printer d f come ds supply s l =
+    let step : Step = record { event = Line user typed; reply = record { ended = Done; said = said'; lines = lines; delivered = delivered }; seen = new } in
+    let many : length middle.users ≡ length old.users = ap (λ (x : SystemView). length x.users) lent ∙ length-set old.users user (user_at middle user) in
+    let files : middle.files ≡ old.files = ap (λ (x : SystemView). x.files) lent in
+    let punch = punch_stays user punched (user_at middle user) delivered middle new come user in
+    let printer = printer_stays user punched (user_at middle user) delivered middle new come user in
+    record {
+      applied = λ u. lives_on as_begun _ _ (user_at old u) (user_at middle u) (user_at new u)
+          (led_alone user (typed_as (requested typed.now (user_at old user)) (world_of old user) typed.now) old.users middle.users (ap (λ (x : SystemView). x.users) lent) (lives_line (world_of old user) typed.now (user_at old user) told (user_at middle user) h.leaves) u)
+          (come_led old step (comes_by_line user punched (user_at middle user)) delivered middle new come (come_same old middle new user punched typed step.reply at_punch punch) u);
+      told = record {
+        tells = record {
+          told = told;
+          answered = user_at middle user;
+          line = h.leaves;
+          said = s;
+          delivered = d ∙ ap (λ (n : ℕ). delivered_by n (next_file middle.files) punched told (user_at middle user)) many ∙ ap (λ (xs : List FileNote). delivered_by (length old.users) (next_file xs) punched told (user_at middle user)) files ∙ ap (λ (n : ℕ). delivered_by (length old.users) (next_file old.files) n told (user_at middle user)) at_punch;
+        };
+        lines = l;
+        files = f ∙ ap (λ (xs : List FileNote). xs ++ closed_since user punched printed (user_at middle user)) files
+            ∙ ap (λ (xs : List FileNote). old.files ++ xs) (noted_same user punched _ printed _ (user_at middle user) (user_at new user) at_punch at_printer (sym punch) (sym printer));
+        deliveries = ds ∙ delivered_same delivered middle old (ap (λ (x : SystemView). x.deliveries) lent);
+      };
+      supplied = record {
+        between_before = rest;
+        between = subst IsBetweenUnits (sym supply) between;
+        given_back = λ on. subst (λ (x : FrameSupply). IsGivenBack user old.supply x) (sym supply) (h.given_back on);
+        brought = λ off. (let b = h.brought off in (b.0 ∷ [], subst (λ (x : FrameSupply). IsBroughtInUnits user (b.0 ∷ []) old.supply x) (sym supply) b.1, (b.0, refl, b.2)));
+      };
+    }
+
+-- nothing is closed by nothing
+none_since : (n : ℕ) → nat_lt n n ≡ false
+none_since n = grind (arith, nat_tests)
+
+none_closed : (user : ℕ) (e : Equipped) → closed_by user e e ≡ []
+none_closed user e = rw (none_since (length e.devices.punch.closed), none_since (length e.devices.printer.closed)) refl
+
+pub line_out : (old new : SystemView) (user : ℕ) (typed : Bor (List ℕ)) → HasTyped (world_of old user) user typed.now (user_at old user) old.supply (Err errors.FramesOut) (user_at new user) new.supply → IsLent old user new → IsBetweenUnits old.supply → IsBetweenUnits new.supply
+    → IsStep old (record { event = Line user typed; reply = silent FramesOut; seen = new })
+line_out old new user typed h lent rest between = record {
+  applied = alone old new user [] lent h.leaves.0;
+  told = record {
+    tells = record { silent = refl; none = refl; same = unchanged old new user lent h.leaves.0; lacking = h.leaves.1 };
+    lines = same_lines (user_at new user) (user_at old user) (ap (λ (e : Equipped). e.machine.output) h.leaves.0);
+    files = ap (λ (x : SystemView). x.files) lent ∙ sym (ap (λ (e : Equipped). old.files ++ closed_by user (user_at old user) e) h.leaves.0 ∙ ap (λ (xs : List FileNote). old.files ++ xs) (none_closed user (user_at old user)) ∙ append-nil old.files);
+    deliveries = ap (λ (x : SystemView). x.deliveries) lent;
+  };
+  supplied = record {
+    between_before = rest;
+    between = between;
+    given_back = λ on. absurd (switch_needs_none typed.now (machine_at old user) h.leaves.1.page on h.leaves.1.needed);
+    brought = λ off. (let b = h.brought off in (b.0 ∷ [], b.1, (b.0, refl, b.2)));
+  };
+}
+
+-- where the line was refused memory
+pub line_refused : (old new : SystemView) (user : ℕ) (typed : Bor (List ℕ)) → HasTyped (world_of old user) user typed.now (user_at old user) old.supply (Err errors.Memory) (user_at new user) new.supply → IsLent old user new → IsBetweenUnits old.supply → IsBetweenUnits new.supply
+    → IsCutShort old (Line user typed) new
+line_refused old new user typed h lent rest between = record {
+  may = h.leaves.1;
+  supplied = record {
+    between_before = rest;
+    between = between;
+    given_back = λ on. inr (h.given_back on);
+    brought = λ off. (let b = h.brought off in (b.0 ∷ [], b.1, (b.0, refl, b.2)));
+  };
+  others = λ u not. stays_each (λ (e : Equipped). e) user old.users new.users (ap (λ (x : SystemView). x.users) lent) h.leaves.0 u;
+}
+
+-- where what comes of it was
+follow_others : (old middle : SystemView) (user : ℕ) (u : ℕ) (b : Bool) (closing : Bool) → IsLent old user middle → (closing ≡ false → user_at middle user ≡ user_at old user) → (user == u) ≡ b → (if b then closing else false) ≡ false → user_at middle u ≡ user_at old u
+follow_others old middle user u true closing lent same t not = stays_each (λ (e : Equipped). e) user old.users middle.users (ap (λ (x : SystemView). x.users) lent) (same not) u
+follow_others old middle user u false closing lent same t not = others_stay user old.users middle.users (ap (λ (x : SystemView). x.users) lent) u t
+
+pub line_cut : (old middle new : SystemView) (user : ℕ) (typed : Bor (List ℕ)) (told : Told) (punched printed : ℕ)
+    → HasTyped (world_of old user) user typed.now (user_at old user) old.supply (Ok told) (user_at middle user) middle.supply
+    → IsLent old user middle → IsBetweenUnits old.supply → IsBetweenUnits middle.supply
+    → punched ≡ length (user_at old user).devices.punch.closed → printed ≡ length (user_at old user).devices.printer.closed
+    → NeedsMemory punched printed told (user_at middle user)
+    → new.users ≡ middle.users → new.supply ≡ middle.supply
+    → IsCutShort old (Line user typed) new
+line_cut old middle new user typed told punched printed h lent rest between at_punch at_printer needs users supply =
+    let e = user_at old user in
+    let w = world_of old user in
+    let q = requested typed.now e in
+    let now : NeedsMemory (length e.devices.punch.closed) (length e.devices.printer.closed) told (user_at middle user) =
+    subst (λ (n : ℕ). NeedsMemory n (length e.devices.printer.closed) told (user_at middle user)) at_punch (subst (λ (n : ℕ). NeedsMemory punched n told (user_at middle user)) at_printer needs) in
+    record {
+      may = follow_may q w typed.now e told (user_at middle user) h.leaves now;
+      supplied = record {
+        between_before = rest;
+        between = subst IsBetweenUnits (sym supply) between;
+        given_back = λ on. inl (subst (λ (x : FrameSupply). IsGivenBack user old.supply x) (sym supply) (h.given_back on));
+        brought = λ off. (let b = h.brought off in (b.0 ∷ [], subst (λ (x : FrameSupply). IsBroughtInUnits user (b.0 ∷ []) old.supply x) (sym supply) b.1, (b.0, refl, b.2)));
+      };
+      others = λ u not. ap (λ (us : List Equipped). get_or us u nobody) users ∙ follow_others old middle user u (user == u) (closes q) lent (λ none. follow_same q w typed.now e told (user_at middle user) none h.leaves now) refl not;
+    }
+
+-- ---- a deck
+
+quiet : (user : ℕ) (old new : FrameSupply) → new ≡ old → IsBroughtInUnits user [] old new
+quiet user old new same = record {
+  in_units = same;
+  brought = subst (λ (s : FrameSupply). IsBroughtFor user [] old s) (sym same) (record {
+    same_frames = refl;
+    same_slots = refl;
+    kept = λ u page stands. stands;
+    framed = λ u page there. inl there;
+    came = λ u page stands. inl stands;
+    page_ins = refl;
+  });
+}
+
+pub no_deck : (old : SystemView) (user : ℕ) (cards : Bor (List (List ℕ))) → IsBetweenUnits old.supply → cards.now ≡ [] → IsStep old (record { event = Deck user cards; reply = silent Done; seen = old })
+no_deck old user cards rest none = record {
+  applied = λ u. (alone old old user [] (ap (λ (us : List Equipped). record old { users = us }) (set_own old.users user nobody)) refl u);
+  told = record {
+    tells = (refl, rw none refl);
+    lines = same_lines (user_at old user) (user_at old user) refl;
+    files = rw none (sym (append-nil old.files));
+    deliveries = refl;
+  };
+  supplied = record {
+    between_before = rest;
+    between = rest;
+    given_back = λ on. absurd (false≢true on);
+    brought = λ off. ([], quiet user old.supply old.supply refl, refl);
+  };
+}
+
+some_given : (user : ℕ) (files : List FileNote) (cards : List (List ℕ)) → (cards ≡ [] → ⊥) → given user files cards ≡ Some (record { to = user; what = deliveries.Deck (next_file files) })
+some_given user files [] some = absurd (some refl)
+some_given user files (card ∷ cards) some = refl
+
+some_noted : (user : ℕ) (cards : List (List ℕ)) → (cards ≡ [] → ⊥) → deck_noted user cards ≡ record { user = user; kind = kinds.Deck } ∷ []
+some_noted user [] some = absurd (some refl)
+some_noted user (card ∷ cards) some = refl
+
+some_cards : (cards : List (List ℕ)) → (cards ≡ [] → ⊥) → 0 < length cards
+some_cards [] some = absurd (some refl)
+some_cards (card ∷ cards) some = omega arith
+
+deck_same : (old seen : SystemView) (user : ℕ) (cards : Bor (List (List ℕ))) (reply : Reply) (what : Delivery) → comes_from_operator cards.now what ≡ coming old (record { event = Deck user cards; reply = reply; seen = seen }) what
+deck_same old seen user cards reply (deliveries.Deck number) = refl
+deck_same old seen user cards reply (deliveries.Message line) = refl
+
+pub deck_given : (old new : SystemView) (user : ℕ) (cards : Bor (List (List ℕ))) (delivered : Delivered) → IsBetweenUnits old.supply → (cards.now ≡ [] → ⊥)
+    → delivered ≡ record { to = user; what = deliveries.Deck (next_file old.files) }
+    → HasCome (comes_from_operator cards.now) (Some delivered) old new
+    → new ≡ record old { users = new.users; files = old.files ++ record { user = user; kind = kinds.Deck } ∷ []; deliveries = with_delivered (Some delivered) old }
+    → IsStep old (record { event = Deck user cards; reply = record { ended = Done; said = Silent; lines = 0; delivered = Some delivered }; seen = new })
+deck_given old new user cards delivered rest some is come left =
+    let step : Step = record { event = Deck user cards; reply = record { ended = Done; said = Silent; lines = 0; delivered = Some delivered }; seen = new } in
+    let supply : new.supply ≡ old.supply = ap (λ (x : SystemView). x.supply) left in
+    let to : delivered.to ≡ user = ap (λ (x : Delivered). x.to) is in
+    let came : Leaves as_begun (comes_from_operator cards.now (deliveries.Deck (next_file old.files))) (user_at old user) (user_at new user) =
+    subst (λ (x : Delivered). Leaves as_begun (comes_from_operator cards.now x.what) (user_at old x.to) (user_at new x.to)) is come.comes in
+    record {
+      applied = λ u. lives_on as_begun _ _ (user_at old u) (user_at old u) (user_at new u) (led_alone user [] old.users old.users (set_own old.users user nobody) refl u) (come_led old step (comes_from_operator cards.now) (Some delivered) old new come (deck_same old new user cards step.reply) u);
+      told = record {
+        tells = (refl, ap Some is ∙ sym (some_given user old.files cards.now some));
+        lines = same_lines (user_at new user) (user_at old user) (ap (λ (e : Equipped). e.machine.output) came);
+        files = ap (λ (x : SystemView). x.files) left ∙ sym (ap (λ (xs : List FileNote). old.files ++ xs) (some_noted user cards.now some));
+        deliveries = ap (λ (x : SystemView). x.deliveries) left;
+      };
+      supplied = record {
+        between_before = rest;
+        between = subst IsBetweenUnits (sym supply) rest;
+        given_back = λ on. absurd (false≢true on);
+        brought = λ off. ([], quiet user old.supply new.supply supply, refl);
+      };
+    }
+
+pub deck_cut : (old new : SystemView) (user : ℕ) (cards : Bor (List (List ℕ))) → IsBetweenUnits old.supply → (cards.now ≡ [] → ⊥) → new ≡ record old { files = new.files; deliveries = new.deliveries } → IsCutShort old (Deck user cards) new
+deck_cut old new user cards rest some left =
+    let supply : new.supply ≡ old.supply = ap (λ (x : SystemView). x.supply) left in
+    record {
+      may = some_cards cards.now some;
+      supplied = record {
+        between_before = rest;
+        between = subst IsBetweenUnits (sym supply) rest;
+        given_back = λ on. absurd (false≢true on);
+        brought = λ off. ([], quiet user old.supply new.supply supply, refl);
+      };
+      others = λ u not. ap (λ (x : SystemView). get_or x.users u nobody) left;
+    }

@@ -1,0 +1,103 @@
+-- What is done with a machine while its storage is lent, by what its own calls leave.
+use Rattle.std.proofs.Common.{◌≡◌, ◌∙◌, ap, sym, subst, ℕ, Bool, true, false, List, [], ◌∷◌, length, replicate, refl, Result, Ok, Err}
+use Rattle.std.specs.Prelude.{IfOk, OnErr, OnOk}
+use Rattle.std.proofs.lemmas.List.{length-replicate}
+use Rattle.s370_store.specs.Access.{Touches}
+use Rattle.s370_intr.specs.Run.{AllNeeded, IsLacking}
+use Rattle.cp_frames.specs.Layout.{FrameSupply}
+use Rattle.cp_frames.specs.Paging.{IsRefused}
+use Rattle.cp_dat.specs.declared.dat.Dat.{Dat}
+use Rattle.cp_dat.specs.Lent.{KeepsFrames, keeps_frames_on, lent_pool, user_of}
+use Rattle.cp_dat.specs.Letting.{between_again, unit_for}
+use Rattle.cp_dat.specs.Supplied.{GivesBack, IsBetweenUnits, IsBroughtInUnits, IsPagedFor, Supplied, TakesPins, unpinned}
+use Rattle.cp_panel.specs.declared.line.LineError.{LineError}
+use Rattle.cp_panel.specs.declared.line.LineError.TheVariants as errors
+use Rattle.cp_panel.specs.Panel.{line_needs, switches}
+use Rattle.cp_devices.specs.declared.line.Told.{Told}
+use Rattle.cp_devices.specs.Equipped.{Equipped}
+use Rattle.cp_devices.specs.Lines.{IsLine, MayTakeMemory, requested}
+use Rattle.cp_devices.specs.World.{World}
+use Rattle.cp_core.specs.Supply.{IsGivenBack, IsShort}
+use Rattle.cp_core.specs.Work.{HasTyped, LineGivesBack, LineLeaves}
+use Rattle.cp_core.proofs.Kept.{either, given_back, given_for, lengths_left, line_short, marks_left}
+
+-- where no frame is pinned, nothing is taken away with the pins
+still : (supply : FrameSupply) → IsBetweenUnits supply → unpinned supply ≡ supply
+still supply rest =
+    let count : length supply.owners ≡ length supply.pins = sym (ap (λ (ps : List Bool). length ps) rest.idle ∙ length-replicate (length supply.owners) false) in
+    ap (λ (ps : List Bool). record supply { pins = ps }) (sym (rest.idle ∙ ap (λ (n : ℕ). replicate n false) count))
+
+-- what a line promises of the storage that is lent to it
+pub record IsLineLent (typed : List ℕ) (before : Equipped) (old between : Dat) (r : Result Told LineError) : Type 0 where
+  pub frames : r ≡ Err errors.FramesOut → IsLacking (Touches (line_needs typed before.machine)) (length before.machine.core.processor.bytes) (λ page. IsRefused (lent_pool between).supply (user_of between) page)
+  pub cleared : switches typed before.machine ≡ true → OnOk r (GivesBack old between)
+  pub not_cleared : switches typed before.machine ≡ true → OnErr r (Supplied old [] between)
+  pub supply : switches typed before.machine ≡ false → (pages : List ℕ) × Supplied old pages between × AllNeeded (Touches (line_needs typed before.machine)) pages
+
+-- what it keeps, whether it switches the machine or not
+kept_where : (r : Result Told LineError) (old between : Dat) → OnOk r (GivesBack old between) → OnErr r (Supplied old [] between) → KeepsFrames old between
+kept_where (Ok told) old between cleared not = cleared.kept
+kept_where (Err error) old between cleared not = not.kept
+
+pub line_keeps : (typed : List ℕ) (before : Equipped) (old between : Dat) (r : Result Told LineError) → IsLineLent typed before old between r → KeepsFrames old between
+line_keeps typed before old between r h = either (switches typed before.machine) _ (λ on. kept_where r old between (h.cleared on) (h.not_cleared on)) (λ off. (h.supply off).1.kept)
+
+pub work_keeps : (typed : List ℕ) (before : Equipped) (old between new : Dat) (r : Result Told LineError) → IsLineLent typed before old between r → TakesPins between new → KeepsFrames old new
+work_keeps typed before old between new r h taken = keeps_frames_on old between new (line_keeps typed before old between r h) taken.kept
+
+-- the frames are as many
+owners_where : (r : Result Told LineError) (old between : Dat) → OnOk r (GivesBack old between) → OnErr r (Supplied old [] between) → length (lent_pool between).supply.owners ≡ length (lent_pool old).supply.owners
+owners_where (Ok told) old between cleared not = lengths_left old between cleared
+owners_where (Err error) old between cleared not = not.paged.same_frames
+
+pins_where : (r : Result Told LineError) (old between : Dat) → OnOk r (GivesBack old between) → OnErr r (Supplied old [] between) → length (lent_pool between).supply.pins ≡ length (lent_pool old).supply.pins
+pins_where (Ok told) old between cleared not = marks_left old between cleared
+pins_where (Err error) old between cleared not = not.paged.same_marks
+
+pub work_between : (typed : List ℕ) (before : Equipped) (old between new : Dat) (r : Result Told LineError) → IsBetweenUnits (lent_pool old).supply → IsLineLent typed before old between r → TakesPins between new → IsBetweenUnits (lent_pool new).supply
+work_between typed before old between new r rest h taken =
+    let owners = either (switches typed before.machine) _ (λ on. owners_where r old between (h.cleared on) (h.not_cleared on)) (λ off. (h.supply off).1.paged.same_frames) in
+    let pins = either (switches typed before.machine) _ (λ on. pins_where r old between (h.cleared on) (h.not_cleared on)) (λ off. (h.supply off).1.paged.same_marks) in
+    between_again (lent_pool old).supply (lent_pool between).supply (lent_pool new).supply rest owners pins taken.supply
+
+-- ---- what a line leaves
+
+leaves_where : (world : World) (user : ℕ) (typed : List ℕ) (before after : Equipped) (r : Result Told LineError) (supply : FrameSupply)
+    → IfOk r (λ told. IsLine world typed before told after) → OnErr r (after ≡ before) → (r ≡ Err errors.Memory → MayTakeMemory (requested typed before) typed before)
+    → (r ≡ Err errors.FramesOut → IsLacking (Touches (line_needs typed before.machine)) (length before.machine.core.processor.bytes) (IsShort supply user (Touches (line_needs typed before.machine))))
+    → LineLeaves world user typed before r after supply
+leaves_where world user typed before after (Ok told) supply ok err memory frames = ok
+leaves_where world user typed before after (Err errors.Memory) supply ok err memory frames = (err, memory refl)
+leaves_where world user typed before after (Err errors.FramesOut) supply ok err memory frames = (err, frames refl)
+
+gives_where : (user : ℕ) (old between new : Dat) (r : Result Told LineError) → user_of old ≡ user → IsBetweenUnits (lent_pool old).supply → TakesPins between new → OnOk r (GivesBack old between) → OnErr r (Supplied old [] between) → LineGivesBack user (lent_pool old).supply r (lent_pool new).supply
+gives_where user old between new (Ok told) u rest taken cleared not =
+    let given : IsGivenBack user (lent_pool old).supply (lent_pool between).supply =
+    subst (λ (n : ℕ). IsGivenBack n (lent_pool old).supply (lent_pool between).supply) u (given_back old between cleared) in
+    given_for user (lent_pool old).supply (lent_pool between).supply (lent_pool new).supply given taken.supply
+gives_where user old between new (Err error) u rest taken cleared not =
+    taken.supply ∙ ap unpinned not.paged.page_ins_are ∙ still (lent_pool old).supply rest
+
+pub typed_work : (world : World) (user : ℕ) (typed : List ℕ) (before after : Equipped) (old between new : Dat) (r : Result Told LineError)
+    → user_of old ≡ user → IsBetweenUnits (lent_pool old).supply → IsLineLent typed before old between r → TakesPins between new
+    → IfOk r (λ told. IsLine world typed before told after) → OnErr r (after ≡ before) → (r ≡ Err errors.Memory → MayTakeMemory (requested typed before) typed before)
+    → HasTyped world user typed before (lent_pool old).supply r after (lent_pool new).supply
+typed_work world user typed before after old between new r u rest h taken ok err memory =
+    let needs : ℕ → Type 0 = Touches (line_needs typed before.machine) in
+    let kept : KeepsFrames old between = line_keeps typed before old between r h in
+    let same : user_of between ≡ user = kept.same_user ∙ u in
+    let paged : switches typed before.machine ≡ false → (pages : List ℕ) × IsPagedFor user pages (lent_pool old).supply (lent_pool between).supply × AllNeeded needs pages =
+    λ off. (let s = h.supply off in (s.0, subst (λ (n : ℕ). IsPagedFor n s.0 (lent_pool old).supply (lent_pool between).supply) u s.1.paged, s.2)) in
+    let frames : r ≡ Err errors.FramesOut → IsLacking needs (length before.machine.core.processor.bytes) (IsShort (lent_pool new).supply user needs) =
+    λ failed. (let l = h.frames failed in
+    record {
+      page = l.page;
+      inside = l.inside;
+      needed = l.needed;
+      short = line_short typed before.machine user l.page (lent_pool old).supply (lent_pool between).supply (lent_pool new).supply rest paged l.needed taken.supply (subst (λ (n : ℕ). IsRefused (lent_pool between).supply n l.page) same l.short);
+    }) in
+    record {
+      leaves = leaves_where world user typed before after r (lent_pool new).supply ok err memory frames;
+      given_back = λ on. gives_where user old between new r u rest taken (h.cleared on) (h.not_cleared on);
+      brought = λ off. (let s = paged off in (s.0, unit_for user s.0 (lent_pool old).supply (lent_pool between).supply (lent_pool new).supply s.1 taken.supply, s.2));
+    }

@@ -1,0 +1,15 @@
+-- What is known in a user's world.
+use Rattle.std.specs.Prelude.{ℕ, Bool, List}
+use Rattle.cp_users.specs.Users.{name_of}
+use Rattle.cp_directory.specs.Users.{DirectoryUser}
+use Rattle.cp_devices.specs.World.{World}
+use Rattle.cp_core.specs.declared.world.Among.{Among}
+use Rattle.cp_core.specs.declared.work.Line.{Line}
+use Rattle.cp_core.specs.System.{world_among}
+
+abbrev pub known_of : Among → World
+known_of a = world_among a.users.now a.own a.on.now
+
+-- the world of a user who types a line
+abbrev pub world_by : List DirectoryUser → Line → World
+world_by directory line = world_among directory line.user line.on.items

@@ -1,0 +1,53 @@
+-- What has come to a user of what is delivered.
+use Rattle.std.specs.Prelude.{◌≡◌, ℕ, ◌<◌, ◌⊎◌, Bool, true, false, List, length, slice_set, Option, Some, None}
+use Rattle.s370_channel.specs.Reading.{as_begun}
+use Rattle.unit_record.specs.declared.reader.Sender.TheVariants as senders
+use Rattle.cp_console.specs.ConsoleLine.{characters_of}
+use Rattle.cp_devices.specs.declared.line.Told.{Told}
+use Rattle.cp_devices.specs.declared.line.Told.TheVariants.{Silent, Said, Files, Sent, Loads, Closed}
+use Rattle.cp_devices.specs.Equipped.{Equipped}
+use Rattle.cp_devices.specs.Life.{Event as Local, Deck as Gets, Message as Hears, Leaves}
+use Rattle.cp_devices.specs.Spooling.{deck_punched}
+use Rattle.cp_core.specs.System.{SystemView, user_at}
+use Rattle.cp_core.specs.declared.delivery.Delivered.{Delivered}
+use Rattle.cp_core.specs.declared.delivery.Delivery.{Delivery}
+use Rattle.cp_core.specs.declared.delivery.Delivery.TheVariants as deliveries
+
+-- what comes of the line of this user: the deck that his punch's file of this index is, or a message
+abbrev pub comes_by_line : ℕ → ℕ → Equipped → Delivery → Local
+comes_by_line user index e (deliveries.Deck number) = Gets (deck_punched e.devices index number (senders.User user))
+comes_by_line user index e (deliveries.Message line) = Hears (characters_of line)
+
+-- what comes of the operator's cards
+abbrev pub comes_from_operator : List (List ℕ) → Delivery → Local
+comes_from_operator cards (deliveries.Deck number) = Gets (record { label = number; sender = senders.System; cards = cards })
+comes_from_operator cards (deliveries.Message line) = Hears (characters_of line)
+
+-- it has come to its receiver, and every other user's machine stays
+pub record ComesTo (coming : Delivery → Local) (delivered : Delivered) (old new : SystemView) : Type 0 where
+  pub inside : delivered.to < length old.users
+  pub comes : Leaves as_begun (coming delivered.what) (user_at old delivered.to) (user_at new delivered.to)
+  pub others : new.users ≡ slice_set old.users delivered.to (user_at new delivered.to)
+
+abbrev pub HasCome : (Delivery → Local) → Option Delivered → SystemView → SystemView → Type 0
+HasCome coming None old new = new.users ≡ old.users
+HasCome coming (Some delivered) old new = ComesTo coming delivered old new
+
+-- ---- what takes memory
+
+-- the punch or the printer, which had closed so many files, has closed one since
+abbrev pub HasClosed : ℕ → ℕ → Equipped → Type 0
+HasClosed punched printed e = (punched < length e.devices.punch.closed) ⊎ (printed < length e.devices.printer.closed)
+
+-- a message is to be sent
+abbrev pub is_sent : Told → Bool
+is_sent (Sent user line) = true
+is_sent Silent = false
+is_sent (Said response) = false
+is_sent Files = false
+is_sent (Loads device) = false
+is_sent Closed = false
+
+-- and what comes of a line that was answered so takes memory only for a message and for files that it closed
+abbrev pub NeedsMemory : ℕ → ℕ → Told → Equipped → Type 0
+NeedsMemory punched printed told e = (is_sent told ≡ true) ⊎ HasClosed punched printed e

@@ -1,0 +1,23 @@
+-- The files of all users: the first has number 1, and each the number after the last.
+use Rattle.std.specs.Prelude.{ℕ, ◌+◌, Bool, true, false, nat_lt, List, [], ◌∷◌, ◌++◌, length}
+use Rattle.cp_devices.specs.declared.files.FileKind.{FileKind}
+use Rattle.cp_devices.specs.declared.files.FileKind.TheVariants as kinds
+use Rattle.cp_devices.specs.Equipped.{Equipped}
+use Rattle.cp_core.specs.declared.files.FileNote.{FileNote}
+
+-- the number of the next file
+abbrev pub next_file : List FileNote → ℕ
+next_file files = length files + 1
+
+abbrev pub note_where : Bool → ℕ → FileKind → List FileNote
+note_where false user kind = []
+note_where true user kind = record { user = user; kind = kind } ∷ []
+
+-- the files that a user's punch and printer, which had closed so many, have closed since, that of the punch first
+abbrev pub closed_since : ℕ → ℕ → ℕ → Equipped → List FileNote
+closed_since user punched printed new =
+    note_where (nat_lt punched (length new.devices.punch.closed)) user kinds.Punch
+    ++ note_where (nat_lt printed (length new.devices.printer.closed)) user kinds.Printer
+
+abbrev pub closed_by : ℕ → Equipped → Equipped → List FileNote
+closed_by user old new = closed_since user (length old.devices.punch.closed) (length old.devices.printer.closed) new

@@ -1,0 +1,99 @@
+-- What an event of the system is to each user: his own part of it, and what comes to him by it.
+use Rattle.std.specs.Prelude.{ℕ, ◌==◌, if◌then◌else◌, List, [], ◌∷◌, ◌++◌, length, Option, Some, None}
+use Rattle.s370_channel.specs.Reading.{as_begun}
+use Rattle.s370_intr.specs.declared.next.Reason.TheVariants.{FramesOut as RunFramesOut}
+use Rattle.s370_intr.specs.declared.run.Ran.{Ran as RanUnits}
+use Rattle.unit_record.specs.declared.reader.Sender.TheVariants as senders
+use Rattle.unit_record.specs.Reader.{DeckValue}
+use Rattle.cp_console.specs.ConsoleLine.{characters_of}
+use Rattle.cp_console.specs.declared.device_commands.DeviceCommand.TheVariants as commands
+use Rattle.cp_devices.specs.declared.request.Request.{Request}
+use Rattle.cp_devices.specs.declared.request.Request.TheVariants.{Asks}
+use Rattle.cp_devices.specs.Life.{Event as Local, Units, Line as Types, Tick as Ticks, Deck as Gets, Message as Hears, Lives}
+use Rattle.cp_devices.specs.Lines.{requested}
+use Rattle.cp_devices.specs.Spooling.{deck_punched}
+use Rattle.cp_devices.specs.World.{World}
+use Rattle.cp_core.specs.Events.{user_of}
+use Rattle.cp_core.specs.System.{SystemView, user_at, world_of}
+use Rattle.cp_core.specs.declared.delivery.Delivered.{Delivered}
+use Rattle.cp_core.specs.declared.delivery.Delivery.{Delivery}
+use Rattle.cp_core.specs.declared.delivery.Delivery.TheVariants as deliveries
+use Rattle.cp_core.specs.declared.events.Ended.{Ended}
+use Rattle.cp_core.specs.declared.events.Ended.TheVariants.{Ran, Done, FramesOut}
+use Rattle.cp_core.specs.declared.events.Event.{Event}
+use Rattle.cp_core.specs.declared.events.Event.TheVariants.{Run, Line, Tick, Deck}
+use Rattle.cp_core.specs.declared.events.Reply.{Reply}
+
+-- an event that was applied, its reply, and what was seen after it
+pub record Step : Type 0 where
+  pub event : Event
+  pub reply : Reply
+  pub seen : SystemView
+
+-- ---- the part of the user whom the event names
+
+-- of the units that were asked for, those that were done where frames were lacking
+abbrev pub units_of : ℕ → RanUnits → ℕ
+units_of asked ran = elim ran.reason [ RunFramesOut ↦ ran.units | _ ↦ asked ]
+
+abbrev pub run_of : ℕ → Ended → List Local
+run_of asked (Ran ran) = Units (units_of asked ran) ∷ []
+run_of asked Done = []
+run_of asked FramesOut = []
+
+-- a line that asks for an IPL, which the control program does not do for its users yet, is no event of the machine
+abbrev pub typed_as : Request → World → List ℕ → List Local
+typed_as (Asks (commands.Ipl device)) world typed = []
+typed_as other world typed = Types world typed ∷ []
+
+-- neither is a line that nothing came of
+abbrev pub line_of : SystemView → ℕ → List ℕ → Ended → List Local
+line_of old user typed Done = typed_as (requested typed (user_at old user)) (world_of old user) typed
+line_of old user typed (Ran ran) = []
+line_of old user typed FramesOut = []
+
+-- nor such a tick
+abbrev pub tick_of : Ended → List Local
+tick_of Done = Ticks ∷ []
+tick_of (Ran ran) = []
+tick_of FramesOut = []
+
+-- of a deck only that it comes
+abbrev pub local_event : SystemView → Event → Ended → List Local
+local_event old (Run user asked) ended = run_of asked ended
+local_event old (Line user typed) ended = line_of old user typed.now ended
+local_event old (Tick user) ended = tick_of ended
+local_event old (Deck user cards) ended = []
+
+-- ---- what comes to a user
+
+-- the deck with this number that came by an event: the operator's cards, or those of the file that the user's punch closed, which
+-- is the first after those of before
+abbrev pub deck_by : Event → SystemView → SystemView → ℕ → DeckValue
+deck_by (Deck user cards) old seen number = record { label = number; sender = senders.System; cards = cards.now }
+deck_by (Line user typed) old seen number =
+    deck_punched (user_at seen user).devices (length (user_at old user).devices.punch.closed) number (senders.User user)
+deck_by (Run user asked) old seen number = record { label = number; sender = senders.System; cards = [] }
+deck_by (Tick user) old seen number = record { label = number; sender = senders.System; cards = [] }
+
+-- a deck comes to the reader, and a message to the console
+abbrev pub coming : SystemView → Step → Delivery → Local
+coming old step (deliveries.Deck number) = Gets (deck_by step.event old step.seen number)
+coming old step (deliveries.Message line) = Hears (characters_of line)
+
+abbrev pub comes_to : ℕ → SystemView → Step → Option Delivered → List Local
+comes_to user old step None = []
+comes_to user old step (Some delivered) = if delivered.to == user then coming old step delivered.what ∷ [] else []
+
+-- ---- a step
+
+abbrev pub own_part : ℕ → SystemView → Step → List Local
+own_part user old step = if user_of step.event == user then local_event old step.event step.reply.ended else []
+
+-- what a step is to a user
+abbrev pub local : ℕ → SystemView → Step → List Local
+local user old step = own_part user old step ++ comes_to user old step step.reply.delivered
+
+-- to each user the step is what his own part of it, and what comes to him, leaves of his machine
+abbrev pub IsApplied : SystemView → Step → Type 0
+IsApplied old step = (user : ℕ) → Lives as_begun (local user old step) (user_at old user) (user_at step.seen user)

@@ -1,0 +1,51 @@
+-- Where memory may be refused, and what is left then.
+use Rattle.std.specs.Prelude.{◌≡◌, ℕ, ◌<◌, ◌==◌, ◌&&◌, Bool, true, false, length}
+use Rattle.cp_console.specs.declared.device_commands.DeviceCommand.{DeviceCommand}
+use Rattle.cp_console.specs.declared.device_commands.DeviceCommand.TheVariants as commands
+use Rattle.cp_devices.specs.declared.request.Request.{Request}
+use Rattle.cp_devices.specs.declared.request.Request.TheVariants.{LogsOn, LogsOff, Resets, Types, Asks, Elsewhere}
+use Rattle.cp_devices.specs.Lines.{MayTakeMemory as LineMayTakeMemory, requested}
+use Rattle.cp_core.specs.Supply.{IsSuppliedInPart}
+use Rattle.cp_core.specs.System.{SystemView, user_at}
+use Rattle.cp_core.specs.declared.events.Event.{Event}
+use Rattle.cp_core.specs.declared.events.Event.TheVariants.{Run, Line, Tick, Deck}
+
+-- the events that may take memory: such lines of a machine with devices, and decks
+abbrev pub MayTakeMemory : SystemView → Event → Type 0
+MayTakeMemory old (Run user asked) = ⊥
+MayTakeMemory old (Line user typed) = LineMayTakeMemory (requested typed.now (user_at old user)) typed.now (user_at old user)
+MayTakeMemory old (Tick user) = ⊥
+MayTakeMemory old (Deck user cards) = 0 < length cards.now
+
+-- CLOSE closes a file
+abbrev pub command_closes : DeviceCommand → Bool
+command_closes (commands.Close device) = true
+command_closes (commands.Ipl device) = false
+command_closes commands.QueryFiles = false
+command_closes commands.QueryUsers = false
+command_closes (commands.Spool device name) = false
+command_closes (commands.Purge file) = false
+command_closes (commands.Message name text) = false
+
+-- and LOGOFF closes two
+abbrev pub closes : Request → Bool
+closes LogsOff = true
+closes (Asks command) = command_closes command
+closes LogsOn = false
+closes Resets = false
+closes Types = false
+closes Elsewhere = false
+
+-- a user whose own line closes files: where memory is refused meanwhile, nothing is said of his machine
+abbrev pub is_cut_short : SystemView → Event → ℕ → Bool
+is_cut_short old (Line named typed) user = (named == user) && closes (requested typed.now (user_at old named))
+is_cut_short old (Run named asked) user = false
+is_cut_short old (Tick named) user = false
+is_cut_short old (Deck named cards) user = false
+
+-- what is left where memory was refused: pages have come and left as the event lets them, and each user is as he was, but for
+-- one whose own line closes files
+pub record IsCutShort (old : SystemView) (event : Event) (new : SystemView) : Type 0 where
+  pub may : MayTakeMemory old event
+  pub supplied : IsSuppliedInPart old event new
+  pub others : (user : ℕ) → is_cut_short old event user ≡ false → user_at new user ≡ user_at old user

@@ -1,0 +1,155 @@
+-- What is told to an event, and what becomes of the files and deliveries of all users.
+use Rattle.std.specs.Prelude.{◌≡◌, ℕ, ◌-◌, nat_lt, if◌then◌else◌, Bool, true, false, List, [], ◌∷◌, ◌++◌, length, slice_get, slice_index_or, slice_set, Option, Some, None}
+use Rattle.s370_store.specs.Access.{Touches}
+use Rattle.s370_intr.specs.Run.{IsLacking}
+use Rattle.unit_record.specs.declared.output.Target.{Target}
+use Rattle.unit_record.specs.declared.output.Target.TheVariants as targets
+use Rattle.unit_record.specs.Output.{FileValue}
+use Rattle.cp_console.specs.declared.responses.Response.TheVariants as responses
+use Rattle.cp_dat.specs.Supplied.{HasNoRoom}
+use Rattle.cp_panel.specs.Panel.{line_needs}
+use Rattle.cp_panel.specs.Run.{TellsRun, notice_of}
+use Rattle.cp_panel.specs.Tick.{TickNeeds}
+use Rattle.cp_devices.specs.declared.files.FileKind.TheVariants as kinds
+use Rattle.cp_devices.specs.declared.line.Told.{Told}
+use Rattle.cp_devices.specs.declared.line.Told.TheVariants.{Silent, Said, Files, Sent, Loads, Closed}
+use Rattle.cp_devices.specs.Equipped.{Equipped}
+use Rattle.cp_devices.specs.Lines.{IsLine, said}
+use Rattle.cp_core.specs.Events.{user_of}
+use Rattle.cp_core.specs.Files.{closed_by, next_file}
+use Rattle.cp_core.specs.Local.{Step}
+use Rattle.cp_core.specs.Supply.{IsShort}
+use Rattle.cp_core.specs.System.{SystemView, deliveries_at, machine_at, user_at, world_of}
+use Rattle.cp_core.specs.declared.delivery.Delivered.{Delivered}
+use Rattle.cp_core.specs.declared.delivery.Delivery.{Delivery}
+use Rattle.cp_core.specs.declared.delivery.Delivery.TheVariants as deliveries
+use Rattle.cp_core.specs.declared.events.Ended.{Ended}
+use Rattle.cp_core.specs.declared.events.Ended.TheVariants.{Ran, Done, FramesOut}
+use Rattle.cp_core.specs.declared.events.Event.{Event}
+use Rattle.cp_core.specs.declared.events.Event.TheVariants.{Run, Line, Tick, Deck}
+use Rattle.cp_core.specs.declared.events.Reply.{Reply}
+use Rattle.cp_core.specs.declared.files.FileNote.{FileNote}
+
+-- ---- out of frames
+
+-- nothing is said, and nothing has happened but that pages came: the event needs one for which there is no room
+pub record IsOut (needs : ℕ → Type 0) (size : ℕ) (old : SystemView) (reply : Reply) (new : SystemView) (is_short : ℕ → Type 0) : Type 0 where
+  pub silent : reply.said ≡ Silent
+  pub none : reply.delivered ≡ None
+  pub same : new ≡ record old { supply = new.supply }
+  pub lacking : IsLacking needs size is_short
+
+-- ---- a run and a tick
+
+-- as the machine alone tells it, with its notice
+abbrev pub TellsOfRun : ℕ → ℕ → SystemView → Reply → Ended → SystemView → Type 0
+TellsOfRun user asked old reply (Ran ran) new =
+    TellsRun asked (machine_at old user) (record { machine = machine_at new user; units = ran.units; reason = ran.reason; notice = notice_of ran.reason }) (HasNoRoom new.supply user)
+    × (reply.said ≡ said (notice_of ran.reason))
+    × (reply.delivered ≡ None)
+TellsOfRun user asked old reply Done new = ⊥
+TellsOfRun user asked old reply FramesOut new = ⊥
+
+abbrev pub TellsOfTick : ℕ → SystemView → Reply → Ended → SystemView → Type 0
+TellsOfTick user old reply Done new = (reply.said ≡ Silent) × (reply.delivered ≡ None)
+TellsOfTick user old reply FramesOut new =
+    IsOut (TickNeeds (machine_at old user)) (length (machine_at old user).core.processor.bytes) old reply new (HasNoRoom new.supply user)
+TellsOfTick user old reply (Ran ran) new = ⊥
+
+-- ---- a line
+
+-- a message is sent to its receiver, a file that was closed has this number, and a machine is not loaded: no such command is
+-- known yet
+abbrev pub said_to_line : ℕ → Told → Told
+said_to_line number Silent = Silent
+said_to_line number (Said response) = Said response
+said_to_line number Files = Files
+said_to_line number (Sent user line) = Said responses.Sent
+said_to_line number (Loads device) = Said responses.UnknownCommand
+said_to_line number Closed = Said (responses.FileClosed number)
+
+-- what is for a user of whom there are fewer comes to nobody
+abbrev pub delivery_to : ℕ → ℕ → Delivery → Option Delivered
+delivery_to users user what = if nat_lt user users then Some (record { to = user; what = what }) else None
+
+-- a file that is for a user comes to his reader, as a deck with this number
+abbrev pub deck_for : ℕ → ℕ → Target → Option Delivered
+deck_for users number targets.System = None
+deck_for users number (targets.User user) = delivery_to users user (deliveries.Deck number)
+
+abbrev pub deck_of : ℕ → ℕ → Option FileValue → Option Delivered
+deck_of users number None = None
+deck_of users number (Some file) = deck_for users number file.target
+
+-- the punch's file of this index, where there is one
+abbrev pub punched : ℕ → ℕ → ℕ → Equipped → Option Delivered
+punched users number index answered = deck_of users number (slice_get answered.devices.punch.closed index)
+
+-- what a line delivers: the message that it sends, or the file that the punch closed, which is the first after those of before
+abbrev pub delivered_by : ℕ → ℕ → ℕ → Told → Equipped → Option Delivered
+delivered_by users number before (Sent user line) answered = delivery_to users user (deliveries.Message line)
+delivered_by users number before Silent answered = punched users number before answered
+delivered_by users number before (Said response) answered = punched users number before answered
+delivered_by users number before Files answered = punched users number before answered
+delivered_by users number before (Loads device) answered = punched users number before answered
+delivered_by users number before Closed answered = punched users number before answered
+
+-- the user's machine answers as a machine with devices does in his world
+pub record IsLineTold (user : ℕ) (typed : List ℕ) (old : SystemView) (reply : Reply) : Type 0 where
+  pub told : Told
+  pub answered : Equipped
+  pub line : IsLine (world_of old user) typed (user_at old user) told answered
+  pub said : reply.said ≡ said_to_line (next_file old.files) told
+  pub delivered : reply.delivered ≡ delivered_by (length old.users) (next_file old.files) (length (user_at old user).devices.punch.closed) told answered
+
+abbrev pub TellsOfLine : ℕ → List ℕ → SystemView → Reply → Ended → SystemView → Type 0
+TellsOfLine user typed old reply Done new = IsLineTold user typed old reply
+TellsOfLine user typed old reply FramesOut new =
+    let needs = Touches (line_needs typed (machine_at old user)) in
+    IsOut needs (length (machine_at old user).core.processor.bytes) old reply new (IsShort new.supply user needs)
+TellsOfLine user typed old reply (Ran ran) new = ⊥
+
+-- ---- a deck of the operator
+
+abbrev pub given : ℕ → List FileNote → List (List ℕ) → Option Delivered
+given user files [] = None
+given user files (card ∷ cards) = Some (record { to = user; what = deliveries.Deck (next_file files) })
+
+abbrev pub TellsOfDeck : ℕ → List (List ℕ) → SystemView → Reply → Ended → Type 0
+TellsOfDeck user cards old reply Done = (reply.said ≡ Silent) × (reply.delivered ≡ given user old.files cards)
+TellsOfDeck user cards old reply FramesOut = ⊥
+TellsOfDeck user cards old reply (Ran ran) = ⊥
+
+-- ---- files and deliveries
+
+-- no cards are no deck
+abbrev pub deck_noted : ℕ → List (List ℕ) → List FileNote
+deck_noted user [] = []
+deck_noted user (card ∷ cards) = record { user = user; kind = kinds.Deck } ∷ []
+
+-- the files that get numbers by an event
+abbrev pub noted_by : Event → SystemView → SystemView → List FileNote
+noted_by (Run user asked) old new = []
+noted_by (Line user typed) old new = closed_by user (user_at old user) (user_at new user)
+noted_by (Tick user) old new = []
+noted_by (Deck user cards) old new = deck_noted user cards.now
+
+abbrev pub with_delivered : Option Delivered → SystemView → List (List Delivery)
+with_delivered None s = s.deliveries
+with_delivered (Some delivered) s = slice_set s.deliveries delivered.to (deliveries_at s delivered.to ++ delivered.what ∷ [])
+
+-- ---- an event
+
+abbrev pub TellsOf : SystemView → Event → Reply → SystemView → Type 0
+TellsOf old (Run user asked) reply new = TellsOfRun user asked old reply reply.ended new
+TellsOf old (Line user typed) reply new = TellsOfLine user typed.now old reply reply.ended new
+TellsOf old (Tick user) reply new = TellsOfTick user old reply reply.ended new
+TellsOf old (Deck user cards) reply new = TellsOfDeck user cards.now old reply reply.ended
+
+-- the reply tells what a machine of its own tells, or that frames are lacking; how many lines joined the console of the user
+-- whom the event names; and what was delivered, and to whom
+pub record IsTold (old : SystemView) (step : Step) : Type 0 where
+  pub tells : TellsOf old step.event step.reply step.seen
+  pub lines : step.reply.lines ≡ length (machine_at step.seen (user_of step.event)).output - length (machine_at old (user_of step.event)).output
+  pub files : step.seen.files ≡ old.files ++ noted_by step.event old step.seen
+  pub deliveries : step.seen.deliveries ≡ with_delivered step.reply.delivered old

@@ -1,0 +1,61 @@
+-- What is done with the machine of one user while its storage is lent: what it leaves of his machine with its devices and of the
+-- frames, and what it tells. No frame is pinned before and after it.
+use Rattle.std.specs.Prelude.{◌≡◌, ℕ, ◌≤◌, List, [], ◌∷◌, true, false, length, Result, Ok, Err}
+use Rattle.s370_store.specs.Access.{Touches}
+use Rattle.s370_store.specs.declared.supply.FramesOut.{FramesOut}
+use Rattle.s370_intr.specs.declared.run.Ran.{Ran}
+use Rattle.s370_intr.specs.Laws.{begun}
+use Rattle.s370_intr.specs.Run.{AllNeeded, EachBrings, IsLacking}
+use Rattle.cp_frames.specs.Layout.{FrameSupply}
+use Rattle.cp_dat.specs.Supplied.{HasNoRoom, IsBroughtInUnits}
+use Rattle.cp_panel.specs.declared.line.LineError.{LineError}
+use Rattle.cp_panel.specs.declared.line.LineError.TheVariants as errors
+use Rattle.cp_panel.specs.Panel.{line_needs, switches}
+use Rattle.cp_panel.specs.Run.{TellsRun, notice_of}
+use Rattle.cp_panel.specs.Tick.{TickNeeds, ticked}
+use Rattle.cp_devices.specs.declared.line.Told.{Told}
+use Rattle.cp_devices.specs.Equipped.{Equipped}
+use Rattle.cp_devices.specs.Lines.{IsLine, MayTakeMemory, requested}
+use Rattle.cp_devices.specs.World.{World}
+use Rattle.cp_core.specs.Supply.{IsGivenBack, IsShort}
+
+-- ---- a run
+
+-- its devices and disks stay, and each unit brings at most nine pages that it needs
+pub record HasRun (asked user : ℕ) (old : Equipped) (before : FrameSupply) (ran : Ran) (new : Equipped) (after : FrameSupply) : Type 0 where
+  pub told : TellsRun asked old.machine (record { machine = new.machine; units = ran.units; reason = ran.reason; notice = notice_of ran.reason }) (HasNoRoom after user)
+  pub devices : new.devices ≡ old.devices
+  pub disks : new.disks ≡ old.disks
+  pub brought : (units : List (List ℕ)) × IsBroughtInUnits user units before after × EachBrings old.machine.core 0 units × (length units ≤ begun ran.units ran.reason)
+
+-- ---- a tick
+
+abbrev pub TickLeaves : ℕ → Equipped → Result (Unit {0}) FramesOut → Equipped → FrameSupply → Type 0
+TickLeaves user old (Ok done) new after = (new.machine ≡ ticked old.machine) × (new.devices ≡ old.devices) × (new.disks ≡ old.disks)
+TickLeaves user old (Err out) new after =
+    (new ≡ old) × IsLacking (TickNeeds old.machine) (length old.machine.core.processor.bytes) (HasNoRoom after user)
+
+-- it brings page 0 at most
+pub record HasTicked (user : ℕ) (old : Equipped) (before : FrameSupply) (result : Result (Unit {0}) FramesOut) (new : Equipped) (after : FrameSupply) : Type 0 where
+  pub leaves : TickLeaves user old result new after
+  pub brought : (pages : List ℕ) × IsBroughtInUnits user (pages ∷ []) before after × AllNeeded (TickNeeds old.machine) pages × (length pages ≤ 1)
+
+-- ---- a line
+
+abbrev pub LineLeaves : World → ℕ → List ℕ → Equipped → Result Told LineError → Equipped → FrameSupply → Type 0
+LineLeaves world user typed old (Ok told) new after = IsLine world typed old told new
+LineLeaves world user typed old (Err errors.Memory) new after = (new ≡ old) × MayTakeMemory (requested typed old) typed old
+LineLeaves world user typed old (Err errors.FramesOut) new after =
+    let needs = Touches (line_needs typed old.machine) in
+    (new ≡ old) × IsLacking needs (length old.machine.core.processor.bytes) (IsShort after user needs)
+
+-- LOGON and LOGOFF give back all pages, unless they are refused memory
+abbrev pub LineGivesBack : ℕ → FrameSupply → Result Told LineError → FrameSupply → Type 0
+LineGivesBack user before (Ok told) after = IsGivenBack user before after
+LineGivesBack user before (Err error) after = after ≡ before
+
+-- every other line brings pages that it needs
+pub record HasTyped (world : World) (user : ℕ) (typed : List ℕ) (old : Equipped) (before : FrameSupply) (result : Result Told LineError) (new : Equipped) (after : FrameSupply) : Type 0 where
+  pub leaves : LineLeaves world user typed old result new after
+  pub given_back : switches typed old.machine ≡ true → LineGivesBack user before result after
+  pub brought : switches typed old.machine ≡ false → (pages : List ℕ) × IsBroughtInUnits user (pages ∷ []) before after × AllNeeded (Touches (line_needs typed old.machine)) pages

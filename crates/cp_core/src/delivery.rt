@@ -1,0 +1,47 @@
+//! What comes to a user by what others do: decks and messages.
+ghost use Rattle.std.specs.Prelude.{◌≡◌};
+
+use cp_console::console_line::ConsoleLine;
+use cp_users::UserNo;
+use unit_record::Deck;
+
+/// What a user was told as delivered to him.
+#[derive(Clone, Copy, Debug, PartialEq, Eq)]
+pub enum Delivery {
+    /// The deck of the file with this number, which is the last of his reader.
+    Deck(u64),
+    /// A message, as the whole line that his console prints.
+    Message(ConsoleLine),
+}
+
+/// What was delivered by an event, and to whom.
+#[derive(Clone, Copy, Debug, PartialEq, Eq)]
+pub struct Delivered {
+    /// The number of the user.
+    pub to: UserNo,
+    /// What he gets.
+    pub what: Delivery,
+}
+
+/// What is to be delivered to a user.
+#[derive(Drop)]
+pub(crate) enum Parcel {
+    /// A deck for the reader.
+    Deck(Deck),
+    /// A line for the console.
+    Message(ConsoleLine),
+}
+
+impl Parcel {
+    ghost use Rattle.cp_core.specs.Parcels.{note_of};
+
+    /// How it is told.
+    pub(crate) fn note(&self) -> Delivery
+        ensures { result ≡ note_of self.now }
+    {
+        match self {
+            Parcel::Deck(deck) => Delivery::Deck(deck.label()),
+            Parcel::Message(line) => Delivery::Message(*line),
+        }
+    }
+}

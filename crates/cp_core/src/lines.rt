@@ -1,0 +1,279 @@
+//! Lines of users, and decks of the operator: what comes of them for the files of all, and for others.
+ghost use Rattle.std.specs.Prelude.{◌≡◌, ◌<◌, ◌++◌, [], ◌∷◌, None, Some, IfOk, OnErr, OnOk, length, nat_lt, if◌then◌else◌, slice_set};
+ghost use Rattle.cp_dat.specs.Supplied.{IsBetweenUnits};
+ghost use Rattle.cp_core.specs.declared.events.Event.TheVariants as happening;
+ghost use Rattle.cp_core.specs.Come.{HasClosed, HasCome, NeedsMemory, comes_by_line, comes_from_operator};
+ghost use Rattle.cp_core.specs.Files.{closed_since, next_file};
+ghost use Rattle.cp_core.specs.Histories.{IsStep};
+ghost use Rattle.cp_core.specs.Memory.{IsCutShort};
+ghost use Rattle.cp_core.specs.Parcels.{contents, note_of};
+ghost use Rattle.cp_core.specs.System.{SystemView, logged_on_of, user_at, world_of};
+ghost use Rattle.cp_core.specs.Told.{delivered_by, delivery_to, punched, said_to_line, with_delivered};
+ghost use Rattle.cp_core.specs.Work.{HasTyped};
+
+use crate::delivery::{Delivered, Delivery, Parcel};
+use crate::events::{Ended, Reply};
+use crate::system::System;
+use crate::work::Line;
+use arrayvec::ArrayVec;
+use cp_console::responses::Response;
+use cp_devices::{FileKind, Told, copy_of, is_logged_on};
+use cp_panel::LineError;
+use cp_users::UserNo;
+use std::alloc::AllocError;
+use unit_record::{Card, Deck, Sender, Target};
+
+/// How many files the punch and the printer of a user have closed.
+#[derive(Clone, Copy)]
+struct Closed {
+    punched: usize,
+    printed: usize,
+}
+
+/// What is said to a line that was answered so, where the next file has this number. Users cannot load their machines
+/// yet: no such command is known.
+fn said_to_line(number: u64, told: &Told) -> Told
+    ensures { result ≡ said_to_line number told.now }
+{
+    match told {
+        Told::Sent(_, _) => Told::Said(Response::Sent),
+        Told::Loads(_) => Told::Said(Response::UnknownCommand),
+        Told::Closed => Told::Said(Response::FileClosed(number)),
+        Told::Silent | Told::Said(_) | Told::Files => *told,
+    }
+}
+
+impl System {
+    /// A line that a user types, and what comes of it for the files of all, and for others.
+    pub(crate) fn line(&mut self, user: usize, typed: &[u8]) -> Result<Reply, AllocError>
+        requires { user < length self.old.users }
+        ensures step { IfOk result
+            (λ reply. IsStep self.old
+            (record { event = happening.Line user typed.entry; reply = reply; seen = self.new })) }
+        ensures cut { OnErr result (IsCutShort self.old (happening.Line user typed.entry) self.new) }
+        ensures directory { self.new.directory ≡ self.old.directory }
+        ensures spent { self.new.is_spent ≡ self.old.is_spent }
+    {
+        let printed = self.printed_by(user);
+        let closed = self.closed_by(user);
+        let number = self.next_file();
+        match self.type_line(user, typed) {
+            Ok(told) => {
+                let delivered = self.follow(user, closed, &told)?;
+                Ok(Reply {
+                    ended: Ended::Done,
+                    said: said_to_line(number, &told),
+                    lines: self.printed_by(user).saturating_sub(printed),
+                    delivered,
+                })
+            }
+            Err(LineError::FramesOut) => Ok(Reply::silent(Ended::FramesOut)),
+            Err(LineError::Memory) => Err(AllocError),
+        }
+    }
+
+    /// How many files the punch and the printer of a user have closed.
+    fn closed_by(&self, user: usize) -> Closed
+        requires { user < length self.now.users }
+        ensures punched { result.punched ≡ length (user_at self.now user).devices.punch.closed }
+        ensures printed { result.printed ≡ length (user_at self.now user).devices.printer.closed }
+    {
+        let devices = &self.users[user].devices;
+        Closed {
+            punched: devices.punch().closed().len(),
+            printed: devices.printer().closed().len(),
+        }
+    }
+
+    /// Of each user, whether he is logged on.
+    fn logged_on(&self) -> ArrayVec<bool, 64>
+        ensures { result.items ≡ logged_on_of self.now.users }
+    {
+        let mut on = ArrayVec::new();
+        for user in &self.users {
+            on.push(is_logged_on(user.machine.mode()));
+        }
+        on
+    }
+
+    /// A line that a user types, in his world.
+    fn type_line(&mut self, user: usize, typed: &[u8]) -> Result<Told, LineError>
+        requires { user < length self.old.users }
+        ensures typed { HasTyped (world_of self.old user) user typed.now (user_at self.old user) self.old.supply result
+            (user_at self.new user) self.new.supply }
+        ensures rest { self.new ≡ record self.old {
+          users = slice_set self.old.users user (user_at self.new user);
+          supply = self.new.supply;
+        } }
+        ensures between_before { IsBetweenUnits self.old.supply }
+        ensures between { IsBetweenUnits self.new.supply }
+    {
+        let line = Line {
+            alloc: self.alloc,
+            user: UserNo::new(user as u8),
+            on: self.logged_on(),
+            typed,
+        };
+        self.lend(user, &line)
+    }
+
+    /// What a line that was answered so, where so many files had been closed before, brings about: each file that it
+    /// closed has the next number, and the deck or the message that is for a user comes to him.
+    fn follow(
+        &mut self,
+        user: usize,
+        closed: Closed,
+        told: &Told,
+    ) -> Result<Option<Delivered>, AllocError>
+        requires { user < length self.old.users }
+        ensures delivered { IfOk result
+            (λ delivered. delivered ≡ delivered_by (length self.old.users)
+            (next_file self.old.files) closed.punched told.now (user_at self.old user)) }
+        ensures files { OnOk result
+            (self.new.files ≡ self.old.files
+            ++ closed_since user closed.punched closed.printed (user_at self.old user)) }
+        ensures come { IfOk result
+            (λ delivered. HasCome (comes_by_line user closed.punched
+            (user_at self.old user)) delivered self.old self.new) }
+        ensures deliveries { IfOk result (λ delivered. self.new.deliveries ≡ with_delivered delivered self.old) }
+        ensures err { OnErr result (self.new.users ≡ self.old.users) }
+        ensures memory { OnErr result (NeedsMemory closed.punched closed.printed told.now (user_at self.old user)) }
+        ensures supply { self.new.supply ≡ self.old.supply }
+        ensures directory { self.new.directory ≡ self.old.directory }
+        ensures spent { self.new.is_spent ≡ self.old.is_spent }
+    {
+        let number = self.next_file();
+        self.note_closed(user, closed)?;
+        match told {
+            Told::Sent(to, line) => self.deliver_to(*to, Parcel::Message(*line)),
+            _ => self.deliver_punched(user, closed.punched, number),
+        }
+    }
+
+    /// Each file that a user's punch and printer have closed since has the next number, that of the punch first.
+    fn note_closed(&mut self, user: usize, closed: Closed) -> Result<(), AllocError>
+        requires { user < length self.old.users }
+        ensures ok { OnOk result (self.new
+            ≡ record self.old {
+              files = self.old.files
+                  ++ closed_since user closed.punched closed.printed (user_at self.old user);
+            }) }
+        ensures err { OnErr result (self.new ≡ record self.old { files = self.new.files }) }
+        ensures memory { OnErr result (HasClosed closed.punched closed.printed (user_at self.old user)) }
+    {
+        let now = self.closed_by(user);
+        let number = UserNo::new(user as u8);
+        if now.punched > closed.punched {
+            self.note(number, FileKind::Punch)?;
+        }
+        if now.printed > closed.printed {
+            self.note(number, FileKind::Printer)?;
+        }
+        Ok(())
+    }
+
+    /// The punch's closed file of this index, where there is one that is for a user, comes to him as a deck with this
+    /// number.
+    fn deliver_punched(
+        &mut self,
+        user: usize,
+        index: usize,
+        number: u64,
+    ) -> Result<Option<Delivered>, AllocError>
+        requires { user < length self.old.users }
+        ensures delivered { IfOk result
+            (λ delivered. delivered ≡ punched (length self.old.users) number index (user_at self.old user)) }
+        ensures come { IfOk result
+            (λ delivered. HasCome (comes_by_line user index (user_at self.old user)) delivered self.old self.new) }
+        ensures rest { IfOk result
+            (λ delivered. self.new ≡ record self.old {
+              users = self.new.users;
+              deliveries = with_delivered delivered self.old;
+            }) }
+        ensures err { OnErr result (self.new ≡ record self.old { deliveries = self.new.deliveries }) }
+        ensures memory { OnErr result (index < length (user_at self.old user).devices.punch.closed) }
+    {
+        let devices = &self.users[user].devices;
+        let Some(file) = devices.punch().closed().get(index) else {
+            return Ok(None);
+        };
+        let Target::User(to) = file.target() else {
+            return Ok(None);
+        };
+        let sender = Sender::User(user as u8);
+        let deck = devices.deck_of_punched(self.alloc, index, number, sender)?;
+        self.deliver_to(to, Parcel::Deck(deck))
+    }
+
+    /// A parcel comes to the user of this number, where there is one.
+    fn deliver_to(&mut self, to: u8, parcel: Parcel) -> Result<Option<Delivered>, AllocError>
+        ensures delivered { IfOk result
+            (λ delivered. delivered ≡ delivery_to (length self.old.users) to (note_of parcel)) }
+        ensures come { IfOk result (λ delivered. HasCome (λ note. contents parcel) delivered self.old self.new) }
+        ensures rest { IfOk result
+            (λ delivered. self.new ≡ record self.old {
+              users = self.new.users;
+              deliveries = with_delivered delivered self.old;
+            }) }
+        ensures err { OnErr result (self.new ≡ record self.old { deliveries = self.new.deliveries }) }
+    {
+        let place = usize::from(to);
+        if place >= self.users() {
+            return Ok(None);
+        }
+        let what = parcel.note();
+        self.deliver(place, parcel)?;
+        Ok(Some(Delivered {
+            to: UserNo::new(to),
+            what,
+        }))
+    }
+
+    /// The operator gives a deck of these cards to a user; no cards are no deck.
+    pub(crate) fn deck(&mut self, user: usize, cards: &[Card]) -> Result<Reply, AllocError>
+        requires { user < length self.old.users }
+        ensures step { IfOk result
+            (λ reply. IsStep self.old
+            (record { event = happening.Deck user cards.entry; reply = reply; seen = self.new })) }
+        ensures cut { OnErr result (IsCutShort self.old (happening.Deck user cards.entry) self.new) }
+        ensures directory { self.new.directory ≡ self.old.directory }
+        ensures spent { self.new.is_spent ≡ self.old.is_spent }
+    {
+        if cards.is_empty() {
+            return Ok(Reply::silent(Ended::Done));
+        }
+        let delivered = self.give(user, cards)?;
+        Ok(Reply {
+            ended: Ended::Done,
+            said: Told::Silent,
+            lines: 0,
+            delivered: Some(delivered),
+        })
+    }
+
+    /// A deck of these cards, with the next number, comes to a user.
+    fn give(&mut self, user: usize, cards: &[Card]) -> Result<Delivered, AllocError>
+        requires { user < length self.old.users }
+        ensures delivered { IfOk result
+            (λ delivered. delivered ≡ record { to = user; what = Delivery.Deck (next_file self.old.files) }) }
+        ensures come { IfOk result
+            (λ delivered. HasCome (comes_from_operator cards.now) (Some delivered) self.old self.new) }
+        ensures rest { IfOk result (λ delivered. self.new ≡ record self.old {
+          users = self.new.users;
+          files = self.old.files ++ record { user = user; kind = FileKind.Deck } ∷ [];
+          deliveries = with_delivered (Some delivered) self.old;
+        }) }
+        ensures err { OnErr result
+            (self.new ≡ record self.old { files = self.new.files; deliveries = self.new.deliveries }) }
+    {
+        let number = self.next_file();
+        let to = UserNo::new(user as u8);
+        let deck = Deck::new(number, Sender::System, copy_of(self.alloc, cards)?);
+        self.note(to, FileKind::Deck)?;
+        self.deliver(user, Parcel::Deck(deck))?;
+        Ok(Delivered {
+            to,
+            what: Delivery::Deck(number),
+        })
+    }
+}

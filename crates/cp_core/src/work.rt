@@ -1,0 +1,137 @@
+//! What is done with the machine of one user while its storage is lent from frames: a run, a tick, a line.
+ghost use Rattle.std.specs.Prelude.{◌≡◌, ℕ, ◌≤◌, List, [], length};
+ghost use Rattle.cp_directory.specs.Users.{DirectoryUser};
+ghost use Rattle.cp_frames.specs.Layout.{FrameSupply};
+ghost use Rattle.cp_dat.specs.Lent.{KeepsFrames, lent_bytes, lent_keys, lent_pool, user_of};
+ghost use Rattle.cp_dat.specs.Supplied.{IsBetweenUnits};
+ghost use Rattle.cp_devices.specs.Equipped.{Equipped, equipped};
+
+use crate::world::Among;
+use arrayvec::ArrayVec;
+use cp_channels::NoDisks;
+use cp_dat::Dat;
+use cp_devices::{Devices, Told};
+use cp_directory::Directory;
+use cp_panel::{LineError, Machine};
+use cp_trap::VirtualCpu;
+use cp_users::UserNo;
+use s370_intr::Ran;
+use s370_store::{FramesOut, UnitSupply};
+use std::alloc::Global;
+
+/// What is done with the machine of one user.
+pub(crate) trait Work {
+    /// What it tells.
+    type Answer;
+
+    /// Among these users, what it leaves of the machine with its devices and of the frames of this one, and tells.
+    ghost Does: { Self → List DirectoryUser → ℕ → Equipped → FrameSupply → Self.Answer → Equipped → FrameSupply
+        → Type 0 };
+
+    /// Does it. No frame is pinned before and after.
+    fn work(
+        &self,
+        directory: &Directory,
+        machine: &mut Machine,
+        devices: &mut Devices,
+        storage: &mut Dat<'_>,
+    ) -> Self::Answer
+        requires large { 8192 ≤ length (lent_bytes storage.old) }
+        requires between { IsBetweenUnits (lent_pool storage.old).supply }
+        ensures does { let before = equipped machine.old devices.old [] (lent_bytes storage.old)
+            (lent_keys storage.old) in
+            let after = equipped machine.new devices.new [] (lent_bytes storage.new) (lent_keys storage.new) in
+            Does self.now directory.now (user_of storage.old) before (lent_pool storage.old).supply result after (lent_pool storage.new).supply }
+        ensures kept { KeepsFrames storage.old storage.new }
+        ensures size { length (lent_bytes storage.new) ≡ length (lent_bytes storage.old) }
+        ensures between { IsBetweenUnits (lent_pool storage.new).supply };
+}
+
+/// The machine is let run for at most so many units. This takes no memory.
+#[derive(Clone, Copy)]
+pub(crate) struct Units(pub(crate) u32);
+
+impl Work for Units {
+    type Answer = Ran;
+
+    ghost use Rattle.cp_core.specs.Work.{HasRun};
+
+    ghost Does = { λ units directory. HasRun units.0 };
+
+    #[inline(always)]
+    fn work(
+        &self,
+        _directory: &Directory,
+        machine: &mut Machine,
+        _devices: &mut Devices,
+        storage: &mut Dat<'_>,
+    ) -> Ran {
+        machine.run::<VirtualCpu, Dat<'_>>(storage, self.0)
+    }
+}
+
+/// The interval timer ticks. This takes no memory.
+#[derive(Clone, Copy)]
+pub(crate) struct Tick;
+
+impl Work for Tick {
+    type Answer = Result<(), FramesOut>;
+
+    ghost use Rattle.cp_core.specs.Work.{HasTicked};
+
+    ghost Does = { λ tick directory. HasTicked };
+
+    fn work(
+        &self,
+        _directory: &Directory,
+        machine: &mut Machine,
+        _devices: &mut Devices,
+        storage: &mut Dat<'_>,
+    ) -> Result<(), FramesOut> {
+        machine.tick(storage)
+    }
+}
+
+/// A user types a line. It holds what it brings until it ends.
+#[derive(Drop)]
+pub(crate) struct Line<'a> {
+    pub(crate) alloc: Global,
+    /// The user.
+    pub(crate) user: UserNo,
+    /// Of each user, whether he is logged on.
+    pub(crate) on: ArrayVec<bool, 64>,
+    pub(crate) typed: &'a [u8],
+}
+
+impl<'a> Work for Line<'a> {
+    type Answer = Result<Told, LineError>;
+
+    ghost use Rattle.cp_core.specs.Among.{world_by};
+    ghost use Rattle.cp_core.specs.Work.{HasTyped};
+
+    ghost Does = { λ line directory user. HasTyped (world_by directory line) user line.typed.now };
+
+    fn work(
+        &self,
+        directory: &Directory,
+        machine: &mut Machine,
+        devices: &mut Devices,
+        storage: &mut Dat<'_>,
+    ) -> Result<Told, LineError> {
+        let world = Among {
+            users: directory.users(),
+            own: self.user,
+            on: self.on.as_slice(),
+        };
+        let told = devices.line(
+            self.alloc,
+            machine,
+            storage,
+            &mut NoDisks,
+            &world,
+            self.typed,
+        );
+        storage.let_go();
+        told
+    }
+}

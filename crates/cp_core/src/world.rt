@@ -1,0 +1,46 @@
+//! The world of one user: the users of the directory, and who of them is logged on.
+ghost use Rattle.std.specs.Prelude.{◌≤◌, length};
+
+use cp_devices::World;
+use cp_directory::User;
+use cp_users::{UserNo, name_of, user_of};
+
+/// What the control program knows beside the machine of one user.
+#[derive(Clone, Copy)]
+pub(crate) struct Among<'a> {
+    /// The users of the directory.
+    pub(crate) users: &'a [User],
+    /// The user whose machine it is.
+    pub(crate) own: UserNo,
+    /// Of each user, whether he is logged on.
+    pub(crate) on: &'a [bool],
+    ghost few: { length users.now ≤ 64 },
+}
+
+impl<'a> World for Among<'a> {
+    ghost use Rattle.cp_core.specs.Among.{known_of};
+
+    ghost known = { known_of };
+
+    fn user_of(&self, name: &[u8]) -> Option<u8> {
+        match user_of(self.users, name) {
+            Some(user) => Some(user.number()),
+            None => None,
+        }
+    }
+
+    fn own_name(&self) -> &[u8] {
+        name_of(self.users, self.own)
+    }
+
+    fn is_on(&self, user: u8) -> bool {
+        match self.on.get(usize::from(user)) {
+            Some(on) => *on,
+            None => false,
+        }
+    }
+
+    fn users_on(&self) -> u64 {
+        self.on.iter().filter(|on| **on).count() as u64
+    }
+}
