@@ -1,5 +1,6 @@
 -- The channels of a machine: the programs of its devices run on them, and its disks hang on them.
 use Rattle.std.specs.Prelude.{ℕ, ◌≡◌, Bool, List, set, slice_get, Option, Some, None}
+use Rattle.s370_store.specs.Access.{IsAway}
 use Rattle.s370_walk.specs.declared.parts.Ending.{Ending}
 use Rattle.s370_walk.specs.Hardware.{Machine, Memory}
 use Rattle.s370_walk.specs.Short.{nothing_needed}
@@ -62,10 +63,10 @@ LoadsDisk old disks index ending new disks' = LoadsAt old disks index (slice_get
 
 -- ---- why a program is not run to its end
 
--- what holds where a page is not present, and not where memory was refused
-abbrev pub WhereAbsent : Type 0 → ChannelError → Type 0
-WhereAbsent P errors.Memory = Unit {0}
-WhereAbsent P (errors.Absent page) = P
+-- what holds where a page of storage is not present, which is told, and not where memory was refused
+abbrev pub WhereAbsent : ℕ → (ℕ → Bool) → Type 0 → ChannelError → Type 0
+WhereAbsent size present P errors.Memory = Unit {0}
+WhereAbsent size present P (errors.Absent page) = IsAway size present page.0 × P
 
 -- a device that is never refused memory stops for want of a page alone
 abbrev pub StopsForPage : {D : Type 0} → Machine D → (ℕ → Bool) → Caw → Memory → D → ChannelError → Type 0

@@ -57,7 +57,7 @@ pub trait Channels<S: Storage>: Disks {
             → IfErr result (IsStopped D.machine D.needs_memory (S.present storage.old) start
             (memory_of (S.bytes storage.old) (S.keys storage.old)) device.old) }
         ensures whole { is_whole ≡ true
-            → IfErr result (WhereAbsent
+            → IfErr result (WhereAbsent (length (S.bytes storage.old)) (S.present storage.old)
             ((S.bytes storage.new ≡ S.bytes storage.old) × (device.new ≡ device.old)
             × (Self.disks self.new ≡ Self.disks self.old))) }
         ensures keys { S.keys storage.new ≡ S.keys storage.old }
@@ -79,7 +79,7 @@ pub trait Channels<S: Storage>: Disks {
             → IfErr result (StopsDisk (S.present storage.old) start
             (memory_of (S.bytes storage.old) (S.keys storage.old)) (slice_get (Self.disks self.old) index)) }
         ensures whole { is_whole ≡ true
-            → IfErr result (WhereAbsent
+            → IfErr result (WhereAbsent (length (S.bytes storage.old)) (S.present storage.old)
             ((S.bytes storage.new ≡ S.bytes storage.old) × (Self.disks self.new ≡ Self.disks self.old))) }
         ensures keys { S.keys storage.new ≡ S.keys storage.old }
         ensures rest { S.Keeps storage.old storage.new };

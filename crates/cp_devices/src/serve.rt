@@ -40,7 +40,8 @@ impl Devices {
             (S.keys storage.old) in
             let after = equipped machine.new self.new (C.disks channels.new) (S.bytes storage.new)
             (S.keys storage.new) in
-            C.is_whole ≡ true → IfErr result (WhereAbsent (after ≡ before)) }
+            C.is_whole ≡ true
+            → IfErr result (WhereAbsent (length (S.bytes storage.old)) (S.present storage.old) (after ≡ before)) }
         ensures stopped { let before = equipped machine.old self.old (C.disks channels.old) (S.bytes storage.old)
             (S.keys storage.old) in
             C.is_whole ≡ false → IfErr result (StopsAt C.reads (S.present storage.old) device before) }
@@ -80,7 +81,8 @@ impl Devices {
             (S.keys storage.old) in
             let after = equipped machine.new self.new (C.disks channels.new) (S.bytes storage.new)
             (S.keys storage.new) in
-            C.is_whole ≡ true → IfErr result (WhereAbsent (after ≡ before)) }
+            C.is_whole ≡ true
+            → IfErr result (WhereAbsent (length (S.bytes storage.old)) (S.present storage.old) (after ≡ before)) }
         ensures stopped { let before = equipped machine.old self.old (C.disks channels.old) (S.bytes storage.old)
             (S.keys storage.old) in
             C.is_whole ≡ false → IfErr result (StopsKind C.reads (S.present storage.old) kind start before) }
@@ -123,7 +125,8 @@ impl Devices {
             (S.keys storage.old) in
             let after = equipped machine.new self.new (C.disks channels.new) (S.bytes storage.new)
             (S.keys storage.new) in
-            C.is_whole ≡ true → IfErr result (WhereAbsent (after ≡ before)) }
+            C.is_whole ≡ true
+            → IfErr result (WhereAbsent (length (S.bytes storage.old)) (S.present storage.old) (after ≡ before)) }
         ensures stopped { let before = equipped machine.old self.old (C.disks channels.old) (S.bytes storage.old)
             (S.keys storage.old) in
             C.is_whole ≡ false → IfErr result (StopsConsole C.reads (S.present storage.old) start before) }
