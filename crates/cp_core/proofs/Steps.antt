@@ -27,7 +27,7 @@ use Rattle.cp_devices.specs.declared.line.Told.{Told}
 use Rattle.cp_devices.specs.declared.line.Told.TheVariants.{Silent}
 use Rattle.cp_devices.specs.declared.files.FileKind.TheVariants as kinds
 use Rattle.cp_devices.specs.Equipped.{Equipped}
-use Rattle.cp_devices.specs.Life.{Event as Local, Units, Tick as Ticks, Deck as Gets, Leaves, Lives}
+use Rattle.cp_devices.specs.Life.{Event as Local, Units, Serve as Serves, Tick as Ticks, Deck as Gets, Leaves, Lives}
 use Rattle.cp_devices.specs.Lines.{requested, said}
 use Rattle.cp_devices.specs.Spooling.{cards_of}
 use Rattle.cp_core.specs.Come.{HasCome, NeedsMemory, comes_by_line, comes_from_operator}
@@ -39,12 +39,12 @@ use Rattle.cp_core.specs.Replies.{silent}
 use Rattle.cp_core.specs.Supply.{IsGivenBack}
 use Rattle.cp_core.specs.System.{SystemView, machine_at, nobody, user_at, world_of}
 use Rattle.cp_core.specs.Told.{deck_noted, delivered_by, given, said_to_line, with_delivered}
-use Rattle.cp_core.specs.Work.{HasRun, HasTicked, HasTyped}
+use Rattle.cp_core.specs.Work.{HasRun, HasServed, HasTicked, HasTyped}
 use Rattle.cp_core.specs.declared.delivery.Delivered.{Delivered}
 use Rattle.cp_core.specs.declared.delivery.Delivery.{Delivery}
 use Rattle.cp_core.specs.declared.delivery.Delivery.TheVariants as deliveries
-use Rattle.cp_core.specs.declared.events.Ended.TheVariants.{Ran, Done, FramesOut}
-use Rattle.cp_core.specs.declared.events.Event.TheVariants.{Run, Line, Tick, Deck}
+use Rattle.cp_core.specs.declared.events.Ended.TheVariants.{Ran, Served, Done, FramesOut}
+use Rattle.cp_core.specs.declared.events.Event.TheVariants.{Run, Line, Tick, Deck, Serve}
 use Rattle.cp_core.specs.declared.events.Reply.{Reply}
 use Rattle.cp_core.specs.declared.files.FileNote.{FileNote}
 use Rattle.cp_core.proofs.Answered.{follow_may, follow_same, lives_line}
@@ -277,6 +277,56 @@ line_cut old middle new user typed told punched printed h lent rest between at_p
       };
       others = λ u not. ap (λ (us : List Equipped). get_or us u nobody) users ∙ follow_others old middle user u (user == u) (closes q) lent (λ none. follow_same q w typed.now e told (user_at middle user) none h.leaves now) refl not;
     }
+
+-- ---- a serve
+
+pub serve_done : (old new : SystemView) (user device : ℕ) (done : Bool) (lines : ℕ) → HasServed device user (user_at old user) old.supply (Ok done) (user_at new user) new.supply → IsLent old user new → IsBetweenUnits old.supply → IsBetweenUnits new.supply
+    → lines ≡ length (machine_at new user).output - length (machine_at old user).output
+    → IsStep old (record { event = Serve user device; reply = record { ended = Served done; said = Silent; lines = lines; delivered = None }; seen = new })
+serve_done old new user device done lines h lent rest between l = record {
+  applied = alone old new user (Serves device ∷ []) lent (user_at new user, (done, h.leaves), refl);
+  told = record {
+    tells = (h.leaves, refl, refl);
+    lines = l;
+    files = ap (λ (x : SystemView). x.files) lent ∙ sym (append-nil old.files);
+    deliveries = ap (λ (x : SystemView). x.deliveries) lent;
+  };
+  supplied = record {
+    between_before = rest;
+    between = between;
+    given_back = λ on. absurd (false≢true on);
+    brought = λ off. (h.brought.0 ∷ [], h.brought.1, (h.brought.0, refl, h.brought.2));
+  };
+}
+
+pub serve_out : (old new : SystemView) (user device : ℕ) → HasServed device user (user_at old user) old.supply (Err errors.FramesOut) (user_at new user) new.supply → IsLent old user new → IsBetweenUnits old.supply → IsBetweenUnits new.supply → IsStep old (record { event = Serve user device; reply = silent FramesOut; seen = new })
+serve_out old new user device h lent rest between = record {
+  applied = alone old new user [] lent h.leaves.0;
+  told = record {
+    tells = record { silent = refl; none = refl; same = unchanged old new user lent h.leaves.0; lacking = h.leaves.1 };
+    lines = same_lines (user_at new user) (user_at old user) (ap (λ (e : Equipped). e.machine.output) h.leaves.0);
+    files = ap (λ (x : SystemView). x.files) lent ∙ sym (append-nil old.files);
+    deliveries = ap (λ (x : SystemView). x.deliveries) lent;
+  };
+  supplied = record {
+    between_before = rest;
+    between = between;
+    given_back = λ on. absurd (false≢true on);
+    brought = λ off. (h.brought.0 ∷ [], h.brought.1, (h.brought.0, refl, h.brought.2));
+  };
+}
+
+pub serve_cut : (old new : SystemView) (user device : ℕ) → HasServed device user (user_at old user) old.supply (Err errors.Memory) (user_at new user) new.supply → IsLent old user new → IsBetweenUnits old.supply → IsBetweenUnits new.supply → IsCutShort old (Serve user device) new
+serve_cut old new user device h lent rest between = record {
+  may = h.leaves;
+  supplied = record {
+    between_before = rest;
+    between = between;
+    given_back = λ on. absurd (false≢true on);
+    brought = λ off. (h.brought.0 ∷ [], h.brought.1, (h.brought.0, refl, h.brought.2));
+  };
+  others = λ u other. others_stay user old.users new.users (ap (λ (x : SystemView). x.users) lent) u other;
+}
 
 -- ---- a deck
 

@@ -1,9 +1,11 @@
 -- What is done with a machine while its storage is lent, by what its own calls leave.
 use Rattle.std.proofs.Common.{◌≡◌, ◌∙◌, ap, sym, subst, ℕ, Bool, true, false, List, [], ◌∷◌, length, replicate, refl, Result, Ok, Err}
-use Rattle.std.specs.Prelude.{IfOk, OnErr, OnOk}
+use Rattle.std.specs.Prelude.{IfOk, IsSome, OnErr, OnOk}
 use Rattle.std.proofs.lemmas.List.{length-replicate}
 use Rattle.s370_store.specs.Access.{Touches}
+use Rattle.s370_channel.specs.Reading.{as_begun}
 use Rattle.s370_intr.specs.Run.{AllNeeded, IsLacking}
+use Rattle.s370_subchannels.specs.Programs.{program_of}
 use Rattle.cp_frames.specs.Layout.{FrameSupply}
 use Rattle.cp_frames.specs.Paging.{IsRefused}
 use Rattle.cp_dat.specs.declared.dat.Dat.{Dat}
@@ -16,10 +18,11 @@ use Rattle.cp_panel.specs.Panel.{line_needs, switches}
 use Rattle.cp_devices.specs.declared.line.Told.{Told}
 use Rattle.cp_devices.specs.Equipped.{Equipped}
 use Rattle.cp_devices.specs.Lines.{IsLine, MayTakeMemory, requested}
+use Rattle.cp_devices.specs.Serve.{IsServedAt}
 use Rattle.cp_devices.specs.World.{World}
-use Rattle.cp_core.specs.Supply.{IsGivenBack, IsShort}
-use Rattle.cp_core.specs.Work.{HasTyped, LineGivesBack, LineLeaves}
-use Rattle.cp_core.proofs.Kept.{either, given_back, given_for, lengths_left, line_short, marks_left}
+use Rattle.cp_core.specs.Supply.{IsGivenBack, IsShort, ProgramNeeds}
+use Rattle.cp_core.specs.Work.{HasServed, HasTyped, LineGivesBack, LineLeaves, ServeLeaves}
+use Rattle.cp_core.proofs.Kept.{either, given_back, given_for, lengths_left, line_short, marks_left, short_of}
 
 -- where no frame is pinned, nothing is taken away with the pins
 still : (supply : FrameSupply) → IsBetweenUnits supply → unpinned supply ≡ supply
@@ -100,4 +103,44 @@ typed_work world user typed before after old between new r u rest h taken ok err
       leaves = leaves_where world user typed before after r (lent_pool new).supply ok err memory frames;
       given_back = λ on. gives_where user old between new r u rest taken (h.cleared on) (h.not_cleared on);
       brought = λ off. (let s = paged off in (s.0, unit_for user s.0 (lent_pool old).supply (lent_pool between).supply (lent_pool new).supply s.1 taken.supply, s.2));
+    }
+
+-- ---- what a serve leaves
+
+serve_leaves : (device user : ℕ) (before after : Equipped) (r : Result Bool LineError) (supply : FrameSupply)
+    → IfOk r (λ done. IsServedAt as_begun device before done after) → (r ≡ Err errors.FramesOut → after ≡ before)
+    → (r ≡ Err errors.FramesOut → IsLacking ProgramNeeds (length before.machine.core.processor.bytes) (IsShort supply user ProgramNeeds))
+    → (r ≡ Err errors.Memory → IsSome (program_of device before.machine.core.subchannels))
+    → ServeLeaves device user before r after supply
+serve_leaves device user before after (Ok done) supply ok same frames memory = ok
+serve_leaves device user before after (Err errors.Memory) supply ok same frames memory = memory refl
+serve_leaves device user before after (Err errors.FramesOut) supply ok same frames memory = (same refl, frames refl)
+
+pub serve_keeps : (old between new : Dat) (pages : List ℕ) → Supplied old pages between → TakesPins between new → KeepsFrames old new
+serve_keeps old between new pages brought taken = keeps_frames_on old between new brought.kept taken.kept
+
+pub serve_between : (old between new : Dat) (pages : List ℕ) → IsBetweenUnits (lent_pool old).supply → Supplied old pages between → TakesPins between new → IsBetweenUnits (lent_pool new).supply
+serve_between old between new pages rest brought taken =
+    between_again (lent_pool old).supply (lent_pool between).supply (lent_pool new).supply rest brought.paged.same_frames brought.paged.same_marks taken.supply
+
+pub serve_work : (device user : ℕ) (before after : Equipped) (old between new : Dat) (r : Result Bool LineError) (pages : List ℕ)
+    → user_of old ≡ user → IsBetweenUnits (lent_pool old).supply → Supplied old pages between → AllNeeded ProgramNeeds pages → TakesPins between new
+    → IfOk r (λ done. IsServedAt as_begun device before done after) → (r ≡ Err errors.FramesOut → after ≡ before)
+    → (r ≡ Err errors.FramesOut → IsLacking ProgramNeeds (length before.machine.core.processor.bytes) (λ page. IsRefused (lent_pool between).supply (user_of between) page))
+    → (r ≡ Err errors.Memory → IsSome (program_of device before.machine.core.subchannels))
+    → HasServed device user before (lent_pool old).supply r after (lent_pool new).supply
+serve_work device user before after old between new r pages u rest brought all taken ok same frames memory =
+    let paged : IsPagedFor user pages (lent_pool old).supply (lent_pool between).supply =
+    subst (λ (n : ℕ). IsPagedFor n pages (lent_pool old).supply (lent_pool between).supply) u brought.paged in
+    let lacking : r ≡ Err errors.FramesOut → IsLacking ProgramNeeds (length before.machine.core.processor.bytes) (IsShort (lent_pool new).supply user ProgramNeeds) =
+    λ failed. (let l = frames failed in
+    record {
+      page = l.page;
+      inside = l.inside;
+      needed = l.needed;
+      short = short_of user l.page pages ProgramNeeds (lent_pool old).supply (lent_pool between).supply (lent_pool new).supply rest paged all taken.supply (subst (λ (n : ℕ). IsRefused (lent_pool between).supply n l.page) (brought.kept.same_user ∙ u) l.short);
+    }) in
+    record {
+      leaves = serve_leaves device user before after r (lent_pool new).supply ok same lacking memory;
+      brought = (pages, unit_for user pages (lent_pool old).supply (lent_pool between).supply (lent_pool new).supply paged taken.supply, all);
     }

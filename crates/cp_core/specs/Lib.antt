@@ -2,6 +2,7 @@ pub mod Events
 pub mod Files
 pub mod UserMachines
 pub mod System
+pub mod Stated
 pub mod Among
 pub mod Boot
 pub mod Local
@@ -12,6 +13,7 @@ pub mod Work
 pub mod Supply
 pub mod Come
 pub mod Memory
+pub mod Steady
 pub mod Histories
 pub mod Loan
 pub mod Whole

@@ -9,7 +9,7 @@ use Rattle.cp_console.specs.ConsoleLine.{characters_of}
 use Rattle.cp_console.specs.declared.device_commands.DeviceCommand.TheVariants as commands
 use Rattle.cp_devices.specs.declared.request.Request.{Request}
 use Rattle.cp_devices.specs.declared.request.Request.TheVariants.{Asks}
-use Rattle.cp_devices.specs.Life.{Event as Local, Units, Line as Types, Tick as Ticks, Deck as Gets, Message as Hears, Lives}
+use Rattle.cp_devices.specs.Life.{Event as Local, Units, Serve as Serves, Line as Types, Tick as Ticks, Deck as Gets, Message as Hears, Lives}
 use Rattle.cp_devices.specs.Lines.{requested}
 use Rattle.cp_devices.specs.Spooling.{deck_punched}
 use Rattle.cp_devices.specs.World.{World}
@@ -19,9 +19,9 @@ use Rattle.cp_core.specs.declared.delivery.Delivered.{Delivered}
 use Rattle.cp_core.specs.declared.delivery.Delivery.{Delivery}
 use Rattle.cp_core.specs.declared.delivery.Delivery.TheVariants as deliveries
 use Rattle.cp_core.specs.declared.events.Ended.{Ended}
-use Rattle.cp_core.specs.declared.events.Ended.TheVariants.{Ran, Done, FramesOut}
+use Rattle.cp_core.specs.declared.events.Ended.TheVariants.{Ran, Done, Served, FramesOut}
 use Rattle.cp_core.specs.declared.events.Event.{Event}
-use Rattle.cp_core.specs.declared.events.Event.TheVariants.{Run, Line, Tick, Deck}
+use Rattle.cp_core.specs.declared.events.Event.TheVariants.{Run, Line, Tick, Deck, Serve}
 use Rattle.cp_core.specs.declared.events.Reply.{Reply}
 
 -- an event that was applied, its reply, and what was seen after it
@@ -38,6 +38,7 @@ units_of asked ran = elim ran.reason [ RunFramesOut ↦ ran.units | _ ↦ asked 
 
 abbrev pub run_of : ℕ → Ended → List Local
 run_of asked (Ran ran) = Units (units_of asked ran) ∷ []
+run_of asked (Served done) = []
 run_of asked Done = []
 run_of asked FramesOut = []
 
@@ -50,13 +51,22 @@ typed_as other world typed = Types world typed ∷ []
 abbrev pub line_of : SystemView → ℕ → List ℕ → Ended → List Local
 line_of old user typed Done = typed_as (requested typed (user_at old user)) (world_of old user) typed
 line_of old user typed (Ran ran) = []
+line_of old user typed (Served done) = []
 line_of old user typed FramesOut = []
 
 -- nor such a tick
 abbrev pub tick_of : Ended → List Local
 tick_of Done = Ticks ∷ []
 tick_of (Ran ran) = []
+tick_of (Served done) = []
 tick_of FramesOut = []
+
+-- nor a serve that was out of frames
+abbrev pub serve_of : ℕ → Ended → List Local
+serve_of device (Served done) = Serves device ∷ []
+serve_of device (Ran ran) = []
+serve_of device Done = []
+serve_of device FramesOut = []
 
 -- of a deck only that it comes
 abbrev pub local_event : SystemView → Event → Ended → List Local
@@ -64,6 +74,7 @@ local_event old (Run user asked) ended = run_of asked ended
 local_event old (Line user typed) ended = line_of old user typed.now ended
 local_event old (Tick user) ended = tick_of ended
 local_event old (Deck user cards) ended = []
+local_event old (Serve user device) ended = serve_of device ended
 
 -- ---- what comes to a user
 
@@ -75,6 +86,7 @@ deck_by (Line user typed) old seen number =
     deck_punched (user_at seen user).devices (length (user_at old user).devices.punch.closed) number (senders.User user)
 deck_by (Run user asked) old seen number = record { label = number; sender = senders.System; cards = [] }
 deck_by (Tick user) old seen number = record { label = number; sender = senders.System; cards = [] }
+deck_by (Serve user device) old seen number = record { label = number; sender = senders.System; cards = [] }
 
 -- a deck comes to the reader, and a message to the console
 abbrev pub coming : SystemView → Step → Delivery → Local

@@ -13,9 +13,9 @@ use Rattle.cp_panel.specs.Tick.{TickNeeds}
 use Rattle.cp_core.specs.Events.{user_of}
 use Rattle.cp_core.specs.System.{SystemView, machine_at}
 use Rattle.cp_core.specs.declared.events.Ended.{Ended}
-use Rattle.cp_core.specs.declared.events.Ended.TheVariants.{Ran, Done, FramesOut}
+use Rattle.cp_core.specs.declared.events.Ended.TheVariants.{Ran, Served, Done, FramesOut}
 use Rattle.cp_core.specs.declared.events.Event.{Event}
-use Rattle.cp_core.specs.declared.events.Event.TheVariants.{Run, Line, Tick, Deck}
+use Rattle.cp_core.specs.declared.events.Event.TheVariants.{Run, Line, Tick, Deck, Serve}
 
 -- ---- no room
 
@@ -50,12 +50,14 @@ gives_back old (Run user asked) = false
 gives_back old (Line user typed) = switches typed.now (machine_at old user)
 gives_back old (Tick user) = false
 gives_back old (Deck user cards) = false
+gives_back old (Serve user device) = false
 
 -- ---- pages that come
 
 abbrev pub RunBrings : Machine → Ended → List (List ℕ) → Type 0
 RunBrings m (Ran ran) units =
     EachBrings m.core 0 units × (length units ≤ begun ran.units ran.reason) × (length (concat units) ≤ 9 * begun ran.units ran.reason)
+RunBrings m (Served done) units = ⊥
 RunBrings m Done units = ⊥
 RunBrings m FramesOut units = ⊥
 
@@ -63,13 +65,19 @@ RunBrings m FramesOut units = ⊥
 abbrev pub OneBrings : (ℕ → Type 0) → List (List ℕ) → Type 0
 OneBrings needs units = (pages : List ℕ) × (units ≡ pages ∷ []) × AllNeeded needs pages
 
+-- a channel program may need any page: which of them is not told yet
+abbrev pub ProgramNeeds : ℕ → Type 0
+ProgramNeeds page = Unit {0}
+
 -- what the units of an event may bring: each unit of a run, and the one that lacked a page, nine pages that it needs; a line, as
--- one unit, those of the bytes that it shows or changes; a tick the page of the timer, of a machine that runs; a deck none
+-- one unit, those of the bytes that it shows or changes; a tick the page of the timer, of a machine that runs; a deck none; a serve, as one unit, those of
+-- the program
 abbrev pub MayBring : SystemView → Event → Ended → List (List ℕ) → Type 0
 MayBring old (Run user asked) ended units = RunBrings (machine_at old user) ended units
 MayBring old (Line user typed) ended units = OneBrings (Touches (line_needs typed.now (machine_at old user))) units
 MayBring old (Tick user) ended units = OneBrings (TickNeeds (machine_at old user)) units × (length (concat units) ≤ 1)
 MayBring old (Deck user cards) ended units = units ≡ []
+MayBring old (Serve user device) ended units = OneBrings ProgramNeeds units
 
 -- pages came as an event's units may bring them, and no others
 abbrev pub IsBroughtBy : SystemView → Event → Ended → SystemView → Type 0

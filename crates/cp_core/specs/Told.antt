@@ -1,6 +1,7 @@
 -- What is told to an event, and what becomes of the files and deliveries of all users.
 use Rattle.std.specs.Prelude.{◌≡◌, ℕ, ◌-◌, nat_lt, if◌then◌else◌, Bool, true, false, List, [], ◌∷◌, ◌++◌, length, slice_get, slice_index_or, slice_set, Option, Some, None}
 use Rattle.s370_store.specs.Access.{Touches}
+use Rattle.s370_channel.specs.Reading.{as_begun}
 use Rattle.s370_intr.specs.Run.{IsLacking}
 use Rattle.unit_record.specs.declared.output.Target.{Target}
 use Rattle.unit_record.specs.declared.output.Target.TheVariants as targets
@@ -15,18 +16,19 @@ use Rattle.cp_devices.specs.declared.line.Told.{Told}
 use Rattle.cp_devices.specs.declared.line.Told.TheVariants.{Silent, Said, Files, Sent, Loads, Closed}
 use Rattle.cp_devices.specs.Equipped.{Equipped}
 use Rattle.cp_devices.specs.Lines.{IsLine, said}
+use Rattle.cp_devices.specs.Serve.{IsServedAt}
 use Rattle.cp_core.specs.Events.{user_of}
 use Rattle.cp_core.specs.Files.{closed_by, next_file}
 use Rattle.cp_core.specs.Local.{Step}
-use Rattle.cp_core.specs.Supply.{IsShort}
+use Rattle.cp_core.specs.Supply.{IsShort, ProgramNeeds}
 use Rattle.cp_core.specs.System.{SystemView, deliveries_at, machine_at, user_at, world_of}
 use Rattle.cp_core.specs.declared.delivery.Delivered.{Delivered}
 use Rattle.cp_core.specs.declared.delivery.Delivery.{Delivery}
 use Rattle.cp_core.specs.declared.delivery.Delivery.TheVariants as deliveries
 use Rattle.cp_core.specs.declared.events.Ended.{Ended}
-use Rattle.cp_core.specs.declared.events.Ended.TheVariants.{Ran, Done, FramesOut}
+use Rattle.cp_core.specs.declared.events.Ended.TheVariants.{Ran, Served, Done, FramesOut}
 use Rattle.cp_core.specs.declared.events.Event.{Event}
-use Rattle.cp_core.specs.declared.events.Event.TheVariants.{Run, Line, Tick, Deck}
+use Rattle.cp_core.specs.declared.events.Event.TheVariants.{Run, Line, Tick, Deck, Serve}
 use Rattle.cp_core.specs.declared.events.Reply.{Reply}
 use Rattle.cp_core.specs.declared.files.FileNote.{FileNote}
 
@@ -47,6 +49,7 @@ TellsOfRun user asked old reply (Ran ran) new =
     TellsRun asked (machine_at old user) (record { machine = machine_at new user; units = ran.units; reason = ran.reason; notice = notice_of ran.reason }) (HasNoRoom new.supply user)
     × (reply.said ≡ said (notice_of ran.reason))
     × (reply.delivered ≡ None)
+TellsOfRun user asked old reply (Served done) new = ⊥
 TellsOfRun user asked old reply Done new = ⊥
 TellsOfRun user asked old reply FramesOut new = ⊥
 
@@ -55,6 +58,7 @@ TellsOfTick user old reply Done new = (reply.said ≡ Silent) × (reply.delivere
 TellsOfTick user old reply FramesOut new =
     IsOut (TickNeeds (machine_at old user)) (length (machine_at old user).core.processor.bytes) old reply new (HasNoRoom new.supply user)
 TellsOfTick user old reply (Ran ran) new = ⊥
+TellsOfTick user old reply (Served done) new = ⊥
 
 -- ---- a line
 
@@ -108,6 +112,7 @@ TellsOfLine user typed old reply FramesOut new =
     let needs = Touches (line_needs typed (machine_at old user)) in
     IsOut needs (length (machine_at old user).core.processor.bytes) old reply new (IsShort new.supply user needs)
 TellsOfLine user typed old reply (Ran ran) new = ⊥
+TellsOfLine user typed old reply (Served done) new = ⊥
 
 -- ---- a deck of the operator
 
@@ -119,6 +124,18 @@ abbrev pub TellsOfDeck : ℕ → List (List ℕ) → SystemView → Reply → En
 TellsOfDeck user cards old reply Done = (reply.said ≡ Silent) × (reply.delivered ≡ given user old.files cards)
 TellsOfDeck user cards old reply FramesOut = ⊥
 TellsOfDeck user cards old reply (Ran ran) = ⊥
+TellsOfDeck user cards old reply (Served done) = ⊥
+
+-- ---- a serve
+
+-- the device is served as that of a machine of its own whose program was as it stood when it began, and tells whether there was one
+abbrev pub TellsOfServe : ℕ → ℕ → SystemView → Reply → Ended → SystemView → Type 0
+TellsOfServe user device old reply (Served done) new =
+    IsServedAt as_begun device (user_at old user) done (user_at new user) × (reply.said ≡ Silent) × (reply.delivered ≡ None)
+TellsOfServe user device old reply FramesOut new =
+    IsOut ProgramNeeds (length (machine_at old user).core.processor.bytes) old reply new (IsShort new.supply user ProgramNeeds)
+TellsOfServe user device old reply Done new = ⊥
+TellsOfServe user device old reply (Ran ran) new = ⊥
 
 -- ---- files and deliveries
 
@@ -133,6 +150,7 @@ noted_by (Run user asked) old new = []
 noted_by (Line user typed) old new = closed_by user (user_at old user) (user_at new user)
 noted_by (Tick user) old new = []
 noted_by (Deck user cards) old new = deck_noted user cards.now
+noted_by (Serve user device) old new = []
 
 abbrev pub with_delivered : Option Delivered → SystemView → List (List Delivery)
 with_delivered None s = s.deliveries
@@ -145,6 +163,7 @@ TellsOf old (Run user asked) reply new = TellsOfRun user asked old reply reply.e
 TellsOf old (Line user typed) reply new = TellsOfLine user typed.now old reply reply.ended new
 TellsOf old (Tick user) reply new = TellsOfTick user old reply reply.ended new
 TellsOf old (Deck user cards) reply new = TellsOfDeck user cards.now old reply reply.ended
+TellsOf old (Serve user device) reply new = TellsOfServe user device old reply reply.ended new
 
 -- the reply tells what a machine of its own tells, or that frames are lacking; how many lines joined the console of the user
 -- whom the event names; and what was delivered, and to whom

@@ -1,11 +1,13 @@
 -- What is done with the machine of one user while its storage is lent: what it leaves of his machine with its devices and of the
 -- frames, and what it tells. No frame is pinned before and after it.
-use Rattle.std.specs.Prelude.{◌≡◌, ℕ, ◌≤◌, List, [], ◌∷◌, true, false, length, Result, Ok, Err}
+use Rattle.std.specs.Prelude.{◌≡◌, ℕ, ◌≤◌, Bool, List, [], ◌∷◌, true, false, length, IsSome, Result, Ok, Err}
 use Rattle.s370_store.specs.Access.{Touches}
 use Rattle.s370_store.specs.declared.supply.FramesOut.{FramesOut}
+use Rattle.s370_channel.specs.Reading.{as_begun}
 use Rattle.s370_intr.specs.declared.run.Ran.{Ran}
 use Rattle.s370_intr.specs.Laws.{begun}
 use Rattle.s370_intr.specs.Run.{AllNeeded, EachBrings, IsLacking}
+use Rattle.s370_subchannels.specs.Programs.{program_of}
 use Rattle.cp_frames.specs.Layout.{FrameSupply}
 use Rattle.cp_dat.specs.Supplied.{HasNoRoom, IsBroughtInUnits}
 use Rattle.cp_panel.specs.declared.line.LineError.{LineError}
@@ -16,8 +18,9 @@ use Rattle.cp_panel.specs.Tick.{TickNeeds, ticked}
 use Rattle.cp_devices.specs.declared.line.Told.{Told}
 use Rattle.cp_devices.specs.Equipped.{Equipped}
 use Rattle.cp_devices.specs.Lines.{IsLine, MayTakeMemory, requested}
+use Rattle.cp_devices.specs.Serve.{IsServedAt}
 use Rattle.cp_devices.specs.World.{World}
-use Rattle.cp_core.specs.Supply.{IsGivenBack, IsShort}
+use Rattle.cp_core.specs.Supply.{IsGivenBack, IsShort, ProgramNeeds}
 
 -- ---- a run
 
@@ -59,3 +62,16 @@ pub record HasTyped (world : World) (user : ℕ) (typed : List ℕ) (old : Equip
   pub leaves : LineLeaves world user typed old result new after
   pub given_back : switches typed old.machine ≡ true → LineGivesBack user before result after
   pub brought : switches typed old.machine ≡ false → (pages : List ℕ) × IsBroughtInUnits user (pages ∷ []) before after × AllNeeded (Touches (line_needs typed old.machine)) pages
+
+-- ---- a serve
+
+abbrev pub ServeLeaves : ℕ → ℕ → Equipped → Result Bool LineError → Equipped → FrameSupply → Type 0
+ServeLeaves device user old (Ok done) new after = IsServedAt as_begun device old done new
+ServeLeaves device user old (Err errors.Memory) new after = IsSome (program_of device old.machine.core.subchannels)
+ServeLeaves device user old (Err errors.FramesOut) new after =
+    (new ≡ old) × IsLacking ProgramNeeds (length old.machine.core.processor.bytes) (IsShort after user ProgramNeeds)
+
+-- it brings pages of the program
+pub record HasServed (device user : ℕ) (old : Equipped) (before : FrameSupply) (result : Result Bool LineError) (new : Equipped) (after : FrameSupply) : Type 0 where
+  pub leaves : ServeLeaves device user old result new after
+  pub brought : (pages : List ℕ) × IsBroughtInUnits user (pages ∷ []) before after × AllNeeded ProgramNeeds pages

@@ -7,6 +7,7 @@ use cp_devices::Told;
 use cp_directory::Volser;
 use cp_users::UserNo;
 use s370_intr::Ran;
+use s370_num::DevAddr;
 use thiserror::Error;
 use unit_record::Card;
 
@@ -21,6 +22,9 @@ pub enum Event<'a> {
     Tick(UserNo),
     /// The operator gives a deck of these cards to a user's reader; no cards are no deck.
     Deck(UserNo, &'a [Card]),
+    /// The device of this address of a user's machine is served: the channel program that was started on it runs as a
+    /// whole.
+    Serve(UserNo, DevAddr),
 }
 
 impl<'a> Event<'a> {
@@ -35,6 +39,7 @@ impl<'a> Event<'a> {
             Event::Line(user, _) => *user,
             Event::Tick(user) => *user,
             Event::Deck(user, _) => *user,
+            Event::Serve(user, _) => *user,
         }
     }
 }
@@ -44,9 +49,11 @@ impl<'a> Event<'a> {
 pub enum Ended {
     /// A run: so many units were done, and why no more.
     Ran(Ran),
+    /// A serve: whether there was a program.
+    Served(bool),
     /// Any other event is done.
     Done,
-    /// Any other event needs a page for which there is no room. Nothing has happened.
+    /// An event that is no run needs a page for which there is no room. Nothing has happened.
     FramesOut,
 }
 
@@ -90,6 +97,9 @@ pub enum CpError {
     /// The directory has no such user. Nothing has happened.
     #[error("the directory has no such user")]
     NoSuchUser,
+    /// The directory gives the user no device of this address. Nothing has happened.
+    #[error("the user has no such device")]
+    NoSuchDevice,
 }
 
 /// Why a system was not booted.

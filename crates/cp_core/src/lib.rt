@@ -23,6 +23,8 @@ mod files;
 mod lines;
 mod loan;
 mod ready;
+mod refusing;
+mod serving;
 mod system;
 mod user_machine;
 mod views;

@@ -1,5 +1,5 @@
 //! The system: its users, their machines with their devices, and the frames that they share.
-ghost use Rattle.std.specs.Prelude.{◌≡◌, ◌<◌, ◌≤◌, ◌↔◌, ℕ, [], ◌∷◌, ◌++◌, Err, true, false, IsOk, IfOk, OnErr, OnOk, length, slice_set};
+ghost use Rattle.std.specs.Prelude.{◌≡◌, ◌<◌, ◌≤◌, ◌↔◌, ℕ, [], ◌∷◌, ◌++◌, Err, true, false, IsOk, IfOk, OnErr, OnOk, length, slice_get, slice_set};
 ghost use Rattle.s370_channel.specs.Reading.{as_begun};
 ghost use Rattle.cp_dat.specs.Supplied.{IsBetweenUnits};
 ghost use Rattle.cp_devices.specs.Life.{Leaves};
@@ -8,8 +8,9 @@ ghost use Rattle.cp_core.specs.Events.{IsNoRun, user_of};
 ghost use Rattle.cp_core.specs.Files.{next_file};
 ghost use Rattle.cp_core.specs.Histories.{EachIsBare, IsStep};
 ghost use Rattle.cp_core.specs.Local.{IsApplied};
-ghost use Rattle.cp_core.specs.Memory.{MayTakeMemory, is_cut_short};
+ghost use Rattle.cp_core.specs.Memory.{IsCutShort, MayTakeMemory, is_cut_short};
 ghost use Rattle.cp_core.specs.Parcels.{contents, note_of};
+ghost use Rattle.cp_core.specs.Stated.{LacksDevice, states_device};
 ghost use Rattle.cp_core.specs.Supply.{IsSupplied, IsSuppliedInPart};
 ghost use Rattle.cp_core.specs.System.{SystemView, deliveries_at, machine_at, user_at};
 ghost use Rattle.cp_core.specs.Told.{IsTold};
@@ -18,12 +19,13 @@ use crate::delivery::Parcel;
 use crate::events::{CpError, Ended, Event, Reply};
 use crate::files::FileNote;
 use crate::user_machine::UserMachine;
-use crate::work::{Tick, Units, Work};
+use crate::work::{Service, Tick, Units, Work};
 use cp_devices::{FileKind, Told};
 use cp_directory::Directory;
 use cp_frames::Frames;
-use cp_panel::notice_of;
+use cp_panel::{LineError, notice_of};
 use cp_users::UserNo;
+use s370_num::DevAddr;
 use std::alloc::{AllocError, Global};
 use std::marker::Model;
 
@@ -130,6 +132,7 @@ impl System {
             ↔ ((self.now.is_spent ≡ false) × (length self.now.users ≤ user)) }
         ensures not_stated { result ≡ Err CpError.NoSuchUser → length self.now.directory ≤ user }
         ensures memory { result ≡ Err CpError.Memory → ⊥ }
+        ensures no_device { result ≡ Err CpError.NoSuchDevice → ⊥ }
     {
         if self.is_spent() {
             return Err(CpError::Spent);
@@ -139,6 +142,16 @@ impl System {
             return Err(CpError::NoSuchUser);
         }
         Ok(place)
+    }
+
+    /// Whether the directory gives a user a device of this address.
+    fn states_device(&self, user: usize, device: DevAddr) -> bool
+        ensures { result ≡ states_device device (slice_get self.now.directory user) }
+    {
+        match self.directory.users().get(user) {
+            Some(user) => user.has_device(device),
+            None => false,
+        }
     }
 
     /// How many lines the console of a user has printed.
@@ -215,6 +228,10 @@ impl System {
             ↔ ((self.old.is_spent ≡ false) × (length self.old.users ≤ user_of event.entry)) }
         ensures not_stated { result ≡ Err CpError.NoSuchUser → length self.old.directory ≤ user_of event.entry }
         ensures unchanged_for_nobody { result ≡ Err CpError.NoSuchUser → self.new ≡ self.old }
+        ensures no_such_device { (result ≡ Err CpError.NoSuchDevice)
+            ↔ ((self.old.is_spent ≡ false) × (user_of event.entry < length self.old.users)
+            × LacksDevice self.old event.entry) }
+        ensures unchanged_for_no_device { result ≡ Err CpError.NoSuchDevice → self.new ≡ self.old }
         ensures memory { result ≡ Err CpError.Memory → (self.new.is_spent ≡ true) × MayTakeMemory self.old event.entry }
         ensures unchanged_without_memory { result ≡ Err CpError.Memory → (user : ℕ)
             → is_cut_short self.old event.entry user ≡ false → user_at self.new user ≡ user_at self.old user }
@@ -227,6 +244,7 @@ impl System {
             Event::Line(user, typed) => self.apply_apart(Event::Line(user, typed)),
             Event::Tick(user) => self.apply_apart(Event::Tick(user)),
             Event::Deck(user, cards) => self.apply_apart(Event::Deck(user, cards)),
+            Event::Serve(user, device) => self.apply_apart(Event::Serve(user, device)),
         }
     }
 
@@ -246,6 +264,10 @@ impl System {
             ↔ ((self.old.is_spent ≡ false) × (length self.old.users ≤ user_of event.entry)) }
         ensures not_stated { result ≡ Err CpError.NoSuchUser → length self.old.directory ≤ user_of event.entry }
         ensures unchanged_for_nobody { result ≡ Err CpError.NoSuchUser → self.new ≡ self.old }
+        ensures no_such_device { (result ≡ Err CpError.NoSuchDevice)
+            ↔ ((self.old.is_spent ≡ false) × (user_of event.entry < length self.old.users)
+            × LacksDevice self.old event.entry) }
+        ensures unchanged_for_no_device { result ≡ Err CpError.NoSuchDevice → self.new ≡ self.old }
         ensures memory { result ≡ Err CpError.Memory → (self.new.is_spent ≡ true) × MayTakeMemory self.old event.entry }
         ensures unchanged_without_memory { result ≡ Err CpError.Memory → (user : ℕ)
             → is_cut_short self.old event.entry user ≡ false → user_at self.new user ≡ user_at self.old user }
@@ -266,6 +288,16 @@ impl System {
             Event::Deck(user, cards) => {
                 let place = self.place_of(user)?;
                 match self.deck(place, cards) {
+                    Ok(reply) => Ok(reply),
+                    Err(_) => Err(self.spend()),
+                }
+            }
+            Event::Serve(user, device) => {
+                let place = self.place_of(user)?;
+                if !self.states_device(place, device) {
+                    return Err(CpError::NoSuchDevice);
+                }
+                match self.serve(place, device) {
                     Ok(reply) => Ok(reply),
                     Err(_) => Err(self.spend()),
                 }
@@ -301,6 +333,29 @@ impl System {
         match self.lend(user, &Tick) {
             Ok(()) => Reply::silent(Ended::Done),
             Err(_) => Reply::silent(Ended::FramesOut),
+        }
+    }
+
+    /// A device of a user's machine is served.
+    fn serve(&mut self, user: usize, device: DevAddr) -> Result<Reply, AllocError>
+        requires { user < length self.old.users }
+        ensures step { IfOk result
+            (λ reply. IsStep self.old
+            (record { event = Event.Serve user device; reply = reply; seen = self.new })) }
+        ensures cut { OnErr result (IsCutShort self.old (Event.Serve user device) self.new) }
+        ensures directory { self.new.directory ≡ self.old.directory }
+        ensures spent { self.new.is_spent ≡ self.old.is_spent }
+    {
+        let before = self.printed_by(user);
+        match self.lend(user, &Service { device }) {
+            Ok(done) => Ok(Reply {
+                ended: Ended::Served(done),
+                said: Told::Silent,
+                lines: self.printed_by(user).saturating_sub(before),
+                delivered: None,
+            }),
+            Err(LineError::FramesOut) => Ok(Reply::silent(Ended::FramesOut)),
+            Err(LineError::Memory) => Err(AllocError),
         }
     }
 }

@@ -1,4 +1,5 @@
-//! What is done with the machine of one user while its storage is lent from frames: a run, a tick, a line.
+//! What is done with the machine of one user while its storage is lent from frames: a run, a tick, a line,
+//! a serve.
 ghost use Rattle.std.specs.Prelude.{◌≡◌, ℕ, ◌≤◌, List, [], length};
 ghost use Rattle.cp_directory.specs.Users.{DirectoryUser};
 ghost use Rattle.cp_frames.specs.Layout.{FrameSupply};
@@ -6,6 +7,8 @@ ghost use Rattle.cp_dat.specs.Lent.{KeepsFrames, lent_bytes, lent_keys, lent_poo
 ghost use Rattle.cp_dat.specs.Supplied.{IsBetweenUnits};
 ghost use Rattle.cp_devices.specs.Equipped.{Equipped, equipped};
 
+use crate::refusing::Refusing;
+use crate::serving::serve_supplied;
 use crate::world::Among;
 use arrayvec::ArrayVec;
 use cp_channels::NoDisks;
@@ -16,6 +19,7 @@ use cp_panel::{LineError, Machine};
 use cp_trap::VirtualCpu;
 use cp_users::UserNo;
 use s370_intr::Ran;
+use s370_num::DevAddr;
 use s370_store::{FramesOut, UnitSupply};
 use std::alloc::Global;
 
@@ -133,5 +137,31 @@ impl<'a> Work for Line<'a> {
         );
         storage.let_go();
         told
+    }
+}
+
+/// A device is served. It holds what it brings until it ends.
+#[derive(Clone, Copy)]
+pub(crate) struct Service {
+    pub(crate) device: DevAddr,
+}
+
+impl Work for Service {
+    type Answer = Result<bool, LineError>;
+
+    ghost use Rattle.cp_core.specs.Work.{HasServed};
+
+    ghost Does = { λ service directory. HasServed service.device };
+
+    fn work(
+        &self,
+        _directory: &Directory,
+        machine: &mut Machine,
+        devices: &mut Devices,
+        storage: &mut Dat<'_>,
+    ) -> Result<bool, LineError> {
+        let served = serve_supplied(devices, machine, storage, &mut Refusing, self.device);
+        storage.let_go();
+        served
     }
 }

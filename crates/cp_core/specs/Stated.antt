@@ -1,0 +1,18 @@
+-- What the directory states of the device that an event names.
+use Rattle.std.specs.Prelude.{◌≡◌, ℕ, Bool, false, slice_get, Option, Some, None}
+use Rattle.cp_directory.specs.Users.{DirectoryUser, has_device}
+use Rattle.cp_core.specs.System.{SystemView}
+use Rattle.cp_core.specs.declared.events.Event.{Event}
+use Rattle.cp_core.specs.declared.events.Event.TheVariants.{Run, Line, Tick, Deck, Serve}
+
+abbrev pub states_device : ℕ → Option DirectoryUser → Bool
+states_device address None = false
+states_device address (Some user) = has_device address user
+
+-- the event is for a device that the directory does not give the user
+abbrev pub LacksDevice : SystemView → Event → Type 0
+LacksDevice s (Serve user device) = states_device device (slice_get s.directory user) ≡ false
+LacksDevice s (Run user asked) = ⊥
+LacksDevice s (Line user typed) = ⊥
+LacksDevice s (Tick user) = ⊥
+LacksDevice s (Deck user cards) = ⊥
