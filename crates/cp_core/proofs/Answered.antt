@@ -1,7 +1,7 @@
 -- What an answer to a line leaves alone.
 use Rattle.std.proofs.Common.{◌≡◌, ◌⊎◌, ℕ, ◌<◌, Bool, true, false, List, [], ◌∷◌, length, Option, Some, None, refl, sym, ap, subst, inl, inr, arith}
 use Rattle.std.specs.Prelude.{if◌then◌else◌}
-use Rattle.s370_channel.specs.Reading.{as_begun}
+use Rattle.s370_channel.specs.Reading.{as_reached}
 use Rattle.unit_record.specs.declared.output.Target.{Target}
 use Rattle.unit_record.specs.Reader.{DeckValue}
 use Rattle.unit_record.specs.Console.{has_room}
@@ -188,11 +188,11 @@ mild Elsewhere w typed old told new not h = from false false old new told _ h (a
 followed : (told : Told) (new : Equipped) → loads_from told ≡ None → IsFollowed (loads_from told) told new told new
 followed told new none = subst (λ (d : Option ℕ). IsFollowed d told new told new) (sym none) refl
 
-whole : (w : World) (typed : List ℕ) (old : Equipped) (told : Told) (new : Equipped) → IsLine w typed old told new → loads_from told ≡ None → Lives as_begun (Typing w typed ∷ []) old new
+whole : (w : World) (typed : List ℕ) (old : Equipped) (told : Told) (new : Equipped) → IsLine w typed old told new → loads_from told ≡ None → Lives as_reached (Typing w typed ∷ []) old new
 whole w typed old told new h none =
     (new, (told, record { first = told; next = new; line = h; followed = followed told new none }), refl)
 
-lives_as : (q : Request) (w : World) (typed : List ℕ) (old : Equipped) (told : Told) (new : Equipped) → IsLine w typed old told new → IsAnswered q w typed old told new → Lives as_begun (typed_as q w typed) old new
+lives_as : (q : Request) (w : World) (typed : List ℕ) (old : Equipped) (told : Told) (new : Equipped) → IsLine w typed old told new → IsAnswered q w typed old told new → Lives as_reached (typed_as q w typed) old new
 lives_as LogsOn w typed old told new h a = whole w typed old told new h (mild LogsOn w typed old told new refl a).no_load
 lives_as LogsOff w typed old told new h a = whole w typed old told new h (mild LogsOff w typed old told new refl a).no_load
 lives_as Resets w typed old told new h a = whole w typed old told new h (mild Resets w typed old told new refl a).no_load
@@ -207,7 +207,7 @@ lives_as (Asks (commands.Purge file)) w typed old told new h a = whole w typed o
 lives_as (Asks (commands.Message name text)) w typed old told new h a = whole w typed old told new h (mild (Asks (commands.Message name text)) w typed old told new refl a).no_load
 
 -- a line is to its user's machine what it is to a machine of its own; one that asks for an IPL changes nothing
-pub lives_line : (w : World) (typed : List ℕ) (old : Equipped) (told : Told) (new : Equipped) → IsLine w typed old told new → Lives as_begun (typed_as (requested typed old) w typed) old new
+pub lives_line : (w : World) (typed : List ℕ) (old : Equipped) (told : Told) (new : Equipped) → IsLine w typed old told new → Lives as_reached (typed_as (requested typed old) w typed) old new
 lives_line w typed old told new h = lives_as (requested typed old) w typed old told new h h
 
 -- ---- where memory was refused for what comes of a line

@@ -2,7 +2,7 @@
 use Rattle.std.proofs.Common.{◌≡◌, ◌≢◌, ℕ, Bool, true, false, List, [], ◌∷◌, ◌++◌, get_or, set, Option, Some, None, refl, sym, ◌∙◌, ap, subst, get_or-set_other, arith, ◌==◌}
 use Rattle.std.specs.Prelude.{if◌then◌else◌}
 use Rattle.std.proofs.lemmas.Grind.{common_steps}
-use Rattle.s370_channel.specs.Reading.{Reading, as_begun}
+use Rattle.s370_channel.specs.Reading.{Reading, as_reached}
 use Rattle.unit_record.specs.Punch.{PunchState}
 use Rattle.unit_record.specs.Printer.{PrinterState}
 use Rattle.cp_devices.specs.Equipped.{Equipped}
@@ -24,16 +24,16 @@ lives_once reads e a b h = (b, h, refl)
 
 -- ---- one user's machine changes, and no other
 
-led_where : (one : ℕ) (events : List Local) (old new : List Equipped) → new ≡ set old one (get_or new one nobody) → Lives as_begun events (get_or old one nobody) (get_or new one nobody) → (user : ℕ) (b : Bool) → (one == user) ≡ b → Lives as_begun (if b then events else []) (get_or old user nobody) (get_or new user nobody)
+led_where : (one : ℕ) (events : List Local) (old new : List Equipped) → new ≡ set old one (get_or new one nobody) → Lives as_reached events (get_or old one nobody) (get_or new one nobody) → (user : ℕ) (b : Bool) → (one == user) ≡ b → Lives as_reached (if b then events else []) (get_or old user nobody) (get_or new user nobody)
 led_where one events old new e h user true t =
     let same : one ≡ user = grind (arith, common_steps) in
-    subst (λ (u : ℕ). Lives as_begun events (get_or old u nobody) (get_or new u nobody)) same h
+    subst (λ (u : ℕ). Lives as_reached events (get_or old u nobody) (get_or new u nobody)) same h
 led_where one events old new e h user false t =
     let other : user ≢ one = grind (arith, common_steps) in
     ap (λ (states : List Equipped). get_or states user nobody) e ∙ (rw get_or-set_other refl)
 
 -- where to him these events happen, each is led by his own
-pub led_alone : (one : ℕ) (events : List Local) (old new : List Equipped) → new ≡ set old one (get_or new one nobody) → Lives as_begun events (get_or old one nobody) (get_or new one nobody) → (user : ℕ) → Lives as_begun (if one == user then events else []) (get_or old user nobody) (get_or new user nobody)
+pub led_alone : (one : ℕ) (events : List Local) (old new : List Equipped) → new ≡ set old one (get_or new one nobody) → Lives as_reached events (get_or old one nobody) (get_or new one nobody) → (user : ℕ) → Lives as_reached (if one == user then events else []) (get_or old user nobody) (get_or new user nobody)
 led_alone one events old new e h user = led_where one events old new e h user (one == user) refl
 
 -- what stays of him stays of each
@@ -56,28 +56,28 @@ others_stay one old new e user t =
 
 -- ---- what is delivered comes to its receiver
 
-pub come_led : (old : SystemView) (step : Step) (come : Delivery → Local) (delivered : Option Delivered) (middle new : SystemView) → HasCome come delivered middle new → ((what : Delivery) → come what ≡ coming old step what) → (user : ℕ) → Lives as_begun (comes_to user old step delivered) (user_at middle user) (user_at new user)
+pub come_led : (old : SystemView) (step : Step) (come : Delivery → Local) (delivered : Option Delivered) (middle new : SystemView) → HasCome come delivered middle new → ((what : Delivery) → come what ≡ coming old step what) → (user : ℕ) → Lives as_reached (comes_to user old step delivered) (user_at middle user) (user_at new user)
 come_led old step come None middle new h same user = ap (λ (us : List Equipped). get_or us user nobody) h
 come_led old step come (Some delivered) middle new h same user =
-    let comes : Leaves as_begun (coming old step delivered.what) (user_at middle delivered.to) (user_at new delivered.to) =
-    subst (λ (l : Local). Leaves as_begun l (user_at middle delivered.to) (user_at new delivered.to)) (same delivered.what) h.comes in
-    led_alone delivered.to (coming old step delivered.what ∷ []) middle.users new.users h.others (lives_once as_begun (coming old step delivered.what) (user_at middle delivered.to) (user_at new delivered.to) comes) user
+    let comes : Leaves as_reached (coming old step delivered.what) (user_at middle delivered.to) (user_at new delivered.to) =
+    subst (λ (l : Local). Leaves as_reached l (user_at middle delivered.to) (user_at new delivered.to)) (same delivered.what) h.comes in
+    led_alone delivered.to (coming old step delivered.what ∷ []) middle.users new.users h.others (lives_once as_reached (coming old step delivered.what) (user_at middle delivered.to) (user_at new delivered.to) comes) user
 
 -- the same told in two ways has come
 pub come_as : (f g : Delivery → Local) (delivered : Option Delivered) (middle new : SystemView) → ((d : Delivered) → delivered ≡ Some d → f d.what ≡ g d.what) → HasCome f delivered middle new → HasCome g delivered middle new
 come_as f g None middle new same h = h
 come_as f g (Some d) middle new same h = record {
   inside = h.inside;
-  comes = subst (λ (l : Local). Leaves as_begun l (user_at middle d.to) (user_at new d.to)) (same d refl) h.comes;
+  comes = subst (λ (l : Local). Leaves as_reached l (user_at middle d.to) (user_at new d.to)) (same d refl) h.comes;
   others = h.others;
 }
 
 -- punch and printer are as they were
-punch_kept : (user index : ℕ) (e : Equipped) (what : Delivery) (old new : Equipped) → Leaves as_begun (comes_by_line user index e what) old new → new.devices.punch ≡ old.devices.punch
+punch_kept : (user index : ℕ) (e : Equipped) (what : Delivery) (old new : Equipped) → Leaves as_reached (comes_by_line user index e what) old new → new.devices.punch ≡ old.devices.punch
 punch_kept user index e (deliveries.Deck number) old new h = ap (λ (x : Equipped). x.devices.punch) h
 punch_kept user index e (deliveries.Message line) old new h = ap (λ (x : Equipped). x.devices.punch) h
 
-printer_kept : (user index : ℕ) (e : Equipped) (what : Delivery) (old new : Equipped) → Leaves as_begun (comes_by_line user index e what) old new → new.devices.printer ≡ old.devices.printer
+printer_kept : (user index : ℕ) (e : Equipped) (what : Delivery) (old new : Equipped) → Leaves as_reached (comes_by_line user index e what) old new → new.devices.printer ≡ old.devices.printer
 printer_kept user index e (deliveries.Deck number) old new h = ap (λ (x : Equipped). x.devices.printer) h
 printer_kept user index e (deliveries.Message line) old new h = ap (λ (x : Equipped). x.devices.printer) h
 

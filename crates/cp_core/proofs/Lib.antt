@@ -5,6 +5,7 @@ pub mod Boots
 pub mod Switches
 pub mod Kept
 pub mod Worked
+pub mod Staying
 pub mod Steps
 pub mod Histories
 pub mod Loans

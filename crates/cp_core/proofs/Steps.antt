@@ -6,7 +6,7 @@ use Rattle.std.proofs.lemmas.Bool.{false≢true}
 use Rattle.std.proofs.lemmas.Bool.Decides.{nat_tests}
 use Rattle.std.proofs.lemmas.List.{append-nil, length-set}
 use Rattle.s370_store.specs.declared.supply.FramesOut.{FramesOut as NoRoom}
-use Rattle.s370_channel.specs.Reading.{as_begun}
+use Rattle.s370_channel.specs.Reading.{as_reached}
 use Rattle.s370_intr.specs.declared.next.Reason.{Reason}
 use Rattle.s370_intr.specs.declared.next.Reason.TheVariants.{Stopped, Count, EcMode, Wait, DisabledWait, FramesOut as RunFramesOut}
 use Rattle.s370_intr.specs.declared.run.Ran.{Ran as RanUnits}
@@ -65,9 +65,9 @@ same_lines : (a b : Equipped) → a.machine.output ≡ b.machine.output → 0 �
 same_lines a b same = omega (arith, ap (λ (lines : List (List ℕ)). length lines) same)
 
 -- to each user a step is his own part of it alone, where nothing comes of it
-alone : (old new : SystemView) (user : ℕ) (events : List Local) → IsLent old user new → Lives as_begun events (user_at old user) (user_at new user) → (u : ℕ) → Lives as_begun ((if user == u then events else []) ++ []) (user_at old u) (user_at new u)
+alone : (old new : SystemView) (user : ℕ) (events : List Local) → IsLent old user new → Lives as_reached events (user_at old user) (user_at new user) → (u : ℕ) → Lives as_reached ((if user == u then events else []) ++ []) (user_at old u) (user_at new u)
 alone old new user events lent lives u =
-    subst (λ (es : List Local). Lives as_begun es (user_at old u) (user_at new u)) (sym (append-nil (if user == u then events else [])))
+    subst (λ (es : List Local). Lives as_reached es (user_at old u) (user_at new u)) (sym (append-nil (if user == u then events else [])))
     (led_alone user events old.users new.users (ap (λ (s : SystemView). s.users) lent) lives u)
 
 -- ---- a run
@@ -80,7 +80,7 @@ run_is asked units EcMode notice old new is_short h = ap (λ (r : MachineRun). r
 run_is asked units Wait notice old new is_short h = ap (λ (r : MachineRun). r.machine) h
 run_is asked units DisabledWait notice old new is_short h = ap (λ (r : MachineRun). r.machine) h
 
-run_lives : (asked user : ℕ) (old new : Equipped) (before after : FrameSupply) (ran : RanUnits) → HasRun asked user old before ran new after → Lives as_begun (run_of asked (Ran ran)) old new
+run_lives : (asked user : ℕ) (old new : Equipped) (before after : FrameSupply) (ran : RanUnits) → HasRun asked user old before ran new after → Lives as_reached (run_of asked (Ran ran)) old new
 run_lives asked user old new before after ran h =
     (new, (sym (run_is asked ran.units ran.reason (notice_of ran.reason) old.machine new.machine _ h.told), h.devices, h.disks), refl)
 
@@ -186,7 +186,7 @@ line_done old middle new user typed told said' lines delivered punched printed h
     let punch = punch_stays user punched (user_at middle user) delivered middle new come user in
     let printer = printer_stays user punched (user_at middle user) delivered middle new come user in
     record {
-      applied = λ u. lives_on as_begun _ _ (user_at old u) (user_at middle u) (user_at new u)
+      applied = λ u. lives_on as_reached _ _ (user_at old u) (user_at middle u) (user_at new u)
           (led_alone user (typed_as (requested typed.now (user_at old user)) (world_of old user) typed.now) old.users middle.users (ap (λ (x : SystemView). x.users) lent) (lives_line (world_of old user) typed.now (user_at old user) told (user_at middle user) h.leaves) u)
           (come_led old step (comes_by_line user punched (user_at middle user)) delivered middle new come (come_same old middle new user punched typed step.reply at_punch punch) u);
       told = record {
@@ -389,10 +389,10 @@ deck_given old new user cards delivered rest some is come left =
     let step : Step = record { event = Deck user cards; reply = record { ended = Done; said = Silent; lines = 0; delivered = Some delivered }; seen = new } in
     let supply : new.supply ≡ old.supply = ap (λ (x : SystemView). x.supply) left in
     let to : delivered.to ≡ user = ap (λ (x : Delivered). x.to) is in
-    let came : Leaves as_begun (comes_from_operator cards.now (deliveries.Deck (next_file old.files))) (user_at old user) (user_at new user) =
-    subst (λ (x : Delivered). Leaves as_begun (comes_from_operator cards.now x.what) (user_at old x.to) (user_at new x.to)) is come.comes in
+    let came : Leaves as_reached (comes_from_operator cards.now (deliveries.Deck (next_file old.files))) (user_at old user) (user_at new user) =
+    subst (λ (x : Delivered). Leaves as_reached (comes_from_operator cards.now x.what) (user_at old x.to) (user_at new x.to)) is come.comes in
     record {
-      applied = λ u. lives_on as_begun _ _ (user_at old u) (user_at old u) (user_at new u) (led_alone user [] old.users old.users (set_own old.users user nobody) refl u) (come_led old step (comes_from_operator cards.now) (Some delivered) old new come (deck_same old new user cards step.reply) u);
+      applied = λ u. lives_on as_reached _ _ (user_at old u) (user_at old u) (user_at new u) (led_alone user [] old.users old.users (set_own old.users user nobody) refl u) (come_led old step (comes_from_operator cards.now) (Some delivered) old new come (deck_same old new user cards step.reply) u);
       told = record {
         tells = (refl, ap Some is ∙ sym (some_given user old.files cards.now some));
         lines = same_lines (user_at new user) (user_at old user) (ap (λ (e : Equipped). e.machine.output) came);

@@ -3,7 +3,7 @@ use Rattle.std.proofs.Common.{◌≡◌, ◌∙◌, ap, sym, subst, ℕ, Bool, t
 use Rattle.std.specs.Prelude.{IfOk, IsSome, OnErr, OnOk}
 use Rattle.std.proofs.lemmas.List.{length-replicate}
 use Rattle.s370_store.specs.Access.{Touches}
-use Rattle.s370_channel.specs.Reading.{as_begun}
+use Rattle.s370_channel.specs.Reading.{as_reached}
 use Rattle.s370_intr.specs.Run.{AllNeeded, IsLacking}
 use Rattle.s370_subchannels.specs.Programs.{program_of}
 use Rattle.cp_frames.specs.Layout.{FrameSupply}
@@ -108,7 +108,7 @@ typed_work world user typed before after old between new r u rest h taken ok err
 -- ---- what a serve leaves
 
 serve_leaves : (device user : ℕ) (before after : Equipped) (r : Result Bool LineError) (supply : FrameSupply)
-    → IfOk r (λ done. IsServedAt as_begun device before done after) → (r ≡ Err errors.FramesOut → after ≡ before)
+    → IfOk r (λ done. IsServedAt as_reached device before done after) → (r ≡ Err errors.FramesOut → after ≡ before)
     → (r ≡ Err errors.FramesOut → IsLacking ProgramNeeds (length before.machine.core.processor.bytes) (IsShort supply user ProgramNeeds))
     → (r ≡ Err errors.Memory → IsSome (program_of device before.machine.core.subchannels))
     → ServeLeaves device user before r after supply
@@ -125,7 +125,7 @@ serve_between old between new pages rest brought taken =
 
 pub serve_work : (device user : ℕ) (before after : Equipped) (old between new : Dat) (r : Result Bool LineError) (pages : List ℕ)
     → user_of old ≡ user → IsBetweenUnits (lent_pool old).supply → Supplied old pages between → AllNeeded ProgramNeeds pages → TakesPins between new
-    → IfOk r (λ done. IsServedAt as_begun device before done after) → (r ≡ Err errors.FramesOut → after ≡ before)
+    → IfOk r (λ done. IsServedAt as_reached device before done after) → (r ≡ Err errors.FramesOut → after ≡ before)
     → (r ≡ Err errors.FramesOut → IsLacking ProgramNeeds (length before.machine.core.processor.bytes) (λ page. IsRefused (lent_pool between).supply (user_of between) page))
     → (r ≡ Err errors.Memory → IsSome (program_of device before.machine.core.subchannels))
     → HasServed device user before (lent_pool old).supply r after (lent_pool new).supply

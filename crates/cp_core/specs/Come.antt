@@ -1,6 +1,6 @@
 -- What has come to a user of what is delivered.
 use Rattle.std.specs.Prelude.{◌≡◌, ℕ, ◌<◌, ◌⊎◌, Bool, true, false, List, length, slice_set, Option, Some, None}
-use Rattle.s370_channel.specs.Reading.{as_begun}
+use Rattle.s370_channel.specs.Reading.{as_reached}
 use Rattle.unit_record.specs.declared.reader.Sender.TheVariants as senders
 use Rattle.cp_console.specs.ConsoleLine.{characters_of}
 use Rattle.cp_devices.specs.declared.line.Told.{Told}
@@ -26,7 +26,7 @@ comes_from_operator cards (deliveries.Message line) = Hears (characters_of line)
 -- it has come to its receiver, and every other user's machine stays
 pub record ComesTo (coming : Delivery → Local) (delivered : Delivered) (old new : SystemView) : Type 0 where
   pub inside : delivered.to < length old.users
-  pub comes : Leaves as_begun (coming delivered.what) (user_at old delivered.to) (user_at new delivered.to)
+  pub comes : Leaves as_reached (coming delivered.what) (user_at old delivered.to) (user_at new delivered.to)
   pub others : new.users ≡ slice_set old.users delivered.to (user_at new delivered.to)
 
 abbrev pub HasCome : (Delivery → Local) → Option Delivered → SystemView → SystemView → Type 0

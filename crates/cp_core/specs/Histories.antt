@@ -3,7 +3,6 @@ use Rattle.std.specs.Prelude.{◌≡◌, ℕ, List, [], ◌∷◌, ◌++◌}
 use Rattle.s370_channel.specs.Reading.{as_reached}
 use Rattle.cp_devices.specs.Life.{Event as Local, Lives}
 use Rattle.cp_core.specs.Local.{IsApplied, Step, local}
-use Rattle.cp_core.specs.Steady.{AreSteady}
 use Rattle.cp_core.specs.Supply.{IsSupplied}
 use Rattle.cp_core.specs.System.{SystemView, user_at}
 use Rattle.cp_core.specs.Told.{IsTold}
@@ -23,9 +22,7 @@ abbrev pub own : ℕ → SystemView → List Step → List Local
 own user first [] = []
 own user first (step ∷ steps) = local user first step ++ own user step.seen steps
 
--- whatever the history, each user whose programs are steady has the machine with its devices that his own events leave of a machine
--- of its own
+-- whatever the history, each user has the machine with its devices that his own events leave of a machine of its own
 abbrev pub EachIsBare : Type 0
 EachIsBare = (first last : SystemView) (steps : List Step) → IsHistory first steps last → (user : ℕ) →
-    AreSteady (own user first steps) (user_at first user) →
     Lives as_reached (own user first steps) (user_at first user) (user_at last user)

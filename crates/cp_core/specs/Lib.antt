@@ -13,7 +13,7 @@ pub mod Work
 pub mod Supply
 pub mod Come
 pub mod Memory
-pub mod Steady
+pub mod Resident
 pub mod Histories
 pub mod Loan
 pub mod Whole

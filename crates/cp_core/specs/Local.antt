@@ -1,6 +1,6 @@
 -- What an event of the system is to each user: his own part of it, and what comes to him by it.
 use Rattle.std.specs.Prelude.{ℕ, ◌==◌, if◌then◌else◌, List, [], ◌∷◌, ◌++◌, length, Option, Some, None}
-use Rattle.s370_channel.specs.Reading.{as_begun}
+use Rattle.s370_channel.specs.Reading.{as_reached}
 use Rattle.s370_intr.specs.declared.next.Reason.TheVariants.{FramesOut as RunFramesOut}
 use Rattle.s370_intr.specs.declared.run.Ran.{Ran as RanUnits}
 use Rattle.unit_record.specs.declared.reader.Sender.TheVariants as senders
@@ -108,4 +108,4 @@ local user old step = own_part user old step ++ comes_to user old step step.repl
 
 -- to each user the step is what his own part of it, and what comes to him, leaves of his machine
 abbrev pub IsApplied : SystemView → Step → Type 0
-IsApplied old step = (user : ℕ) → Lives as_begun (local user old step) (user_at old user) (user_at step.seen user)
+IsApplied old step = (user : ℕ) → Lives as_reached (local user old step) (user_at old user) (user_at step.seen user)

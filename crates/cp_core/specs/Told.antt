@@ -1,7 +1,7 @@
 -- What is told to an event, and what becomes of the files and deliveries of all users.
 use Rattle.std.specs.Prelude.{◌≡◌, ℕ, ◌-◌, nat_lt, if◌then◌else◌, Bool, true, false, List, [], ◌∷◌, ◌++◌, length, slice_get, slice_index_or, slice_set, Option, Some, None}
 use Rattle.s370_store.specs.Access.{Touches}
-use Rattle.s370_channel.specs.Reading.{as_begun}
+use Rattle.s370_channel.specs.Reading.{as_reached}
 use Rattle.s370_intr.specs.Run.{IsLacking}
 use Rattle.unit_record.specs.declared.output.Target.{Target}
 use Rattle.unit_record.specs.declared.output.Target.TheVariants as targets
@@ -131,7 +131,7 @@ TellsOfDeck user cards old reply (Served done) = ⊥
 -- the device is served as that of a machine of its own whose program was as it stood when it began, and tells whether there was one
 abbrev pub TellsOfServe : ℕ → ℕ → SystemView → Reply → Ended → SystemView → Type 0
 TellsOfServe user device old reply (Served done) new =
-    IsServedAt as_begun device (user_at old user) done (user_at new user) × (reply.said ≡ Silent) × (reply.delivered ≡ None)
+    IsServedAt as_reached device (user_at old user) done (user_at new user) × (reply.said ≡ Silent) × (reply.delivered ≡ None)
 TellsOfServe user device old reply FramesOut new =
     IsOut ProgramNeeds (length (machine_at old user).core.processor.bytes) old reply new (IsShort new.supply user ProgramNeeds)
 TellsOfServe user device old reply Done new = ⊥

@@ -3,7 +3,7 @@
 use Rattle.std.specs.Prelude.{◌≡◌, ℕ, ◌≤◌, Bool, List, [], ◌∷◌, true, false, length, IsSome, Result, Ok, Err}
 use Rattle.s370_store.specs.Access.{Touches}
 use Rattle.s370_store.specs.declared.supply.FramesOut.{FramesOut}
-use Rattle.s370_channel.specs.Reading.{as_begun}
+use Rattle.s370_channel.specs.Reading.{as_reached}
 use Rattle.s370_intr.specs.declared.run.Ran.{Ran}
 use Rattle.s370_intr.specs.Laws.{begun}
 use Rattle.s370_intr.specs.Run.{AllNeeded, EachBrings, IsLacking}
@@ -66,7 +66,7 @@ pub record HasTyped (world : World) (user : ℕ) (typed : List ℕ) (old : Equip
 -- ---- a serve
 
 abbrev pub ServeLeaves : ℕ → ℕ → Equipped → Result Bool LineError → Equipped → FrameSupply → Type 0
-ServeLeaves device user old (Ok done) new after = IsServedAt as_begun device old done new
+ServeLeaves device user old (Ok done) new after = IsServedAt as_reached device old done new
 ServeLeaves device user old (Err errors.Memory) new after = IsSome (program_of device old.machine.core.subchannels)
 ServeLeaves device user old (Err errors.FramesOut) new after =
     (new ≡ old) × IsLacking ProgramNeeds (length old.machine.core.processor.bytes) (IsShort after user ProgramNeeds)

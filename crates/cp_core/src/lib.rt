@@ -23,7 +23,7 @@ mod files;
 mod lines;
 mod loan;
 mod ready;
-mod refusing;
+mod resident;
 mod serving;
 mod system;
 mod user_machine;

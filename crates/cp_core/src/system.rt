@@ -1,6 +1,6 @@
 //! The system: its users, their machines with their devices, and the frames that they share.
 ghost use Rattle.std.specs.Prelude.{◌≡◌, ◌<◌, ◌≤◌, ◌↔◌, ℕ, [], ◌∷◌, ◌++◌, Err, true, false, IsOk, IfOk, OnErr, OnOk, length, slice_get, slice_set};
-ghost use Rattle.s370_channel.specs.Reading.{as_begun};
+ghost use Rattle.s370_channel.specs.Reading.{as_reached};
 ghost use Rattle.cp_dat.specs.Supplied.{IsBetweenUnits};
 ghost use Rattle.cp_devices.specs.Life.{Leaves};
 ghost use Rattle.cp_core.specs.declared.events.Ended.TheVariants.{Done};
@@ -202,7 +202,7 @@ impl System {
     /// A parcel comes to a user. Where memory is refused, each user's machine stays.
     pub(crate) fn deliver(&mut self, to: usize, parcel: Parcel) -> Result<(), AllocError>
         requires { to < length self.old.users }
-        ensures ok { OnOk result (Leaves as_begun (contents parcel) (user_at self.old to) (user_at self.new to)) }
+        ensures ok { OnOk result (Leaves as_reached (contents parcel) (user_at self.old to) (user_at self.new to)) }
         ensures rest { OnOk result (self.new ≡ record self.old {
           users = slice_set self.old.users to (user_at self.new to);
           deliveries = slice_set self.old.deliveries to (deliveries_at self.old to ++ note_of parcel ∷ []);

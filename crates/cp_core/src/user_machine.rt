@@ -1,6 +1,6 @@
 //! A user's machine with its devices, of which the storage stands in frames.
 ghost use Rattle.std.specs.Prelude.{◌≡◌, ◌<◌, ◌≤◌, ◌*◌, ◌++◌, ◌∷◌, [], ℕ, List, IfOk, OnErr, OnOk, length, replicate, slice_set};
-ghost use Rattle.s370_channel.specs.Reading.{as_begun};
+ghost use Rattle.s370_channel.specs.Reading.{as_reached};
 ghost use Rattle.cp_frames.specs.Layout.{bytes_of};
 ghost use Rattle.cp_dat.specs.Supplied.{IsBetweenUnits};
 ghost use Rattle.cp_devices.specs.Devices.{devices_new};
@@ -101,7 +101,7 @@ impl UserMachine {
     /// A parcel comes to the user. Where memory is refused, his machine stays.
     pub(crate) fn receive(&mut self, parcel: Parcel) -> Result<(), AllocError>
         ensures ok { (bytes : List ℕ)
-            → OnOk result (Leaves as_begun (contents parcel) (user_with self.old bytes) (user_with self.new bytes)) }
+            → OnOk result (Leaves as_reached (contents parcel) (user_with self.old bytes) (user_with self.new bytes)) }
         ensures err { (bytes : List ℕ) → OnErr result (user_with self.new bytes ≡ user_with self.old bytes) }
         ensures noted { OnOk result (self.new.deliveries ≡ self.old.deliveries ++ note_of parcel ∷ []) }
         ensures keys { self.new.keys ≡ self.old.keys }

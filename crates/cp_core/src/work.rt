@@ -7,7 +7,7 @@ ghost use Rattle.cp_dat.specs.Lent.{KeepsFrames, lent_bytes, lent_keys, lent_poo
 ghost use Rattle.cp_dat.specs.Supplied.{IsBetweenUnits};
 ghost use Rattle.cp_devices.specs.Equipped.{Equipped, equipped};
 
-use crate::refusing::Refusing;
+use crate::resident::Resident;
 use crate::serving::serve_supplied;
 use crate::world::Among;
 use arrayvec::ArrayVec;
@@ -160,7 +160,7 @@ impl Work for Service {
         devices: &mut Devices,
         storage: &mut Dat<'_>,
     ) -> Result<bool, LineError> {
-        let served = serve_supplied(devices, machine, storage, &mut Refusing, self.device);
+        let served = serve_supplied(devices, machine, storage, &mut Resident, self.device);
         storage.let_go();
         served
     }

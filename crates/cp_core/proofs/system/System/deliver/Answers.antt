@@ -1,5 +1,5 @@
 use Rattle.std.proofs.Common.{[], ap, arith, get_or}
-use Rattle.s370_channel.specs.Reading.{as_begun}
+use Rattle.s370_channel.specs.Reading.{as_reached}
 use Rattle.cp_dat.specs.Lent.{set_own}
 use Rattle.cp_devices.specs.Equipped.{Equipped}
 use Rattle.cp_devices.specs.Life.{Leaves}
@@ -15,7 +15,7 @@ index_mut-requires c =
 pub returns-clause-ok : goal.returns-clause-ok
 returns-clause-ok c =
     let changed = change c.self.inside.users.items c.self.inside.frames.storages c.self.inside.frames.storages c.self.inside.directory c.args.self.now.users c.args.to c.index_mut.result.now c.receive.new.self c.self.invariant.whole (ap (λ (s : SystemView). s.users) c.self.view_is) c.requires c.index_mut.ensures.value (set_own c.self.inside.frames.storages c.args.to []) in
-    on_ok c.receive.result _ _ (transported (Leaves as_begun (contents c.args.parcel)) _ _ _ _ changed.old changed.new) (c.receive.ensures.ok (get_or c.self.inside.frames.storages c.args.to []))
+    on_ok c.receive.result _ _ (transported (Leaves as_reached (contents c.args.parcel)) _ _ _ _ changed.old changed.new) (c.receive.ensures.ok (get_or c.self.inside.frames.storages c.args.to []))
 
 pub returns-clause-rest : goal.returns-clause-rest
 returns-clause-rest c =

@@ -1,0 +1,105 @@
+//! Channels of users, on which a program runs where all of its user's storage stands in frames.
+ghost use Rattle.std.specs.Prelude.{◌≡◌, IfErr, IfOk, IfNone, IfSome, length};
+ghost use Rattle.s370_channel.specs.Reading.{as_reached};
+ghost use Rattle.s370_channel.specs.Runs.{Walks};
+ghost use Rattle.s370_channel.specs.declared.running.ChannelError.TheVariants as errors;
+ghost use Rattle.s370_store.specs.Access.{IsAway};
+ghost use Rattle.s370_walk.specs.Hardware.{memory_of};
+ghost use Rattle.cp_dat.specs.Lent.{is_lent_page, lent_bytes};
+ghost use Rattle.cp_core.specs.Resident.{IsResident};
+
+use cp_channels::{Channels, Disks};
+use cp_dat::Dat;
+use s370_channel::{Caw, ChannelError, Guest, Limits, MOST_COMMANDS, run};
+use s370_store::{PAGE_SIZE, Page, Storage};
+use s370_walk::{Device, Ending};
+
+/// A program runs as on a machine of its own, each word read when it is reached, where each page of its user's storage
+/// stands in a frame. Else the first page that does not is told, and nothing has happened. No disk hangs on them.
+#[derive(Clone, Copy)]
+pub(crate) struct Resident;
+
+impl Disks for Resident {
+    ghost use Rattle.std.specs.Prelude.{[]};
+
+    ghost disks = { λ _. [] };
+
+    fn disk_at(&self, _device: u16) -> Option<usize> {
+        None
+    }
+
+    fn reset_disks(&mut self) {}
+
+    fn clear_disks(&mut self) {}
+}
+
+impl<'a> Channels<Dat<'a>> for Resident {
+    ghost use Rattle.std.specs.Prelude.{true};
+    ghost use Rattle.s370_channel.specs.Reading.{as_reached};
+
+    ghost reads = { as_reached };
+
+    ghost is_whole = { true };
+
+    fn run<D: Device>(
+        &mut self,
+        storage: &mut Dat<'a>,
+        start: Caw,
+        device: &mut D,
+    ) -> Result<Ending, ChannelError> {
+        if let Some(page) = absent_page(storage) {
+            return Err(ChannelError::Absent(page));
+        }
+        run_resident(storage, start, device)
+    }
+
+    fn run_disk(
+        &mut self,
+        _storage: &mut Dat<'a>,
+        _start: Caw,
+        _index: usize,
+    ) -> Result<Ending, ChannelError> {
+        unreachable!()
+    }
+}
+
+/// The first page of a storage that stands in no frame.
+fn absent_page(storage: &Dat<'_>) -> Option<Page>
+    ensures some { IfSome result
+        (λ page. IsAway (length (lent_bytes storage.now)) (is_lent_page storage.now) page.0) }
+    ensures none { IfNone result (IsResident (length (lent_bytes storage.now)) (is_lent_page storage.now)) }
+{
+    let size = u64::from(storage.size());
+    let mut page = 0u32;
+    while u64::from(page) * u64::from(PAGE_SIZE) < size {
+        if storage.frame_of(Page(page)).is_none() {
+            return Some(Page(page));
+        }
+        page += 1;
+    }
+    None
+}
+
+/// Runs the program with this start over a storage all of which is present: it stops for want of memory alone.
+#[tactic(auto, using(crate::proofs::Staying::never_away))]
+fn run_resident<S: Storage, D: Device>(
+    storage: &mut S,
+    start: Caw,
+    device: &mut D,
+) -> Result<Ending, ChannelError>
+    requires { IsResident (length (S.bytes storage.old)) (S.present storage.old) }
+    ensures walk { IfOk result
+        (λ ending. Walks as_reached D.machine start
+        (memory_of (S.bytes storage.old) (S.keys storage.old)) device.old ending
+        (memory_of (S.bytes storage.new) (S.keys storage.new)) device.new) }
+    ensures memory { IfErr result (λ error. error ≡ errors.Memory) }
+    ensures keys { S.keys storage.new ≡ S.keys storage.old }
+    ensures rest { S.Keeps storage.old storage.new }
+{
+    let limits = Limits {
+        key: start.key,
+        commands: MOST_COMMANDS,
+        prefix: 0,
+    };
+    run(&Guest, storage, start.address.get(), &limits, device)
+}
