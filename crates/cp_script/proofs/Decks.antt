@@ -1,5 +1,5 @@
 -- A deck's lines, card by card, and a card, column by column.
-use Rattle.std.proofs.Common.{◌≡◌, ℕ, zero, suc, ◌+◌, ◌-◌, ◌<◌, ◌≤◌, ◌⊎◌, inl, inr, min, List, [], ◌∷◌, ◌++◌, length, map, take, set, get_or, replicate, refl, ap, sym, ◌∙◌, subst, append_assoc, append-nil, arith}
+use Rattle.std.proofs.Common.{◌≡◌, ℕ, zero, suc, ◌+◌, ◌-◌, ◌<◌, ◌≤◌, ◌⊎◌, inl, inr, min, List, [], ◌∷◌, ◌++◌, length, map, take, set, get_or, replicate, ap, sym, ◌∙◌, subst, append_assoc, append-nil, arith}
 use Rattle.std.proofs.lemmas.List.{length-map, length-take-le, take-append-le, take-replicate, take_more, get_or-map}
 use Rattle.std.proofs.Math.Seq.{set-append_seam, take-append-add, take-length}
 use Rattle.cp_script.specs.Cards.{blank, card_of, punched}
