@@ -17,6 +17,7 @@ use cp_users::MOST_USERS;
 use s370_num::host::{HostFault, HostReader, HostWriter, read_all, write_all};
 use std::alloc::{AllocError, Global};
 use thiserror::Error;
+use unit_record::Card;
 
 /// Why a session did not go to its end.
 #[derive(Clone, Copy, Debug, PartialEq, Eq, Drop, Error)]
@@ -209,7 +210,7 @@ fn apply<W: HostWriter>(
     ensures spent { result ≡ Err SessionError.Spent → system.old.is_spent ≡ true }
     ensures counts { CountsWriter result (W.HostFile.failures writer.old) (W.HostFile.failures writer.new) }
 {
-    let user = event_of(event).user();
+    let user = event_of(event, &[]).user();
     let was_on = is_on(system, user);
     answer(alloc, system, event, writer)?;
     let is_on = is_on(system, user);
@@ -294,8 +295,9 @@ fn answer<W: HostWriter>(
     ensures spent { (result ≡ Err SessionError.Spent) ↔ (system.old.is_spent ≡ true) }
     ensures counts { CountsWriter result (W.HostFile.failures writer.old) (W.HostFile.failures writer.new) }
 {
-    let user = event_of(event).user();
-    let reply = match system.apply(event_of(event)) {
+    let cards = cards_of(alloc, event)?;
+    let user = event_of(event, &cards).user();
+    let reply = match system.apply(event_of(event, &cards)) {
         Ok(reply) => reply,
         Err(CpError::Memory) => return Err(SessionError::Memory),
         Err(CpError::Spent) => return Err(SessionError::Spent),
@@ -310,8 +312,16 @@ fn answer<W: HostWriter>(
     Ok(())
 }
 
-/// The event that a line of a script says.
-fn event_of<'a>(event: &ScriptEvent<'a>) -> Event<'a>
+/// The cards of a deck; any other event has none.
+fn cards_of(alloc: Global, event: &ScriptEvent<'_>) -> Result<Vec<Card>, AllocError> {
+    match event {
+        ScriptEvent::Deck(_, cards) => cards.to_vec(alloc),
+        _ => Ok(Vec::new(alloc)),
+    }
+}
+
+/// The event that a line of a script says, where these are its cards.
+fn event_of<'a>(event: &ScriptEvent<'a>, cards: &'a [Card]) -> Event<'a>
     requires { IsApplicable event.now }
     ensures said { as_said result ≡ said event.now }
     ensures user { Some (user_of result) ≡ user_of_event event.now }
@@ -320,6 +330,7 @@ fn event_of<'a>(event: &ScriptEvent<'a>) -> Event<'a>
         ScriptEvent::Run(user, units) => Event::Run(user, units),
         ScriptEvent::Line(user, typed) => Event::Line(user, typed),
         ScriptEvent::Tick(user) => Event::Tick(user),
+        ScriptEvent::Deck(user, _) => Event::Deck(user, cards),
         ScriptEvent::Serve(_, _) | ScriptEvent::Auto(_) => unreachable!(),
     }
 }
