@@ -109,7 +109,7 @@ fn of_user(system: &mut System, user: UserNo, units: u32) -> Option<u64> {
     let _said: Told = reply.said;
     Some(match reply.ended {
         Ended::Ran(ran) => u64::from(ran.units),
-        Ended::Done | Ended::FramesOut => 0,
+        Ended::Done | Ended::Served(_) | Ended::FramesOut => 0,
     })
 }
 

@@ -32,7 +32,7 @@ fn ran(system: &mut System, user: UserNo, units: u32) -> Result<(u32, Told)> {
     let reply = system.apply(Event::Run(user, units))?;
     match reply.ended {
         Ended::Ran(ran) => Ok((ran.units, reply.said)),
-        Ended::Done | Ended::FramesOut => Ok((0, reply.said)),
+        Ended::Done | Ended::Served(_) | Ended::FramesOut => Ok((0, reply.said)),
     }
 }
 
