@@ -1,3 +1,4 @@
 pub mod Users
+pub mod Cards
 pub mod Script
 pub mod Grammar

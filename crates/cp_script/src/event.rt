@@ -1,7 +1,8 @@
 //! What a script says that happens.
 ghost use Rattle.std.specs.Prelude.{◌≡◌};
-ghost use Rattle.cp_script.specs.Script.{user_of_event};
+ghost use Rattle.cp_script.specs.Script.{cards_after, said, user_of_event};
 
+use crate::cards::Cards;
 use cp_users::UserNo;
 
 /// What a line of a script says that happens.
@@ -17,6 +18,8 @@ pub enum ScriptEvent<'a> {
     Serve(UserNo, u16),
     /// So many turns are dealt.
     Auto(u32),
+    /// The operator gives a user a deck of these cards.
+    Deck(UserNo, Cards<'a>),
 }
 
 impl<'a> ScriptEvent<'a> {
@@ -30,6 +33,17 @@ impl<'a> ScriptEvent<'a> {
             ScriptEvent::Tick(user) => Some(*user),
             ScriptEvent::Serve(user, _) => Some(*user),
             ScriptEvent::Auto(_) => None,
+            ScriptEvent::Deck(user, _) => Some(*user),
+        }
+    }
+
+    /// How many of the lines that follow are cards of the event.
+    pub(crate) fn cards(&self) -> usize
+        ensures { result ≡ cards_after (said self.now) }
+    {
+        match self {
+            ScriptEvent::Deck(_, cards) => cards.len(),
+            _ => 0,
         }
     }
 }

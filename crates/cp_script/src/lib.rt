@@ -12,10 +12,13 @@
 //! ```
 #![tactic(auto)]
 
+mod cards;
 mod event;
+mod punch;
 mod reader;
 mod user;
 
+pub use cards::Cards;
 pub use event::ScriptEvent;
 pub use reader::{ScriptError, read_script, reads_grammar};
 pub use user::ScriptUser;

@@ -3,10 +3,12 @@ ghost use Rattle.std.specs.Prelude.{◌≡◌, ℕ, ◌<◌, ◌≤◌, ◌+◌,
 ghost use Rattle.std.specs.Option.{option_map};
 ghost use Rattle.cp_text.specs.Lines.{lines_of};
 ghost use Rattle.cp_script.specs.Grammar.{ReadsGrammar};
-ghost use Rattle.cp_script.specs.Script.{Auto, IsOfDevice, IsOfUser, IsRefusal, auto_of, is_ignored, line_step, run_of, said, said_of, script_of, serve_of, tick_of, typed_of};
+ghost use Rattle.cp_script.specs.Script.{Auto, Said, IsOfDevice, IsOfUser, IsRefusal, auto_of, card_step, deck_of, is_ignored, line_step, run_of, said, said_of, script_of, serve_of, step, tick_of, typed_of};
 ghost use Rattle.cp_script.specs.Users.{names_of};
 
+use crate::cards::Cards;
 use crate::event::ScriptEvent;
+use crate::punch::COLUMNS;
 use crate::user::{ScriptUser, has_device};
 use cp_text::lines::cut_line;
 use cp_text::numbers::{decimal_of, hexadecimal_of};
@@ -26,6 +28,9 @@ const MOST_UNITS: u32 = 1_000_000;
 
 /// The most turns of one `AUTO`.
 const MOST_TURNS: u32 = 100_000;
+
+/// The most cards of one `DECK`.
+const MOST_CARDS: u32 = 1000;
 
 /// Why a script is refused.
 #[derive(Clone, Copy, Debug, PartialEq, Eq, Drop, Error)]
@@ -55,41 +60,83 @@ pub fn read_script<'a>(
     let mut events = Vec::new(alloc);
     let mut rest = text;
     let mut number = 1;
+    let mut cards = 0;
     while !rest.is_empty() {
         let (line, after) = cut_line(rest);
-        read_line(users, number, line, &mut events)?;
+        cards = read_line(users, number, cards, line, after, &mut events)?;
         rest = after;
         number += 1;
     }
     Ok(events)
 }
 
-/// Adds what a line of this number names to the events before it.
+/// Adds what a line of this number names, before the text after it, to the events before it. The first
+/// so many lines are cards of the last of them; answered is how many there are after this line.
 fn read_line<'a>(
     users: &[ScriptUser<'_>],
     number: u64,
+    cards: usize,
     line: &'a [u8],
+    after: &'a [u8],
     events: &mut Vec<ScriptEvent<'a>>,
-) -> Result<(), ScriptError>
+) -> Result<usize, ScriptError>
     requires { length users.now ≤ MOST_USERS }
-    ensures ok { OnOk result (line_step users.now number (map said events.old.items) line.now
-        ≡ Ok (map said events.new.items)) }
+    ensures ok { IfOk result (λ left. step users.now number (map said events.old.items) cards line.now (lines_of after.now)
+        ≡ Ok (record { events = map said events.new.items; cards = left })) }
     ensures users { All (IsOfUser users.now) events.old.items
         → OnOk result (All (IsOfUser users.now) events.new.items) }
     ensures devices { All (IsOfDevice users.now) events.old.items
         → OnOk result (All (IsOfDevice users.now) events.new.items) }
-    ensures err { IfErr result (IsRefusal (line_step users.now number (map said events.old.items) line.now)) }
+    ensures err { IfErr result (IsRefusal (step users.now number (map said events.old.items) cards line.now (lines_of after.now))) }
+{
+    if cards > 0 {
+        read_card(number, cards - 1, line)
+    } else {
+        read_entry(users, number, line, after, events)
+    }
+}
+
+/// Reads a line of this number that is a card, where so many cards are left after it.
+fn read_card(number: u64, left: usize, line: &[u8]) -> Result<usize, ScriptError>
+    ensures ok { IfOk result (λ cards. (so_far : List Said) → card_step number so_far left line.now
+        ≡ Ok (record { events = so_far; cards = cards })) }
+    ensures err { IfErr result (λ error. (so_far : List Said) → IsRefusal (card_step number so_far left line.now) error) }
+{
+    if line.len() <= COLUMNS {
+        Ok(left)
+    } else {
+        Err(ScriptError::Line(number))
+    }
+}
+
+/// Adds what a line of this number that is no card names to the events before it.
+fn read_entry<'a>(
+    users: &[ScriptUser<'_>],
+    number: u64,
+    line: &'a [u8],
+    after: &'a [u8],
+    events: &mut Vec<ScriptEvent<'a>>,
+) -> Result<usize, ScriptError>
+    requires { length users.now ≤ MOST_USERS }
+    ensures ok { IfOk result (λ left. line_step users.now number (map said events.old.items) line.now (lines_of after.now)
+        ≡ Ok (record { events = map said events.new.items; cards = left })) }
+    ensures users { All (IsOfUser users.now) events.old.items
+        → OnOk result (All (IsOfUser users.now) events.new.items) }
+    ensures devices { All (IsOfDevice users.now) events.old.items
+        → OnOk result (All (IsOfDevice users.now) events.new.items) }
+    ensures err { IfErr result (IsRefusal (line_step users.now number (map said events.old.items) line.now (lines_of after.now))) }
 {
     if is_ignored(line) {
-        return Ok(());
+        return Ok(0);
     }
-    let Some(event) = read_event(users, line) else {
+    let Some(event) = read_event(users, line, after) else {
         return Err(ScriptError::Line(number));
     };
+    let cards = event.cards();
     if events.push(event).is_err() {
         return Err(ScriptError::Memory);
     }
-    Ok(())
+    Ok(cards)
 }
 
 /// Whether a line is empty or a comment.
@@ -102,12 +149,16 @@ fn is_ignored(line: &[u8]) -> bool
     }
 }
 
-/// The event that a line names, by its first word.
-fn read_event<'a>(users: &[ScriptUser<'_>], line: &'a [u8]) -> Option<ScriptEvent<'a>>
+/// The event that a line names before a text, by its first word.
+fn read_event<'a>(
+    users: &[ScriptUser<'_>],
+    line: &'a [u8],
+    after: &'a [u8],
+) -> Option<ScriptEvent<'a>>
     requires { length users.now ≤ MOST_USERS }
     ensures users { IfSome result (IsOfUser users.now) }
     ensures devices { IfSome result (IsOfDevice users.now) }
-    ensures said { option_map said result ≡ said_of users.now line.now }
+    ensures said { option_map said result ≡ said_of users.now line.now (lines_of after.now) }
 {
     let (verb, operands) = cut_word(line);
     let operands = operands?;
@@ -121,6 +172,8 @@ fn read_event<'a>(users: &[ScriptUser<'_>], line: &'a [u8]) -> Option<ScriptEven
         read_serve(users, operands)
     } else if verb == b"AUTO".as_slice() {
         Some(ScriptEvent::Auto(turns_of(operands)?))
+    } else if verb == b"DECK".as_slice() {
+        read_deck(users, operands, after)
     } else {
         None
     }
@@ -197,6 +250,27 @@ fn turns_of(operands: &[u8]) -> Option<u32>
     let turns = decimal_of(DIGITS, operands)?;
     if 1 <= turns && turns <= MOST_TURNS {
         Some(turns)
+    } else {
+        None
+    }
+}
+
+/// `DECK u k`, after its first word: the first k lines of the text after it are the cards.
+fn read_deck<'a>(
+    users: &[ScriptUser<'_>],
+    operands: &'a [u8],
+    after: &'a [u8],
+) -> Option<ScriptEvent<'a>>
+    requires { length users.now ≤ MOST_USERS }
+    ensures users { IfSome result (IsOfUser users.now) }
+    ensures devices { IfSome result (IsOfDevice users.now) }
+    ensures said { option_map said result ≡ deck_of (names_of users.now) operands.now (lines_of after.now) }
+{
+    let (name, digits) = cut_word(operands);
+    let user = user_of(users, name)?;
+    let count = decimal_of(DIGITS, digits?)?;
+    if 1 <= count && count <= MOST_CARDS {
+        Some(ScriptEvent::Deck(user, Cards::cut(after, count as usize)?))
     } else {
         None
     }

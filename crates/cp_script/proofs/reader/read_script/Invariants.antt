@@ -1,11 +1,11 @@
 use Rattle.std.proofs.Common.{◌≡◌, ◌≤◌, ◌+◌, All, length, map}
-use Rattle.cp_text.specs.Lines.{lines_of, read_lines}
-use Rattle.cp_script.specs.Script.{IsOfDevice, IsOfUser, line_step, said, script_of}
+use Rattle.cp_text.specs.Lines.{lines_of}
+use Rattle.cp_script.specs.Script.{IsOfDevice, IsOfUser, read_on, said, script_of}
 use Rattle.cp_script.proofs.reader.read_script.Given as goal
 
 abbrev pub invariant-loop-rest : goal.invariant-loop-rest
 invariant-loop-rest l = record {
-  so_far : script_of l.users l.text ≡ read_lines (line_step l.users) l.number (map said l.events.items) (lines_of l.rest);
+  so_far : script_of l.users l.text ≡ read_on l.users l.number (record { events = map said l.events.items; cards = l.cards }) (lines_of l.rest);
   users : All (IsOfUser l.users) l.events.items;
   devices : All (IsOfDevice l.users) l.events.items;
   numbered : l.number + length l.rest ≤ length l.text + 1;

@@ -1,7 +1,7 @@
 use Rattle.std.proofs.Common.{◌≡◌, rules, [], ◌∷◌, ◌++◌, All, sym, subst}
 use Rattle.std.proofs.lemmas.List.Elements.{All-push}
 use Rattle.cp_script.specs.Script.{IsOfDevice, IsOfUser}
-use Rattle.cp_script.proofs.reader.read_line.Goals as goal
+use Rattle.cp_script.proofs.reader.read_entry.Goals as goal
 
 pub returns-clause-users : goal.returns-clause-users
 returns-clause-users c = λ so_far.
