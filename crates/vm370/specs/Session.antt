@@ -7,12 +7,12 @@ use Rattle.s370_num.specs.declared.host.HostFault.TheVariants as faults
 use Rattle.cp_core.specs.Histories.{IsHistory, IsStep}
 use Rattle.cp_core.specs.Local.{Step}
 use Rattle.cp_core.specs.Memory.{is_cut_short}
-use Rattle.cp_core.specs.System.{SystemView, user_at}
+use Rattle.cp_core.specs.System.{SystemView, names_of as names_in, user_at}
 use Rattle.cp_core.specs.declared.events.Event.{Event}
 use Rattle.cp_core.specs.declared.events.Reply.{Reply}
 use Rattle.cp_script.specs.Users.{KnownUser}
 use Rattle.cp_script.specs.Script.{Said, script_of}
-use Rattle.vm370.specs.Script.{as_said, known_users}
+use Rattle.vm370.specs.Script.{known_users}
 use Rattle.vm370.specs.Schedule.{Act, AreDone, Entry, Scene, acts, first_queue, scene, steps_of}
 use Rattle.vm370.specs.Transcript.{ended, entry_lines, event_lines}
 use Rattle.cp_script.specs.declared.reader.ScriptError.{ScriptError}
@@ -22,7 +22,7 @@ use Rattle.vm370.specs.declared.session.SessionError.TheVariants as errors
 
 -- the names of the users
 abbrev pub names_of : SystemView → List (List ℕ)
-names_of s = map (λ user. user.name) s.directory
+names_of s = names_in s.directory
 
 -- the users whom a script may name
 abbrev pub users_of : SystemView → List KnownUser
@@ -56,7 +56,8 @@ pub record IsSession (old new : SystemView) (reader_old reader_new writer_old wr
   pub history : IsHistory old (steps_of entries) new
   pub written : Appends writer_old writer_new (transcript (names_of old) entries)
 
--- an event was refused memory: each user is as he was, but for one whose own line closes files, and the system is spent
+-- an event was refused memory: each user is as he was, but for one whose own line closes files or whose device is served, and the
+-- system is spent
 pub record IsSpent (last new : SystemView) : Type 0 where
   pub event : Event
   pub spent : new.is_spent ≡ true
@@ -107,18 +108,14 @@ pub record IsPartly (all : List Act) (old : Scene) (new : SystemView) (before af
   pub left : (new ≡ last.system) ⊎ IsSpentOn last.system new rest
   pub written : AppendsFront before after (transcript (names_of old.system) entries)
 
--- the event that was said was applied, and its lines were written
-pub record IsAnswered (said : Said) (old new : SystemView) (before after : Option (List ℕ)) : Type 0 where
-  pub event : Event
-  pub named : as_said event ≡ said
+-- the event was applied, and its lines were written
+pub record IsAnswered (event : Event) (old new : SystemView) (before after : Option (List ℕ)) : Type 0 where
   pub reply : Reply
   pub step : IsStep old (record { event = event; reply = reply; seen = new })
   pub written : Appends before after (ended (event_lines (names_of old) (record { event = event; reply = reply; seen = new })))
 
--- the event that was said was applied, and a beginning of its lines was written
-pub record IsAnsweredPartly (said : Said) (old new : SystemView) (before after : Option (List ℕ)) : Type 0 where
-  pub event : Event
-  pub named : as_said event ≡ said
+-- the event was applied, and a beginning of its lines was written
+pub record IsAnsweredPartly (event : Event) (old new : SystemView) (before after : Option (List ℕ)) : Type 0 where
   pub reply : Reply
   pub step : IsStep old (record { event = event; reply = reply; seen = new })
   pub written : AppendsFront before after (ended (event_lines (names_of old) (record { event = event; reply = reply; seen = new })))

@@ -13,6 +13,7 @@
 
 pub mod arguments;
 pub mod faults;
+mod known;
 pub mod program;
 mod queue;
 pub mod session;

@@ -51,7 +51,7 @@ pub(crate) fn first_policy(alloc: Global, system: &System) -> Result<Policy, All
     ensures seats { IfOk result (λ policy. policy.most_users ≡ length system.now.directory) }
 {
     let users = system.users();
-    let mut policy = Policy::new(alloc, users, 0)?;
+    let mut policy = Policy::new(alloc, users)?;
     for number in 0..users {
         let user = UserNo::new(number as u8);
         note(&mut policy, user, false, is_on(system, user));

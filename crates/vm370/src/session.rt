@@ -1,22 +1,23 @@
 //! A session: from a script's bytes to a transcript's bytes.
-ghost use Rattle.std.specs.Prelude.{◌≡◌, ◌<◌, ◌≤◌, ◌⊎◌, ℕ, [], ◌∷◌, All, Err, IfErr, IfOk, Ok, OnErr, OnOk, Some, ◌↔◌, false, length, map, replicate, true};
+ghost use Rattle.std.specs.Prelude.{◌≡◌, ◌<◌, ◌⊎◌, ℕ, [], ◌∷◌, All, Err, IfOk, OnErr, OnOk, ◌↔◌, false, length, map, replicate, true};
 ghost use Rattle.vm370.specs.declared.session.SessionError.TheVariants.{Memory};
 ghost use Rattle.cp_core.specs.Events.{user_of};
-ghost use Rattle.cp_script.specs.Script.{IsRefusal, said, script_of, user_of_event};
+ghost use Rattle.cp_script.specs.Script.{said};
 ghost use Rattle.vm370.specs.Schedule.{Applies, Deals, acts, acts_of, scene};
-ghost use Rattle.vm370.specs.Script.{IsApplicable, IsOfUser, NamesNoDevice, as_said, known_users};
+ghost use Rattle.vm370.specs.Script.{AreCards, IsApplicable, IsOfStated, IsOfUser, IsStated, as_said, known_users};
 ghost use Rattle.vm370.specs.Session.{CountsFiles, CountsWriter, IsAnswered, IsAnsweredPartly, IsCut, IsPartly, IsPlayed, IsRefused, IsSession, IsUnanswered, fault_error, refusal_error, users_of};
 
+use crate::known::read_events;
 use crate::queue::{SLICE_UNITS, first_policy, is_on, note, ready_users};
 use crate::transcript::{idle_line, print_reply};
 use cp_core::{CpError, Event, System};
-use cp_directory::User;
 use cp_dispatch::Policy;
-use cp_script::{ScriptError, ScriptEvent, ScriptUser, read_script};
-use cp_users::MOST_USERS;
+use cp_script::{ScriptError, ScriptEvent};
+use s370_num::DevAddr;
 use s370_num::host::{HostFault, HostReader, HostWriter, read_all, write_all};
 use std::alloc::{AllocError, Global};
 use thiserror::Error;
+use unit_record::Card;
 
 /// Why a session did not go to its end.
 #[derive(Clone, Copy, Debug, PartialEq, Eq, Drop, Error)]
@@ -97,37 +98,6 @@ pub fn session<R: HostReader, W: HostWriter>(
     play(alloc, system, &mut policy, &events, writer)
 }
 
-/// The events that a script names for the users of a directory, who have no devices.
-fn read_events<'a>(
-    alloc: Global,
-    users: &[User],
-    text: &'a [u8],
-) -> Result<Vec<ScriptEvent<'a>>, ScriptError>
-    requires { length users.now ≤ MOST_USERS }
-    ensures ok { IfOk result (λ events. script_of (known_users users.now) text.now ≡ Ok (map said events.items)) }
-    ensures users { IfOk result (λ events. All (IsOfUser (length users.now)) events.items) }
-    ensures devices { IfOk result (λ events. All NamesNoDevice events.items) }
-    ensures err { IfErr result (IsRefusal (script_of (known_users users.now) text.now)) }
-{
-    let Ok(users) = script_users(alloc, users) else {
-        return Err(ScriptError::Memory);
-    };
-    read_script(alloc, &users, text)
-}
-
-/// The users of a directory as scripts know them.
-fn script_users<'a>(alloc: Global, users: &'a [User]) -> Result<Vec<ScriptUser<'a>>, AllocError>
-    ensures { IfOk result (λ known. known.items ≡ known_users users.now) }
-{
-    users
-        .iter()
-        .map(|user| ScriptUser {
-            name: user.name(),
-            devices: &[],
-        })
-        .collect(alloc)
-}
-
 /// Applies the events and deals the turns one after another, and writes the lines of each as they come.
 fn play<W: HostWriter>(
     alloc: Global,
@@ -137,7 +107,7 @@ fn play<W: HostWriter>(
     writer: &mut W,
 ) -> Result<(), SessionError>
     requires users { All (IsOfUser (length system.old.directory)) events.now }
-    requires devices { All NamesNoDevice events.now }
+    requires devices { All (IsOfStated system.old.directory) events.now }
     requires seats { policy.old.most_users ≡ length system.old.directory }
     ensures ok { OnOk result (IsPlayed (acts (map said events.now)) (scene system.old policy.old.users)
         (scene system.new policy.new.users) (W.contents writer.old) (W.contents writer.new)) }
@@ -165,7 +135,7 @@ fn act<W: HostWriter>(
     writer: &mut W,
 ) -> Result<(), SessionError>
     requires user { IsOfUser (length system.old.directory) event.now }
-    requires device { NamesNoDevice event.now }
+    requires device { IsOfStated system.old.directory event.now }
     requires seats { policy.old.most_users ≡ length system.old.directory }
     ensures ok { OnOk result (IsPlayed (acts_of (said event.now)) (scene system.old policy.old.users)
         (scene system.new policy.new.users) (W.contents writer.old) (W.contents writer.new)) }
@@ -195,6 +165,7 @@ fn apply<W: HostWriter>(
     writer: &mut W,
 ) -> Result<(), SessionError>
     requires user { IsOfUser (length system.old.directory) event.now }
+    requires device { IsOfStated system.old.directory event.now }
     requires event { IsApplicable event.now }
     requires seats { policy.old.most_users ≡ length system.old.directory }
     ensures ok { OnOk result (IsPlayed (Applies (said event.now) ∷ []) (scene system.old policy.old.users)
@@ -209,7 +180,9 @@ fn apply<W: HostWriter>(
     ensures spent { result ≡ Err SessionError.Spent → system.old.is_spent ≡ true }
     ensures counts { CountsWriter result (W.HostFile.failures writer.old) (W.HostFile.failures writer.new) }
 {
-    let user = event_of(event).user();
+    let cards = cards_of(alloc, event)?;
+    let event = event_of(event, &cards);
+    let user = event.user();
     let was_on = is_on(system, user);
     answer(alloc, system, event, writer)?;
     let is_on = is_on(system, user);
@@ -266,7 +239,7 @@ fn turn<W: HostWriter>(
 {
     let ready = ready_users(system);
     match policy.slice(&ready) {
-        Some(user) => answer(alloc, system, &ScriptEvent::Run(user, SLICE_UNITS), writer),
+        Some(user) => answer(alloc, system, Event::Run(user, SLICE_UNITS), writer),
         None => {
             write_all(writer, idle_line())?;
             Ok(())
@@ -278,48 +251,55 @@ fn turn<W: HostWriter>(
 fn answer<W: HostWriter>(
     alloc: Global,
     system: &mut System,
-    event: &ScriptEvent<'_>,
+    event: Event<'_>,
     writer: &mut W,
 ) -> Result<(), SessionError>
-    requires user { IsOfUser (length system.old.directory) event.now }
-    requires event { IsApplicable event.now }
-    ensures ok { OnOk result (IsAnswered (said event.now) system.old system.new (W.contents writer.old)
-        (W.contents writer.new)) }
+    requires user { user_of event < length system.old.directory }
+    requires stated { IsStated system.old event }
+    ensures ok { OnOk result (IsAnswered event system.old system.new (W.contents writer.old) (W.contents writer.new)) }
     ensures err { OnErr result
         (IsUnanswered system.old system.new (W.contents writer.old) (W.contents writer.new)
-        ⊎ IsAnsweredPartly (said event.now) system.old system.new (W.contents writer.old) (W.contents writer.new)) }
+        ⊎ IsAnsweredPartly event system.old system.new (W.contents writer.old) (W.contents writer.new)) }
     ensures directory { system.new.directory ≡ system.old.directory }
     ensures line { (n : ℕ) → result ≡ Err (SessionError.Line n) → ⊥ }
     ensures alive { OnOk result (system.new.is_spent ≡ false) }
     ensures spent { (result ≡ Err SessionError.Spent) ↔ (system.old.is_spent ≡ true) }
     ensures counts { CountsWriter result (W.HostFile.failures writer.old) (W.HostFile.failures writer.new) }
 {
-    let user = event_of(event).user();
-    let reply = match system.apply(event_of(event)) {
+    let reply = match system.apply(event) {
         Ok(reply) => reply,
         Err(CpError::Memory) => return Err(SessionError::Memory),
         Err(CpError::Spent) => return Err(SessionError::Spent),
         Err(CpError::NoSuchUser) => unreachable!(),
+        Err(CpError::NoSuchDevice) => unreachable!(),
     };
-    let Some(devices) = system.spool(user) else {
-        unreachable!();
-    };
-    let reader = devices.reader();
-    let lines = print_reply(alloc, system.directory().users(), user, reader, &reply)?;
+    let lines = print_reply(alloc, system, event, &reply)?;
     write_all(writer, &lines)?;
     Ok(())
 }
 
-/// The event that a line of a script says.
-fn event_of<'a>(event: &ScriptEvent<'a>) -> Event<'a>
-    requires { IsApplicable event.now }
+/// The cards of a deck that a line of a script says; else none.
+fn cards_of(alloc: Global, event: &ScriptEvent<'_>) -> Result<Vec<Card>, AllocError>
+    ensures { IfOk result (λ cards. AreCards event.now cards.items) }
+{
+    match event {
+        ScriptEvent::Deck(_, cards) => cards.to_vec(alloc),
+        _ => Ok(Vec::new(alloc)),
+    }
+}
+
+/// The event that a line of a script says, which has these cards where it is a deck.
+fn event_of<'a>(event: &ScriptEvent<'a>, cards: &'a [Card]) -> Event<'a>
+    requires event { IsApplicable event.now }
+    requires cards { AreCards event.now cards.now }
     ensures said { as_said result ≡ said event.now }
-    ensures user { Some (user_of result) ≡ user_of_event event.now }
 {
     match *event {
         ScriptEvent::Run(user, units) => Event::Run(user, units),
         ScriptEvent::Line(user, typed) => Event::Line(user, typed),
         ScriptEvent::Tick(user) => Event::Tick(user),
-        ScriptEvent::Serve(_, _) | ScriptEvent::Auto(_) => unreachable!(),
+        ScriptEvent::Serve(user, device) => Event::Serve(user, DevAddr::new(device)),
+        ScriptEvent::Deck(user, _) => Event::Deck(user, cards),
+        ScriptEvent::Auto(_) => unreachable!(),
     }
 }
