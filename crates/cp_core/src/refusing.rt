@@ -6,6 +6,7 @@ use s370_channel::{Caw, ChannelError};
 use s370_walk::{Device, Ending};
 
 /// Channels on which no program runs.
+#[derive(Clone, Copy)]
 pub(crate) struct Refusing;
 
 impl Disks for Refusing {

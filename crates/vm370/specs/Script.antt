@@ -1,10 +1,12 @@
 -- What scripts say to the control program.
-use Rattle.std.specs.Prelude.{◌≡◌, ℕ, ◌<◌, List, IfSome, map}
-use Rattle.cp_core.specs.Stated.{LacksDevice}
+use Rattle.std.specs.Prelude.{◌≡◌, ℕ, ◌<◌, Bool, true, List, IfSome, map, slice_get}
+use Rattle.std.specs.List.{list_all}
+use Rattle.cp_core.specs.Stated.{LacksDevice, states_device}
 use Rattle.cp_core.specs.System.{SystemView}
 use Rattle.cp_core.specs.declared.events.Event.{Event}
 use Rattle.cp_core.specs.declared.events.Event.TheVariants as events
 use Rattle.cp_directory.specs.Users.{DirectoryUser, addresses_of}
+use Rattle.cp_dispatch.specs.declared.program.Program.{Program}
 use Rattle.cp_script.specs.Cards.{cards_of}
 use Rattle.cp_script.specs.Users.{KnownUser}
 use Rattle.cp_script.specs.Script.{Said, Run, Line, Tick, Serve, Deck, IsOfDevice, user_of_event}
@@ -52,3 +54,10 @@ AreCards (scripts.Line user text) cards = Unit {0}
 AreCards (scripts.Tick user) cards = Unit {0}
 AreCards (scripts.Serve user device) cards = Unit {0}
 AreCards (scripts.Auto turns) cards = Unit {0}
+
+-- each program in the line is of a device that the directory gives its user
+abbrev pub is_stated : SystemView → Program → Bool
+is_stated s program = states_device program.device (slice_get s.directory program.user)
+
+abbrev pub IsLineStated : SystemView → List Program → Type 0
+IsLineStated s line = list_all (is_stated s) line ≡ true

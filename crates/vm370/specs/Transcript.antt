@@ -25,7 +25,7 @@ use Rattle.cp_core.specs.declared.delivery.Delivered.{Delivered}
 use Rattle.cp_core.specs.declared.delivery.Delivery.{Delivery}
 use Rattle.cp_core.specs.declared.delivery.Delivery.TheVariants as deliveries
 use Rattle.cp_core.specs.declared.events.Reply.{Reply}
-use Rattle.vm370.specs.Schedule.{Entry, Answered, Idle}
+use Rattle.vm370.specs.Schedule.{Entry, Answered, Passed, Idle}
 
 -- `u: text`
 abbrev pub told_line : List ℕ → List ℕ → List ℕ
@@ -125,9 +125,10 @@ event_lines names step =
 abbrev pub idle_line : List ℕ
 idle_line = codes "= IDLE"
 
--- the lines of an event and its reply, or of a turn that nobody had
+-- the lines of an event and its reply, or of a turn of which nobody had either half
 abbrev pub entry_lines : List (List ℕ) → Entry → List (List ℕ)
 entry_lines names (Answered step) = event_lines names step
+entry_lines names Passed = []
 entry_lines names Idle = idle_line ∷ []
 
 -- lines as bytes, each ended by LF
