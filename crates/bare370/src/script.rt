@@ -1,9 +1,8 @@
 //! The script of a machine of its own: events, decks of cards, and turns.
 use bare_installation::{BARE, Bare, Event, Reply};
-use cp_script::{ScriptError, ScriptEvent, ScriptUser, read_script};
+use cp_script::{Cards, ScriptError, ScriptEvent, ScriptUser, read_script};
 use s370_num::DevAddr;
 use std::alloc::{AllocError, Global};
-use unit_record::Card;
 
 /// What a line of a script asks for.
 #[derive(Drop)]
@@ -26,19 +25,21 @@ pub enum Happening<'a> {
     /// The device of this address is served.
     Serve(u16),
     /// The operator gives a deck of these cards.
-    Deck(Vec<Card>),
+    Deck(Cards<'a>),
 }
 
 impl<'a> Happening<'a> {
     /// Lets it happen to the machine, and says what is told.
     pub fn happen(&self, alloc: Global, machine: &mut Bare) -> Result<Reply, AllocError> {
-        let event = match self {
-            Happening::Line(typed) => Event::Line(typed),
-            Happening::Tick => Event::Tick,
-            Happening::Serve(device) => Event::Serve(DevAddr::new(*device)),
-            Happening::Deck(cards) => Event::Deck(cards.as_slice()),
-        };
-        machine.apply(alloc, event)
+        match self {
+            Happening::Line(typed) => machine.apply(alloc, Event::Line(typed)),
+            Happening::Tick => machine.apply(alloc, Event::Tick),
+            Happening::Serve(device) => machine.apply(alloc, Event::Serve(DevAddr::new(*device))),
+            Happening::Deck(cards) => {
+                let cards = cards.to_vec(alloc)?;
+                machine.apply(alloc, Event::Deck(cards.as_slice()))
+            }
+        }
     }
 }
 
@@ -53,31 +54,23 @@ pub fn read_steps<'a>(
         name: BARE,
         devices,
     }];
-    let events = read_script(alloc, &users, text)?;
-    match steps_of(alloc, &events) {
-        Ok(steps) => Ok(steps),
-        Err(_) => Err(ScriptError::Memory),
-    }
-}
-
-/// The steps of the events of a script.
-fn steps_of<'a>(alloc: Global, events: &[ScriptEvent<'a>]) -> Result<Vec<Step<'a>>, AllocError> {
     let mut steps = Vec::new(alloc);
-    for event in events {
-        steps.push(step_of(alloc, event)?)?;
+    for event in read_script(alloc, &users, text)? {
+        if steps.push(step_of(event)).is_err() {
+            return Err(ScriptError::Memory);
+        }
     }
     Ok(steps)
 }
 
 /// The step of an event of a script whose only user is this machine's.
-fn step_of<'a>(alloc: Global, event: &ScriptEvent<'a>) -> Result<Step<'a>, AllocError> {
-    let step = match event {
-        ScriptEvent::Run(_, units) => Step::Run(*units),
+fn step_of(event: ScriptEvent<'_>) -> Step<'_> {
+    match event {
+        ScriptEvent::Run(_, units) => Step::Run(units),
         ScriptEvent::Line(_, typed) => Step::Happens(Happening::Line(typed)),
         ScriptEvent::Tick(_) => Step::Happens(Happening::Tick),
-        ScriptEvent::Serve(_, device) => Step::Happens(Happening::Serve(*device)),
-        ScriptEvent::Auto(turns) => Step::Turns(*turns),
-        ScriptEvent::Deck(_, cards) => Step::Happens(Happening::Deck(cards.to_vec(alloc)?)),
-    };
-    Ok(step)
+        ScriptEvent::Serve(_, device) => Step::Happens(Happening::Serve(device)),
+        ScriptEvent::Auto(turns) => Step::Turns(turns),
+        ScriptEvent::Deck(_, cards) => Step::Happens(Happening::Deck(cards)),
+    }
 }

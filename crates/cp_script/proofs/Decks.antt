@@ -1,17 +1,8 @@
 -- A deck's lines, card by card, and a card, column by column.
-use Rattle.std.proofs.Common.{◌≡◌, ℕ, zero, suc, ◌+◌, ◌-◌, ◌<◌, ◌≤◌, ◌⊎◌, inl, inr, min, List, [], ◌∷◌, ◌++◌, length, map, take, set, get_or, replicate, refl, ap, sym, ◌∙◌, subst, append_assoc, append-nil, arith}
+use Rattle.std.proofs.Common.{◌≡◌, ℕ, zero, suc, ◌+◌, ◌-◌, ◌<◌, ◌≤◌, ◌⊎◌, inl, inr, min, List, [], ◌∷◌, ◌++◌, length, map, take, set, get_or, replicate, ap, sym, ◌∙◌, subst, append_assoc, append-nil, arith}
 use Rattle.std.proofs.lemmas.List.{length-map, length-take-le, take-append-le, take-replicate, take_more, get_or-map}
 use Rattle.std.proofs.Math.Seq.{set-append_seam, take-append-add, take-length}
 use Rattle.cp_script.specs.Cards.{blank, card_of, punched}
-use Rattle.cp_script.specs.Script.{Said, card_step, step}
-use Rattle.cp_script.specs.Users.{KnownUser}
-
--- a line is a card where some are left
-pub step_card : (users : List KnownUser) (number : ℕ) (so_far : List Said) (cards : ℕ) (line : List ℕ) (after : List (List ℕ)) → 0 < cards → step users number so_far cards line after ≡ card_step number so_far (cards - 1) line
-step_card users number so_far zero line after h = absurd (omega arith)
-step_card users number so_far (suc left) line after h =
-    let same : left ≡ suc left - 1 = omega arith in
-    ap (λ (n : ℕ). card_step number so_far n line) same
 
 -- the first lines, by the first of them
 pub take_line : (n : ℕ) (line : List ℕ) (lines : List (List ℕ)) → 0 < n → take n (line ∷ lines) ≡ line ∷ take (n - 1) lines
@@ -60,7 +51,7 @@ filled xs b n i h = elim (lesser (length xs) n i h) [
       let few : n - i ≤ n = omega arith in
       let front : take i xs ≡ xs = ap (λ (m : ℕ). take m xs) k ∙ take-length xs in
       let whole : take n (xs ++ replicate n b) ≡ xs ++ replicate (n - i) b =
-          subst (λ (m : ℕ). take m (xs ++ replicate n b) ≡ xs ++ replicate (n - i) b) sum
-          (take-append-add xs (replicate n b) (n - i) ∙ ap (λ (l : List ℕ). xs ++ l) (take-replicate (n - i) n b few)) in
+      subst (λ (m : ℕ). take m (xs ++ replicate n b) ≡ xs ++ replicate (n - i) b) sum
+      (take-append-add xs (replicate n b) (n - i) ∙ ap (λ (l : List ℕ). xs ++ l) (take-replicate (n - i) n b few)) in
       ap (λ (l : List ℕ). l ++ replicate (n - i) b) front ∙ sym whole
 ]

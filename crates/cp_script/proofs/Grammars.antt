@@ -15,7 +15,7 @@ use Rattle.cp_users.specs.Users.{user_of}
 use Rattle.cp_text.proofs.Spellings.{chosen, parts, alone, word_whole, word_again, after_again, word_again_alone, after_again_alone}
 use Rattle.cp_script.specs.Users.{KnownUser, has_device, names_of}
 use Rattle.cp_script.specs.Cards.{card_of, cards_in}
-use Rattle.cp_script.specs.Script.{Said, Run, Line, Tick, Serve, Auto, Deck, Reading, auto_of, card_step, cards_after, counted, dealt, deck_of, is_ignored, joined, operands_of, read_on, run_of, said_of, serve_of, served, text_of, tick_of, turned, typed_of}
+use Rattle.cp_script.specs.Script.{Said, Run, Line, Tick, Serve, Auto, Deck, auto_of, cards_after, counted, dealt, deck_of, is_ignored, joined, operands_of, read_on, run_of, said_of, serve_of, served, text_of, tick_of, turned, typed_of}
 use Rattle.cp_script.specs.Grammar.{IsName, SaysLine, Says, Reads, ReadsGrammar}
 
 is_word : (xs ys : List ℕ) → bytes_eq xs ys ≡ true → xs ≡ ys

@@ -83,7 +83,7 @@ Reads users (suc cards) (line ∷ lines) after events left = (length line ≤ 80
 Reads users zero (line ∷ lines) after events left =
     ((is_ignored line ≡ true) × Reads users 0 lines after events left)
     ⊎ ((is_ignored line ≡ false) × (e : Said) × (es : List Said) × (events ≡ e ∷ es) × Says users line (lines ++ after) e
-        × Reads users (cards_after e) lines after es left)
+    × Reads users (cards_after e) lines after es left)
 
 -- the lines are a script of these events
 abbrev pub IsScript : List KnownUser → List (List ℕ) → List Said → Type 0

@@ -4,7 +4,8 @@
 //! any other text is refused at its first line that the grammar does not have ([`reads_grammar`]
 //! carries that law, [`read_script`] keeps it). A script is judged for the users that there are and
 //! the devices that each of them has, which whoever reads it tells ([`ScriptUser`]); what the events do
-//! is no matter of this crate.
+//! is no matter of this crate. The cards of a deck are lines of the script, and are made when they are
+//! asked for ([`Cards::to_vec`]).
 //!
 //! ```text
 //! let users = [ScriptUser { name: b"A", devices: &[0x191] }];

@@ -3,7 +3,7 @@ ghost use Rattle.std.specs.Prelude.{◌≡◌, ℕ, ◌<◌, ◌≤◌, ◌+◌,
 ghost use Rattle.std.specs.Option.{option_map};
 ghost use Rattle.cp_text.specs.Lines.{lines_of};
 ghost use Rattle.cp_script.specs.Grammar.{ReadsGrammar};
-ghost use Rattle.cp_script.specs.Script.{Auto, Said, IsOfDevice, IsOfUser, IsRefusal, auto_of, card_step, deck_of, is_ignored, line_step, run_of, said, said_of, script_of, serve_of, step, tick_of, typed_of};
+ghost use Rattle.cp_script.specs.Script.{Auto, IsOfDevice, IsOfUser, IsRefusal, auto_of, deck_of, is_ignored, line_step, run_of, said, said_of, script_of, serve_of, step, tick_of, typed_of};
 ghost use Rattle.cp_script.specs.Users.{names_of};
 
 use crate::cards::Cards;
@@ -38,8 +38,9 @@ pub enum ScriptError {
     /// There was no memory for the events.
     #[error("no memory for the script's events")]
     Memory,
-    /// The first line, counted from 1, that is no line of a script.
-    #[error("line {0} of the script names an unknown user or device, or is misspelled")]
+    /// The first line, counted from 1, that is no line of a script: also a `DECK` whose cards are missing, or a card
+    /// that is too long.
+    #[error("line {0} of the script is misspelled or too long, lacks its cards, or names an unknown user or device")]
     Line(u64),
 }
 
@@ -70,8 +71,8 @@ pub fn read_script<'a>(
     Ok(events)
 }
 
-/// Adds what a line of this number names, before the text after it, to the events before it. The first
-/// so many lines are cards of the last of them; answered is how many there are after this line.
+/// Reads a line of this number, where it and those after it are so many cards of the last event, and says how many
+/// cards are left. What it names is added to the events before it.
 fn read_line<'a>(
     users: &[ScriptUser<'_>],
     number: u64,
@@ -81,32 +82,23 @@ fn read_line<'a>(
     events: &mut Vec<ScriptEvent<'a>>,
 ) -> Result<usize, ScriptError>
     requires { length users.now ≤ MOST_USERS }
-    ensures ok { IfOk result (λ left. step users.now number (map said events.old.items) cards line.now (lines_of after.now)
+    ensures ok { IfOk result (λ left.
+        step users.now number (map said events.old.items) cards line.now (lines_of after.now)
         ≡ Ok (record { events = map said events.new.items; cards = left })) }
     ensures users { All (IsOfUser users.now) events.old.items
         → OnOk result (All (IsOfUser users.now) events.new.items) }
     ensures devices { All (IsOfDevice users.now) events.old.items
         → OnOk result (All (IsOfDevice users.now) events.new.items) }
-    ensures err { IfErr result (IsRefusal (step users.now number (map said events.old.items) cards line.now (lines_of after.now))) }
+    ensures err { IfErr result
+        (IsRefusal (step users.now number (map said events.old.items) cards line.now (lines_of after.now))) }
 {
-    if cards > 0 {
-        read_card(number, cards - 1, line)
-    } else {
-        read_entry(users, number, line, after, events)
+    if cards == 0 {
+        return read_entry(users, number, line, after, events);
     }
-}
-
-/// Reads a line of this number that is a card, where so many cards are left after it.
-fn read_card(number: u64, left: usize, line: &[u8]) -> Result<usize, ScriptError>
-    ensures ok { IfOk result (λ cards. (so_far : List Said) → card_step number so_far left line.now
-        ≡ Ok (record { events = so_far; cards = cards })) }
-    ensures err { IfErr result (λ error. (so_far : List Said) → IsRefusal (card_step number so_far left line.now) error) }
-{
-    if line.len() <= COLUMNS {
-        Ok(left)
-    } else {
-        Err(ScriptError::Line(number))
+    if line.len() > COLUMNS {
+        return Err(ScriptError::Line(number));
     }
+    Ok(cards - 1)
 }
 
 /// Adds what a line of this number that is no card names to the events before it.
@@ -118,13 +110,15 @@ fn read_entry<'a>(
     events: &mut Vec<ScriptEvent<'a>>,
 ) -> Result<usize, ScriptError>
     requires { length users.now ≤ MOST_USERS }
-    ensures ok { IfOk result (λ left. line_step users.now number (map said events.old.items) line.now (lines_of after.now)
+    ensures ok { IfOk result (λ left.
+        line_step users.now number (map said events.old.items) line.now (lines_of after.now)
         ≡ Ok (record { events = map said events.new.items; cards = left })) }
     ensures users { All (IsOfUser users.now) events.old.items
         → OnOk result (All (IsOfUser users.now) events.new.items) }
     ensures devices { All (IsOfDevice users.now) events.old.items
         → OnOk result (All (IsOfDevice users.now) events.new.items) }
-    ensures err { IfErr result (IsRefusal (line_step users.now number (map said events.old.items) line.now (lines_of after.now))) }
+    ensures err { IfErr result
+        (IsRefusal (line_step users.now number (map said events.old.items) line.now (lines_of after.now))) }
 {
     if is_ignored(line) {
         return Ok(0);

@@ -1,7 +1,8 @@
 //! Scripts, and the events that they say.
 use crate::step::Step;
 use crate::telling::{add, quoted};
-use cp_script::{ScriptError, ScriptEvent, ScriptUser, read_script};
+use cp_script::{Cards, ScriptError, ScriptEvent, ScriptUser, read_script};
+use s370_num::ebcdic::printable;
 use std::alloc::{AllocError, Global};
 
 /// `script "RUN A 1\n"`: the events of a text, or its first bad line, where its users are A, who has two devices, and
@@ -47,6 +48,30 @@ fn add_event(alloc: Global, told: &mut String, event: &ScriptEvent<'_>) -> Resul
         ScriptEvent::Tick(_) => String::from_str(alloc, "tick;")?,
         ScriptEvent::Serve(_, device) => format!(in alloc; "serve {device:03X};")?,
         ScriptEvent::Auto(turns) => format!(in alloc; "auto {turns};")?,
+        ScriptEvent::Deck(_, cards) => deck(alloc, cards)?,
     };
     add(told, what.as_str())
+}
+
+/// The cards of a deck, each by what it prints up to its last character and how many blanks follow.
+fn deck(alloc: Global, cards: &Cards<'_>) -> Result<String, AllocError> {
+    let mut told = format!(in alloc; "deck {}", cards.len())?;
+    for card in &cards.to_vec(alloc)? {
+        add_card(alloc, &mut told, card)?;
+    }
+    told.push_str(";")?;
+    Ok(told)
+}
+
+/// Adds a card.
+fn add_card(alloc: Global, told: &mut String, card: &[u8; 80]) -> Result<(), AllocError> {
+    let mut shown = Vec::new(alloc);
+    for byte in card {
+        shown.push(printable(*byte))?;
+    }
+    let text = shown.trim_ascii_end();
+    let blanks = shown.len().saturating_sub(text.len());
+    let text = quoted(alloc, text)?;
+    let card = format!(in alloc; "{text}+{blanks}")?;
+    add(told, card.as_str())
 }
