@@ -1,6 +1,6 @@
 -- What each event leaves is a step: to every user, as the reply tells, and of the frames.
-use Rattle.std.proofs.Common.{◌≡◌, ◌∙◌, ◌⊎◌, ℕ, ◌+◌, ◌-◌, ◌<◌, ◌==◌, Bool, true, false, List, [], ◌∷◌, ◌++◌, length, get_or, set, Option, Some, None, Result, Ok, Err, refl, sym, ap, subst, inl, inr, arith, nat_lt}
-use Rattle.std.specs.Prelude.{slice_get, if◌then◌else◌}
+use Rattle.std.proofs.Common.{◌≡◌, ◌∙◌, ◌⊎◌, ℕ, ◌+◌, ◌-◌, ◌<◌, ◌==◌, ◌&&◌, Bool, true, false, List, [], ◌∷◌, ◌++◌, length, get_or, set, Option, Some, None, Result, Ok, Err, refl, sym, ap, subst, inl, inr, arith, nat_lt}
+use Rattle.std.specs.Prelude.{slice_get, if◌then◌else◌, IfErr, OnErr}
 use Rattle.std.specs.Borrow.{Bor}
 use Rattle.std.proofs.lemmas.Bool.{false≢true}
 use Rattle.std.proofs.lemmas.Bool.Decides.{nat_tests}
@@ -254,6 +254,10 @@ follow_others : (old middle : SystemView) (user : ℕ) (u : ℕ) (b : Bool) (clo
 follow_others old middle user u true closing lent same t not = stays_each (λ (e : Equipped). e) user old.users middle.users (ap (λ (x : SystemView). x.users) lent) (same not) u
 follow_others old middle user u false closing lent same t not = others_stay user old.users middle.users (ap (λ (x : SystemView). x.users) lent) u t
 
+and_if : (b c : Bool) → (b && c) ≡ false → (if b then c else false) ≡ false
+and_if true c h = h
+and_if false c h = refl
+
 pub line_cut : (old middle new : SystemView) (user : ℕ) (typed : Bor (List ℕ)) (told : Told) (punched printed : ℕ)
     → HasTyped (world_of old user) user typed.now (user_at old user) old.supply (Ok told) (user_at middle user) middle.supply
     → IsLent old user middle → IsBetweenUnits old.supply → IsBetweenUnits middle.supply
@@ -275,7 +279,7 @@ line_cut old middle new user typed told punched printed h lent rest between at_p
         given_back = λ on. inl (subst (λ (x : FrameSupply). IsGivenBack user old.supply x) (sym supply) (h.given_back on));
         brought = λ off. (let b = h.brought off in (b.0 ∷ [], subst (λ (x : FrameSupply). IsBroughtInUnits user (b.0 ∷ []) old.supply x) (sym supply) b.1, (b.0, refl, b.2)));
       };
-      others = λ u not. ap (λ (us : List Equipped). get_or us u nobody) users ∙ follow_others old middle user u (user == u) (closes q) lent (λ none. follow_same q w typed.now e told (user_at middle user) none h.leaves now) refl not;
+      others = λ u not. ap (λ (us : List Equipped). get_or us u nobody) users ∙ follow_others old middle user u (user == u) (closes q) lent (λ none. follow_same q w typed.now e told (user_at middle user) none h.leaves now) refl (and_if (user == u) (closes q) not);
     }
 
 -- ---- a serve
@@ -416,3 +420,20 @@ deck_cut old new user cards rest some left =
       };
       others = λ u not. ap (λ (x : SystemView). get_or x.users u nobody) left;
     }
+
+pub is_nothing : (cards : List (List ℕ)) (b : Bool) → b ≡ (length cards == 0) → b ≡ true → cards ≡ []
+is_nothing [] b e t = refl
+is_nothing (card ∷ cards) b e t = absurd (grind (arith, nat_tests))
+
+pub is_something : (cards : List (List ℕ)) (b : Bool) → b ≡ (length cards == 0) → b ≡ false → cards ≡ [] → ⊥
+is_something [] b e f none = grind (arith, nat_tests)
+is_something (card ∷ cards) b e f none = cc
+
+-- ---- by an answer
+
+pub error_at : {A E : Type 0} (r : Result A E) (e e' : E) (Q : E → Type 0) → r ≡ Err e → e ≡ e' → IfErr r Q → Q e'
+error_at {A = A} {E = E} r e e' Q is it h = subst Q it (subst (λ (x : Result A E). IfErr x Q) is h)
+
+pub if_err : {A E : Type 0} (r : Result A E) (P : Type 0) → P → OnErr r P
+if_err (Ok a) P h = tt
+if_err (Err e) P h = h

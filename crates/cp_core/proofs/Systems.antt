@@ -1,5 +1,6 @@
 -- The users of a system, of whom one's machine and storage change.
-use Rattle.std.proofs.Common.{◌≡◌, ℕ, ◌<◌, Bool, List, [], ◌∷◌, ◌++◌, length, map, get_or, set, zero, suc, refl, sym, subst, ◌∙◌, ap, arith, get_or-set_same}
+use Rattle.std.specs.Prelude.{OnErr, OnOk}
+use Rattle.std.proofs.Common.{Result, Ok, Err, ◌≡◌, ℕ, ◌<◌, Bool, List, [], ◌∷◌, ◌++◌, length, map, get_or, set, zero, suc, refl, sym, subst, ◌∙◌, ap, arith, get_or-set_same}
 use Rattle.std.proofs.lemmas.List.{get_or_default}
 use Rattle.cp_directory.specs.Users.{DirectoryUser}
 use Rattle.cp_frames.specs.Layout.{FrameSupply}
@@ -147,3 +148,22 @@ pub modes_of : (seats : List UserParts) (storages : List (List ℕ)) → length 
 modes_of [] storages e = refl
 modes_of (seat ∷ seats) [] e = absurd (omega arith)
 modes_of (seat ∷ seats) (bytes ∷ storages) e = ap (λ (on : List Bool). is_logged_on seat.parts.mode ∷ on) (modes_of seats storages (omega arith))
+
+-- a user who has a machine has a seat, and one of at most 64
+pub has_seat : (seats : List UserParts) (storages : List (List ℕ)) (directory : List DirectoryUser) (us : List Equipped) (user : ℕ) → IsWhole seats storages directory → users_of seats storages ≡ us → user < length us → user < length seats
+has_seat seats storages directory us user whole e h =
+    let inside = is_user seats storages directory us user whole e h in omega (arith, inside, whole.seated)
+
+pub is_few : (seats : List UserParts) (storages : List (List ℕ)) (directory : List DirectoryUser) (us : List Equipped) (user : ℕ) → IsWhole seats storages directory → users_of seats storages ≡ us → user < length us → user < 64
+is_few seats storages directory us user whole e h =
+    let inside = is_user seats storages directory us user whole e h in omega (arith, inside, whole.few)
+
+-- ---- by an answer
+
+pub on_ok : {A E : Type 0} (r : Result A E) (P Q : Type 0) → (P → Q) → OnOk r P → OnOk r Q
+on_ok (Ok a) P Q f h = f h
+on_ok (Err e) P Q f h = h
+
+pub on_err : {A E : Type 0} (r : Result A E) (P Q : Type 0) → (P → Q) → OnErr r P → OnErr r Q
+on_err (Ok a) P Q f h = h
+on_err (Err e) P Q f h = f h

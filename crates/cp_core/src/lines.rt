@@ -1,6 +1,7 @@
 //! Lines of users, and decks of the operator: what comes of them for the files of all, and for others.
-ghost use Rattle.std.specs.Prelude.{◌≡◌, ◌<◌, ◌++◌, [], ◌∷◌, None, Some, IfOk, OnErr, OnOk, length, nat_lt, if◌then◌else◌, slice_set};
+ghost use Rattle.std.specs.Prelude.{◌≡◌, ◌<◌, ◌≤◌, ◌++◌, [], ◌∷◌, None, Some, IfOk, OnErr, OnOk, length, map, nat_lt, if◌then◌else◌, slice_set};
 ghost use Rattle.cp_dat.specs.Supplied.{IsBetweenUnits};
+ghost use Rattle.cp_devices.specs.World.{is_logged_on};
 ghost use Rattle.cp_core.specs.declared.events.Event.TheVariants as happening;
 ghost use Rattle.cp_core.specs.Come.{HasClosed, HasCome, NeedsMemory, comes_by_line, comes_from_operator};
 ghost use Rattle.cp_core.specs.Files.{closed_since, next_file};
@@ -14,6 +15,7 @@ ghost use Rattle.cp_core.specs.Work.{HasTyped};
 use crate::delivery::{Delivered, Delivery, Parcel};
 use crate::events::{Ended, Reply};
 use crate::system::System;
+use crate::user_machine::UserMachine;
 use crate::work::Line;
 use arrayvec::ArrayVec;
 use cp_console::responses::Response;
@@ -41,6 +43,18 @@ fn said_to_line(number: u64, told: &Told) -> Told
         Told::Closed => Told::Said(Response::FileClosed(number)),
         Told::Silent | Told::Said(_) | Told::Files => *told,
     }
+}
+
+/// Of each of these users, whether he is logged on.
+fn logged_on_among(users: &[UserMachine]) -> ArrayVec<bool, 64>
+    requires { length users.now ≤ 64 }
+    ensures { result.items ≡ map (λ user. is_logged_on user.parts.mode) users.now }
+{
+    let mut on = ArrayVec::new();
+    for user in users {
+        on.push(is_logged_on(user.machine.mode()));
+    }
+    on
 }
 
 impl System {
@@ -78,7 +92,7 @@ impl System {
         ensures punched { result.punched ≡ length (user_at self.now user).devices.punch.closed }
         ensures printed { result.printed ≡ length (user_at self.now user).devices.printer.closed }
     {
-        let devices = &self.users[user].devices;
+        let devices = self.devices_of(user);
         Closed {
             punched: devices.punch().closed().len(),
             printed: devices.printer().closed().len(),
@@ -89,11 +103,7 @@ impl System {
     fn logged_on(&self) -> ArrayVec<bool, 64>
         ensures { result.items ≡ logged_on_of self.now.users }
     {
-        let mut on = ArrayVec::new();
-        for user in &self.users {
-            on.push(is_logged_on(user.machine.mode()));
-        }
-        on
+        logged_on_among(&self.users)
     }
 
     /// A line that a user types, in his world.
@@ -110,7 +120,7 @@ impl System {
     {
         let line = Line {
             alloc: self.alloc,
-            user: UserNo::new(user as u8),
+            user: self.number_of(user),
             on: self.logged_on(),
             typed,
         };
@@ -162,7 +172,7 @@ impl System {
         ensures memory { OnErr result (HasClosed closed.punched closed.printed (user_at self.old user)) }
     {
         let now = self.closed_by(user);
-        let number = UserNo::new(user as u8);
+        let number = self.number_of(user);
         if now.punched > closed.punched {
             self.note(number, FileKind::Punch)?;
         }
@@ -193,14 +203,14 @@ impl System {
         ensures err { OnErr result (self.new ≡ record self.old { deliveries = self.new.deliveries }) }
         ensures memory { OnErr result (index < length (user_at self.old user).devices.punch.closed) }
     {
-        let devices = &self.users[user].devices;
+        let devices = self.devices_of(user);
         let Some(file) = devices.punch().closed().get(index) else {
             return Ok(None);
         };
         let Target::User(to) = file.target() else {
             return Ok(None);
         };
-        let sender = Sender::User(user as u8);
+        let sender = Sender::User(self.number_of(user).number());
         let deck = devices.deck_of_punched(self.alloc, index, number, sender)?;
         self.deliver_to(to, Parcel::Deck(deck))
     }
@@ -239,10 +249,11 @@ impl System {
         ensures directory { self.new.directory ≡ self.old.directory }
         ensures spent { self.new.is_spent ≡ self.old.is_spent }
     {
+        let number = self.next_file();
         if cards.is_empty() {
             return Ok(Reply::silent(Ended::Done));
         }
-        let delivered = self.give(user, cards)?;
+        let delivered = self.give(user, number, cards)?;
         Ok(Reply {
             ended: Ended::Done,
             said: Told::Silent,
@@ -251,9 +262,10 @@ impl System {
         })
     }
 
-    /// A deck of these cards, with the next number, comes to a user.
-    fn give(&mut self, user: usize, cards: &[Card]) -> Result<Delivered, AllocError>
-        requires { user < length self.old.users }
+    /// A deck of these cards, with this number, which is the next, comes to a user.
+    fn give(&mut self, user: usize, number: u64, cards: &[Card]) -> Result<Delivered, AllocError>
+        requires user { user < length self.old.users }
+        requires number { number ≡ next_file self.old.files }
         ensures delivered { IfOk result
             (λ delivered. delivered ≡ record { to = user; what = Delivery.Deck (next_file self.old.files) }) }
         ensures come { IfOk result
@@ -266,8 +278,7 @@ impl System {
         ensures err { OnErr result
             (self.new ≡ record self.old { files = self.new.files; deliveries = self.new.deliveries }) }
     {
-        let number = self.next_file();
-        let to = UserNo::new(user as u8);
+        let to = self.number_of(user);
         let deck = Deck::new(number, Sender::System, copy_of(self.alloc, cards)?);
         self.note(to, FileKind::Deck)?;
         self.deliver(user, Parcel::Deck(deck))?;

@@ -12,7 +12,7 @@ use cp_devices::Devices;
 use cp_panel::{LineError, Machine};
 use s370_channel::ChannelError;
 use s370_num::DevAddr;
-use s370_store::Supply;
+use s370_store::{FramesOut, Supply};
 
 /// Serves a device whose program runs as a whole or not at all, after each page was brought that it lacks.
 pub(crate) fn serve_supplied<S: Supply, C: Channels<S>>(
@@ -46,11 +46,10 @@ pub(crate) fn serve_supplied<S: Supply, C: Channels<S>>(
         match devices.serve(machine, storage, channels, device) {
             Ok(done) => return Ok(done),
             Err(ChannelError::Memory) => return Err(LineError::Memory),
-            Err(ChannelError::Absent(page)) => {
-                if storage.bring(page).is_err() {
-                    return Err(LineError::FramesOut);
-                }
-            }
+            Err(ChannelError::Absent(page)) => match storage.bring(page) {
+                Ok(()) => {}
+                Err(FramesOut) => return Err(LineError::FramesOut),
+            },
         }
     }
 }

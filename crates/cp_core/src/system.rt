@@ -20,7 +20,7 @@ use crate::events::{CpError, Ended, Event, Reply};
 use crate::files::FileNote;
 use crate::user_machine::UserMachine;
 use crate::work::{Service, Tick, Units, Work};
-use cp_devices::{FileKind, Told};
+use cp_devices::{Devices, FileKind, Told};
 use cp_directory::Directory;
 use cp_frames::Frames;
 use cp_panel::{LineError, notice_of};
@@ -108,7 +108,8 @@ impl System {
 
     /// The number of the next file.
     pub(crate) fn next_file(&self) -> u64
-        ensures { result ≡ next_file self.now.files }
+        ensures value { result ≡ next_file self.now.files }
+        ensures between { IsBetweenUnits self.now.supply }
     {
         self.files.len() as u64 + 1
     }
@@ -154,6 +155,24 @@ impl System {
         }
     }
 
+    /// The number of a user.
+    pub(crate) fn number_of(&self, user: usize) -> UserNo
+        requires { user < length self.now.users }
+        ensures { result ≡ user }
+    {
+        // There are at most 64.
+        let _users = self.users();
+        UserNo::new(user as u8)
+    }
+
+    /// The devices of a user.
+    pub(crate) fn devices_of(&self, user: usize) -> &Devices
+        requires { user < length self.now.users }
+        ensures { result.now ≡ (user_at self.now user).devices }
+    {
+        &self.users[user].devices
+    }
+
     /// How many lines the console of a user has printed.
     pub(crate) fn printed_by(&self, user: usize) -> usize
         requires { user < length self.now.users }
@@ -175,13 +194,9 @@ impl System {
         ensures between_before { IsBetweenUnits self.old.supply }
         ensures between { IsBetweenUnits self.new.supply }
     {
+        let number = self.number_of(user);
         let machine = &mut self.users[user];
-        machine.lend(
-            &mut self.frames,
-            UserNo::new(user as u8),
-            &self.directory,
-            work,
-        )
+        machine.lend(&mut self.frames, number, &self.directory, work)
     }
 
     /// A parcel comes to a user. Where memory is refused, each user's machine stays.

@@ -4,6 +4,7 @@ ghost use Rattle.s370_channel.specs.Reading.{as_begun};
 ghost use Rattle.cp_frames.specs.Layout.{bytes_of};
 ghost use Rattle.cp_dat.specs.Supplied.{IsBetweenUnits};
 ghost use Rattle.cp_devices.specs.Devices.{devices_new};
+ghost use Rattle.cp_devices.specs.Equipped.{equipped};
 ghost use Rattle.cp_devices.specs.Life.{Leaves};
 ghost use Rattle.cp_core.specs.Parcels.{contents, note_of};
 ghost use Rattle.cp_core.specs.UserMachines.{Fits, IsUnused, user_with};
@@ -86,12 +87,14 @@ impl UserMachine {
         ensures between { IsBetweenUnits frames.new.supply }
         ensures deliveries { self.new.deliveries ≡ self.old.deliveries }
     {
-        let mut storage = Dat::new(frames, &mut self.keys, user);
-        work.work(
-            directory,
+        lend_over(
             &mut self.machine,
             &mut self.devices,
-            &mut storage,
+            frames,
+            &mut self.keys,
+            user,
+            directory,
+            work,
         )
     }
 
@@ -113,4 +116,29 @@ impl UserMachine {
             }
         }
     }
+}
+
+/// Does a work with a machine, whose storage is lent from frames, with these keys.
+#[inline(always)]
+fn lend_over<W: Work>(
+    machine: &mut Machine,
+    devices: &mut Devices,
+    frames: &mut Frames,
+    keys: &mut [StorageKey],
+    user: UserNo,
+    directory: &Directory,
+    work: &W,
+) -> W::Answer
+    requires large { 8192 ≤ length (bytes_of frames.old user) }
+    requires keyed { length (bytes_of frames.old user) ≤ 2048 * length keys.old }
+    requires between { IsBetweenUnits frames.old.supply }
+    ensures does { let before = equipped machine.old devices.old [] (bytes_of frames.old user) keys.old in
+        let after = equipped machine.new devices.new [] (bytes_of frames.new user) keys.new in
+        W.Does work.now directory.now user before frames.old.supply result after frames.new.supply }
+    ensures others { frames.new.storages ≡ slice_set frames.old.storages user (bytes_of frames.new user) }
+    ensures size { length (bytes_of frames.new user) ≡ length (bytes_of frames.old user) }
+    ensures between { IsBetweenUnits frames.new.supply }
+{
+    let mut storage = Dat::new(frames, keys, user);
+    work.work(directory, machine, devices, &mut storage)
 }

@@ -24,4 +24,4 @@ loop-user-preserved c =
     } in
     let more = new_more c.loop-user.machines.items (take i users) c.in_ok-machine.machine user c.loop-user.invariant new in
     let taken : take (i + 1) users ≡ take i users ++ user ∷ [] = take_more users i user c.loop-user-test.true ∙ ap (λ (u : DirectoryUser). take i users ++ u ∷ []) (sym c.user-item.is) in
-    rw (c.in_ok-push.ensures.items, taken) more
+    rw (c.in-Ok.ensures.items, taken) more

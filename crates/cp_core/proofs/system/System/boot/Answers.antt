@@ -26,7 +26,7 @@ returns-in-Ok-new-clause-ok c =
     let supply = new_supply c.in-Ok-new.frames.supply c.frames-2.result c.slots.result c.in-Ok-new.ensures.owners c.in-Ok-new.ensures.slots c.in-Ok-new.ensures.pins c.in-Ok-new.ensures.order c.in-Ok-new.ensures.page_ins in
     record {
       users = rw stored (new_users c.in-Ok.users.items users seated);
-      rest = boot_seen _ users _ _ _ _
+      rest = rw c.new-in-Ok-new.ensures.items (boot_seen _ users _ _ _ _
           (supply ∙ (ap (λ (n : ℕ). free_supply n c.slots.result) c.frames-2.ensures.value ∙ ap (λ (n : ℕ). free_supply c.args.sizes.frames n) c.slots.ensures.value))
-          (none_delivered c.in-Ok.users.items users seated);
+          (none_delivered c.in-Ok.users.items users seated));
     }

@@ -1,5 +1,6 @@
-use Rattle.std.proofs.Common.{◌≡◌, ap, arith, List, ℕ}
-use Rattle.cp_core.specs.System.{SystemView}
+use Rattle.std.proofs.Common.{◌≡◌, [], ap, arith, get_or, set, subst, List, ℕ}
+use Rattle.cp_core.specs.System.{SystemView, nobody, user_at, users_of}
+use Rattle.cp_core.specs.UserMachines.{user_with}
 use Rattle.cp_core.proofs.Systems.{change, is_user, lent_seen, seat_fits, transported}
 use Rattle.cp_core.proofs.system.System.lend.Goals as goal
 
@@ -8,27 +9,23 @@ index_mut-machine-requires g c =
     let inside = is_user c.self.inside.users.items c.self.inside.frames.storages c.self.inside.directory c.args.self.now.users c.args.user c.self.invariant.whole (ap (λ (s : SystemView). s.users) c.self.view_is) c.requires in
     omega (arith, inside, c.self.invariant.whole.seated, c.self.inside.users.ok.0)
 
-pub overflow_cast-user : goal.overflow_cast-user
-overflow_cast-user g c =
-    let inside = is_user c.self.inside.users.items c.self.inside.frames.storages c.self.inside.directory c.args.self.now.users c.args.user c.self.invariant.whole (ap (λ (s : SystemView). s.users) c.self.view_is) c.requires in
-    omega (arith, inside, c.self.invariant.whole.few)
-
-pub new-requires : goal.new-requires
-new-requires g c =
-    let inside = is_user c.self.inside.users.items c.self.inside.frames.storages c.self.inside.directory c.args.self.now.users c.args.user c.self.invariant.whole (ap (λ (s : SystemView). s.users) c.self.view_is) c.requires in
-    omega (arith, inside, c.self.invariant.whole.few)
-
 pub lend-requires : goal.lend-requires
 lend-requires g c =
     let inside = is_user c.self.inside.users.items c.self.inside.frames.storages c.self.inside.directory c.args.self.now.users c.args.user c.self.invariant.whole (ap (λ (s : SystemView). s.users) c.self.view_is) c.requires in
-    record { fits = rw c.new.ensures (seat_fits c.self.inside.users.items c.self.inside.frames.storages c.self.inside.directory c.args.user c.index_mut-machine.result.now c.self.invariant.whole inside c.index_mut-machine.ensures.value); between = c.self.invariant.between }
+    record { fits = rw c.number_of-number.ensures (seat_fits c.self.inside.users.items c.self.inside.frames.storages c.self.inside.directory c.args.user c.index_mut-machine.result.now c.self.invariant.whole inside c.index_mut-machine.ensures.value); between = c.self.invariant.between }
 
 pub returns-clause-does : goal.returns-clause-does
 returns-clause-does g c =
-    let changed = change c.self.inside.users.items c.self.inside.frames.storages c.lend.new.frames.storages c.self.inside.directory c.args.self.now.users c.args.user c.index_mut-machine.result.now c.lend.new.self c.self.invariant.whole (ap (λ (s : SystemView). s.users) c.self.view_is) c.requires (c.index_mut-machine.ensures.value) (rw c.new.ensures at c.lend.ensures.others) in
-    rw (← c.self.view_is) (transported (λ old new. g.W.Work.Does c.args.work.now c.self.inside.directory c.args.user old c.self.inside.frames.supply c.lend.result new c.lend.new.frames.supply) _ _ _ _ (rw c.self.view_is changed.old) changed.new (rw c.new.ensures at c.lend.ensures.does))
+    let others = subst (λ (u : ℕ). c.lend.new.frames.storages ≡ set c.self.inside.frames.storages u (get_or c.lend.new.frames.storages u [])) c.number_of-number.ensures c.lend.ensures.others in
+    let changed = change c.self.inside.users.items c.self.inside.frames.storages c.lend.new.frames.storages c.self.inside.directory c.args.self.now.users c.args.user c.index_mut-machine.result.now c.lend.new.self c.self.invariant.whole (ap (λ (s : SystemView). s.users) c.self.view_is) c.requires (c.index_mut-machine.ensures.value) others in
+    let Done : ℕ → Type 0 =
+    λ u. g.W.Work.Does c.args.work.now c.self.inside.directory u (user_with c.index_mut-machine.result.now (get_or c.self.inside.frames.storages u [])) c.self.inside.frames.supply c.lend.result (user_with c.lend.new.self (get_or c.lend.new.frames.storages u [])) c.lend.new.frames.supply in
+    let done : Done c.args.user = subst Done c.number_of-number.ensures c.lend.ensures.does in
+    let seen = transported (λ old new. g.W.Work.Does c.args.work.now c.self.inside.directory c.args.user old c.self.inside.frames.supply c.lend.result new c.lend.new.frames.supply) _ _ _ _ changed.old changed.new done in
+    subst (λ (s : SystemView). g.W.Work.Does c.args.work.now s.directory c.args.user (user_at c.args.self.now c.args.user) s.supply c.lend.result (get_or (users_of (set c.self.inside.users.items c.args.user c.lend.new.self) c.lend.new.frames.storages) c.args.user nobody) c.lend.new.frames.supply) c.self.view_is seen
 
 pub returns-clause-rest : goal.returns-clause-rest
 returns-clause-rest g c =
-    let changed = change c.self.inside.users.items c.self.inside.frames.storages c.lend.new.frames.storages c.self.inside.directory c.args.self.now.users c.args.user c.index_mut-machine.result.now c.lend.new.self c.self.invariant.whole (ap (λ (s : SystemView). s.users) c.self.view_is) c.requires (c.index_mut-machine.ensures.value) (rw c.new.ensures at c.lend.ensures.others) in
+    let others = subst (λ (u : ℕ). c.lend.new.frames.storages ≡ set c.self.inside.frames.storages u (get_or c.lend.new.frames.storages u [])) c.number_of-number.ensures c.lend.ensures.others in
+    let changed = change c.self.inside.users.items c.self.inside.frames.storages c.lend.new.frames.storages c.self.inside.directory c.args.self.now.users c.args.user c.index_mut-machine.result.now c.lend.new.self c.self.invariant.whole (ap (λ (s : SystemView). s.users) c.self.view_is) c.requires (c.index_mut-machine.ensures.value) others in
     lent_seen c.self.inside.users.items c.self.inside.frames.storages c.lend.new.frames.storages c.self.inside.directory c.self.inside.frames.supply c.lend.new.frames.supply c.self.inside.files.items c.self.inside.is_spent c.args.self.now c.args.user c.index_mut-machine.result.now c.lend.new.self changed c.self.view_is c.index_mut-machine.ensures.value c.lend.ensures.deliveries

@@ -1,0 +1,45 @@
+use Rattle.std.proofs.Common.{[], ◌∷◌, ◌++◌, ◌∙◌, ap, length, List, ℕ}
+use Rattle.s370_channel.specs.declared.running.ChannelError.TheVariants as errors
+use Rattle.s370_intr.proofs.Runs.{all_needed}
+use Rattle.cp_core.specs.Supply.{ProgramNeeds}
+use Rattle.cp_core.proofs.Steps.{error_at}
+use Rattle.cp_core.proofs.serving.serve_supplied.Goals as goal
+
+pub returns-in-Ok-clause-supply : goal.returns-in-Ok-clause-supply
+returns-in-Ok-clause-supply g c =
+    let s = c.loop-done.invariant.supply in (
+      s.0 ++ [],
+      g.met.S.Supply.brought_on _ _ _ s.0 [] s.1 (g.met.S.Supply.brought_none _ _ c.serve.ensures.rest),
+      all_needed ProgramNeeds s.0 [] s.2 tt,
+    )
+
+pub returns-in-Err-Memory-clause-supply : goal.returns-in-Err-Memory-clause-supply
+returns-in-Err-Memory-clause-supply g c =
+    let s = c.loop-done.invariant.supply in (
+      s.0 ++ [],
+      g.met.S.Supply.brought_on _ _ _ s.0 [] s.1 (g.met.S.Supply.brought_none _ _ c.serve.ensures.rest),
+      all_needed ProgramNeeds s.0 [] s.2 tt,
+    )
+
+pub loop-done-preserved : goal.loop-done-preserved
+loop-done-preserved g c =
+    let s = c.loop-done.invariant.supply in
+    let page = c.in-Err-Absent.page.0 in
+    let whole = error_at c.serve.result c.in-Err-Absent.field-0 (errors.Absent c.in-Err-Absent.page) _ c.in-Err-Absent.is c.in-Err-Absent.field-0-is (c.serve.ensures.whole c.requires) in
+    record {
+      same = rw (c.bring.ensures.bytes, c.bring.ensures.keys) (whole.1 ∙ c.loop-done.invariant.same);
+      size = ap (λ (bytes : List ℕ). length bytes) c.bring.ensures.bytes ∙ g.met.S.Storage.keeps_size _ _ c.serve.ensures.rest ∙ c.loop-done.invariant.size;
+      supply = (
+        (s.0 ++ []) ++ (page ∷ []),
+        g.met.S.Supply.brought_on _ _ _ (s.0 ++ []) (page ∷ []) (g.met.S.Supply.brought_on _ _ _ s.0 [] s.1 (g.met.S.Supply.brought_none _ _ c.serve.ensures.rest)) c.in-Ok-bring.ensures.brought,
+        all_needed ProgramNeeds (s.0 ++ []) (page ∷ []) (all_needed ProgramNeeds s.0 [] s.2 tt) (tt, tt),
+      );
+    }
+
+pub returns-in-Err-clause-supply : goal.returns-in-Err-clause-supply
+returns-in-Err-clause-supply g c =
+    let s = c.loop-done.invariant.supply in (
+      (s.0 ++ []) ++ [],
+      g.met.S.Supply.brought_on _ _ _ (s.0 ++ []) [] (g.met.S.Supply.brought_on _ _ _ s.0 [] s.1 (g.met.S.Supply.brought_none _ _ c.serve.ensures.rest)) c.in-Err.ensures.refused,
+      all_needed ProgramNeeds (s.0 ++ []) [] (all_needed ProgramNeeds s.0 [] s.2 tt) tt,
+    )

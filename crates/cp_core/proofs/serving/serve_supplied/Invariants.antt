@@ -1,0 +1,15 @@
+use Rattle.std.proofs.Common.{◌≡◌, ℕ, List, length}
+use Rattle.s370_intr.specs.Run.{AllNeeded}
+use Rattle.cp_devices.specs.Equipped.{equipped}
+use Rattle.cp_core.specs.Supply.{ProgramNeeds}
+use Rattle.cp_core.proofs.serving.serve_supplied.Given as goal
+
+abbrev pub invariant-loop-done : goal.invariant-loop-done
+invariant-loop-done g l = record {
+  same : equipped l.machine l.devices (g.C.Disks.disks l.channels) (g.S.Storage.bytes l.storage) (g.S.Storage.keys l.storage) ≡ equipped l.fn.machine l.fn.devices (g.C.Disks.disks l.fn.channels) (g.S.Storage.bytes l.fn.storage) (g.S.Storage.keys l.fn.storage);
+  size : length (g.S.Storage.bytes l.storage) ≡ length (g.S.Storage.bytes l.fn.storage);
+  supply : (pages : List ℕ) × g.S.Supply.Brought l.fn.storage pages l.storage × AllNeeded ProgramNeeds pages;
+}
+
+abbrev pub decreases-loop-done : goal.decreases-loop-done
+decreases-loop-done g l = g.S.Supply.spare l.storage

@@ -1,0 +1,16 @@
+use Rattle.std.proofs.Common.{sym, subst}
+use Rattle.cp_core.specs.Histories.{IsStep}
+use Rattle.cp_core.specs.declared.events.Event.TheVariants.{Tick}
+use Rattle.cp_core.specs.declared.events.Reply.{Reply}
+use Rattle.cp_core.proofs.Steps.{tick_done, tick_out}
+use Rattle.cp_core.proofs.system.System.tick.Goals as goal
+
+pub returns-in-Ok-clause-step : goal.returns-in-Ok-clause-step
+returns-in-Ok-clause-step c =
+    subst (λ (reply : Reply). IsStep c.args.self.now (record { event = Tick c.args.user; reply = reply; seen = c.lend.new.self })) (sym c.silent.ensures)
+    (tick_done c.args.self.now c.lend.new.self c.args.user tt c.in-Ok.ensures.does c.lend.ensures.rest c.lend.ensures.between_before c.lend.ensures.between)
+
+pub returns-in-Err-clause-step : goal.returns-in-Err-clause-step
+returns-in-Err-clause-step c =
+    subst (λ (reply : Reply). IsStep c.args.self.now (record { event = Tick c.args.user; reply = reply; seen = c.lend.new.self })) (sym c.silent-in-Err.ensures)
+    (tick_out c.args.self.now c.lend.new.self c.args.user _ c.in-Err.ensures.does c.lend.ensures.rest c.lend.ensures.between_before c.lend.ensures.between)
