@@ -1,11 +1,12 @@
 //! What scripts know of the users of a directory: their names, and the addresses of their devices.
 ghost use Rattle.std.specs.Prelude.{◌≡◌, ◌++◌, ◌≤◌, All, IfErr, IfOk, Ok, OnOk, length, map};
 ghost use Rattle.std.specs.Option.{option_to_list};
+ghost use Rattle.cp_directory.specs.Devices.{places_of};
 ghost use Rattle.cp_directory.specs.Users.{addresses_of};
 ghost use Rattle.cp_script.specs.Script.{IsRefusal, said, script_of};
 ghost use Rattle.vm370.specs.Script.{IsOfStated, IsOfUser, known_users};
 
-use cp_directory::User;
+use cp_directory::{Minidisk, User, UserDevices};
 use cp_script::{ScriptError, ScriptEvent, ScriptUser, read_script};
 use cp_users::MOST_USERS;
 use s370_num::DevAddr;
@@ -47,16 +48,31 @@ fn addresses(alloc: Global, users: &[User]) -> Result<Vec<Vec<u16>>, AllocError>
 fn addresses_of(alloc: Global, user: &User) -> Result<Vec<u16>, AllocError>
     ensures { IfOk result (λ list. list.items ≡ addresses_of user.now) }
 {
-    let devices = user.devices();
     let mut list = Vec::new(alloc);
-    add_place(&mut list, devices.console)?;
-    add_place(&mut list, devices.reader)?;
-    add_place(&mut list, devices.punch)?;
-    add_place(&mut list, devices.printer)?;
-    for disk in user.minidisks() {
+    add_places(&mut list, user.devices())?;
+    add_disks(&mut list, user.minidisks())?;
+    Ok(list)
+}
+
+/// Adds the addresses of devices that are no disks.
+fn add_places(list: &mut Vec<u16>, devices: UserDevices) -> Result<(), AllocError>
+    ensures { OnOk result (list.new.items ≡ list.old.items ++ places_of devices) }
+{
+    add_place(list, devices.console)?;
+    add_place(list, devices.reader)?;
+    add_place(list, devices.punch)?;
+    add_place(list, devices.printer)?;
+    Ok(())
+}
+
+/// Adds the addresses of disks.
+fn add_disks(list: &mut Vec<u16>, disks: &[Minidisk]) -> Result<(), AllocError>
+    ensures { OnOk result (list.new.items ≡ list.old.items ++ map (λ disk. disk.address) disks.now) }
+{
+    for disk in disks {
         list.push(disk.address.get())?;
     }
-    Ok(list)
+    Ok(())
 }
 
 /// Adds the address of a device, where there is one.
@@ -82,7 +98,9 @@ fn script_users<'a>(
     ensures { IfOk result (λ known. known.items ≡ known_users users.now) }
 {
     let mut known = Vec::new(alloc);
-    for (user, devices) in users.iter().zip(devices) {
+    for place in 0..users.len() {
+        let user = &users[place];
+        let devices = &devices[place];
         known.push(ScriptUser {
             name: user.name(),
             devices,

@@ -75,13 +75,27 @@ fn started_since(
     requires { user < length system.now.users }
     ensures { IfOk result (λ started. started.items ≡ started_since system.now user number) }
 {
+    let list = subchannels(system, user);
     let mut started = Vec::new(alloc);
-    for d in subchannels(system, user) {
-        if is_joining(system, user, number, d) {
-            put_in_order(&mut started, *d)?;
-        }
+    for d in list {
+        let joins = is_joining(system, user, number, d);
+        put_if_joining(&mut started, joins, *d)?;
     }
     Ok(started)
+}
+
+/// Puts a device that joins the line behind those whose last start was before its own.
+fn put_if_joining(
+    started: &mut Vec<Subchannel>,
+    joins: bool,
+    d: Subchannel,
+) -> Result<(), AllocError>
+    ensures { OnOk result (started.new.items ≡ if joins then in_order d started.old.items else started.old.items) }
+{
+    if joins {
+        return put_in_order(started, d);
+    }
+    Ok(())
 }
 
 /// Whether a device of a user joins the line: it works, it was started with this number or a later one, and the
@@ -117,10 +131,15 @@ fn put_in_order(started: &mut Vec<Subchannel>, d: Subchannel) -> Result<(), Allo
     ensures { OnOk result (started.new.items ≡ in_order d started.old.items) }
 {
     match place_in_order(started, &d) {
-        Some(place) => started.insert(place, d)?,
-        None => started.push(d)?,
+        Some(place) => {
+            started.insert(place, d)?;
+            Ok(())
+        }
+        None => {
+            started.push(d)?;
+            Ok(())
+        }
     }
-    Ok(())
 }
 
 /// The place of the first of these devices whose last start was after that of this one.
