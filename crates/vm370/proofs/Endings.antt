@@ -16,7 +16,7 @@ four_ended ps qs rs ts none one two three four n a b c d =
     let second : two ≡ ended (ps ++ qs) = b ∙ (ap (λ (t : List ℕ). t ++ ended qs) first ∙ sym (ended_append ps qs)) in
     let third : three ≡ ended ((ps ++ qs) ++ rs) = c ∙ (ap (λ (t : List ℕ). t ++ ended rs) second ∙ sym (ended_append (ps ++ qs) rs)) in
     let fourth : four ≡ ended (((ps ++ qs) ++ rs) ++ ts) = d ∙ (ap (λ (t : List ℕ). t ++ ended ts) third ∙ sym (ended_append ((ps ++ qs) ++ rs) ts)) in
-    fourth ∙ ap ended (append_assoc (ps ++ qs) rs ts ∙ append_assoc ps qs (rs ++ ts))
+    fourth
 
 is_no_end : (c : ℕ) → c ≢ 10 → eqb c 10 ≡ false
 is_no_end c h = grind (arith, nat_tests)

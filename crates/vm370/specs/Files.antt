@@ -82,6 +82,11 @@ abbrev pub note_lines : SystemView → List FileNote → FileNote → List (List
 note_lines s before note =
     found_lines note.kind (length before + 1) (name_of (names_of s.directory) note.user) (closed_in s before note.user note.kind)
 
+-- where there is one
+abbrev pub place_lines : SystemView → List FileNote → Option FileNote → List (List ℕ)
+place_lines s before None = []
+place_lines s before (Some note) = note_lines s before note
+
 -- those of files that were noted one after another, after these
 abbrev pub lines_after : SystemView → List FileNote → List FileNote → List (List ℕ)
 lines_after s before [] = []

@@ -7,7 +7,6 @@ use Rattle.cp_core.specs.declared.events.Event.{Event}
 use Rattle.cp_core.specs.declared.events.Event.TheVariants as events
 use Rattle.cp_directory.specs.Users.{DirectoryUser, addresses_of}
 use Rattle.cp_dispatch.specs.declared.program.Program.{Program}
-use Rattle.cp_script.specs.Cards.{cards_of}
 use Rattle.cp_script.specs.Users.{KnownUser}
 use Rattle.cp_script.specs.Script.{Said, Run, Line, Tick, Serve, Deck, IsOfDevice, user_of_event}
 use Rattle.cp_script.specs.declared.event.ScriptEvent.{ScriptEvent}
@@ -24,6 +23,15 @@ as_said (events.Line user text) = Line user text.now
 as_said (events.Tick user) = Tick user
 as_said (events.Serve user device) = Serve user device
 as_said (events.Deck user cards) = Deck user cards.now
+
+-- the number of the user whom an event names; turns name nobody
+abbrev pub number_of : ScriptEvent → ℕ
+number_of (scripts.Run user units) = user
+number_of (scripts.Line user text) = user
+number_of (scripts.Tick user) = user
+number_of (scripts.Serve user device) = user
+number_of (scripts.Deck user cards) = user
+number_of (scripts.Auto turns) = 0
 
 -- a user whom an event names is one of so many
 abbrev pub IsOfUser : ℕ → ScriptEvent → Type 0
@@ -46,14 +54,14 @@ IsApplicable (scripts.Auto turns) = ⊥
 abbrev pub IsStated : SystemView → Event → Type 0
 IsStated s event = LacksDevice s event → ⊥
 
--- these are the cards that the operator gives by an event, if it is a deck
-abbrev pub AreCards : ScriptEvent → List (List ℕ) → Type 0
-AreCards (scripts.Deck user deck) cards = cards ≡ cards_of deck
-AreCards (scripts.Run user units) cards = Unit {0}
-AreCards (scripts.Line user text) cards = Unit {0}
-AreCards (scripts.Tick user) cards = Unit {0}
-AreCards (scripts.Serve user device) cards = Unit {0}
-AreCards (scripts.Auto turns) cards = Unit {0}
+-- an event that a script says with all that it has: no deck, whose cards are still to be made, and no turns
+abbrev pub IsWhole : ScriptEvent → Type 0
+IsWhole (scripts.Run user units) = Unit {0}
+IsWhole (scripts.Line user text) = Unit {0}
+IsWhole (scripts.Tick user) = Unit {0}
+IsWhole (scripts.Serve user device) = Unit {0}
+IsWhole (scripts.Deck user cards) = ⊥
+IsWhole (scripts.Auto turns) = ⊥
 
 -- each program in the line is of a device that the directory gives its user
 abbrev pub is_stated : SystemView → Program → Bool

@@ -8,12 +8,14 @@ use Rattle.cp_core.specs.Histories.{IsHistory, IsStep}
 use Rattle.cp_core.specs.Local.{Step}
 use Rattle.cp_core.specs.Memory.{is_cut_short}
 use Rattle.cp_core.specs.System.{SystemView, names_of as names_in, user_at}
+use Rattle.cp_core.specs.declared.events.CpError.{CpError}
+use Rattle.cp_core.specs.declared.events.CpError.TheVariants as cp
 use Rattle.cp_core.specs.declared.events.Event.{Event}
 use Rattle.cp_core.specs.declared.events.Reply.{Reply}
 use Rattle.cp_script.specs.Users.{KnownUser}
 use Rattle.cp_script.specs.Script.{Said, script_of}
 use Rattle.vm370.specs.Files.{closing_lines}
-use Rattle.vm370.specs.Script.{known_users}
+use Rattle.vm370.specs.Script.{as_said, known_users}
 use Rattle.vm370.specs.Schedule.{Act, AreDone, Entry, Scene, acts, first_line, first_queue, steps_of}
 use Rattle.vm370.specs.Transcript.{ended, entry_lines, event_lines}
 use Rattle.cp_script.specs.declared.reader.ScriptError.{ScriptError}
@@ -114,22 +116,40 @@ pub record IsPartly (all : List Act) (old : Scene) (new : SystemView) (before af
   pub left : (new ≡ last.system) ⊎ IsSpentOn last.system new rest
   pub written : AppendsFront before after (transcript (names_of old.system) entries)
 
--- the event was applied, and its lines were written
-pub record IsAnswered (event : Event) (old new : SystemView) (before after : Option (List ℕ)) : Type 0 where
+-- the event that was said was applied, and its lines were written
+pub record IsAnswered (said : Said) (old new : SystemView) (before after : Option (List ℕ)) : Type 0 where
+  pub event : Event
+  pub named : as_said event ≡ said
   pub reply : Reply
   pub step : IsStep old (record { event = event; reply = reply; seen = new })
   pub written : Appends before after (ended (event_lines (names_of old) (record { event = event; reply = reply; seen = new })))
 
--- the event was applied, and a beginning of its lines was written
-pub record IsAnsweredPartly (event : Event) (old new : SystemView) (before after : Option (List ℕ)) : Type 0 where
+-- the event that was said was applied, and a beginning of its lines was written
+pub record IsAnsweredPartly (said : Said) (old new : SystemView) (before after : Option (List ℕ)) : Type 0 where
+  pub event : Event
+  pub named : as_said event ≡ said
   pub reply : Reply
   pub step : IsStep old (record { event = event; reply = reply; seen = new })
   pub written : AppendsFront before after (ended (event_lines (names_of old) (record { event = event; reply = reply; seen = new })))
+
+-- the event that was said was applied, and was answered so
+pub record HasHappened (said : Said) (old new : SystemView) (reply : Reply) : Type 0 where
+  pub event : Event
+  pub named : as_said event ≡ said
+  pub step : IsStep old (record { event = event; reply = reply; seen = new })
 
 -- no event was applied, and nothing was written
 pub record IsUnanswered (old new : SystemView) (before after : Option (List ℕ)) : Type 0 where
   pub left : (new ≡ old) ⊎ IsSpent old new
   pub same : after ≡ before
+
+-- what a system has answered, as a session has it
+abbrev pub IsAnswerOf : Result Reply CpError → Result Reply SessionError → Type 0
+IsAnswerOf (Ok reply) result = result ≡ Ok reply
+IsAnswerOf (Err cp.Memory) result = result ≡ Err errors.Memory
+IsAnswerOf (Err cp.Spent) result = result ≡ Err errors.Spent
+IsAnswerOf (Err cp.NoSuchUser) result = ⊥
+IsAnswerOf (Err cp.NoSuchDevice) result = ⊥
 
 -- how a failure of a host file is told
 abbrev pub fault_error : HostFault → SessionError

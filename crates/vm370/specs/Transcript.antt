@@ -19,12 +19,13 @@ use Rattle.cp_core.specs.Local.{Step}
 use Rattle.cp_core.specs.System.{machine_at, user_at}
 use Rattle.cp_core.specs.declared.events.Ended.{Ended}
 use Rattle.cp_core.specs.declared.events.Ended.TheVariants.{Ran, Served, Done, FramesOut}
-use Rattle.cp_core.specs.declared.events.Event.{Event}
-use Rattle.cp_core.specs.declared.events.Event.TheVariants as events
 use Rattle.cp_core.specs.declared.delivery.Delivered.{Delivered}
 use Rattle.cp_core.specs.declared.delivery.Delivery.{Delivery}
 use Rattle.cp_core.specs.declared.delivery.Delivery.TheVariants as deliveries
 use Rattle.cp_core.specs.declared.events.Reply.{Reply}
+use Rattle.cp_script.specs.Script.{Said as Asked}
+use Rattle.cp_script.specs.Script as asked
+use Rattle.vm370.specs.Script.{as_said}
 use Rattle.vm370.specs.Schedule.{Entry, Answered, Passed, Idle}
 
 -- `u: text`
@@ -78,16 +79,17 @@ served_word false = codes " IDLE "
 abbrev pub served_line : List ℕ → ℕ → Bool → List ℕ
 served_line name device done = codes "= " ++ name ++ served_word done ++ device_text device
 
--- of an event that was a serve
-abbrev pub served_lines : List ℕ → Event → Bool → List (List ℕ)
-served_lines name (events.Serve user device) done = served_line name device done ∷ []
-served_lines name (events.Run user units) done = []
-served_lines name (events.Line user typed) done = []
-served_lines name (events.Tick user) done = []
-served_lines name (events.Deck user cards) done = []
+-- of what was said to be a serve
+abbrev pub served_lines : List ℕ → Asked → Bool → List (List ℕ)
+served_lines name (asked.Serve user device) done = served_line name device done ∷ []
+served_lines name (asked.Run user units) done = []
+served_lines name (asked.Line user typed) done = []
+served_lines name (asked.Tick user) done = []
+served_lines name (asked.Deck user cards) done = []
+served_lines name (asked.Auto turns) done = []
 
 -- a run and a serve are told, and any other event only where it was out of frames
-abbrev pub ending_lines : List ℕ → Event → Ended → List (List ℕ)
+abbrev pub ending_lines : List ℕ → Asked → Ended → List (List ℕ)
 ending_lines name event (Ran ran) = ran_line name ran ∷ []
 ending_lines name event (Served done) = served_lines name event done
 ending_lines name event Done = []
@@ -107,9 +109,9 @@ written_lines name count output FramesOut = []
 
 -- what was said to the user whom the event names, whose reader has these decks, what has been written at his console, what stands at
 -- another's terminal, and then how the event ended
-abbrev pub reply_lines : List (List ℕ) → Event → List DeckValue → List (List ℕ) → Reply → List (List ℕ)
-reply_lines names event decks output reply =
-    let name = name_of names (user_of event) in
+abbrev pub reply_lines : List (List ℕ) → ℕ → Asked → List DeckValue → List (List ℕ) → Reply → List (List ℕ)
+reply_lines names user event decks output reply =
+    let name = name_of names user in
     said_lines names name decks reply.said
     ++ written_lines name reply.lines output reply.ended
     ++ delivered_lines names reply.delivered
@@ -119,7 +121,7 @@ reply_lines names event decks output reply =
 abbrev pub event_lines : List (List ℕ) → Step → List (List ℕ)
 event_lines names step =
     let user = user_of step.event in
-    reply_lines names step.event (user_at step.seen user).devices.reader.decks (machine_at step.seen user).output step.reply
+    reply_lines names user (as_said step.event) (user_at step.seen user).devices.reader.decks (machine_at step.seen user).output step.reply
 
 -- `= IDLE`
 abbrev pub idle_line : List ℕ

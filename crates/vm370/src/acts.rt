@@ -8,11 +8,11 @@ ghost use Rattle.vm370.specs.Script.{IsApplicable, IsLineStated, IsOfStated, IsO
 ghost use Rattle.vm370.specs.Session.{CountsWriter, IsPartly, IsPlayed, without_value};
 ghost use Rattle.vm370.specs.Transcript.{ended, entry_lines};
 
-use crate::answers::{cards_of, event_of, follow};
+use crate::answers::{follow, user_in};
 use crate::queue::{SLICE_UNITS, is_on, note, ready_users};
 use crate::session::SessionError;
 use crate::transcript::idle_line;
-use cp_core::{Event, System};
+use cp_core::System;
 use cp_dispatch::Policy;
 use cp_script::ScriptEvent;
 use s370_num::host::{HostWriter, write_all};
@@ -76,9 +76,7 @@ fn apply<W: HostWriter>(
     ensures spent { result ≡ Err SessionError.Spent → system.old.is_spent ≡ true }
     ensures counts { CountsWriter result (W.HostFile.failures writer.old) (W.HostFile.failures writer.new) }
 {
-    let cards = cards_of(alloc, event)?;
-    let event = event_of(event, &cards);
-    let user = event.user();
+    let user = user_in(event);
     let was_on = is_on(system, user);
     follow(alloc, system, policy, event, writer)?;
     let is_on = is_on(system, user);
@@ -91,15 +89,15 @@ fn deal<W: HostWriter>(
     alloc: Global,
     system: &mut System,
     policy: &mut Policy,
-    turns: u32,
+    count: u32,
     writer: &mut W,
 ) -> Result<(), SessionError>
     requires seats { policy.old.most_users ≡ length system.old.directory }
     requires line { IsLineStated system.old policy.old.programs }
-    ensures ok { OnOk result (IsPlayed (turns turns) (scene system.old policy.old)
+    ensures ok { OnOk result (IsPlayed (turns count) (scene system.old policy.old)
         (scene system.new policy.new) (W.contents writer.old) (W.contents writer.new)) }
     ensures err { OnErr result
-        (IsPartly (turns turns) (scene system.old policy.old) system.new (W.contents writer.old)
+        (IsPartly (turns count) (scene system.old policy.old) system.new (W.contents writer.old)
         (W.contents writer.new)) }
     ensures directory { system.new.directory ≡ system.old.directory }
     ensures seats { policy.new.most_users ≡ policy.old.most_users }
@@ -109,7 +107,7 @@ fn deal<W: HostWriter>(
     ensures spent { result ≡ Err SessionError.Spent → system.old.is_spent ≡ true }
     ensures counts { CountsWriter result (W.HostFile.failures writer.old) (W.HostFile.failures writer.new) }
 {
-    for _turn in 0..turns {
+    for _turn in 0..count {
         turn(alloc, system, policy, writer)?;
     }
     Ok(())
@@ -169,7 +167,8 @@ fn slice<W: HostWriter>(
     let Some(user) = policy.slice(&ready) else {
         return Ok(false);
     };
-    follow(alloc, system, policy, Event::Run(user, SLICE_UNITS), writer)?;
+    let event = ScriptEvent::Run(user, SLICE_UNITS);
+    follow(alloc, system, policy, &event, writer)?;
     Ok(true)
 }
 
@@ -199,8 +198,8 @@ fn serve<W: HostWriter>(
 {
     match policy.serve() {
         Some(program) => {
-            let event = Event::Serve(program.user, program.device);
-            follow(alloc, system, policy, event, writer)
+            let event = ScriptEvent::Serve(program.user, program.device.get());
+            follow(alloc, system, policy, &event, writer)
         }
         None => pass(had_slice, writer),
     }

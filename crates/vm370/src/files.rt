@@ -1,7 +1,8 @@
 //! The files that were closed for the operator, by their numbers: the last part of a transcript.
-ghost use Rattle.std.specs.Prelude.{◌≡◌, ◌++◌, ◌∷◌, ◌<◌, [], IfOk, OnOk, length, map, slice_index, take};
+ghost use Rattle.std.specs.Prelude.{◌≡◌, ◌++◌, ◌∷◌, ◌<◌, [], IfOk, OnOk, length, map, slice_get, take};
+ghost use Rattle.std.specs.Option.{option_copied};
 ghost use Rattle.s370_num.specs.Address.{two_digits};
-ghost use Rattle.vm370.specs.Files.{closing_lines, count_of, entry_line, file_lines, heading, is_printed, is_printer, is_punch, is_punched, kind_word, note_lines, printed_text};
+ghost use Rattle.vm370.specs.Files.{closed_in, closing_lines, count_of, entry_line, file_lines, heading, is_printed, is_printer, is_punch, is_punched, kind_word, place_lines, printed_text};
 ghost use Rattle.vm370.specs.Transcript.{ended};
 
 use cp_core::{FileNote, System};
@@ -31,24 +32,31 @@ fn print_note(
 ) -> Result<(), AllocError>
     requires { place < length system.now.files }
     ensures { OnOk result (out.new.items ≡ out.old.items
-        ++ ended (note_lines system.now (take place system.now.files) (slice_index system.now.files place))) }
+        ++ ended (place_lines system.now (take place system.now.files) (slice_get system.now.files place))) }
 {
     let FileNote { user, kind } = system.files()[place];
     let before = &system.files()[..place];
-    let Some(devices) = system.spool(user) else {
-        return Ok(());
-    };
-    let file = match kind {
+    let name = name_of(system.directory().users(), user);
+    match closed_file(system, before, user, kind) {
+        Some(file) => { print_file(alloc, out, kind, place as u64 + 1, name, file) }
+        None => Ok(()),
+    }
+}
+
+/// The file of this kind that a user has closed, where these were noted before it.
+fn closed_file<'a>(
+    system: &'a System,
+    before: &[FileNote],
+    user: UserNo,
+    kind: FileKind,
+) -> Option<&'a File>
+    ensures { option_copied result ≡ closed_in system.now before.now user kind }
+{
+    let devices = system.spool(user)?;
+    match kind {
         FileKind::Punch => devices.punch().closed().get(punched_by(before, user)),
         FileKind::Printer => devices.printer().closed().get(printed_by(before, user)),
         FileKind::Deck => None,
-    };
-    match file {
-        Some(file) => {
-            let name = name_of(system.directory().users(), user);
-            print_file(alloc, out, kind, place as u64 + 1, name, file)
-        }
-        None => Ok(()),
     }
 }
 

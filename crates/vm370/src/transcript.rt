@@ -1,36 +1,37 @@
 //! The transcript: the lines of an event and its reply.
 ghost use Rattle.std.specs.Prelude.{◌≡◌, ◌++◌, ◌∷◌, ◌<◌, [], IfOk, OnOk, length, map};
-ghost use Rattle.cp_core.specs.Events.{user_of};
-ghost use Rattle.cp_core.specs.System.{machine_at, names_of};
+ghost use Rattle.cp_core.specs.System.{machine_at, names_of, user_at};
+ghost use Rattle.cp_script.specs.Script.{said};
 ghost use Rattle.cp_users.specs.Users.{name_of};
 ghost use Rattle.vm370.specs.Schedule.{Idle};
-ghost use Rattle.vm370.specs.Transcript.{CutsBack, delivered_lines, ended, ending_lines, entry_lines, event_lines, frames_line, last_lines, queue_lines, ran_line, reason_word, said_lines, served_line, served_word, told_line, written_lines};
+ghost use Rattle.vm370.specs.Transcript.{CutsBack, delivered_lines, ended, ending_lines, entry_lines, frames_line, last_lines, queue_lines, ran_line, reason_word, reply_lines, said_lines, served_line, served_lines, served_word, told_line, written_lines};
 
 use cp_console::printing;
-use cp_core::{Delivered, Delivery, Ended, Event, Reply, System};
+use cp_core::{Delivered, Delivery, Ended, Reply, System};
 use cp_devices::{Told, deck_line};
+use cp_script::ScriptEvent;
 use cp_users::{Named, UserNo, name_of};
 use s370_intr::{Ran, Reason};
 use s370_num::DevAddr;
 use std::alloc::{AllocError, Global};
 use unit_record::Reader;
 
-/// The transcript's lines for the reply that the system has just answered to an event of one of its users, each ended
-/// by LF: what was said to the user, what has been written at his console, what stands at another's terminal, and then
-/// how the event ended.
+/// The transcript's lines for the reply that the system has just answered to an event of this user, each ended by LF:
+/// what was said to the user, what has been written at his console, what stands at another's terminal, and then how the
+/// event ended.
 pub fn print_reply(
     alloc: Global,
     system: &System,
-    event: Event<'_>,
+    user: UserNo,
+    event: &ScriptEvent<'_>,
     reply: &Reply,
 ) -> Result<Vec<u8>, AllocError>
-    requires { user_of event < length system.now.users }
-    ensures { IfOk result (λ text. text.items
-        ≡ ended (event_lines (names_of system.now.directory)
-        (record { event = event; reply = reply.now; seen = system.now }))) }
+    requires { user < length system.now.users }
+    ensures { let seen = user_at system.now user in
+        IfOk result (λ text. text.items ≡ ended (reply_lines (names_of system.now.directory) user (said event.now)
+        seen.devices.reader.decks seen.machine.output reply.now)) }
 {
     let users = system.directory().users();
-    let user = event.user();
     let name = name_of(users, user);
     let Some(devices) = system.spool(user) else {
         unreachable!();
@@ -166,19 +167,38 @@ fn print_ending(
     alloc: Global,
     out: &mut Vec<u8>,
     name: &[u8],
-    event: Event<'_>,
+    event: &ScriptEvent<'_>,
     ending: Ended,
 ) -> Result<(), AllocError>
-    ensures { OnOk result (out.new.items ≡ out.old.items ++ ended (ending_lines name.now event ending)) }
+    ensures { OnOk result (out.new.items ≡ out.old.items ++ ended (ending_lines name.now (said event.now) ending)) }
 {
     match ending {
         Ended::Ran(ran) => print_ran(alloc, out, name, ran),
-        Ended::Served(done) => match event {
-            Event::Serve(_, device) => print_served(alloc, out, name, device, done),
-            Event::Run(_, _) | Event::Line(_, _) | Event::Tick(_) | Event::Deck(_, _) => Ok(()),
-        },
+        Ended::Served(done) => print_end(alloc, out, name, event, done),
         Ended::Done => Ok(()),
         Ended::FramesOut => print_frames_out(out, name),
+    }
+}
+
+/// Adds the line of a serve.
+fn print_end(
+    alloc: Global,
+    out: &mut Vec<u8>,
+    name: &[u8],
+    event: &ScriptEvent<'_>,
+    done: bool,
+) -> Result<(), AllocError>
+    ensures { OnOk result (out.new.items ≡ out.old.items ++ ended (served_lines name.now (said event.now) done)) }
+{
+    match event {
+        ScriptEvent::Serve(_, device) => {
+            print_served(alloc, out, name, DevAddr::new(*device), done)
+        }
+        ScriptEvent::Run(_, _)
+        | ScriptEvent::Line(_, _)
+        | ScriptEvent::Tick(_)
+        | ScriptEvent::Deck(_, _)
+        | ScriptEvent::Auto(_) => Ok(()),
     }
 }
 

@@ -34,10 +34,10 @@ pub returns-in_err-turn-clause-err : goal.returns-in_err-turn-clause-err
 returns-in_err-turn-clause-err g c =
     let contents = g.W.HostWriter.contents in
     let k = c.loop-turn._turn in
-    let rest = c.args.turns - (k + 1) in
+    let rest = c.args.count - (k + 1) in
     let old = scene c.args.system.now c.args.policy.now in
     let mid = scene c.loop-turn.system c.loop-turn.policy in
-    let all : turns c.args.turns ≡ (turns k ++ turn) ++ turns rest = turns_around k rest c.args.turns (omega (arith, c.loop-turn-test.true)) in
+    let all : turns c.args.count ≡ (turns k ++ turn) ++ turns rest = turns_around k rest c.args.count (omega (arith, c.loop-turn-test.true)) in
     let both = partly_more (turns k) turn old mid c.turn.new.system (contents c.args.writer.now) (contents c.loop-turn.writer) (contents c.turn.new.writer) c.loop-turn.invariant.directory c.loop-turn.invariant.so_far c.in_err-turn.ensures.err in
     on_err c.from_residual.result (rw all (partly_rest (turns k ++ turn) (turns rest) old c.turn.new.system (contents c.args.writer.now) (contents c.turn.new.writer) both))
 
@@ -46,5 +46,5 @@ returns-clause-ok g c =
     let contents = g.W.HostWriter.contents in
     let old = scene c.args.system.now c.args.policy.now in
     let new = scene c.loop-turn.system c.loop-turn.policy in
-    let all : c.loop-turn._turn ≡ c.args.turns = omega (arith, c.loop-turn-test.false, c.loop-turn.auto._turn-end) in
+    let all : c.loop-turn._turn ≡ c.args.count = omega (arith, c.loop-turn-test.false, c.loop-turn.auto._turn-end) in
     subst (λ (k : ℕ). IsPlayed (turns k) old new (contents c.args.writer.now) (contents c.loop-turn.writer)) all c.loop-turn.invariant.so_far
