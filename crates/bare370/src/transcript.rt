@@ -11,11 +11,11 @@ use cp_console::printing;
 use cp_console::responses::Response;
 use cp_devices::{Told, deck_line};
 use s370_num::DevAddr;
-use s370_num::ebcdic::printable;
 use s370_subchannels::first_started;
 use std::alloc::{AllocError, Global};
-use unit_record::{Deck, File, Reader, Target};
-use vm370::transcript::{idle_line, print_line, print_ran};
+use unit_record::{Deck, File, Reader};
+use vm370::files::print_file;
+use vm370::transcript::{idle_line, print_line, print_ran, print_served};
 
 /// How many units a slice has.
 const SLICE_UNITS: u32 = 100;
@@ -37,7 +37,7 @@ pub(crate) fn print_happening(
         Ok(Reply::Served(done)) => {
             print_console(alloc, &mut text, machine, before)?;
             if let Happening::Serve(device) = happening {
-                print_served(alloc, &mut text, *device, done)?;
+                print_served(alloc, &mut text, BARE, DevAddr::new(*device), done)?;
             }
         }
         Ok(Reply::Ran(_) | Reply::Done) => {}
@@ -97,19 +97,7 @@ fn add_serve(
     let before = machine.printed();
     let done = machine.serve(device)?;
     print_console(alloc, out, machine, before)?;
-    print_served(alloc, out, device.get(), done)
-}
-
-/// Adds how a device was served.
-fn print_served(
-    alloc: Global,
-    out: &mut Vec<u8>,
-    device: u16,
-    done: bool,
-) -> Result<(), AllocError> {
-    let word = if done { "SERVED" } else { "IDLE" };
-    let line = format!(in alloc; "= BARE {word} {device:03X}\n")?;
-    out.extend_from_slice(line.as_bytes())
+    print_served(alloc, out, BARE, device, done)
 }
 
 /// Adds what was told to a line, where it is not printed on the console.
@@ -194,12 +182,12 @@ pub fn print_files(alloc: Global, machine: &Bare) -> Result<Vec<u8>, AllocError>
             FileKind::Deck => {}
             FileKind::Punch => {
                 let file = machine.devices().punch().closed().get(punched);
-                print_file(alloc, &mut text, index, "PUN", file)?;
+                print_found(alloc, &mut text, index, *kind, file)?;
                 punched = punched.saturating_add(1);
             }
             FileKind::Printer => {
                 let file = machine.devices().printer().closed().get(printed);
-                print_file(alloc, &mut text, index, "PRT", file)?;
+                print_found(alloc, &mut text, index, *kind, file)?;
                 printed = printed.saturating_add(1);
             }
         }
@@ -207,32 +195,17 @@ pub fn print_files(alloc: Global, machine: &Bare) -> Result<Vec<u8>, AllocError>
     Ok(text)
 }
 
-/// Adds a file that stands at this place among all, where it is for the operator.
-fn print_file(
+/// Adds a file of this kind that stands at this place among all.
+fn print_found(
     alloc: Global,
     out: &mut Vec<u8>,
     place: usize,
-    device: &str,
+    kind: FileKind,
     file: Option<&File>,
 ) -> Result<(), AllocError> {
     let Some(file) = file else {
         return Ok(());
     };
-    if file.target() != Target::System {
-        return Ok(());
-    }
     let number = (place as u64).saturating_add(1);
-    let line = format!(in alloc; "== {device} {number:04} BARE\n")?;
-    out.extend_from_slice(line.as_bytes())?;
-    for entry in file.entries() {
-        if device == "PRT" {
-            let code = format!(in alloc; "{:02X} ", entry.code())?;
-            out.extend_from_slice(code.as_bytes())?;
-        }
-        for byte in entry.bytes() {
-            out.push(printable(*byte))?;
-        }
-        out.push(b'\n')?;
-    }
-    Ok(())
+    print_file(alloc, out, kind, number, BARE, file)
 }

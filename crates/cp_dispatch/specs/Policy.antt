@@ -5,12 +5,11 @@ use Rattle.cp_dispatch.specs.declared.program.Program.{Program}
 use Rattle.cp_dispatch.specs.Fairness.{GivesEach, IsFair}
 
 -- the users who are logged on, and the programs that were started, each in the order in which they are dealt; and how many
--- of each there may be
+-- users there may be
 pub record Lines : Type 0 where
   pub users : List ℕ
   pub programs : List Program
   pub most_users : ℕ
-  pub most_programs : ℕ
 
 -- the user whom this flag is for is ready
 abbrev pub is_ready : List Bool → ℕ → Bool

@@ -5,10 +5,11 @@
 //! [`Policy::serve`]); so whoever has j others before has one of the next j + 1 turns, whoever comes or goes meanwhile
 //! ([`is_fair`] carries that law).
 //!
-//! It is told who logs on and off, and which programs are started and ended. Only [`Policy::new`] takes memory.
+//! It is told who logs on and off, and which programs are started and ended. [`Policy::new`] and
+//! [`Policy::started`] take memory, and no other call.
 //!
 //! ```text
-//! let mut policy = Policy::new(alloc, 64, 0)?;
+//! let mut policy = Policy::new(alloc, 64)?;
 //! policy.join(UserNo::new(0));
 //! let mut ready = Ready::nobody();
 //! ready.set(UserNo::new(0), true);

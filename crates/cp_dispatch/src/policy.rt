@@ -1,5 +1,5 @@
 //! The policy: the queue of users and the line of programs.
-ghost use Rattle.std.specs.Prelude.{◌≡◌, ◌<◌, ◌≤◌, [], IfOk, length};
+ghost use Rattle.std.specs.Prelude.{◌≡◌, ◌<◌, ◌≤◌, [], IfOk, OnErr, OnOk, length};
 ghost use Rattle.std.specs.List.{position};
 ghost use Rattle.std.specs.Vec.{vec_capacity};
 ghost use Rattle.cp_dispatch.specs.Turns.{BringsForward, IsDealt, at_end, without};
@@ -19,7 +19,6 @@ pub struct Policy {
     users: Vec<UserNo>,
     programs: Vec<Program>,
     most_users: usize,
-    most_programs: usize,
 }
 
 impl Model for Policy {
@@ -33,25 +32,21 @@ impl Model for Policy {
       users = p.users.items;
       programs = p.programs.items;
       most_users = p.most_users;
-      most_programs = p.most_programs;
     } };
 
-    ghost invariant = { λ p. IsQueue p.users.items p.most_users × (p.most_users ≤ vec_capacity p.users)
-        × (p.most_programs ≤ vec_capacity p.programs) };
+    ghost invariant = { λ p. IsQueue p.users.items p.most_users × (p.most_users ≤ vec_capacity p.users) };
 }
 
 impl Policy {
-    /// A policy for so many users, of whom nobody is logged on, and so many programs, of which none was started. No
-    /// other call takes memory.
-    pub fn new(alloc: Global, users: usize, programs: usize) -> Result<Policy, AllocError>
-        ensures { IfOk result (λ policy. policy
-            ≡ record { users = []; programs = []; most_users = users; most_programs = programs }) }
+    /// A policy for so many users, of whom nobody is logged on; no program was started. Of the other calls only
+    /// [`Policy::started`] takes memory.
+    pub fn new(alloc: Global, users: usize) -> Result<Policy, AllocError>
+        ensures { IfOk result (λ policy. policy ≡ record { users = []; programs = []; most_users = users }) }
     {
         Ok(Policy {
             users: Vec::with_capacity(alloc, users)?,
-            programs: Vec::with_capacity(alloc, programs)?,
+            programs: Vec::new(alloc),
             most_users: users,
-            most_programs: programs,
         })
     }
 
@@ -71,14 +66,16 @@ impl Policy {
     }
 
     /// The program of a user's device is started, and stands at the end of the line, also where it stood in it before.
-    pub fn started(&mut self, user: UserNo, device: DevAddr)
-        requires { length (without (is_of user device) self.old.programs) < self.old.most_programs }
-        ensures { self.new ≡ record self.old {
+    /// Where memory is refused, it does not stand in the line.
+    pub fn started(&mut self, user: UserNo, device: DevAddr) -> Result<(), AllocError>
+        ensures ok { OnOk result (self.new ≡ record self.old {
           programs = at_end (is_of user device)
               (record { user = user; device = device }) self.old.programs;
-        } }
+        }) }
+        ensures err { OnErr result
+            (self.new ≡ record self.old { programs = without (is_of user device) self.old.programs }) }
     {
-        put_program(&mut self.programs, user, device);
+        put_program(&mut self.programs, user, device)
     }
 
     /// The program of a user's device has ended or was withdrawn, and stands in the line no more.
@@ -163,8 +160,7 @@ fn put_user(users: &mut Vec<UserNo>, user: UserNo)
 
 /// Takes the program of a user's device out of the line.
 fn take_out_program(programs: &mut Vec<Program>, user: UserNo, device: DevAddr)
-    ensures items { programs.new.items ≡ without (is_of user device) programs.old.items }
-    ensures capacity { vec_capacity programs.new ≡ vec_capacity programs.old }
+    ensures { programs.new.items ≡ without (is_of user device) programs.old.items }
 {
     if let Some(place) = place_of_program(programs, user, device) {
         programs.remove(place);
@@ -172,16 +168,14 @@ fn take_out_program(programs: &mut Vec<Program>, user: UserNo, device: DevAddr)
 }
 
 /// Puts the program of a user's device at the end of the line.
-fn put_program(programs: &mut Vec<Program>, user: UserNo, device: DevAddr)
-    requires { length (without (is_of user device) programs.old.items) < vec_capacity programs.old }
-    ensures items { programs.new.items
-        ≡ at_end (is_of user device) (record { user = user; device = device }) programs.old.items }
-    ensures capacity { vec_capacity programs.old ≤ vec_capacity programs.new }
+fn put_program(programs: &mut Vec<Program>, user: UserNo, device: DevAddr) -> Result<(), AllocError>
+    ensures ok { OnOk result (programs.new.items
+        ≡ at_end (is_of user device) (record { user = user; device = device }) programs.old.items) }
+    ensures err { OnErr result (programs.new.items ≡ without (is_of user device) programs.old.items) }
 {
     take_out_program(programs, user, device);
-    if programs.push(Program { user, device }).is_err() {
-        unreachable!();
-    }
+    programs.push(Program { user, device })?;
+    Ok(())
 }
 
 /// The place of a user.

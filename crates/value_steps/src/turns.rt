@@ -9,7 +9,7 @@ use std::alloc::{AllocError, Global};
 /// `slices 111 -1 101`: the users 0, 1 and 2 who are dealt slices where those are ready whose digit is 1; a number
 /// behind `-` leaves. At the end the queue is told.
 pub fn slices(alloc: Global, step: &Step<'_>) -> Result<String, AllocError> {
-    let mut policy = Policy::new(alloc, 3, 0)?;
+    let mut policy = Policy::new(alloc, 3)?;
     policy.join(UserNo::new(0));
     policy.join(UserNo::new(1));
     policy.join(UserNo::new(2));
@@ -55,11 +55,11 @@ fn add_user(alloc: Global, told: &mut String, user: Option<UserNo>) -> Result<()
 pub fn serves(alloc: Global) -> Result<String, AllocError> {
     let user = UserNo::new(0);
     let [first, second] = [DevAddr::new(0x009), DevAddr::new(0x191)];
-    let mut policy = Policy::new(alloc, 1, 2)?;
+    let mut policy = Policy::new(alloc, 1)?;
     let mut told = String::new(alloc);
     add_program(alloc, &mut told, policy.serve())?;
-    policy.started(user, first);
-    policy.started(user, second);
+    policy.started(user, first)?;
+    policy.started(user, second)?;
     add_program(alloc, &mut told, policy.serve())?;
     add_program(alloc, &mut told, policy.serve())?;
     policy.ended(user, second);

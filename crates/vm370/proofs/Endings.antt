@@ -3,18 +3,20 @@ use Rattle.std.proofs.Common.{◌≡◌, ◌≢◌, ℕ, suc, false, eqb, arith,
 use Rattle.std.specs.List.{onto_first}
 use Rattle.std.proofs.lemmas.Bool.Decides.{nat_tests}
 use Rattle.cp_text.specs.Lines.{lines_of}
-use Rattle.cp_core.specs.declared.events.Reply.{Reply}
-use Rattle.vm370.specs.Transcript.{CutsBack, HasNoEnd, ended, ending_lines, reply_lines, said_lines}
+use Rattle.vm370.specs.Transcript.{CutsBack, HasNoEnd, ended}
 
 pub ended_append : (xs ys : List (List ℕ)) → ended (xs ++ ys) ≡ ended xs ++ ended ys
 ended_append [] ys = refl
 ended_append (x ∷ xs) ys = ap (λ (l : List ℕ). x ++ 10 ∷ l) (ended_append xs ys) ∙ sym (append_assoc x (10 ∷ ended xs) (ended ys))
 
--- what was said and then the ending are the lines of a reply
-pub reply_ended : (name : List ℕ) (reply : Reply) (text front : List ℕ)
-    → front ≡ ended (said_lines name reply.said) → text ≡ front ++ ended (ending_lines name reply.ended) → text ≡ ended (reply_lines name reply)
-reply_ended name reply text front said all =
-    all ∙ rw said (sym (ended_append (said_lines name reply.said) (ending_lines name reply.ended)))
+-- lines of four kinds, one after another
+pub four_ended : (ps qs rs ts : List (List ℕ)) (none one two three four : List ℕ) → none ≡ [] → one ≡ none ++ ended ps → two ≡ one ++ ended qs → three ≡ two ++ ended rs → four ≡ three ++ ended ts → four ≡ ended (ps ++ qs ++ rs ++ ts)
+four_ended ps qs rs ts none one two three four n a b c d =
+    let first : one ≡ ended ps = a ∙ ap (λ (t : List ℕ). t ++ ended ps) n in
+    let second : two ≡ ended (ps ++ qs) = b ∙ (ap (λ (t : List ℕ). t ++ ended qs) first ∙ sym (ended_append ps qs)) in
+    let third : three ≡ ended ((ps ++ qs) ++ rs) = c ∙ (ap (λ (t : List ℕ). t ++ ended rs) second ∙ sym (ended_append (ps ++ qs) rs)) in
+    let fourth : four ≡ ended (((ps ++ qs) ++ rs) ++ ts) = d ∙ (ap (λ (t : List ℕ). t ++ ended ts) third ∙ sym (ended_append ((ps ++ qs) ++ rs) ts)) in
+    fourth
 
 is_no_end : (c : ℕ) → c ≢ 10 → eqb c 10 ≡ false
 is_no_end c h = grind (arith, nat_tests)

@@ -1,19 +1,23 @@
 -- One thing done after another.
-use Rattle.std.proofs.Common.{◌≡◌, ℕ, ◌+◌, Bool, false, true, inl, inr, List, [], ◌∷◌, ◌++◌, ◌⊎◌, length, take, replicate, Option, Some, None, refl, ap, sym, ◌∙◌, subst, append_assoc, append-nil, length-append, arith}
+use Rattle.std.proofs.Common.{◌≡◌, ℕ, zero, suc, ◌+◌, Bool, false, true, inl, inr, List, [], ◌∷◌, ◌++◌, ◌⊎◌, length, take, Option, Some, None, refl, ap, sym, ◌∙◌, subst, append_assoc, append-nil, length-append, arith}
 use Rattle.std.specs.Prelude.{Result, Ok, Err, OnErr, OnOk}
 use Rattle.std.specs.Io.KnownBytes.{Appends, Keeps}
-use Rattle.std.proofs.lemmas.List.{replicate-append-replicate}
 use Rattle.std.proofs.KnownBytes.{Appends-trans, Appends-nil, Appends-kept}
 use Rattle.std.proofs.Math.Seq.{take-length, take-append-add}
 use Rattle.s370_num.specs.Host.{AppendsFront}
+use Rattle.cp_dispatch.specs.Policy.{Lines, always}
 use Rattle.cp_dispatch.specs.Turns.{IsDealt}
+use Rattle.cp_dispatch.specs.declared.program.Program.{Program}
+use Rattle.cp_directory.specs.Users.{DirectoryUser}
 use Rattle.cp_core.specs.Events.{user_of}
-use Rattle.cp_core.specs.System.{SystemView, Step, IsHistory}
+use Rattle.cp_core.specs.Histories.{IsHistory}
+use Rattle.cp_core.specs.Local.{Step}
+use Rattle.cp_core.specs.System.{SystemView, names_of as names_in}
 use Rattle.cp_core.specs.declared.events.Event.{Event}
 use Rattle.cp_core.specs.declared.events.Event.TheVariants as events
-use Rattle.cp_script.specs.Script.{Said, Run, Line, Tick, Serve, Auto}
+use Rattle.cp_script.specs.Script.{Said}
 use Rattle.vm370.specs.Script.{as_said}
-use Rattle.vm370.specs.Schedule.{Act, Applies, Deals, AreDone, Entry, Answered, Idle, IsDone, Scene, acts, acts_of, queue_after, ready_in, scene, slice_units, steps_of}
+use Rattle.vm370.specs.Schedule.{Act, Applies, Slices, Serves, AreDone, Entry, Answered, Passed, Idle, IsDone, Scene, acts, acts_of, line_after, passed, queue_after, ready_in, scene, slice_units, steps_of, turn, turns, within}
 use Rattle.vm370.specs.Session.{IsAnswered, IsAnsweredPartly, IsPlayed, IsPartly, IsSpent, IsSpentOn, IsUnanswered, names_of, transcript}
 use Rattle.vm370.specs.Transcript.{ended, entry_lines, idle_line}
 
@@ -29,9 +33,14 @@ history [] old new [] h = ap (λ (s : Scene). s.system) h
 history [] old new (e ∷ es) h = absurd h
 history (x ∷ xs) old new [] h = absurd h
 history (Applies said ∷ xs) old new (Answered step ∷ es) h = (h.1.stepped, subst (λ (s : SystemView). IsHistory s (steps_of es) new.system) h.1.seen (history xs h.0 new es h.2))
+history (Applies said ∷ xs) old new (Passed ∷ es) h = absurd h.1
 history (Applies said ∷ xs) old new (Idle ∷ es) h = absurd h.1
-history (Deals ∷ xs) old new (Answered step ∷ es) h = (h.1.stepped, subst (λ (s : SystemView). IsHistory s (steps_of es) new.system) h.1.seen (history xs h.0 new es h.2))
-history (Deals ∷ xs) old new (Idle ∷ es) h = subst (λ (s : SystemView). IsHistory s (steps_of es) new.system) h.1.same (history xs h.0 new es h.2)
+history (Slices ∷ xs) old new (Answered step ∷ es) h = (h.1.stepped, subst (λ (s : SystemView). IsHistory s (steps_of es) new.system) h.1.seen (history xs h.0 new es h.2))
+history (Slices ∷ xs) old new (Passed ∷ es) h = subst (λ (s : SystemView). IsHistory s (steps_of es) new.system) h.1.seen (history xs h.0 new es h.2)
+history (Slices ∷ xs) old new (Idle ∷ es) h = absurd h.1
+history (Serves ∷ xs) old new (Answered step ∷ es) h = (h.1.stepped, subst (λ (s : SystemView). IsHistory s (steps_of es) new.system) h.1.seen (history xs h.0 new es h.2))
+history (Serves ∷ xs) old new (Passed ∷ es) h = subst (λ (s : SystemView). IsHistory s (steps_of es) new.system) h.1.seen (history xs h.0 new es h.2)
+history (Serves ∷ xs) old new (Idle ∷ es) h = subst (λ (s : SystemView). IsHistory s (steps_of es) new.system) h.1.seen (history xs h.0 new es h.2)
 
 transcript_append : (names : List (List ℕ)) (xs ys : List Entry) → transcript names (xs ++ ys) ≡ transcript names xs ++ transcript names ys
 transcript_append names [] ys = refl
@@ -47,28 +56,38 @@ acts_append (x ∷ xs) ys = ap (λ (l : List Act). acts_of x ++ l) (acts_append 
 pub acts_more : (xs : List Said) (x : Said) → acts (xs ++ x ∷ []) ≡ acts xs ++ acts_of x
 acts_more xs x = acts_append xs (x ∷ []) ∙ ap (λ (l : List Act). acts xs ++ l) (append-nil (acts_of x))
 
+turns_behind : (k : ℕ) → turns (suc k) ≡ turns k ++ turn
+turns_behind zero = refl
+turns_behind (suc k) = ap (λ (l : List Act). Slices ∷ Serves ∷ l) (turns_behind k)
+
 -- one turn more
-pub deals_more : (k : ℕ) → replicate (k + 1) Deals ≡ replicate k Deals ++ Deals ∷ []
-deals_more k = sym (replicate-append-replicate k 1 Deals)
+pub turns_more : (k : ℕ) → turns (k + 1) ≡ turns k ++ turn
+turns_more k = let more : k + 1 ≡ suc k = omega arith in ap turns more ∙ turns_behind k
+
+turns_both : (k m : ℕ) → turns (k + m) ≡ turns k ++ turns m
+turns_both zero m = let none : zero + m ≡ m = omega arith in ap turns none
+turns_both (suc k) m =
+    let more : suc k + m ≡ suc (k + m) = omega arith in
+    ap turns more ∙ ap (λ (l : List Act). Slices ∷ Serves ∷ l) (turns_both k m)
 
 -- one turn, those before it and those behind it
-pub deals_around : (k m n : ℕ) → k + 1 + m ≡ n → replicate n Deals ≡ (replicate k Deals ++ Deals ∷ []) ++ replicate m Deals
-deals_around k m n e = ap (λ (j : ℕ). replicate j Deals) (sym e) ∙ (sym (replicate-append-replicate (k + 1) m Deals) ∙ ap (λ (l : List Act). l ++ replicate m Deals) (deals_more k))
+pub turns_around : (k m n : ℕ) → k + 1 + m ≡ n → turns n ≡ (turns k ++ turn) ++ turns m
+turns_around k m n e = ap turns (sym e) ∙ (turns_both (k + 1) m ∙ ap (λ (l : List Act). l ++ turns m) (turns_more k))
 
-front_after : (a b c : Option (List ℕ)) (xs ys : List ℕ) → Appends a b xs → AppendsFront b c ys → AppendsFront a c (xs ++ ys)
+pub front_after : (a b c : Option (List ℕ)) (xs ys : List ℕ) → Appends a b xs → AppendsFront b c ys → AppendsFront a c (xs ++ ys)
 front_after a b c xs ys h k = (length xs + k.0, omega (arith, length-append xs ys, k.1), rw (take-append-add xs ys k.0) (Appends-trans a b c xs (take k.0 ys) h k.2))
 
 pub played_none : (old : Scene) (a : Option (List ℕ)) → IsPlayed [] old old a a
 played_none old a = record { entries = []; done = refl; written = Appends-nil a }
 
-pub played_more : (xs ys : List Act) (old mid new : Scene) (a b c : Option (List ℕ)) → mid.system.users ≡ old.system.users → IsPlayed xs old mid a b → IsPlayed ys mid new b c → IsPlayed (xs ++ ys) old new a c
+pub played_more : (xs ys : List Act) (old mid new : Scene) (a b c : Option (List ℕ)) → mid.system.directory ≡ old.system.directory → IsPlayed xs old mid a b → IsPlayed ys mid new b c → IsPlayed (xs ++ ys) old new a c
 played_more xs ys old mid new a b c users p q = record {
   entries = p.entries ++ q.entries;
   done = done_append xs ys old mid new p.entries q.entries p.done q.done;
   written = rw (transcript_append (names_of old.system) p.entries q.entries) (Appends-trans a b c (transcript (names_of old.system) p.entries) (transcript (names_of old.system) q.entries) p.written (rw users at q.written));
 }
 
-pub partly_more : (xs ys : List Act) (old mid : Scene) (new : SystemView) (a b c : Option (List ℕ)) → mid.system.users ≡ old.system.users → IsPlayed xs old mid a b → IsPartly ys mid new b c → IsPartly (xs ++ ys) old new a c
+pub partly_more : (xs ys : List Act) (old mid : Scene) (new : SystemView) (a b c : Option (List ℕ)) → mid.system.directory ≡ old.system.directory → IsPlayed xs old mid a b → IsPartly ys mid new b c → IsPartly (xs ++ ys) old new a c
 partly_more xs ys old mid new a b c users p q = record {
   front = xs ++ q.front;
   rest = q.rest;
@@ -147,53 +166,80 @@ played_one act entry old new a b h w = record {
   written = rw (append-nil (ended (entry_lines (names_of old.system) entry))) w;
 }
 
--- events that a script names alike are of one user
-abbrev user_said : Said → ℕ
-user_said (Run user units) = user
-user_said (Line user text) = user
-user_said (Tick user) = user
-user_said (Serve user device) = user
-user_said (Auto turns) = 0
+-- ---- an event that a script says
 
-user_is : (event : Event) → user_of event ≡ user_said (as_said event)
-user_is (events.Run user units) = refl
-user_is (events.Line user text) = refl
-user_is (events.Tick user) = refl
+-- it was answered, and queue and line were brought up
+pub applied : (event : Event) (what : Said) (old new : SystemView) (lines after : Lines) (a b : Option (List ℕ)) → as_said event ≡ what → IsAnswered event old new a b → after.users ≡ queue_after old new (user_of event) lines.users → after.programs ≡ line_after old new (user_of event) lines.programs → IsPlayed (Applies what ∷ []) (scene old lines) (scene new after) a b
+applied event what old new lines after a b e h q l =
+    let step : Step = record { event = event; reply = h.reply; seen = new } in
+    played_one (Applies what) (Answered step) (scene old lines) (scene new after) a b (record { named = e; stepped = h.step; seen = refl; queued = q; lined = l; over = refl }) h.written
 
-pub same_user_of : (one other : Event) → as_said one ≡ as_said other → user_of one ≡ user_of other
-same_user_of one other e = user_is one ∙ (ap user_said e ∙ sym (user_is other))
+pub applied_partly : (event : Event) (what : Said) (old new : SystemView) (lines : Lines) (a b : Option (List ℕ)) → as_said event ≡ what → IsUnanswered old new a b ⊎ IsAnsweredPartly event old new a b → IsPartly (Applies what ∷ []) (scene old lines) new a b
+applied_partly event what old new lines a b e (inl h) = partly_none (Applies what) (scene old lines) new a b h
+applied_partly event what old new lines a b e (inr h) =
+    let step : Step = record { event = event; reply = h.reply; seen = new } in
+    let after : Lines = record lines { users = queue_after old new (user_of event) lines.users; programs = line_after old new (user_of event) lines.programs } in
+    partly_one (Applies what) (Answered step) (scene old lines) (scene new after) a b (record { named = e; stepped = h.step; seen = refl; queued = refl; lined = refl; over = refl }) h.written
 
--- an event that was answered, and the queue after it
-pub applied : (event : Event) (said : Said) (old new : SystemView) (queue : List ℕ) (a b : Option (List ℕ)) → as_said event ≡ said → IsAnswered said old new a b → IsPlayed (Applies said ∷ []) (scene old queue) (scene new (queue_after old new (user_of event) queue)) a b
-applied event said old new queue a b e h =
-    let step : Step = record { event = h.event; reply = h.reply; seen = new } in
-    let queued : queue_after old new (user_of event) queue ≡ queue_after old new (user_of h.event) queue = ap (λ (u : ℕ). queue_after old new u queue) (same_user_of event h.event (e ∙ sym h.named)) in
-    played_one (Applies said) (Answered step) (scene old queue) (scene new (queue_after old new (user_of event) queue)) a b (record { named = h.named; stepped = h.step; seen = refl; queued = queued }) h.written
+-- ---- a slice
 
-pub applied_partly : (said : Said) (old new : SystemView) (queue : List ℕ) (a b : Option (List ℕ)) → IsUnanswered old new a b ⊎ IsAnsweredPartly said old new a b → IsPartly (Applies said ∷ []) (scene old queue) new a b
-applied_partly said old new queue a b (inl h) = partly_none (Applies said) (scene old queue) new a b h
-applied_partly said old new queue a b (inr h) =
-    let step : Step = record { event = h.event; reply = h.reply; seen = new } in
-    partly_one (Applies said) (Answered step) (scene old queue) (scene new (queue_after old new (user_of h.event) queue)) a b (record { named = h.named; stepped = h.step; seen = refl; queued = refl }) h.written
+pub sliced : (user : ℕ) (old new : SystemView) (lines after : Lines) (a b : Option (List ℕ)) → IsDealt (ready_in old) lines.users (Some user) after.users → IsAnswered (events.Run user slice_units) old new a b → after.programs ≡ line_after old new user lines.programs → IsPlayed (Slices ∷ []) (scene old lines) (within true new after) a b
+sliced user old new lines after a b dealt h l =
+    let step : Step = record { event = events.Run user slice_units; reply = h.reply; seen = new } in
+    played_one Slices (Answered step) (scene old lines) (within true new after) a b (record { user = user; dealt = dealt; slice = refl; stepped = h.step; seen = refl; lined = l; had = refl }) h.written
 
--- a slice that was dealt and answered
-pub sliced : (user : ℕ) (old new : SystemView) (queue next : List ℕ) (a b : Option (List ℕ)) → IsDealt (ready_in old) queue (Some user) next → IsAnswered (Run user slice_units) old new a b → IsPlayed (Deals ∷ []) (scene old queue) (scene new next) a b
-sliced user old new queue next a b dealt h =
-    let step : Step = record { event = h.event; reply = h.reply; seen = new } in
-    played_one Deals (Answered step) (scene old queue) (scene new next) a b (record { user = user; dealt = dealt; slice = h.named; stepped = h.step; seen = refl }) h.written
+pub sliced_partly : (user : ℕ) (old new : SystemView) (lines : Lines) (queue : List ℕ) (a b : Option (List ℕ)) → IsDealt (ready_in old) lines.users (Some user) queue → IsUnanswered old new a b ⊎ IsAnsweredPartly (events.Run user slice_units) old new a b → IsPartly (Slices ∷ []) (scene old lines) new a b
+sliced_partly user old new lines queue a b dealt (inl h) = partly_none Slices (scene old lines) new a b h
+sliced_partly user old new lines queue a b dealt (inr h) =
+    let step : Step = record { event = events.Run user slice_units; reply = h.reply; seen = new } in
+    let after : Lines = record lines { users = queue; programs = line_after old new user lines.programs } in
+    partly_one Slices (Answered step) (scene old lines) (within true new after) a b (record { user = user; dealt = dealt; slice = refl; stepped = h.step; seen = refl; lined = refl; had = refl }) h.written
 
-pub sliced_partly : (user : ℕ) (old new : SystemView) (queue next : List ℕ) (a b : Option (List ℕ)) → IsDealt (ready_in old) queue (Some user) next → IsUnanswered old new a b ⊎ IsAnsweredPartly (Run user slice_units) old new a b → IsPartly (Deals ∷ []) (scene old queue) new a b
-sliced_partly user old new queue next a b dealt (inl h) = partly_none Deals (scene old queue) new a b h
-sliced_partly user old new queue next a b dealt (inr h) =
-    let step : Step = record { event = h.event; reply = h.reply; seen = new } in
-    partly_one Deals (Answered step) (scene old queue) (scene new next) a b (record { user = user; dealt = dealt; slice = h.named; stepped = h.step; seen = refl }) h.written
+-- nobody was ready
+pub not_sliced : (old : SystemView) (lines after : Lines) (a : Option (List ℕ)) → IsDealt (ready_in old) lines.users None after.users → after.programs ≡ lines.programs → IsPlayed (Slices ∷ []) (scene old lines) (within false old after) a a
+not_sliced old lines after a dealt l =
+    played_one Slices Passed (scene old lines) (within false old after) a a (record { dealt = dealt; seen = refl; lined = l; had = refl }) (Appends-nil a)
 
--- a turn that nobody had
-pub idled : (old : SystemView) (queue next : List ℕ) (a b : Option (List ℕ)) → IsDealt (ready_in old) queue None next → Appends a b (ended (idle_line ∷ [])) → IsPlayed (Deals ∷ []) (scene old queue) (scene old next) a b
-idled old queue next a b dealt w = played_one Deals Idle (scene old queue) (scene old next) a b (record { dealt = dealt; same = refl }) w
+-- ---- a serve
 
-pub idled_partly : (old : SystemView) (queue next : List ℕ) (a b : Option (List ℕ)) → IsDealt (ready_in old) queue None next → AppendsFront a b (ended (idle_line ∷ [])) → IsPartly (Deals ∷ []) (scene old queue) old a b
-idled_partly old queue next a b dealt w = partly_one Deals Idle (scene old queue) (scene old next) a b (record { dealt = dealt; same = refl }) w
+pub served : (had : Bool) (program : Program) (turned : List Program) (old new : SystemView) (lines after : Lines) (a b : Option (List ℕ)) → IsDealt always lines.programs (Some program) turned → IsAnswered (events.Serve program.user program.device) old new a b → after.users ≡ lines.users → after.programs ≡ line_after old new program.user turned → IsPlayed (Serves ∷ []) (within had old lines) (scene new after) a b
+served had program turned old new lines after a b dealt h q l =
+    let step : Step = record { event = events.Serve program.user program.device; reply = h.reply; seen = new } in
+    played_one Serves (Answered step) (within had old lines) (scene new after) a b (record { program = program; turned = turned; dealt = dealt; served = refl; stepped = h.step; seen = refl; queued = q; lined = l; over = refl }) h.written
+
+pub served_partly : (had : Bool) (program : Program) (turned : List Program) (old new : SystemView) (lines : Lines) (a b : Option (List ℕ)) → IsDealt always lines.programs (Some program) turned → IsUnanswered old new a b ⊎ IsAnsweredPartly (events.Serve program.user program.device) old new a b → IsPartly (Serves ∷ []) (within had old lines) new a b
+served_partly had program turned old new lines a b dealt (inl h) = partly_none Serves (within had old lines) new a b h
+served_partly had program turned old new lines a b dealt (inr h) =
+    let step : Step = record { event = events.Serve program.user program.device; reply = h.reply; seen = new } in
+    let after : Lines = record lines { programs = line_after old new program.user turned } in
+    partly_one Serves (Answered step) (within had old lines) (scene new after) a b (record { program = program; turned = turned; dealt = dealt; served = refl; stepped = h.step; seen = refl; queued = refl; lined = refl; over = refl }) h.written
+
+not_served_as : (had : Bool) (old : SystemView) (lines after : Lines) → IsDealt always lines.programs None after.programs → after.users ≡ lines.users → IsDone Serves (passed had) (within had old lines) (scene old after)
+not_served_as true old lines after dealt q = record { dealt = dealt; seen = refl; queued = q; had = refl; over = refl }
+not_served_as false old lines after dealt q = record { dealt = dealt; seen = refl; queued = q; had = refl; over = refl }
+
+-- the lines of half a turn that nobody had name nobody
+names_none : (had : Bool) (names : List (List ℕ)) → ended (entry_lines [] (passed had)) ≡ ended (entry_lines names (passed had))
+names_none true names = refl
+names_none false names = refl
+
+-- no program stood in the line
+pub not_served : (had : Bool) (old : SystemView) (lines after : Lines) (a b : Option (List ℕ)) → IsDealt always lines.programs None after.programs → after.users ≡ lines.users → Appends a b (ended (entry_lines [] (passed had))) → IsPlayed (Serves ∷ []) (within had old lines) (scene old after) a b
+not_served had old lines after a b dealt q w =
+    played_one Serves (passed had) (within had old lines) (scene old after) a b (not_served_as had old lines after dealt q) (subst (λ (t : List ℕ). Appends a b t) (names_none had (names_of old)) w)
+
+pub not_served_partly : (had : Bool) (old : SystemView) (lines after : Lines) (a b : Option (List ℕ)) → IsDealt always lines.programs None after.programs → after.users ≡ lines.users → AppendsFront a b (ended (entry_lines [] (passed had))) → IsPartly (Serves ∷ []) (within had old lines) old a b
+not_served_partly had old lines after a b dealt q w =
+    partly_one Serves (passed had) (within had old lines) (scene old after) a b (not_served_as had old lines after dealt q) (subst (λ (t : List ℕ). AppendsFront a b t) (names_none had (names_of old)) w)
+
+-- ---- answers
+
+-- what was answered is answered in part too
+pub answered_partly : (event : Event) (old new : SystemView) (a b : Option (List ℕ)) → IsAnswered event old new a b → IsAnsweredPartly event old new a b
+answered_partly event old new a b h =
+    let step : Step = record { event = event; reply = h.reply; seen = new } in
+    let text = ended (entry_lines (names_of old) (Answered step)) in
+    record { reply = h.reply; step = h.step; written = (length text, omega arith, rw (take-length text) h.written) }
 
 -- what holds, holds where there is an error
 pub on_err : {A F P : Type 0} (r : Result A F) → P → OnErr r P

@@ -1,7 +1,11 @@
 pub mod Endings
 pub mod Lists
+pub mod Rest
+pub mod Decks
+pub mod Written
+pub mod Lined
+pub mod Stated
 pub mod Histories
 pub mod Queues
 pub mod Sessions
-pub mod Devices
 pub mod Rules

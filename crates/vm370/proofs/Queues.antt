@@ -6,8 +6,8 @@ use Rattle.std.proofs.lemmas.List.{get_or_past, get_or-replicate, length-replica
 use Rattle.std.proofs.lemmas.Grind.{common_steps}
 use Rattle.cp_dispatch.specs.Turns.{IsDealt}
 use Rattle.cp_dispatch.specs.Policy.{is_ready}
-use Rattle.cp_panel.specs.Machine.{Machine}
-use Rattle.cp_core.specs.System.{SystemView, machine_at, nobody}
+use Rattle.cp_devices.specs.Equipped.{Equipped}
+use Rattle.cp_core.specs.System.{SystemView, nobody, user_at}
 use Rattle.vm370.specs.Schedule.{is_on, ready_in}
 
 -- tests that agree find the same
@@ -28,14 +28,14 @@ dealt_same p q same old (Some one) new h = record {
 dealt_same p q same old None new h = (sym (any_same p q same old) ∙ h.0, h.1)
 
 -- whom the system does not have has the machine of nobody, who is off
-pub nobody_past : (s : SystemView) (user : ℕ) → length s.machines ≤ user → machine_at s user ≡ nobody
-nobody_past s user past = get_or_past s.machines user nobody past
+pub nobody_past : (s : SystemView) (user : ℕ) → length s.users ≤ user → user_at s user ≡ nobody
+nobody_past s user past = get_or_past s.users user nobody past
 
-pub off_past : (s : SystemView) (user : ℕ) → length s.machines ≤ user → is_on (machine_at s user).mode ≡ false
-off_past s user past = ap (λ (m : Machine). is_on m.mode) (nobody_past s user past)
+pub off_past : (s : SystemView) (user : ℕ) → length s.users ≤ user → is_on (user_at s user).machine.mode ≡ false
+off_past s user past = ap (λ (e : Equipped). is_on e.machine.mode) (nobody_past s user past)
 
-pub not_ready_past : (s : SystemView) (user : ℕ) → length s.machines ≤ user → ready_in s user ≡ false
-not_ready_past s user past = ap (λ (m : Machine). ready_in (record s { machines = m ∷ [] }) 0) (nobody_past s user past)
+pub not_ready_past : (s : SystemView) (user : ℕ) → length s.users ≤ user → ready_in s user ≡ false
+not_ready_past s user past = ap (λ (e : Equipped). ready_in (record s { users = e ∷ [] }) 0) (nobody_past s user past)
 
 -- nobody is flagged
 pub none_flagged : (n user : ℕ) → is_ready (replicate n false) user ≡ false
@@ -72,7 +72,7 @@ others_more s flags n b h others user more =
     (rw get_or-set_other refl) ∙ others user (omega (arith, more))
 
 -- the flags of all users are known
-pub all_known : (s : SystemView) (flags : List Bool) (n : ℕ) → length s.machines ≤ n → ((u : ℕ) → u < n → is_ready flags u ≡ ready_in s u) → ((u : ℕ) → n ≤ u → is_ready flags u ≡ false) → (user : ℕ) → is_ready flags user ≡ ready_in s user
+pub all_known : (s : SystemView) (flags : List Bool) (n : ℕ) → length s.users ≤ n → ((u : ℕ) → u < n → is_ready flags u ≡ ready_in s u) → ((u : ℕ) → n ≤ u → is_ready flags u ≡ false) → (user : ℕ) → is_ready flags user ≡ ready_in s user
 all_known s flags n e known others user = elim (cases_lt user n) [
   | inl less ↦ known user less
   | inr past ↦ others user past ∙ sym (not_ready_past s user (omega (arith, e, past)))

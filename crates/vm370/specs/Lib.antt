@@ -4,3 +4,4 @@ pub mod Transcript
 pub mod Options
 pub mod Faults
 pub mod Session
+pub mod Files

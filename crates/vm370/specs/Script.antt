@@ -1,39 +1,71 @@
 -- What scripts say to the control program.
-use Rattle.std.specs.Prelude.{ℕ, ◌<◌, List, [], IfSome, map}
+use Rattle.std.specs.Prelude.{◌≡◌, ℕ, ◌<◌, Bool, true, List, IfSome, map, slice_get}
+use Rattle.std.specs.List.{list_all}
+use Rattle.cp_core.specs.Stated.{LacksDevice, states_device}
+use Rattle.cp_core.specs.System.{SystemView}
 use Rattle.cp_core.specs.declared.events.Event.{Event}
 use Rattle.cp_core.specs.declared.events.Event.TheVariants as events
-use Rattle.cp_directory.specs.Users.{DirectoryUser}
+use Rattle.cp_directory.specs.Users.{DirectoryUser, addresses_of}
+use Rattle.cp_dispatch.specs.declared.program.Program.{Program}
 use Rattle.cp_script.specs.Users.{KnownUser}
-use Rattle.cp_script.specs.Script.{Said, Run, Line, Tick, user_of_event}
+use Rattle.cp_script.specs.Script.{Said, Run, Line, Tick, Serve, Deck, IsOfDevice, user_of_event}
 use Rattle.cp_script.specs.declared.event.ScriptEvent.{ScriptEvent}
 use Rattle.cp_script.specs.declared.event.ScriptEvent.TheVariants as scripts
 
--- scripts know the users of a directory by their names; users have no devices
+-- scripts know the users of a directory by their names, and of each the addresses of his devices
 abbrev pub known_users : List DirectoryUser → List KnownUser
-known_users users = map (λ user. record { name = user.name; devices = [] }) users
+known_users users = map (λ user. record { name = user.name; devices = addresses_of user }) users
 
 -- an event as a script names it
 abbrev pub as_said : Event → Said
 as_said (events.Run user units) = Run user units
 as_said (events.Line user text) = Line user text.now
 as_said (events.Tick user) = Tick user
+as_said (events.Serve user device) = Serve user device
+as_said (events.Deck user cards) = Deck user cards.now
+
+-- the number of the user whom an event names; turns name nobody
+abbrev pub number_of : ScriptEvent → ℕ
+number_of (scripts.Run user units) = user
+number_of (scripts.Line user text) = user
+number_of (scripts.Tick user) = user
+number_of (scripts.Serve user device) = user
+number_of (scripts.Deck user cards) = user
+number_of (scripts.Auto turns) = 0
 
 -- a user whom an event names is one of so many
 abbrev pub IsOfUser : ℕ → ScriptEvent → Type 0
 IsOfUser users event = IfSome (user_of_event event) (λ user. user < users)
 
--- an event of no device
-abbrev pub NamesNoDevice : ScriptEvent → Type 0
-NamesNoDevice (scripts.Run user units) = Unit {0}
-NamesNoDevice (scripts.Line user text) = Unit {0}
-NamesNoDevice (scripts.Tick user) = Unit {0}
-NamesNoDevice (scripts.Serve user device) = ⊥
-NamesNoDevice (scripts.Auto turns) = Unit {0}
+-- a device that an event names is one that the directory gives the user
+abbrev pub IsOfStated : List DirectoryUser → ScriptEvent → Type 0
+IsOfStated users event = IsOfDevice (known_users users) event
 
--- an event that the control program applies: of no device, and no turns
+-- an event that the control program applies: no turns
 abbrev pub IsApplicable : ScriptEvent → Type 0
 IsApplicable (scripts.Run user units) = Unit {0}
 IsApplicable (scripts.Line user text) = Unit {0}
 IsApplicable (scripts.Tick user) = Unit {0}
-IsApplicable (scripts.Serve user device) = ⊥
+IsApplicable (scripts.Serve user device) = Unit {0}
+IsApplicable (scripts.Deck user cards) = Unit {0}
 IsApplicable (scripts.Auto turns) = ⊥
+
+-- a device that an event of the control program names is one that the directory gives the user
+abbrev pub IsStated : SystemView → Event → Type 0
+IsStated s event = LacksDevice s event → ⊥
+
+-- an event that a script says with all that it has: no deck, whose cards are still to be made, and no turns
+abbrev pub IsWhole : ScriptEvent → Type 0
+IsWhole (scripts.Run user units) = Unit {0}
+IsWhole (scripts.Line user text) = Unit {0}
+IsWhole (scripts.Tick user) = Unit {0}
+IsWhole (scripts.Serve user device) = Unit {0}
+IsWhole (scripts.Deck user cards) = ⊥
+IsWhole (scripts.Auto turns) = ⊥
+
+-- each program in the line is of a device that the directory gives its user
+abbrev pub is_stated : SystemView → Program → Bool
+is_stated s program = states_device program.device (slice_get s.directory program.user)
+
+abbrev pub IsLineStated : SystemView → List Program → Type 0
+IsLineStated s line = list_all (is_stated s) line ≡ true

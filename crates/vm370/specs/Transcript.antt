@@ -1,6 +1,7 @@
 -- The lines of an event and its reply.
-use Rattle.std.specs.Prelude.{ℕ, List, [], ◌∷◌, ◌++◌, ◌≡◌, ◌≢◌, All, codes, map, Option, Some, None}
+use Rattle.std.specs.Prelude.{ℕ, ◌-◌, Bool, true, false, List, [], ◌∷◌, ◌++◌, ◌≡◌, ◌≢◌, All, codes, drop, length, map, Option, Some, None}
 use Rattle.std.specs.Fmt.{decimal}
+use Rattle.s370_num.specs.Address.{device_text}
 use Rattle.s370_intr.specs.declared.next.Reason.{Reason}
 use Rattle.s370_intr.specs.declared.next.Reason.TheVariants as reasons
 use Rattle.s370_intr.specs.declared.run.Ran.{Ran as RanUnits}
@@ -15,14 +16,17 @@ use Rattle.cp_devices.specs.declared.line.Told.TheVariants.{Silent, Said, Files,
 use Rattle.cp_devices.specs.Files.{file_lines}
 use Rattle.cp_core.specs.Events.{user_of}
 use Rattle.cp_core.specs.Local.{Step}
-use Rattle.cp_core.specs.System.{user_at}
+use Rattle.cp_core.specs.System.{machine_at, user_at}
 use Rattle.cp_core.specs.declared.events.Ended.{Ended}
-use Rattle.cp_core.specs.declared.events.Ended.TheVariants.{Ran, Done, FramesOut}
+use Rattle.cp_core.specs.declared.events.Ended.TheVariants.{Ran, Served, Done, FramesOut}
 use Rattle.cp_core.specs.declared.delivery.Delivered.{Delivered}
 use Rattle.cp_core.specs.declared.delivery.Delivery.{Delivery}
 use Rattle.cp_core.specs.declared.delivery.Delivery.TheVariants as deliveries
 use Rattle.cp_core.specs.declared.events.Reply.{Reply}
-use Rattle.vm370.specs.Schedule.{Entry, Answered, Idle}
+use Rattle.cp_script.specs.Script.{Said as Asked}
+use Rattle.cp_script.specs.Script as asked
+use Rattle.vm370.specs.Script.{as_said}
+use Rattle.vm370.specs.Schedule.{Entry, Answered, Passed, Idle}
 
 -- `u: text`
 abbrev pub told_line : List ℕ → List ℕ → List ℕ
@@ -67,28 +71,66 @@ ran_line name ran = codes "= " ++ name ++ codes " " ++ decimal ran.units ++ code
 abbrev pub frames_line : List ℕ → List ℕ
 frames_line name = codes "= " ++ name ++ codes " FRAMES"
 
--- a run is told, and any other event only where it was out of frames
-abbrev pub ending_lines : List ℕ → Ended → List (List ℕ)
-ending_lines name (Ran ran) = ran_line name ran ∷ []
-ending_lines name Done = []
-ending_lines name FramesOut = frames_line name ∷ []
+-- `= u SERVED addr`, or `= u IDLE addr` where the device was not working
+abbrev pub served_word : Bool → List ℕ
+served_word true = codes " SERVED "
+served_word false = codes " IDLE "
 
--- what was said to this user, whose reader has these decks, what stands at another's terminal, and then how the event ended
-abbrev pub reply_lines : List (List ℕ) → ℕ → List DeckValue → Reply → List (List ℕ)
-reply_lines names user decks reply =
-    said_lines names (name_of names user) decks reply.said ++ delivered_lines names reply.delivered ++ ending_lines (name_of names user) reply.ended
+abbrev pub served_line : List ℕ → ℕ → Bool → List ℕ
+served_line name device done = codes "= " ++ name ++ served_word done ++ device_text device
+
+-- of what was said to be a serve
+abbrev pub served_lines : List ℕ → Asked → Bool → List (List ℕ)
+served_lines name (asked.Serve user device) done = served_line name device done ∷ []
+served_lines name (asked.Run user units) done = []
+served_lines name (asked.Line user typed) done = []
+served_lines name (asked.Tick user) done = []
+served_lines name (asked.Deck user cards) done = []
+served_lines name (asked.Auto turns) done = []
+
+-- a run and a serve are told, and any other event only where it was out of frames
+abbrev pub ending_lines : List ℕ → Asked → Ended → List (List ℕ)
+ending_lines name event (Ran ran) = ran_line name ran ∷ []
+ending_lines name event (Served done) = served_lines name event done
+ending_lines name event Done = []
+ending_lines name event FramesOut = frames_line name ∷ []
+
+-- the last so many of the lines that a console has printed
+abbrev pub last_lines : ℕ → List (List ℕ) → List (List ℕ)
+last_lines count output = drop (length output - count) output
+
+-- what a program has written at its console while it was served: the lines that have joined it. What joins it by any other event
+-- is said or delivered
+abbrev pub written_lines : List ℕ → ℕ → List (List ℕ) → Ended → List (List ℕ)
+written_lines name count output (Served done) = map (told_line name) (last_lines count output)
+written_lines name count output (Ran ran) = []
+written_lines name count output Done = []
+written_lines name count output FramesOut = []
+
+-- what was said to the user whom the event names, whose reader has these decks, what has been written at his console, what stands at
+-- another's terminal, and then how the event ended
+abbrev pub reply_lines : List (List ℕ) → ℕ → Asked → List DeckValue → List (List ℕ) → Reply → List (List ℕ)
+reply_lines names user event decks output reply =
+    let name = name_of names user in
+    said_lines names name decks reply.said
+    ++ written_lines name reply.lines output reply.ended
+    ++ delivered_lines names reply.delivered
+    ++ ending_lines name event reply.ended
 
 -- the lines of an event that was answered so
 abbrev pub event_lines : List (List ℕ) → Step → List (List ℕ)
-event_lines names step = let user = user_of step.event in reply_lines names user (user_at step.seen user).devices.reader.decks step.reply
+event_lines names step =
+    let user = user_of step.event in
+    reply_lines names user (as_said step.event) (user_at step.seen user).devices.reader.decks (machine_at step.seen user).output step.reply
 
 -- `= IDLE`
 abbrev pub idle_line : List ℕ
 idle_line = codes "= IDLE"
 
--- the lines of an event and its reply, or of a turn that nobody had
+-- the lines of an event and its reply, or of a turn of which nobody had either half
 abbrev pub entry_lines : List (List ℕ) → Entry → List (List ℕ)
 entry_lines names (Answered step) = event_lines names step
+entry_lines names Passed = []
 entry_lines names Idle = idle_line ∷ []
 
 -- lines as bytes, each ended by LF

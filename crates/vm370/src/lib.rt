@@ -11,9 +11,14 @@
 //! ([`transcript::print_reply`]).
 #![tactic(auto)]
 
+mod acts;
+mod answers;
 pub mod arguments;
 pub mod faults;
+pub mod files;
+mod known;
 pub mod program;
 mod queue;
 pub mod session;
+mod starts;
 pub mod transcript;

@@ -1,8 +1,9 @@
 //! Who is dealt the slices: the users who are on, of whom some are ready.
 ghost use Rattle.std.specs.Prelude.{◌≡◌, ◌<◌, IfOk, ℕ, length, true};
 ghost use Rattle.cp_dispatch.specs.Policy.{is_ready as is_flagged};
-ghost use Rattle.vm370.specs.Schedule.{first_queue, is_on, is_user_on, queue_with, ready_in};
+ghost use Rattle.vm370.specs.Schedule.{first_line, first_queue, is_on, is_user_on, queue_with, ready_in};
 
+use crate::starts::line_up;
 use cp_core::System;
 use cp_dispatch::{Policy, Ready};
 use cp_panel::Mode;
@@ -45,16 +46,19 @@ pub(crate) fn note(policy: &mut Policy, user: UserNo, was_on: bool, is_on: bool)
     }
 }
 
-/// The policy for the users of a system: those who are on stand in the queue by their numbers.
+/// The policy for the users of a system: those who are on stand in the queue by their numbers, and in the line stand the
+/// programs of each by their starts.
 pub(crate) fn first_policy(alloc: Global, system: &System) -> Result<Policy, AllocError>
     ensures users { IfOk result (λ policy. policy.users ≡ first_queue system.now (length system.now.directory)) }
+    ensures programs { IfOk result (λ policy. policy.programs ≡ first_line system.now (length system.now.directory)) }
     ensures seats { IfOk result (λ policy. policy.most_users ≡ length system.now.directory) }
 {
     let users = system.users();
-    let mut policy = Policy::new(alloc, users, 0)?;
+    let mut policy = Policy::new(alloc, users)?;
     for number in 0..users {
         let user = UserNo::new(number as u8);
         note(&mut policy, user, false, is_on(system, user));
+        line_up(alloc, system, &mut policy, user, 0)?;
     }
     Ok(policy)
 }

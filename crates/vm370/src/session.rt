@@ -1,19 +1,22 @@
 //! A session: from a script's bytes to a transcript's bytes.
-ghost use Rattle.std.specs.Prelude.{◌≡◌, ◌<◌, ◌≤◌, ◌⊎◌, ℕ, [], ◌∷◌, All, Err, IfErr, IfOk, Ok, OnErr, OnOk, Some, ◌↔◌, false, length, map, replicate, true};
+ghost use Rattle.std.specs.Prelude.{◌≡◌, ◌⊎◌, ℕ, [], All, Err, OnErr, OnOk, length, map, true};
+ghost use Rattle.std.specs.Io.KnownBytes.{Appends};
+ghost use Rattle.s370_num.specs.Host.{AppendsFront};
 ghost use Rattle.vm370.specs.declared.session.SessionError.TheVariants.{Memory};
-ghost use Rattle.cp_core.specs.Events.{user_of};
-ghost use Rattle.cp_script.specs.Script.{IsRefusal, said, script_of, user_of_event};
-ghost use Rattle.vm370.specs.Schedule.{Applies, Deals, acts, acts_of, scene};
-ghost use Rattle.vm370.specs.Script.{IsApplicable, IsOfUser, NamesNoDevice, as_said, known_users};
-ghost use Rattle.vm370.specs.Session.{CountsFiles, CountsWriter, IsAnswered, IsAnsweredPartly, IsCut, IsPartly, IsPlayed, IsRefused, IsSession, IsUnanswered, fault_error, refusal_error, users_of};
+ghost use Rattle.cp_script.specs.Script.{said};
+ghost use Rattle.vm370.specs.Files.{closing_lines};
+ghost use Rattle.vm370.specs.Schedule.{acts, scene};
+ghost use Rattle.vm370.specs.Script.{IsLineStated, IsOfStated, IsOfUser};
+ghost use Rattle.vm370.specs.Session.{CountsFiles, CountsWriter, IsCut, IsPartly, IsPlayed, IsRefused, IsSession, fault_error, refusal_error, users_of};
+ghost use Rattle.vm370.specs.Transcript.{ended};
 
-use crate::queue::{SLICE_UNITS, first_policy, is_on, note, ready_users};
-use crate::transcript::{idle_line, print_reply};
-use cp_core::{CpError, Event, System};
-use cp_directory::User;
+use crate::acts::act;
+use crate::files::print_files;
+use crate::known::read_events;
+use crate::queue::first_policy;
+use cp_core::System;
 use cp_dispatch::Policy;
-use cp_script::{ScriptError, ScriptEvent, ScriptUser, read_script};
-use cp_users::MOST_USERS;
+use cp_script::{ScriptError, ScriptEvent};
 use s370_num::host::{HostFault, HostReader, HostWriter, read_all, write_all};
 use std::alloc::{AllocError, Global};
 use thiserror::Error;
@@ -67,10 +70,11 @@ impl From<AllocError> for SessionError {
 }
 
 /// Reads a whole script and judges it; then applies its events and deals its turns one after another, and
-/// writes the lines of each as they come. When it ends well, nothing that was written is held back.
+/// writes the lines of each as they come, and at the end the files for the operator. When it ends well, nothing
+/// that was written is held back.
 ///
 /// Turns are dealt among the users who are on: those who are on at first, by their numbers, and behind them who
-/// logs on later.
+/// logs on later; and among the programs that were started, in the order of their starts.
 pub fn session<R: HostReader, W: HostWriter>(
     alloc: Global,
     system: &mut System,
@@ -95,38 +99,8 @@ pub fn session<R: HostReader, W: HostWriter>(
     let text = read_all(alloc, reader)?;
     let events = read_events(alloc, system.directory().users(), &text)?;
     let mut policy = first_policy(alloc, system)?;
-    play(alloc, system, &mut policy, &events, writer)
-}
-
-/// The events that a script names for the users of a directory, who have no devices.
-fn read_events<'a>(
-    alloc: Global,
-    users: &[User],
-    text: &'a [u8],
-) -> Result<Vec<ScriptEvent<'a>>, ScriptError>
-    requires { length users.now ≤ MOST_USERS }
-    ensures ok { IfOk result (λ events. script_of (known_users users.now) text.now ≡ Ok (map said events.items)) }
-    ensures users { IfOk result (λ events. All (IsOfUser (length users.now)) events.items) }
-    ensures devices { IfOk result (λ events. All NamesNoDevice events.items) }
-    ensures err { IfErr result (IsRefusal (script_of (known_users users.now) text.now)) }
-{
-    let Ok(users) = script_users(alloc, users) else {
-        return Err(ScriptError::Memory);
-    };
-    read_script(alloc, &users, text)
-}
-
-/// The users of a directory as scripts know them.
-fn script_users<'a>(alloc: Global, users: &'a [User]) -> Result<Vec<ScriptUser<'a>>, AllocError>
-    ensures { IfOk result (λ known. known.items ≡ known_users users.now) }
-{
-    users
-        .iter()
-        .map(|user| ScriptUser {
-            name: user.name(),
-            devices: &[],
-        })
-        .collect(alloc)
+    play(alloc, system, &mut policy, &events, writer)?;
+    close(alloc, system, writer)
 }
 
 /// Applies the events and deals the turns one after another, and writes the lines of each as they come.
@@ -138,199 +112,37 @@ fn play<W: HostWriter>(
     writer: &mut W,
 ) -> Result<(), SessionError>
     requires users { All (IsOfUser (length system.old.directory)) events.now }
-    requires devices { All NamesNoDevice events.now }
+    requires devices { All (IsOfStated system.old.directory) events.now }
     requires seats { policy.old.most_users ≡ length system.old.directory }
-    ensures ok { OnOk result (IsPlayed (acts (map said events.now)) (scene system.old policy.old.users)
-        (scene system.new policy.new.users) (W.contents writer.old) (W.contents writer.new)) }
+    requires line { IsLineStated system.old policy.old.programs }
+    ensures ok { OnOk result (IsPlayed (acts (map said events.now)) (scene system.old policy.old)
+        (scene system.new policy.new) (W.contents writer.old) (W.contents writer.new)) }
     ensures err { OnErr result
-        (IsPartly (acts (map said events.now)) (scene system.old policy.old.users) system.new (W.contents writer.old)
+        (IsPartly (acts (map said events.now)) (scene system.old policy.old) system.new (W.contents writer.old)
         (W.contents writer.new)) }
     ensures line { (n : ℕ) → result ≡ Err (SessionError.Line n) → ⊥ }
     ensures spent { result ≡ Err SessionError.Spent → system.old.is_spent ≡ true }
-    ensures flushed { OnOk result (W.held writer.new ≡ []) }
     ensures counts { CountsWriter result (W.HostFile.failures writer.old) (W.HostFile.failures writer.new) }
 {
     for event in events {
         act(alloc, system, policy, event, writer)?;
     }
+    Ok(())
+}
+
+/// Writes the files for the operator, and nothing that was written is held back.
+fn close<W: HostWriter>(alloc: Global, system: &System, writer: &mut W) -> Result<(), SessionError>
+    ensures ok { OnOk result
+        (Appends (W.contents writer.old) (W.contents writer.new) (ended (closing_lines system.now))) }
+    ensures err { OnErr result
+        (AppendsFront (W.contents writer.old) (W.contents writer.new) (ended (closing_lines system.now))) }
+    ensures line { (n : ℕ) → result ≡ Err (SessionError.Line n) → ⊥ }
+    ensures spent { result ≡ Err SessionError.Spent → ⊥ }
+    ensures flushed { OnOk result (W.held writer.new ≡ []) }
+    ensures counts { CountsWriter result (W.HostFile.failures writer.old) (W.HostFile.failures writer.new) }
+{
+    let files = print_files(alloc, system)?;
+    write_all(writer, &files)?;
     writer.flush()?;
     Ok(())
-}
-
-/// Does what a line of the script asks for, and writes the lines that come of it.
-fn act<W: HostWriter>(
-    alloc: Global,
-    system: &mut System,
-    policy: &mut Policy,
-    event: &ScriptEvent<'_>,
-    writer: &mut W,
-) -> Result<(), SessionError>
-    requires user { IsOfUser (length system.old.directory) event.now }
-    requires device { NamesNoDevice event.now }
-    requires seats { policy.old.most_users ≡ length system.old.directory }
-    ensures ok { OnOk result (IsPlayed (acts_of (said event.now)) (scene system.old policy.old.users)
-        (scene system.new policy.new.users) (W.contents writer.old) (W.contents writer.new)) }
-    ensures err { OnErr result
-        (IsPartly (acts_of (said event.now)) (scene system.old policy.old.users) system.new (W.contents writer.old)
-        (W.contents writer.new)) }
-    ensures directory { system.new.directory ≡ system.old.directory }
-    ensures seats { policy.new.most_users ≡ policy.old.most_users }
-    ensures line { (n : ℕ) → result ≡ Err (SessionError.Line n) → ⊥ }
-    ensures alive { OnOk result (system.new.is_spent ≡ true → system.old.is_spent ≡ true) }
-    ensures spent { result ≡ Err SessionError.Spent → system.old.is_spent ≡ true }
-    ensures counts { CountsWriter result (W.HostFile.failures writer.old) (W.HostFile.failures writer.new) }
-{
-    match event {
-        ScriptEvent::Auto(turns) => deal(alloc, system, policy, *turns, writer),
-        _ => apply(alloc, system, policy, event, writer),
-    }
-}
-
-/// Applies an event, and writes its lines. A user who logs on by it stands at the end of the queue, one who logs off
-/// stands in it no more.
-fn apply<W: HostWriter>(
-    alloc: Global,
-    system: &mut System,
-    policy: &mut Policy,
-    event: &ScriptEvent<'_>,
-    writer: &mut W,
-) -> Result<(), SessionError>
-    requires user { IsOfUser (length system.old.directory) event.now }
-    requires event { IsApplicable event.now }
-    requires seats { policy.old.most_users ≡ length system.old.directory }
-    ensures ok { OnOk result (IsPlayed (Applies (said event.now) ∷ []) (scene system.old policy.old.users)
-        (scene system.new policy.new.users) (W.contents writer.old) (W.contents writer.new)) }
-    ensures err { OnErr result
-        (IsPartly (Applies (said event.now) ∷ []) (scene system.old policy.old.users) system.new (W.contents writer.old)
-        (W.contents writer.new)) }
-    ensures directory { system.new.directory ≡ system.old.directory }
-    ensures seats { policy.new.most_users ≡ policy.old.most_users }
-    ensures line { (n : ℕ) → result ≡ Err (SessionError.Line n) → ⊥ }
-    ensures alive { OnOk result (system.new.is_spent ≡ true → system.old.is_spent ≡ true) }
-    ensures spent { result ≡ Err SessionError.Spent → system.old.is_spent ≡ true }
-    ensures counts { CountsWriter result (W.HostFile.failures writer.old) (W.HostFile.failures writer.new) }
-{
-    let user = event_of(event, &[]).user();
-    let was_on = is_on(system, user);
-    answer(alloc, system, event, writer)?;
-    let is_on = is_on(system, user);
-    note(policy, user, was_on, is_on);
-    Ok(())
-}
-
-/// Deals so many turns, one after another, and writes the lines of each.
-fn deal<W: HostWriter>(
-    alloc: Global,
-    system: &mut System,
-    policy: &mut Policy,
-    turns: u32,
-    writer: &mut W,
-) -> Result<(), SessionError>
-    requires seats { policy.old.most_users ≡ length system.old.directory }
-    ensures ok { OnOk result (IsPlayed (replicate turns Deals) (scene system.old policy.old.users)
-        (scene system.new policy.new.users) (W.contents writer.old) (W.contents writer.new)) }
-    ensures err { OnErr result
-        (IsPartly (replicate turns Deals) (scene system.old policy.old.users) system.new (W.contents writer.old)
-        (W.contents writer.new)) }
-    ensures directory { system.new.directory ≡ system.old.directory }
-    ensures seats { policy.new.most_users ≡ policy.old.most_users }
-    ensures line { (n : ℕ) → result ≡ Err (SessionError.Line n) → ⊥ }
-    ensures alive { OnOk result (system.new.is_spent ≡ true → system.old.is_spent ≡ true) }
-    ensures spent { result ≡ Err SessionError.Spent → system.old.is_spent ≡ true }
-    ensures counts { CountsWriter result (W.HostFile.failures writer.old) (W.HostFile.failures writer.new) }
-{
-    for _turn in 0..turns {
-        turn(alloc, system, policy, writer)?;
-    }
-    Ok(())
-}
-
-/// Deals a turn: a slice to the first in the queue who is ready, if there is one. Its lines are those of the run, or
-/// that nobody had it. Users have no devices, so no program waits to be served.
-fn turn<W: HostWriter>(
-    alloc: Global,
-    system: &mut System,
-    policy: &mut Policy,
-    writer: &mut W,
-) -> Result<(), SessionError>
-    ensures ok { OnOk result (IsPlayed (Deals ∷ []) (scene system.old policy.old.users)
-        (scene system.new policy.new.users) (W.contents writer.old) (W.contents writer.new)) }
-    ensures err { OnErr result
-        (IsPartly (Deals ∷ []) (scene system.old policy.old.users) system.new (W.contents writer.old)
-        (W.contents writer.new)) }
-    ensures directory { system.new.directory ≡ system.old.directory }
-    ensures seats { policy.new.most_users ≡ policy.old.most_users }
-    ensures line { (n : ℕ) → result ≡ Err (SessionError.Line n) → ⊥ }
-    ensures alive { OnOk result (system.new.is_spent ≡ true → system.old.is_spent ≡ true) }
-    ensures spent { result ≡ Err SessionError.Spent → system.old.is_spent ≡ true }
-    ensures counts { CountsWriter result (W.HostFile.failures writer.old) (W.HostFile.failures writer.new) }
-{
-    let ready = ready_users(system);
-    match policy.slice(&ready) {
-        Some(user) => answer(alloc, system, &ScriptEvent::Run(user, SLICE_UNITS), writer),
-        None => {
-            write_all(writer, idle_line())?;
-            Ok(())
-        }
-    }
-}
-
-/// Applies an event, and writes its reply's lines.
-fn answer<W: HostWriter>(
-    alloc: Global,
-    system: &mut System,
-    event: &ScriptEvent<'_>,
-    writer: &mut W,
-) -> Result<(), SessionError>
-    requires user { IsOfUser (length system.old.directory) event.now }
-    requires event { IsApplicable event.now }
-    ensures ok { OnOk result (IsAnswered (said event.now) system.old system.new (W.contents writer.old)
-        (W.contents writer.new)) }
-    ensures err { OnErr result
-        (IsUnanswered system.old system.new (W.contents writer.old) (W.contents writer.new)
-        ⊎ IsAnsweredPartly (said event.now) system.old system.new (W.contents writer.old) (W.contents writer.new)) }
-    ensures directory { system.new.directory ≡ system.old.directory }
-    ensures line { (n : ℕ) → result ≡ Err (SessionError.Line n) → ⊥ }
-    ensures alive { OnOk result (system.new.is_spent ≡ false) }
-    ensures spent { (result ≡ Err SessionError.Spent) ↔ (system.old.is_spent ≡ true) }
-    ensures counts { CountsWriter result (W.HostFile.failures writer.old) (W.HostFile.failures writer.new) }
-{
-    let cards = cards_of(alloc, event)?;
-    let user = event_of(event, &cards).user();
-    let reply = match system.apply(event_of(event, &cards)) {
-        Ok(reply) => reply,
-        Err(CpError::Memory) => return Err(SessionError::Memory),
-        Err(CpError::Spent) => return Err(SessionError::Spent),
-        Err(CpError::NoSuchUser) => unreachable!(),
-    };
-    let Some(devices) = system.spool(user) else {
-        unreachable!();
-    };
-    let reader = devices.reader();
-    let lines = print_reply(alloc, system.directory().users(), user, reader, &reply)?;
-    write_all(writer, &lines)?;
-    Ok(())
-}
-
-/// The cards of a deck; any other event has none.
-fn cards_of(alloc: Global, event: &ScriptEvent<'_>) -> Result<Vec<Card>, AllocError> {
-    match event {
-        ScriptEvent::Deck(_, cards) => cards.to_vec(alloc),
-        _ => Ok(Vec::new(alloc)),
-    }
-}
-
-/// The event that a line of a script says, where these are its cards.
-fn event_of<'a>(event: &ScriptEvent<'a>, cards: &'a [Card]) -> Event<'a>
-    requires { IsApplicable event.now }
-    ensures said { as_said result ≡ said event.now }
-    ensures user { Some (user_of result) ≡ user_of_event event.now }
-{
-    match *event {
-        ScriptEvent::Run(user, units) => Event::Run(user, units),
-        ScriptEvent::Line(user, typed) => Event::Line(user, typed),
-        ScriptEvent::Tick(user) => Event::Tick(user),
-        ScriptEvent::Deck(user, _) => Event::Deck(user, cards),
-        ScriptEvent::Serve(_, _) | ScriptEvent::Auto(_) => unreachable!(),
-    }
 }

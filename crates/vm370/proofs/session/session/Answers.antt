@@ -6,8 +6,8 @@ use Rattle.cp_script.specs.declared.reader.ScriptError.{ScriptError}
 use Rattle.cp_script.specs.declared.reader.ScriptError.TheVariants as refusals
 use Rattle.vm370.specs.declared.session.SessionError.{SessionError}
 use Rattle.vm370.specs.declared.session.SessionError.TheVariants as errors
-use Rattle.vm370.proofs.Histories.{err_then, ok_then}
-use Rattle.vm370.proofs.Sessions.{cut, whole}
+use Rattle.vm370.proofs.Histories.{err_then, ok_then, on_err}
+use Rattle.vm370.proofs.Sessions.{cut, cut_short, whole}
 use Rattle.vm370.proofs.session.session.Goals as goal
 
 -- the line that is told is the script's
@@ -25,14 +25,20 @@ returns-in_err-events-clause-line g c = λ n e.
       refused = line_told _ c.in_err-events.field-0.0 c.from_residual-in_err-events.result n fault c.from_residual-in_err-events.ensures.1 e;
     }
 
+pub returns-in_err-play-clause-err : goal.returns-in_err-play-clause-err
+returns-in_err-play-clause-err g c =
+    let accepted = rw (c.deref.ensures.value, c.users.ensures.users, c.directory.ensures) at c.in_ok-events.ensures.ok in
+    let partly = rw c.deref-2.ensures.value at c.in_err-play.ensures.err in
+    on_err c.from_residual-in_err-play.result (inr (cut c.in_ok-text.text.items (map said c.in_ok-events.events.items) c.args.system.now c.play.new.system c.in_ok-policy.policy _ _ _ _ (record { given = c.in_ok-text.ensures.ok; end = c.in_ok-text.ensures.end }) accepted c.in_ok-policy.ensures.users c.in_ok-policy.ensures.programs partly))
+
 pub returns-clause-ok : goal.returns-clause-ok
 returns-clause-ok g c =
     let accepted = rw (c.deref.ensures.value, c.users.ensures.users, c.directory.ensures) at c.in_ok-events.ensures.ok in
-    let played = rw c.deref-2.ensures.value at c.play.ensures.ok in
-    ok_then c.play.result (λ p. whole c.in_ok-text.text.items (map said c.in_ok-events.events.items) c.args.system.now c.play.new.system c.in_ok-policy.policy.users _ _ _ _ _ (record { given = c.in_ok-text.ensures.ok; end = c.in_ok-text.ensures.end }) accepted c.in_ok-policy.ensures.users p) played
+    let played = rw c.deref-2.ensures.value at c.in_ok-play.ensures.ok in
+    ok_then c.close.result (λ closed. whole c.in_ok-text.text.items (map said c.in_ok-events.events.items) c.args.system.now c.play.new.system c.in_ok-policy.policy c.play.new.policy _ _ _ _ _ (record { given = c.in_ok-text.ensures.ok; end = c.in_ok-text.ensures.end }) accepted c.in_ok-policy.ensures.users c.in_ok-policy.ensures.programs played closed) c.close.ensures.ok
 
 pub returns-clause-err : goal.returns-clause-err
 returns-clause-err g c =
     let accepted = rw (c.deref.ensures.value, c.users.ensures.users, c.directory.ensures) at c.in_ok-events.ensures.ok in
-    let partly = rw c.deref-2.ensures.value at c.play.ensures.err in
-    err_then c.play.result (λ p. inr (cut c.in_ok-text.text.items (map said c.in_ok-events.events.items) c.args.system.now c.play.new.system c.in_ok-policy.policy.users _ _ _ _ (record { given = c.in_ok-text.ensures.ok; end = c.in_ok-text.ensures.end }) accepted c.in_ok-policy.ensures.users p)) partly
+    let played = rw c.deref-2.ensures.value at c.in_ok-play.ensures.ok in
+    err_then c.close.result (λ closed. inr (cut_short c.in_ok-text.text.items (map said c.in_ok-events.events.items) c.args.system.now c.play.new.system c.in_ok-policy.policy c.play.new.policy _ _ _ _ _ (record { given = c.in_ok-text.ensures.ok; end = c.in_ok-text.ensures.end }) accepted c.in_ok-policy.ensures.users c.in_ok-policy.ensures.programs played closed)) c.close.ensures.err

@@ -11,7 +11,7 @@ put_user-requires c =
 pub invariant_of-self : goal.invariant_of-self
 invariant_of-self c =
     let small = rw (← c.self.view_is) at c.requires in
-    (rw c.put_user.ensures.items (come c.args.user c.self.inside.users.items c.self.inside.most_users small c.self.invariant.0), omega (arith, c.self.invariant.1, c.put_user.ensures.capacity), c.self.invariant.2)
+    (rw c.put_user.ensures.items (come c.args.user c.self.inside.users.items c.self.inside.most_users small c.self.invariant.0), omega (arith, c.self.invariant.1, c.put_user.ensures.capacity))
 
 pub returns : goal.returns
 returns c = rw (c.put_user.ensures.items, ← c.self.view_is) refl

@@ -26,7 +26,7 @@ invariant_of-self c =
     let k = c.in-Some.place + 1 in
     let turned : IsPermutation (take k old ++ drop k old) new = subst (λ (l : List ℕ). IsPermutation (take k old ++ drop k old) l) (sym c.rotate_left.ensures.items) (IsPermutation-append_comm (take k old) (drop k old)) in
     let same : IsPermutation old new = subst (λ (l : List ℕ). IsPermutation l new) (take-append-drop k old) turned in
-    (moved old new c.self.inside.most_users same c.self.invariant.0, omega (arith, c.self.invariant.1, c.rotate_left.ensures.capacity), c.self.invariant.2)
+    (moved old new c.self.inside.most_users same c.self.invariant.0, omega (arith, c.self.invariant.1, c.rotate_left.ensures.capacity))
 
 pub returns-clause-dealt : goal.returns-clause-dealt
 returns-clause-dealt c =

@@ -1,0 +1,143 @@
+//! An event that is applied, its lines that are written, and the line of programs after it.
+ghost use Rattle.std.specs.Prelude.{◌≡◌, ◌⊎◌, ℕ, Err, IfOk, OnErr, OnOk, Some, false, length, true};
+ghost use Rattle.cp_script.specs.Script.{said, user_of_event};
+ghost use Rattle.vm370.specs.Schedule.{line_after};
+ghost use Rattle.vm370.specs.Script.{IsApplicable, IsOfStated, IsOfUser, IsWhole, as_said, number_of};
+ghost use Rattle.vm370.specs.Session.{CountsWriter, HasHappened, IsAnswerOf, IsAnswered, IsAnsweredPartly, IsSpent, IsUnanswered};
+
+use crate::session::SessionError;
+use crate::starts::{line_up, next_start};
+use crate::transcript::print_reply;
+use cp_core::{CpError, Event, Reply, System};
+use cp_dispatch::Policy;
+use cp_script::ScriptEvent;
+use cp_users::UserNo;
+use s370_num::DevAddr;
+use s370_num::host::{HostWriter, write_all};
+use std::alloc::Global;
+
+/// Applies an event, and writes its reply's lines. The programs that have ended or were withdrawn by it stand in the line
+/// no more, and those that were started by it stand at its end.
+pub(crate) fn follow<W: HostWriter>(
+    alloc: Global,
+    system: &mut System,
+    policy: &mut Policy,
+    event: &ScriptEvent<'_>,
+    writer: &mut W,
+) -> Result<(), SessionError>
+    requires user { IsOfUser (length system.old.directory) event.now }
+    requires device { IsOfStated system.old.directory event.now }
+    requires event { IsApplicable event.now }
+    ensures ok { OnOk result (IsAnswered (said event.now) system.old system.new (W.contents writer.old)
+        (W.contents writer.new)) }
+    ensures err { OnErr result
+        (IsUnanswered system.old system.new (W.contents writer.old) (W.contents writer.new)
+        ⊎ IsAnsweredPartly (said event.now) system.old system.new (W.contents writer.old) (W.contents writer.new)) }
+    ensures lined { OnOk result (policy.new ≡ record policy.old {
+      programs = line_after system.old system.new (number_of event.now) policy.old.programs;
+    }) }
+    ensures rest { policy.new ≡ record policy.old { programs = policy.new.programs } }
+    ensures directory { system.new.directory ≡ system.old.directory }
+    ensures no_line { (n : ℕ) → result ≡ Err (SessionError.Line n) → ⊥ }
+    ensures alive { OnOk result (system.new.is_spent ≡ false) }
+    ensures spent { result ≡ Err SessionError.Spent → system.old.is_spent ≡ true }
+    ensures counts { CountsWriter result (W.HostFile.failures writer.old) (W.HostFile.failures writer.new) }
+{
+    let user = user_in(event);
+    let number = next_start(system, user);
+    answer(alloc, system, event, writer)?;
+    line_up(alloc, system, policy, user, number)?;
+    Ok(())
+}
+
+/// The user whom an event names that is no turns.
+pub(crate) fn user_in(event: &ScriptEvent<'_>) -> UserNo
+    requires { IsApplicable event.now }
+    ensures number { result ≡ number_of event.now }
+    ensures user { Some result ≡ user_of_event event.now }
+{
+    match event.user() {
+        Some(user) => user,
+        None => unreachable!(),
+    }
+}
+
+/// Applies an event, and writes its reply's lines.
+fn answer<W: HostWriter>(
+    alloc: Global,
+    system: &mut System,
+    event: &ScriptEvent<'_>,
+    writer: &mut W,
+) -> Result<(), SessionError>
+    requires user { IsOfUser (length system.old.directory) event.now }
+    requires device { IsOfStated system.old.directory event.now }
+    requires event { IsApplicable event.now }
+    ensures ok { OnOk result (IsAnswered (said event.now) system.old system.new (W.contents writer.old)
+        (W.contents writer.new)) }
+    ensures err { OnErr result
+        (IsUnanswered system.old system.new (W.contents writer.old) (W.contents writer.new)
+        ⊎ IsAnsweredPartly (said event.now) system.old system.new (W.contents writer.old) (W.contents writer.new)) }
+    ensures directory { system.new.directory ≡ system.old.directory }
+    ensures no_line { (n : ℕ) → result ≡ Err (SessionError.Line n) → ⊥ }
+    ensures alive { OnOk result (system.new.is_spent ≡ false) }
+    ensures spent { result ≡ Err SessionError.Spent → system.old.is_spent ≡ true }
+    ensures counts { CountsWriter result (W.HostFile.failures writer.old) (W.HostFile.failures writer.new) }
+{
+    let reply = happen(alloc, system, event)?;
+    let lines = print_reply(alloc, system, user_in(event), event, &reply)?;
+    write_all(writer, &lines)?;
+    Ok(())
+}
+
+/// Applies an event to the system.
+fn happen(
+    alloc: Global,
+    system: &mut System,
+    event: &ScriptEvent<'_>,
+) -> Result<Reply, SessionError>
+    requires user { IsOfUser (length system.old.directory) event.now }
+    requires device { IsOfStated system.old.directory event.now }
+    requires event { IsApplicable event.now }
+    ensures ok { IfOk result (λ reply. HasHappened (said event.now) system.old system.new reply) }
+    ensures err { OnErr result ((system.new ≡ system.old) ⊎ IsSpent system.old system.new) }
+    ensures directory { system.new.directory ≡ system.old.directory }
+    ensures alive { OnOk result (system.new.is_spent ≡ false) }
+    ensures why { OnErr result ((result ≡ Err SessionError.Memory)
+        ⊎ ((result ≡ Err SessionError.Spent) × (system.old.is_spent ≡ true))) }
+{
+    match event {
+        ScriptEvent::Deck(user, cards) => {
+            let cards = cards.to_vec(alloc)?;
+            answered(system.apply(Event::Deck(*user, &cards)))
+        }
+        _ => answered(system.apply(event_of(event))),
+    }
+}
+
+/// What a system has answered to an event of a user and a device that it has.
+fn answered(answer: Result<Reply, CpError>) -> Result<Reply, SessionError>
+    requires user { answer ≡ Err CpError.NoSuchUser → ⊥ }
+    requires device { answer ≡ Err CpError.NoSuchDevice → ⊥ }
+    ensures { IsAnswerOf answer result }
+{
+    match answer {
+        Ok(reply) => Ok(reply),
+        Err(CpError::Memory) => Err(SessionError::Memory),
+        Err(CpError::Spent) => Err(SessionError::Spent),
+        Err(CpError::NoSuchUser) | Err(CpError::NoSuchDevice) => unreachable!(),
+    }
+}
+
+/// The event that a line of a script says with all that it has.
+fn event_of<'a>(event: &ScriptEvent<'a>) -> Event<'a>
+    requires { IsWhole event.now }
+    ensures said { as_said result ≡ said event.now }
+{
+    match *event {
+        ScriptEvent::Run(user, units) => Event::Run(user, units),
+        ScriptEvent::Line(user, typed) => Event::Line(user, typed),
+        ScriptEvent::Tick(user) => Event::Tick(user),
+        ScriptEvent::Serve(user, device) => Event::Serve(user, DevAddr::new(device)),
+        ScriptEvent::Deck(_, _) | ScriptEvent::Auto(_) => unreachable!(),
+    }
+}

@@ -1,0 +1,185 @@
+//! The line of the programs that were started: which join it by an event, and which leave it.
+ghost use Rattle.std.specs.Prelude.{◌≡◌, ◌<◌, IfOk, OnOk, if◌then◌else◌, length, slice_get};
+ghost use Rattle.std.specs.List.{position};
+ghost use Rattle.s370_subchannels.specs.Starts.{works};
+ghost use Rattle.s370_subchannels.specs.Subchannels.{latest_start, next_start};
+ghost use Rattle.cp_core.specs.Stated.{states_device};
+ghost use Rattle.cp_dispatch.specs.Policy.{is_of};
+ghost use Rattle.cp_dispatch.specs.Turns.{without};
+ghost use Rattle.vm370.specs.Schedule.{in_order, is_before, is_joining, joined, line_since, started_since, subchannels_at, withdrawn};
+
+use cp_core::System;
+use cp_dispatch::Policy;
+use cp_users::UserNo;
+use s370_num::DevAddr;
+use s370_subchannels::{DeviceState, Subchannel};
+use std::alloc::{AllocError, Global};
+
+/// The number that the next start of a user's machine has.
+pub(crate) fn next_start(system: &System, user: UserNo) -> u64
+    requires { user < length system.now.users }
+    ensures { result ≡ next_start (subchannels_at system.now user) }
+{
+    latest_start(subchannels(system, user)).saturating_add(1)
+}
+
+/// Takes out of the line the programs of a user that have ended or were withdrawn, and puts at its end those that were
+/// started since his machine's next start had this number, in the order of their starts.
+pub(crate) fn line_up(
+    alloc: Global,
+    system: &System,
+    policy: &mut Policy,
+    user: UserNo,
+    number: u64,
+) -> Result<(), AllocError>
+    requires { user < length system.now.users }
+    ensures ok { OnOk result (policy.new
+        ≡ record policy.old { programs = line_since system.now user number policy.old.programs }) }
+    ensures rest { policy.new ≡ record policy.old { programs = policy.new.programs } }
+{
+    let started = started_since(alloc, system, user, number)?;
+    withdraw(policy, user, subchannels(system, user));
+    join(policy, user, &started)
+}
+
+/// The subchannels of a user's machine.
+fn subchannels(system: &System, user: UserNo) -> &[Subchannel]
+    requires { user < length system.now.users }
+    ensures { result.now ≡ subchannels_at system.now user }
+{
+    match system.subchannels(user) {
+        Some(list) => list,
+        None => unreachable!(),
+    }
+}
+
+/// The number of the latest start of these devices.
+fn latest_start(list: &[Subchannel]) -> u64
+    ensures { result ≡ latest_start list.now }
+{
+    let mut latest = 0;
+    for d in list {
+        latest = u64::max(latest, d.last_start);
+    }
+    latest
+}
+
+/// The devices of a user that were started since his machine's next start had this number, in the order of their
+/// starts.
+fn started_since(
+    alloc: Global,
+    system: &System,
+    user: UserNo,
+    number: u64,
+) -> Result<Vec<Subchannel>, AllocError>
+    requires { user < length system.now.users }
+    ensures { IfOk result (λ started. started.items ≡ started_since system.now user number) }
+{
+    let list = subchannels(system, user);
+    let mut started = Vec::new(alloc);
+    for d in list {
+        let joins = is_joining(system, user, number, d);
+        put_if_joining(&mut started, joins, *d)?;
+    }
+    Ok(started)
+}
+
+/// Puts a device that joins the line behind those whose last start was before its own.
+fn put_if_joining(
+    started: &mut Vec<Subchannel>,
+    joins: bool,
+    d: Subchannel,
+) -> Result<(), AllocError>
+    ensures { OnOk result (started.new.items ≡ if joins then in_order d started.old.items else started.old.items) }
+{
+    if joins {
+        return put_in_order(started, d);
+    }
+    Ok(())
+}
+
+/// Whether a device of a user joins the line: it works, it was started with this number or a later one, and the
+/// directory gives it to the user.
+fn is_joining(system: &System, user: UserNo, number: u64, d: &Subchannel) -> bool
+    ensures { result ≡ is_joining system.now user number d.now }
+{
+    works(d.state) && number <= d.last_start && states_device(system, user, d.address)
+}
+
+/// Whether the directory gives a user a device of this address.
+fn states_device(system: &System, user: UserNo, device: DevAddr) -> bool
+    ensures { result ≡ states_device device (slice_get system.now.directory user) }
+{
+    match system.directory().users().get(user.index()) {
+        Some(user) => user.has_device(device),
+        None => false,
+    }
+}
+
+/// Whether a device in this state works on a program.
+fn works(state: DeviceState) -> bool
+    ensures { result ≡ works state }
+{
+    match state {
+        DeviceState::Working(_) => true,
+        DeviceState::Idle | DeviceState::Pending(_) => false,
+    }
+}
+
+/// Puts a device behind those whose last start was before its own.
+fn put_in_order(started: &mut Vec<Subchannel>, d: Subchannel) -> Result<(), AllocError>
+    ensures { OnOk result (started.new.items ≡ in_order d started.old.items) }
+{
+    match place_in_order(started, &d) {
+        Some(place) => {
+            started.insert(place, d)?;
+            Ok(())
+        }
+        None => {
+            started.push(d)?;
+            Ok(())
+        }
+    }
+}
+
+/// The place of the first of these devices whose last start was after that of this one.
+fn place_in_order(started: &[Subchannel], d: &Subchannel) -> Option<usize>
+    ensures { result ≡ position (is_before d.now) started.now }
+{
+    started
+        .iter()
+        .position(|other| d.last_start < other.last_start)
+}
+
+/// Takes out of the line the programs of those of these devices of a user that do not work.
+fn withdraw(policy: &mut Policy, user: UserNo, list: &[Subchannel])
+    ensures { policy.new ≡ record policy.old { programs = withdrawn user list.now policy.old.programs } }
+{
+    for d in list {
+        withdraw_one(policy, user, d);
+    }
+}
+
+/// Takes the program of a device of a user out of the line, if it does not work.
+fn withdraw_one(policy: &mut Policy, user: UserNo, d: &Subchannel)
+    ensures { policy.new ≡ record policy.old {
+      programs = if works d.now.state then policy.old.programs
+          else without (is_of user d.now.address) policy.old.programs;
+    } }
+{
+    if !works(d.state) {
+        policy.ended(user, d.address);
+    }
+}
+
+/// Puts the program of each of these devices of a user at the end of the line.
+fn join(policy: &mut Policy, user: UserNo, started: &[Subchannel]) -> Result<(), AllocError>
+    ensures ok { OnOk result (policy.new
+        ≡ record policy.old { programs = joined user started.now policy.old.programs }) }
+    ensures rest { policy.new ≡ record policy.old { programs = policy.new.programs } }
+{
+    for d in started {
+        policy.started(user, d.address)?;
+    }
+    Ok(())
+}
