@@ -1,0 +1,189 @@
+//! Copies the words that a program can reach.
+ghost use Rattle.std.specs.Prelude.{◌≡◌, ℕ, ◌+◌, ◌*◌, ◌/◌, ◌%◌, ◌<◌, ◌≤◌, ◌^◌, IfErr, IfOk, length, true, vec_len};
+ghost use Rattle.channel_laws.specs.Copy.{IsCopyOf, IsPlace, guest_of};
+ghost use Rattle.channel_laws.specs.Mapped.{Named};
+ghost use Rattle.cp_graph.specs.Closure.{IfAbsent, IsSomeWordPage, IsWordPage};
+ghost use Rattle.cp_graph.specs.Marks.{IsIndexed, unmarked};
+ghost use Rattle.cp_graph.specs.Table.{AreHere, Grows, IsRow, leads_next, leads_skipped, program_of, role_after};
+ghost use Rattle.s370_channel.specs.Guest.{guest_text, guest_written};
+ghost use Rattle.s370_store.specs.Access.{IsAway};
+ghost use Rattle.s370_walk.specs.Hardware.{memory_of};
+ghost use Rattle.s370_walk.specs.Walk.{live};
+
+use crate::index::link;
+use crate::lists::list_for;
+use crate::program::{Copied, CopyError, Node};
+use channel_laws::Place;
+use s370_channel::fetch_word;
+use s370_store::Storage;
+use s370_walk::{Flags, Word};
+use std::alloc::Global;
+
+/// The node of a place: the word there with its links, whose places are added.
+fn copy_word<S: Storage>(
+    alloc: Global,
+    storage: &S,
+    places: &mut Vec<Place>,
+    index: &mut Vec<u32>,
+    place: Place,
+) -> Result<Node, CopyError>
+    requires even { place.address % 8 ≡ 0 }
+    requires room { vec_len index.old ≡ length (S.bytes storage.now) / 8 * 2 }
+    requires known { IsIndexed places.old.items index.old.items }
+    requires few { vec_len places.old + unmarked index.old.items ≤ 2147483648 }
+    ensures row { IfOk result
+        (IsRow places.new.items (memory_of (S.bytes storage.now) (S.keys storage.now)) place.address) }
+    ensures here { IfOk result (λ node. AreHere (length (S.bytes storage.now)) (S.present storage.now) node.list.items) }
+    ensures grown { IfOk result (λ _. Grows places.old.items places.new.items) }
+    ensures known { IfOk result (λ _. IsIndexed places.new.items index.new.items) }
+    ensures count { IfOk result
+        (λ _. vec_len places.new + unmarked index.new.items ≡ vec_len places.old + unmarked index.old.items) }
+    ensures size { vec_len index.new ≡ vec_len index.old }
+    ensures absent { IfErr result
+        (IfAbsent (λ page. IsAway (length (S.bytes storage.now)) (S.present storage.now) page
+        × IsWordPage (memory_of (S.bytes storage.now) (S.keys storage.now)) place.address page)) }
+{
+    let found = match fetch_word(storage, place.address) {
+        Ok(found) => found,
+        Err(page) => return Err(CopyError::Absent(page)),
+    };
+    let Some(word) = found else {
+        return Ok(Node {
+            word: None,
+            list: Vec::new(alloc),
+        });
+    };
+    let next = match link(
+        storage,
+        places,
+        index,
+        leads_on(&word),
+        next_of(&word, place),
+    ) {
+        Ok(next) => next,
+        Err(_) => return Err(CopyError::Memory),
+    };
+    let skipped = match link(
+        storage,
+        places,
+        index,
+        may_skip(&word),
+        Place {
+            address: word.skipped,
+            continues: false,
+        },
+    ) {
+        Ok(skipped) => skipped,
+        Err(_) => return Err(CopyError::Memory),
+    };
+    let list = match list_for(alloc, storage, &word) {
+        Ok(list) => list,
+        Err(error) => return Err(error),
+    };
+    Ok(Node {
+        word: Some(Word {
+            next,
+            skipped,
+            command: word.command,
+            address: word.address,
+            flags: word.flags,
+            count: word.count,
+        }),
+        list,
+    })
+}
+
+/// Whether a word leads to the next one, or a transfer in channel to its address.
+fn leads_on(word: &Word) -> bool
+    ensures { result ≡ leads_next word.now }
+{
+    if word.command.is_transfer_in_channel() {
+        word.address % 8 == 0
+    } else {
+        word.flags.has(Flags::CHAIN_DATA) || word.flags.has(Flags::CHAIN_COMMAND)
+    }
+}
+
+/// Whether a word may lead to the one after the next.
+fn may_skip(word: &Word) -> bool
+    ensures { result ≡ leads_skipped word.now }
+{
+    !word.command.is_transfer_in_channel()
+        && word.flags.has(Flags::CHAIN_COMMAND)
+        && !word.flags.has(Flags::CHAIN_DATA)
+}
+
+/// Where a word leads: a transfer in channel keeps the role, CD leads to a continuation.
+fn next_of(word: &Word, place: Place) -> Place
+    ensures address { result.address ≡ word.now.next }
+    ensures role { result.continues ≡ role_after word.now place.continues }
+{
+    let continues = if word.command.is_transfer_in_channel() {
+        place.continues
+    } else {
+        word.flags.has(Flags::CHAIN_DATA)
+    };
+    Place {
+        address: word.next,
+        continues,
+    }
+}
+
+/// Copies the words that the program from an address on can reach, as they stand in a storage, with the addresses that
+/// serve their bytes.
+///
+/// `start` is the address of a doubleword of storage, in bytes. Each address of storage that the copy names lies on a
+/// page that is present; where one does not, its page is told as [`CopyError::Absent`]. A bad word is copied as it is:
+/// it fails when it is reached, and never before.
+pub fn copy<S: Storage>(alloc: Global, storage: &S, start: u32) -> Result<Copied, CopyError>
+    requires even { start % 8 ≡ 0 }
+    requires low { start < 2 ^ 24 }
+    ensures copy { IfOk result
+        (λ c. IsCopyOf c.places.items (program_of c.nodes.items) (live guest_written)
+        (memory_of (S.bytes storage.now) (S.keys storage.now))) }
+    ensures start { IfOk result (λ c. guest_of c.places.items c.start ≡ start) }
+    ensures place { IfOk result
+        (λ c. IsPlace c.places.items (guest_text (memory_of (S.bytes storage.now) (S.keys storage.now))) c.start) }
+    ensures held { IfOk result
+        (λ c. (a : ℕ) → Named (program_of c.nodes.items) a → a < length (S.bytes storage.now)
+        → S.present storage.now (a / 4096) ≡ true) }
+    ensures absent { IfErr result
+        (IfAbsent (λ page. IsAway (length (S.bytes storage.now)) (S.present storage.now) page
+        × IsSomeWordPage (memory_of (S.bytes storage.now) (S.keys storage.now)) page)) }
+{
+    let mut places = Vec::new(alloc);
+    let mut index = match vec![in alloc; 0u32; storage.size() as usize / 8 * 2] {
+        Ok(index) => index,
+        Err(_) => return Err(CopyError::Memory),
+    };
+    let mut nodes = Vec::new(alloc);
+    let first = match link(
+        storage,
+        &mut places,
+        &mut index,
+        true,
+        Place {
+            address: start,
+            continues: false,
+        },
+    ) {
+        Ok(first) => first,
+        Err(_) => return Err(CopyError::Memory),
+    };
+    'places: while nodes.len() < places.len() {
+        let place = places[nodes.len()];
+        let node = match copy_word(alloc, storage, &mut places, &mut index, place) {
+            Ok(node) => node,
+            Err(error) => return Err(error),
+        };
+        match nodes.push(node) {
+            Ok(_) => {}
+            Err(_) => return Err(CopyError::Memory),
+        }
+    }
+    Ok(Copied {
+        start: first,
+        places,
+        nodes,
+    })
+}

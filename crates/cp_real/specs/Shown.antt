@@ -1,0 +1,71 @@
+-- What real storage shows, and what is kept of those who lent it.
+use Rattle.s370_store.specs.declared.block.Block.{Block}
+use Rattle.std.specs.Prelude.{◌≤◌, ◌≡◌, ℕ, ◌+◌, ◌*◌, Bool, List, None, length, slice_index, refl}
+use Rattle.std.proofs.Common.{◌∙◌, ap, sym}
+use Rattle.cp_frames.specs.Layout.{FrameSupply}
+use Rattle.cp_dat.specs.declared.dat.Dat.{Dat}
+use Rattle.cp_dat.specs.Lent.{lent_bytes, lent_keys, lent_pool, user_of, KeepsRest, keeps_rest_same, keeps_rest_on}
+use Rattle.cp_real.specs.declared.real.Real.{Real}
+use Rattle.cp_real.specs.Layout.{real_bytes, real_keys, is_page_shown, is_real_page, length-real, real_of, real_in}
+
+abbrev pub real_bytes_of : Real → List ℕ
+real_bytes_of r = real_bytes (lent_bytes r.dat) (lent_pool r.dat).supply.owners (user_of r.dat) r.area.now
+
+abbrev pub real_keys_of : Real → List ℕ
+real_keys_of r = real_keys (lent_bytes r.dat) (lent_keys r.dat) (lent_pool r.dat).supply.owners (user_of r.dat) (length r.area.now)
+
+abbrev pub is_real_page_of : Real → ℕ → Bool
+is_real_page_of r = is_real_page (lent_bytes r.dat) (lent_pool r.dat).supply.owners (user_of r.dat)
+
+-- what a change leaves: the user's pages stand where they stood, his bytes on other pages and every other user's are as they
+-- were, and the area is lent on
+pub record KeepsReal (old new : Real) : Type 0 where
+  pub lent : KeepsRest old.dat new.dat
+  pub keys : lent_keys new.dat ≡ lent_keys old.dat
+  pub away : (a : ℕ) → real_in old.dat a ≡ None → slice_index (lent_bytes new.dat) a ≡ slice_index (lent_bytes old.dat) a
+  pub same_area : new.area.ghost_name ≡ old.area.ghost_name
+  pub area : length new.area.now ≡ length old.area.now
+
+pub keeps_real_same : (r : Real) → KeepsReal r r
+keeps_real_same r = record { lent = keeps_rest_same r.dat; keys = refl; away = λ a none. refl; same_area = refl; area = refl }
+
+-- the real addresses stay the same
+pub same_real : (old new : Dat) → KeepsRest old new → (a : ℕ) → real_in new a ≡ real_in old a
+same_real old new kept a =
+    ap (λ s. real_of (lent_pool new).supply.owners (user_of new) s a) kept.same_size
+    ∙ ap (λ (o : FrameSupply). real_of o.owners (user_of new) (length (lent_bytes old)) a) kept.same_supply
+    ∙ ap (λ u. real_of (lent_pool old).supply.owners u (length (lent_bytes old)) a) kept.same_user
+
+pub keeps_real_on : (r s t : Real) → KeepsReal r s → KeepsReal s t → KeepsReal r t
+keeps_real_on r s t a b = record {
+  lent = keeps_rest_on r.dat s.dat t.dat a.lent b.lent;
+  keys = b.keys ∙ a.keys;
+  away = λ at none. b.away at (same_real r.dat s.dat a.lent at ∙ none) ∙ a.away at none;
+  same_area = b.same_area ∙ a.same_area;
+  area = b.area ∙ a.area;
+}
+
+pub keeps_real_size : (r s : Real) → KeepsReal r s → length (real_bytes_of s) ≡ length (real_bytes_of r)
+keeps_real_size r s k =
+    length-real (lent_bytes s.dat) (lent_pool s.dat).supply.owners (user_of s.dat) s.area.now
+    ∙ ap (λ (o : FrameSupply). 4096 * length o.owners + length s.area.now) k.lent.same_supply
+    ∙ ap (λ n. 4096 * length (lent_pool r.dat).supply.owners + n) k.area
+    ∙ sym (length-real (lent_bytes r.dat) (lent_pool r.dat).supply.owners (user_of r.dat) r.area.now)
+
+pub keeps_real_present : (r s : Real) → KeepsReal r s → is_real_page_of s ≡ is_real_page_of r
+keeps_real_present r s k =
+    ap (λ (o : FrameSupply). is_page_shown o.owners (user_of s.dat) (length (lent_bytes s.dat))) k.lent.same_supply
+    ∙ ap (λ u. is_page_shown (lent_pool r.dat).supply.owners u (length (lent_bytes s.dat))) k.lent.same_user
+    ∙ ap (λ n. is_page_shown (lent_pool r.dat).supply.owners (user_of r.dat) n) k.lent.same_size
+
+-- a block of the area
+pub record IsInArea (r : Real) (block : Block) : Type 0 where
+  pub begins : 4096 * length (lent_pool r.dat).supply.owners ≤ block.first
+  pub ends : block.first + 2048 ≤ 4096 * length (lent_pool r.dat).supply.owners + length r.area.now
+
+-- it stays there
+pub in_area_kept : (r s : Real) (block : Block) → KeepsReal r s → IsInArea r block → IsInArea s block
+in_area_kept r s block k h = record {
+  begins = rw (ap (λ (o : FrameSupply). length o.owners) k.lent.same_supply) h.begins;
+  ends = rw (ap (λ (o : FrameSupply). length o.owners) k.lent.same_supply, k.area) h.ends;
+}
