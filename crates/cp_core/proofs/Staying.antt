@@ -1,6 +1,6 @@
 -- A walk leaves as many bytes of storage, and so needs no page where all are present.
 use Rattle.std.proofs.Common.{◌≡◌, ◌∙◌, ℕ, zero, suc, ◌==◌, Bool, true, false, [], ◌∷◌, length, Option, None, Some, refl, ap, sym, subst, arith}
-use Rattle.std.specs.Prelude.{◌+◌, ◌<◌, ◌&&◌, is_some, not, if◌then◌else◌}
+use Rattle.std.specs.Prelude.{◌+◌, ◌<◌, ◌&&◌, IfErr, Result, Ok, Err, is_some, not, if◌then◌else◌}
 use Rattle.std.proofs.lemmas.Bool.{true≢false}
 use Rattle.std.proofs.lemmas.Bool.Decides.{nat_tests}
 use Rattle.s370_store.specs.declared.Fault.{Fault}
@@ -27,6 +27,14 @@ use Rattle.s370_channel.specs.Progress.{MatchStuck}
 use Rattle.cp_frames.specs.declared.numbers.FrameNo.{FrameNo}
 use Rattle.cp_frames.specs.Layout.{number_of}
 use Rattle.cp_frames.proofs.Parts.{length-put}
+use Rattle.s370_store.specs.declared.Page.{Page}
+use Rattle.s370_walk.specs.Short.{nothing_needed}
+use Rattle.s370_channel.specs.declared.words.Caw.{Caw}
+use Rattle.s370_channel.specs.Guest.{guest_written}
+use Rattle.s370_channel.specs.Runs.{begun, limited}
+use Rattle.ckd_volume.specs.Unit.{disk_machine}
+use Rattle.cp_channels.specs.Channels.{StopsDisk}
+use Rattle.cp_channels.specs.Disks.{DiskAt}
 use Rattle.cp_core.specs.Resident.{IsResident}
 
 module _ {D : Type 0} (h : Setting D) (n : ℕ) where
@@ -134,3 +142,19 @@ still present page all here k h = still_at present page k (k == page) refl all h
 pub some_there : (o : Option FrameNo) (f : Option ℕ) → number_of o ≡ f → is_some o ≡ true → is_some f ≡ true
 some_there None f e t = cc
 some_there (Some frame) f e t = ap is_some (sym e)
+
+-- ---- a disk
+
+stops_never : (disk : Option DiskAt) (present : ℕ → Bool) (start : Caw) (m : Memory) (error : ChannelError) (Q : ChannelError → Type 0) → IsResident (length m.bytes) present → StopsDisk present start m disk error → Q error
+stops_never None present start m error Q all s = absurd s
+stops_never (Some disk) present start m errors.Memory Q all s = absurd s
+stops_never (Some disk) present start m (errors.Absent page) Q all s =
+    absurd (no_memory page (never_away guest_written (limited disk_machine start) nothing_needed present (begun start m disk.unit) (errors.Absent page) all s))
+  where
+    no_memory : (page : Page) → errors.Absent page ≡ errors.Memory → ⊥
+    no_memory page e = cc
+
+-- the program of a disk over a storage that is all present comes to its end
+pub never_stops : {A : Type 0} (r : Result A ChannelError) (disk : Option DiskAt) (present : ℕ → Bool) (start : Caw) (m : Memory) (Q : ChannelError → Type 0) → IsResident (length m.bytes) present → IfErr r (StopsDisk present start m disk) → IfErr r Q
+never_stops (Ok ending) disk present start m Q all h = tt
+never_stops (Err error) disk present start m Q all h = stops_never disk present start m error Q all h

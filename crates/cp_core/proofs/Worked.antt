@@ -1,9 +1,10 @@
 -- What is done with a machine while its storage is lent, by what its own calls leave.
-use Rattle.std.proofs.Common.{◌≡◌, ◌∙◌, ap, sym, subst, ℕ, Bool, true, false, List, [], ◌∷◌, length, replicate, refl, Result, Ok, Err}
-use Rattle.std.specs.Prelude.{IfOk, IsSome, OnErr, OnOk}
+use Rattle.std.proofs.Common.{◌≡◌, ◌∙◌, ap, sym, subst, ℕ, Bool, true, false, List, [], ◌∷◌, length, replicate, refl, Option, None, Some, Result, Ok, Err}
+use Rattle.std.specs.Prelude.{IfOk, IsSome, OnErr, OnOk, slice_get}
 use Rattle.std.proofs.lemmas.List.{length-replicate}
 use Rattle.s370_store.specs.Access.{Touches}
-use Rattle.s370_channel.specs.Reading.{as_reached}
+use Rattle.s370_channel.specs.declared.words.Caw.{Caw}
+use Rattle.s370_channel.specs.Reading.{Reading, as_reached}
 use Rattle.s370_intr.specs.Run.{AllNeeded, IsLacking}
 use Rattle.s370_subchannels.specs.Programs.{program_of}
 use Rattle.cp_frames.specs.Layout.{FrameSupply}
@@ -16,9 +17,14 @@ use Rattle.cp_panel.specs.declared.line.LineError.{LineError}
 use Rattle.cp_panel.specs.declared.line.LineError.TheVariants as errors
 use Rattle.cp_panel.specs.Panel.{line_needs, switches}
 use Rattle.cp_devices.specs.declared.line.Told.{Told}
-use Rattle.cp_devices.specs.Equipped.{Equipped}
+use Rattle.cp_channels.specs.Channels.{WalksAt}
+use Rattle.cp_channels.specs.Disks.{DiskAt}
+use Rattle.cp_devices.specs.declared.places.Kind.{Kind}
+use Rattle.cp_devices.specs.declared.places.Kind.TheVariants as kinds
+use Rattle.cp_devices.specs.Devices.{kind_at}
+use Rattle.cp_devices.specs.Equipped.{Equipped, storage_in}
 use Rattle.cp_devices.specs.Lines.{IsLine, MayTakeMemory, requested}
-use Rattle.cp_devices.specs.Serve.{IsServedAt}
+use Rattle.cp_devices.specs.Serve.{IsServedAt, RunsKind, Serves}
 use Rattle.cp_devices.specs.World.{World}
 use Rattle.cp_core.specs.Supply.{IsGivenBack, IsShort, ProgramNeeds}
 use Rattle.cp_core.specs.Work.{HasServed, HasTyped, LineGivesBack, LineLeaves, ServeLeaves}
@@ -144,3 +150,26 @@ serve_work device user before after old between new r pages u rest brought all t
       leaves = serve_leaves device user before after r (lent_pool new).supply ok same lacking memory;
       brought = (pages, unit_for user pages (lent_pool old).supply (lent_pool between).supply (lent_pool new).supply paged taken.supply, all);
     }
+
+-- ---- without disks
+
+none_on : (reads : Reading) (kind : Kind) (device : ℕ) (start : Caw) (old new : Equipped) → old.disks ≡ [] → RunsKind reads kind device start old new → new.disks ≡ []
+none_on reads kinds.Console device start old new none h = h.disks ∙ none
+none_on reads kinds.Reader device start old new none h = h.2 ∙ none
+none_on reads kinds.Punch device start old new none h = h.2 ∙ none
+none_on reads kinds.Printer device start old new none h = h.2 ∙ none
+none_on reads (kinds.Disk index) device start old new none h =
+    absurd (subst (λ (disks : List DiskAt). WalksAt reads start (storage_in old.machine) disks index (slice_get disks index) h.ending (storage_in new.machine) new.disks) none h.walk)
+
+none_served : (reads : Reading) (kind : Option Kind) (start : Option Caw) (device : ℕ) (old : Equipped) (done : Bool) (new : Equipped) → old.disks ≡ [] → Serves reads kind start device old done new → new.disks ≡ []
+none_served reads None start device old done new none h = ap (λ (e : Equipped). e.disks) h.1 ∙ none
+none_served reads (Some kind) None device old done new none h = ap (λ (e : Equipped). e.disks) h.1 ∙ none
+none_served reads (Some kind) (Some start) device old done new none h = none_on reads kind device start old new none h.1
+
+-- a machine without disks is served as one that has none
+pub served_without : (reads : Reading) (device : ℕ) (r : Result Bool LineError) (old new : Equipped) → old.disks ≡ [] → IfOk r (λ done. IsServedAt reads device old done new) → IfOk r (λ done. IsServedAt reads device (record old { disks = [] }) done (record new { disks = [] }))
+served_without reads device (Ok done) old new none h =
+    let left : new.disks ≡ [] = none_served reads (kind_at old.devices old.disks device) (program_of device old.machine.core.subchannels) device old done new none h in
+    subst (λ (disks : List DiskAt). IsServedAt reads device (record old { disks = disks }) done (record new { disks = [] })) none
+    (subst (λ (disks : List DiskAt). IsServedAt reads device old done (record new { disks = disks })) left h)
+served_without reads device (Err error) old new none h = h

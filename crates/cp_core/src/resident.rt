@@ -1,5 +1,5 @@
 //! Channels of users, on which a program runs where all of its user's storage stands in frames.
-ghost use Rattle.std.specs.Prelude.{◌≡◌, IfErr, IfOk, IfNone, IfSome, length};
+ghost use Rattle.std.specs.Prelude.{◌≡◌, [], IfErr, IfOk, IfNone, IfSome, length};
 ghost use Rattle.s370_channel.specs.Reading.{as_reached};
 ghost use Rattle.s370_channel.specs.Runs.{Walks};
 ghost use Rattle.s370_channel.specs.declared.running.ChannelError.TheVariants as errors;
@@ -8,29 +8,49 @@ ghost use Rattle.s370_walk.specs.Hardware.{memory_of};
 ghost use Rattle.cp_dat.specs.Lent.{is_lent_page, lent_bytes};
 ghost use Rattle.cp_core.specs.Resident.{IsResident};
 
-use cp_channels::{Channels, Disks};
+use cp_channels::{Channels, Disks, Own};
 use cp_dat::Dat;
 use s370_channel::{Caw, ChannelError, Guest, Limits, MOST_COMMANDS, run};
 use s370_store::{PAGE_SIZE, Page, Storage};
 use s370_walk::{Device, Ending};
+use std::alloc::Global;
 
 /// A program runs as on a machine of its own, each word read when it is reached, where each page of its user's storage
-/// stands in a frame. Else the first page that does not is told, and nothing has happened. No disk hangs on them.
-#[derive(Clone, Copy)]
-pub(crate) struct Resident;
+/// stands in a frame. Else the first page that does not is told, and nothing has happened.
+#[derive(Drop)]
+pub(crate) struct Resident {
+    own: Own,
+}
+
+impl Resident {
+    ghost use Rattle.cp_core.specs.Resident.{disks_on};
+
+    /// Channels on which no disk hangs.
+    pub(crate) fn without_disks(alloc: Global) -> Resident
+        ensures { disks_on result ≡ [] }
+    {
+        Resident {
+            own: Own::new(Vec::new(alloc)),
+        }
+    }
+}
 
 impl Disks for Resident {
-    ghost use Rattle.std.specs.Prelude.{[]};
+    ghost use Rattle.cp_core.specs.Resident.{disks_on};
 
-    ghost disks = { λ _. [] };
+    ghost disks = { disks_on };
 
-    fn disk_at(&self, _device: u16) -> Option<usize> {
-        None
+    fn disk_at(&self, device: u16) -> Option<usize> {
+        self.own.disk_at(device)
     }
 
-    fn reset_disks(&mut self) {}
+    fn reset_disks(&mut self) {
+        self.own.reset();
+    }
 
-    fn clear_disks(&mut self) {}
+    fn clear_disks(&mut self) {
+        self.own.clear();
+    }
 }
 
 impl<'a> Channels<Dat<'a>> for Resident {
@@ -55,11 +75,14 @@ impl<'a> Channels<Dat<'a>> for Resident {
 
     fn run_disk(
         &mut self,
-        _storage: &mut Dat<'a>,
-        _start: Caw,
-        _index: usize,
+        storage: &mut Dat<'a>,
+        start: Caw,
+        index: usize,
     ) -> Result<Ending, ChannelError> {
-        unreachable!()
+        if let Some(page) = absent_page(storage) {
+            return Err(ChannelError::Absent(page));
+        }
+        self.own.run_disk(storage, start, index)
     }
 }
 

@@ -362,7 +362,11 @@ impl System {
         ensures spent { self.new.is_spent ≡ self.old.is_spent }
     {
         let before = self.printed_by(user);
-        match self.lend(user, &Service { device }) {
+        let service = Service {
+            alloc: self.alloc,
+            device,
+        };
+        match self.lend(user, &service) {
             Ok(done) => Ok(Reply {
                 ended: Ended::Served(done),
                 said: Told::Silent,

@@ -141,8 +141,9 @@ impl<'a> Work for Line<'a> {
 }
 
 /// A device is served. It holds what it brings until it ends.
-#[derive(Clone, Copy)]
+#[derive(Drop)]
 pub(crate) struct Service {
+    pub(crate) alloc: Global,
     pub(crate) device: DevAddr,
 }
 
@@ -160,7 +161,8 @@ impl Work for Service {
         devices: &mut Devices,
         storage: &mut Dat<'_>,
     ) -> Result<bool, LineError> {
-        let served = serve_supplied(devices, machine, storage, &mut Resident, self.device);
+        let mut channels = Resident::without_disks(self.alloc);
+        let served = serve_supplied(devices, machine, storage, &mut channels, self.device);
         storage.let_go();
         served
     }
