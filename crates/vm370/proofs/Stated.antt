@@ -57,9 +57,9 @@ of_event s (events.Deck user cards) h lacks = lacks
 pub stated : (s : SystemView) (script : ScriptEvent) (event : Event) → as_said event ≡ said script → IsOfStated s.directory script → IsStated s event
 stated s script event same h = of_event s event (subst (λ (x : Said). IsOfDeviceSaid (known_users s.directory) x) (sym same) (of_said (known_users s.directory) script h))
 
--- so is a serve that is dealt
-pub serve_stated : (s : SystemView) (program : Program) → is_stated s program ≡ true → IsStated s (events.Serve program.user program.device)
-serve_stated s program h lacks = not_both (is_stated s program) h lacks
+-- a serve that is dealt is for a device of its user
+pub serve_given : (s : SystemView) (program : Program) → is_stated s program ≡ true → has_device (known_users s.directory) program.user program.device ≡ true
+serve_given s program h = had s.directory program.user program.device ∙ h
 
 user_given : (directory : List DirectoryUser) (user device : ℕ) → states_device device (slice_get directory user) ≡ true → user < length directory
 user_given [] user device h = let none : states_device device None ≡ false = refl in absurd (not_both (states_device device None) h none)

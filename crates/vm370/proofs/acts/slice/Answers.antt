@@ -9,7 +9,7 @@ use Rattle.vm370.proofs.Stated.{line_stated, still_stated}
 use Rattle.vm370.proofs.acts.slice.Goals as goal
 
 pub follow-requires : goal.follow-requires
-follow-requires g c = record { user = c.ready_users-ready.ensures.users c.in-Some.user c.in-Some.ensures.dealt.is_ready; stated = λ lacks. lacks }
+follow-requires g c = record { user = c.ready_users-ready.ensures.users c.in-Some.user c.in-Some.ensures.dealt.is_ready; device = tt; event = tt }
 
 pub returns-in_default-clause-ok : goal.returns-in_default-clause-ok
 returns-in_default-clause-ok g c =
