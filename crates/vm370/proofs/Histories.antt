@@ -300,3 +300,8 @@ ok_then (Err e) f p = tt
 pub err_then : {A F P Q : Type 0} (r : Result A F) → (P → Q) → OnErr r P → OnErr r Q
 err_then (Ok a) f p = tt
 err_then (Err e) f p = f p
+
+-- what both hold where there is an answer
+pub both_ok : {A F : Type 0} (P Q : Type 0) (r : Result A F) → OnOk r P → OnOk r Q → OnOk r (P × Q)
+both_ok P Q (Ok a) p q = (p, q)
+both_ok P Q (Err e) p q = tt

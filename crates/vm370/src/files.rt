@@ -1,6 +1,8 @@
 //! The files that were closed for the operator, by their numbers: the last part of a transcript.
 ghost use Rattle.std.specs.Prelude.{◌≡◌, ◌++◌, ◌∷◌, ◌<◌, [], IfOk, OnOk, length, map, slice_get, take};
 ghost use Rattle.std.specs.Option.{option_copied};
+ghost use Rattle.std.specs.String.{string_bytes};
+ghost use Rattle.cp_console.specs.Responses.{file_number};
 ghost use Rattle.s370_num.specs.Address.{two_digits};
 ghost use Rattle.vm370.specs.Files.{closed_in, closing_lines, count_of, entry_line, file_lines, heading, is_printed, is_printer, is_punch, is_punched, kind_word, place_lines, printed_text};
 ghost use Rattle.vm370.specs.Transcript.{ended};
@@ -138,7 +140,7 @@ fn print_heading(
 ) -> Result<(), AllocError>
     ensures { OnOk result (out.new.items ≡ out.old.items ++ ended (heading kind number name.now ∷ [])) }
 {
-    let number = format!(in alloc; "{number:04}")?;
+    let number = number_text(alloc, number)?;
     out.extend_from_slice(b"== ")?;
     out.extend_from_slice(kind_word(kind))?;
     out.push(b' ')?;
@@ -197,8 +199,24 @@ fn print_entry(
 fn print_code(alloc: Global, out: &mut Vec<u8>, code: u8) -> Result<(), AllocError>
     ensures { OnOk result (out.new.items ≡ out.old.items ++ (two_digits code ++ 32 ∷ [])) }
 {
-    let code = format!(in alloc; "{code:02X} ")?;
-    out.extend_from_slice(code.as_bytes())
+    let code = code_text(alloc, code)?;
+    out.extend_from_slice(code.as_bytes())?;
+    out.push(b' ')?;
+    Ok(())
+}
+
+/// The code of a command in two digits.
+fn code_text(alloc: Global, code: u8) -> Result<String, AllocError>
+    ensures { IfOk result (λ text. string_bytes text ≡ two_digits code) }
+{
+    format!(in alloc; "{code:02X}")
+}
+
+/// The number of a file in at least four digits.
+fn number_text(alloc: Global, number: u64) -> Result<String, AllocError>
+    ensures { IfOk result (λ text. string_bytes text ≡ file_number number) }
+{
+    format!(in alloc; "{number:04}")
 }
 
 /// Adds bytes as they print.

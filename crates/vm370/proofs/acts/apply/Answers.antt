@@ -2,6 +2,7 @@ use Rattle.std.proofs.Common.{◌≡◌, ◌∙◌, ℕ, List, ap, sym, subst}
 use Rattle.cp_dispatch.specs.Policy.{Lines}
 use Rattle.cp_script.specs.Script.{said}
 use Rattle.vm370.specs.Schedule.{line_after, queue_after, queue_with}
+use Rattle.vm370.proofs.Stated.{after_stated}
 use Rattle.vm370.proofs.Histories.{applied, applied_partly, on_err}
 use Rattle.vm370.specs.Script.{number_of}
 use Rattle.vm370.proofs.acts.apply.Goals as goal
@@ -22,3 +23,9 @@ returns-clause-ok g c =
     let queue : c.note.new.policy.users ≡ queue_after c.args.system.now c.follow.new.system who c.args.policy.now.users = ap (λ (p : Lines). p.users) noted ∙ ap (queue_after c.args.system.now c.follow.new.system who) same in
     let line : c.note.new.policy.programs ≡ line_after c.args.system.now c.follow.new.system who c.args.policy.now.programs = ap (λ (p : Lines). p.programs) noted ∙ ap (λ (p : Lines). p.programs) c.in_ok-follow.ensures.lined in
     applied c.args.event.now c.args.system.now c.follow.new.system c.args.policy.now c.note.new.policy old new c.in_ok-follow.ensures.ok queue line
+
+pub returns-clause-stated : goal.returns-clause-stated
+returns-clause-stated g c =
+    let who = number_of c.args.event.now in
+    let line : c.note.new.policy.programs ≡ line_after c.args.system.now c.follow.new.system who c.args.policy.now.programs = ap (λ (p : Lines). p.programs) c.note.ensures ∙ ap (λ (p : Lines). p.programs) c.in_ok-follow.ensures.lined in
+    after_stated c.args.system.now c.follow.new.system who c.args.policy.now.programs c.note.new.policy.programs c.in_ok-follow.ensures.directory c.requires.line line
