@@ -15,8 +15,11 @@ use Rattle.cp_core.specs.Local.{Step}
 use Rattle.cp_core.specs.System.{SystemView, names_of as names_in}
 use Rattle.cp_core.specs.declared.events.Event.{Event}
 use Rattle.cp_core.specs.declared.events.Event.TheVariants as events
-use Rattle.cp_script.specs.Script.{Said}
-use Rattle.vm370.specs.Script.{as_said}
+use Rattle.cp_script.specs.Script.{Said, said as said_by}
+use Rattle.cp_script.specs.Script as said
+use Rattle.cp_script.specs.declared.event.ScriptEvent.{ScriptEvent}
+use Rattle.cp_script.specs.declared.event.ScriptEvent.TheVariants as scripts
+use Rattle.vm370.specs.Script.{as_said, number_of}
 use Rattle.vm370.specs.Schedule.{Act, Applies, Slices, Serves, AreDone, Entry, Answered, Passed, Idle, IsDone, Scene, acts, acts_of, line_after, passed, queue_after, ready_in, scene, slice_units, steps_of, turn, turns, within}
 use Rattle.vm370.specs.Session.{IsAnswered, IsAnsweredPartly, IsPlayed, IsPartly, IsSpent, IsSpentOn, IsUnanswered, names_of, transcript}
 use Rattle.vm370.specs.Transcript.{ended, entry_lines, idle_line}
@@ -32,9 +35,9 @@ pub history : (xs : List Act) (old new : Scene) (es : List Entry) → AreDone xs
 history [] old new [] h = ap (λ (s : Scene). s.system) h
 history [] old new (e ∷ es) h = absurd h
 history (x ∷ xs) old new [] h = absurd h
-history (Applies said ∷ xs) old new (Answered step ∷ es) h = (h.1.stepped, subst (λ (s : SystemView). IsHistory s (steps_of es) new.system) h.1.seen (history xs h.0 new es h.2))
-history (Applies said ∷ xs) old new (Passed ∷ es) h = absurd h.1
-history (Applies said ∷ xs) old new (Idle ∷ es) h = absurd h.1
+history (Applies what ∷ xs) old new (Answered step ∷ es) h = (h.1.stepped, subst (λ (s : SystemView). IsHistory s (steps_of es) new.system) h.1.seen (history xs h.0 new es h.2))
+history (Applies what ∷ xs) old new (Passed ∷ es) h = absurd h.1
+history (Applies what ∷ xs) old new (Idle ∷ es) h = absurd h.1
 history (Slices ∷ xs) old new (Answered step ∷ es) h = (h.1.stepped, subst (λ (s : SystemView). IsHistory s (steps_of es) new.system) h.1.seen (history xs h.0 new es h.2))
 history (Slices ∷ xs) old new (Passed ∷ es) h = subst (λ (s : SystemView). IsHistory s (steps_of es) new.system) h.1.seen (history xs h.0 new es h.2)
 history (Slices ∷ xs) old new (Idle ∷ es) h = absurd h.1
@@ -166,34 +169,72 @@ played_one act entry old new a b h w = record {
   written = rw (append-nil (ended (entry_lines (names_of old.system) entry))) w;
 }
 
+-- ---- whose an event is
+
+abbrev user_said : Said → ℕ
+user_said (said.Run user units) = user
+user_said (said.Line user text) = user
+user_said (said.Tick user) = user
+user_said (said.Serve user device) = user
+user_said (said.Deck user cards) = user
+user_said (said.Auto count) = 0
+
+user_is : (event : Event) → user_of event ≡ user_said (as_said event)
+user_is (events.Run user units) = refl
+user_is (events.Line user text) = refl
+user_is (events.Tick user) = refl
+user_is (events.Serve user device) = refl
+user_is (events.Deck user cards) = refl
+
+number_is : (script : ScriptEvent) → number_of script ≡ user_said (said_by script)
+number_is (scripts.Run user units) = refl
+number_is (scripts.Line user text) = refl
+number_is (scripts.Tick user) = refl
+number_is (scripts.Serve user device) = refl
+number_is (scripts.Deck user cards) = refl
+number_is (scripts.Auto count) = refl
+
+pub who : (event : Event) (script : ScriptEvent) → as_said event ≡ said_by script → number_of script ≡ user_of event
+who event script e = number_is script ∙ (ap user_said (sym e) ∙ sym (user_is event))
+
+who_runs : (event : Event) (user units : ℕ) → as_said event ≡ said.Run user units → user ≡ user_of event
+who_runs event user units e = ap user_said (sym e) ∙ sym (user_is event)
+
+who_serves : (event : Event) (user device : ℕ) → as_said event ≡ said.Serve user device → user ≡ user_of event
+who_serves event user device e = ap user_said (sym e) ∙ sym (user_is event)
+
 -- ---- an event that a script says
 
 -- it was answered, and queue and line were brought up
-pub applied : (event : Event) (what : Said) (old new : SystemView) (lines after : Lines) (a b : Option (List ℕ)) → as_said event ≡ what → IsAnswered event old new a b → after.users ≡ queue_after old new (user_of event) lines.users → after.programs ≡ line_after old new (user_of event) lines.programs → IsPlayed (Applies what ∷ []) (scene old lines) (scene new after) a b
-applied event what old new lines after a b e h q l =
-    let step : Step = record { event = event; reply = h.reply; seen = new } in
-    played_one (Applies what) (Answered step) (scene old lines) (scene new after) a b (record { named = e; stepped = h.step; seen = refl; queued = q; lined = l; over = refl }) h.written
+pub applied : (script : ScriptEvent) (old new : SystemView) (lines after : Lines) (a b : Option (List ℕ)) → IsAnswered (said_by script) old new a b → after.users ≡ queue_after old new (number_of script) lines.users → after.programs ≡ line_after old new (number_of script) lines.programs → IsPlayed (Applies (said_by script) ∷ []) (scene old lines) (scene new after) a b
+applied script old new lines after a b h q l =
+    let step : Step = record { event = h.event; reply = h.reply; seen = new } in
+    let is = who h.event script h.named in
+    let queued = q ∙ ap (λ (u : ℕ). queue_after old new u lines.users) is in
+    let lined = l ∙ ap (λ (u : ℕ). line_after old new u lines.programs) is in
+    played_one (Applies (said_by script)) (Answered step) (scene old lines) (scene new after) a b (record { named = h.named; stepped = h.step; seen = refl; queued = queued; lined = lined; over = refl }) h.written
 
-pub applied_partly : (event : Event) (what : Said) (old new : SystemView) (lines : Lines) (a b : Option (List ℕ)) → as_said event ≡ what → IsUnanswered old new a b ⊎ IsAnsweredPartly event old new a b → IsPartly (Applies what ∷ []) (scene old lines) new a b
-applied_partly event what old new lines a b e (inl h) = partly_none (Applies what) (scene old lines) new a b h
-applied_partly event what old new lines a b e (inr h) =
-    let step : Step = record { event = event; reply = h.reply; seen = new } in
-    let after : Lines = record lines { users = queue_after old new (user_of event) lines.users; programs = line_after old new (user_of event) lines.programs } in
-    partly_one (Applies what) (Answered step) (scene old lines) (scene new after) a b (record { named = e; stepped = h.step; seen = refl; queued = refl; lined = refl; over = refl }) h.written
+pub applied_partly : (what : Said) (old new : SystemView) (lines : Lines) (a b : Option (List ℕ)) → IsUnanswered old new a b ⊎ IsAnsweredPartly what old new a b → IsPartly (Applies what ∷ []) (scene old lines) new a b
+applied_partly what old new lines a b (inl h) = partly_none (Applies what) (scene old lines) new a b h
+applied_partly what old new lines a b (inr h) =
+    let step : Step = record { event = h.event; reply = h.reply; seen = new } in
+    let after : Lines = record lines { users = queue_after old new (user_of h.event) lines.users; programs = line_after old new (user_of h.event) lines.programs } in
+    partly_one (Applies what) (Answered step) (scene old lines) (scene new after) a b (record { named = h.named; stepped = h.step; seen = refl; queued = refl; lined = refl; over = refl }) h.written
 
 -- ---- a slice
 
-pub sliced : (user : ℕ) (old new : SystemView) (lines after : Lines) (a b : Option (List ℕ)) → IsDealt (ready_in old) lines.users (Some user) after.users → IsAnswered (events.Run user slice_units) old new a b → after.programs ≡ line_after old new user lines.programs → IsPlayed (Slices ∷ []) (scene old lines) (within true new after) a b
+pub sliced : (user : ℕ) (old new : SystemView) (lines after : Lines) (a b : Option (List ℕ)) → IsDealt (ready_in old) lines.users (Some user) after.users → IsAnswered (said.Run user slice_units) old new a b → after.programs ≡ line_after old new user lines.programs → IsPlayed (Slices ∷ []) (scene old lines) (within true new after) a b
 sliced user old new lines after a b dealt h l =
-    let step : Step = record { event = events.Run user slice_units; reply = h.reply; seen = new } in
-    played_one Slices (Answered step) (scene old lines) (within true new after) a b (record { user = user; dealt = dealt; slice = refl; stepped = h.step; seen = refl; lined = l; had = refl }) h.written
+    let step : Step = record { event = h.event; reply = h.reply; seen = new } in
+    let lined = l ∙ ap (λ (u : ℕ). line_after old new u lines.programs) (who_runs h.event user slice_units h.named) in
+    played_one Slices (Answered step) (scene old lines) (within true new after) a b (record { user = user; dealt = dealt; slice = h.named; stepped = h.step; seen = refl; lined = lined; had = refl }) h.written
 
-pub sliced_partly : (user : ℕ) (old new : SystemView) (lines : Lines) (queue : List ℕ) (a b : Option (List ℕ)) → IsDealt (ready_in old) lines.users (Some user) queue → IsUnanswered old new a b ⊎ IsAnsweredPartly (events.Run user slice_units) old new a b → IsPartly (Slices ∷ []) (scene old lines) new a b
+pub sliced_partly : (user : ℕ) (old new : SystemView) (lines : Lines) (queue : List ℕ) (a b : Option (List ℕ)) → IsDealt (ready_in old) lines.users (Some user) queue → IsUnanswered old new a b ⊎ IsAnsweredPartly (said.Run user slice_units) old new a b → IsPartly (Slices ∷ []) (scene old lines) new a b
 sliced_partly user old new lines queue a b dealt (inl h) = partly_none Slices (scene old lines) new a b h
 sliced_partly user old new lines queue a b dealt (inr h) =
-    let step : Step = record { event = events.Run user slice_units; reply = h.reply; seen = new } in
-    let after : Lines = record lines { users = queue; programs = line_after old new user lines.programs } in
-    partly_one Slices (Answered step) (scene old lines) (within true new after) a b (record { user = user; dealt = dealt; slice = refl; stepped = h.step; seen = refl; lined = refl; had = refl }) h.written
+    let step : Step = record { event = h.event; reply = h.reply; seen = new } in
+    let after : Lines = record lines { users = queue; programs = line_after old new (user_of h.event) lines.programs } in
+    partly_one Slices (Answered step) (scene old lines) (within true new after) a b (record { user = user; dealt = dealt; slice = h.named; stepped = h.step; seen = refl; lined = refl; had = refl }) h.written
 
 -- nobody was ready
 pub not_sliced : (old : SystemView) (lines after : Lines) (a : Option (List ℕ)) → IsDealt (ready_in old) lines.users None after.users → after.programs ≡ lines.programs → IsPlayed (Slices ∷ []) (scene old lines) (within false old after) a a
@@ -202,17 +243,18 @@ not_sliced old lines after a dealt l =
 
 -- ---- a serve
 
-pub served : (had : Bool) (program : Program) (turned : List Program) (old new : SystemView) (lines after : Lines) (a b : Option (List ℕ)) → IsDealt always lines.programs (Some program) turned → IsAnswered (events.Serve program.user program.device) old new a b → after.users ≡ lines.users → after.programs ≡ line_after old new program.user turned → IsPlayed (Serves ∷ []) (within had old lines) (scene new after) a b
+pub served : (had : Bool) (program : Program) (turned : List Program) (old new : SystemView) (lines after : Lines) (a b : Option (List ℕ)) → IsDealt always lines.programs (Some program) turned → IsAnswered (said.Serve program.user program.device) old new a b → after.users ≡ lines.users → after.programs ≡ line_after old new program.user turned → IsPlayed (Serves ∷ []) (within had old lines) (scene new after) a b
 served had program turned old new lines after a b dealt h q l =
-    let step : Step = record { event = events.Serve program.user program.device; reply = h.reply; seen = new } in
-    played_one Serves (Answered step) (within had old lines) (scene new after) a b (record { program = program; turned = turned; dealt = dealt; served = refl; stepped = h.step; seen = refl; queued = q; lined = l; over = refl }) h.written
+    let step : Step = record { event = h.event; reply = h.reply; seen = new } in
+    let lined = l ∙ ap (λ (u : ℕ). line_after old new u turned) (who_serves h.event program.user program.device h.named) in
+    played_one Serves (Answered step) (within had old lines) (scene new after) a b (record { program = program; turned = turned; dealt = dealt; served = h.named; stepped = h.step; seen = refl; queued = q; lined = lined; over = refl }) h.written
 
-pub served_partly : (had : Bool) (program : Program) (turned : List Program) (old new : SystemView) (lines : Lines) (a b : Option (List ℕ)) → IsDealt always lines.programs (Some program) turned → IsUnanswered old new a b ⊎ IsAnsweredPartly (events.Serve program.user program.device) old new a b → IsPartly (Serves ∷ []) (within had old lines) new a b
+pub served_partly : (had : Bool) (program : Program) (turned : List Program) (old new : SystemView) (lines : Lines) (a b : Option (List ℕ)) → IsDealt always lines.programs (Some program) turned → IsUnanswered old new a b ⊎ IsAnsweredPartly (said.Serve program.user program.device) old new a b → IsPartly (Serves ∷ []) (within had old lines) new a b
 served_partly had program turned old new lines a b dealt (inl h) = partly_none Serves (within had old lines) new a b h
 served_partly had program turned old new lines a b dealt (inr h) =
-    let step : Step = record { event = events.Serve program.user program.device; reply = h.reply; seen = new } in
-    let after : Lines = record lines { programs = line_after old new program.user turned } in
-    partly_one Serves (Answered step) (within had old lines) (scene new after) a b (record { program = program; turned = turned; dealt = dealt; served = refl; stepped = h.step; seen = refl; queued = refl; lined = refl; over = refl }) h.written
+    let step : Step = record { event = h.event; reply = h.reply; seen = new } in
+    let after : Lines = record lines { programs = line_after old new (user_of h.event) turned } in
+    partly_one Serves (Answered step) (within had old lines) (scene new after) a b (record { program = program; turned = turned; dealt = dealt; served = h.named; stepped = h.step; seen = refl; queued = refl; lined = refl; over = refl }) h.written
 
 not_served_as : (had : Bool) (old : SystemView) (lines after : Lines) → IsDealt always lines.programs None after.programs → after.users ≡ lines.users → IsDone Serves (passed had) (within had old lines) (scene old after)
 not_served_as true old lines after dealt q = record { dealt = dealt; seen = refl; queued = q; had = refl; over = refl }
@@ -235,11 +277,11 @@ not_served_partly had old lines after a b dealt q w =
 -- ---- answers
 
 -- what was answered is answered in part too
-pub answered_partly : (event : Event) (old new : SystemView) (a b : Option (List ℕ)) → IsAnswered event old new a b → IsAnsweredPartly event old new a b
-answered_partly event old new a b h =
-    let step : Step = record { event = event; reply = h.reply; seen = new } in
+pub answered_partly : (what : Said) (old new : SystemView) (a b : Option (List ℕ)) → IsAnswered what old new a b → IsAnsweredPartly what old new a b
+answered_partly what old new a b h =
+    let step : Step = record { event = h.event; reply = h.reply; seen = new } in
     let text = ended (entry_lines (names_of old) (Answered step)) in
-    record { reply = h.reply; step = h.step; written = (length text, omega arith, rw (take-length text) h.written) }
+    record { event = h.event; named = h.named; reply = h.reply; step = h.step; written = (length text, omega arith, rw (take-length text) h.written) }
 
 -- what holds, holds where there is an error
 pub on_err : {A F P : Type 0} (r : Result A F) → P → OnErr r P
@@ -258,3 +300,8 @@ ok_then (Err e) f p = tt
 pub err_then : {A F P Q : Type 0} (r : Result A F) → (P → Q) → OnErr r P → OnErr r Q
 err_then (Ok a) f p = tt
 err_then (Err e) f p = f p
+
+-- what both hold where there is an answer
+pub both_ok : {A F : Type 0} (P Q : Type 0) (r : Result A F) → OnOk r P → OnOk r Q → OnOk r (P × Q)
+both_ok P Q (Ok a) p q = (p, q)
+both_ok P Q (Err e) p q = tt

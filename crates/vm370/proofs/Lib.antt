@@ -4,8 +4,10 @@ pub mod Rest
 pub mod Decks
 pub mod Written
 pub mod Lined
+pub mod FileLines
 pub mod Stated
 pub mod Histories
 pub mod Queues
 pub mod Sessions
+pub mod Told
 pub mod Rules

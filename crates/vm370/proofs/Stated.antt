@@ -3,6 +3,7 @@ use Rattle.std.proofs.Common.{◌≡◌, ℕ, ◌<◌, ◌&&◌, zero, suc, Bool
 use Rattle.std.specs.Prelude.{if◌then◌else◌, slice_get}
 use Rattle.std.specs.List.{list_all}
 use Rattle.s370_subchannels.specs.Starts.{is_started}
+use Rattle.s370_subchannels.specs.Subchannels.{next_start}
 use Rattle.s370_subchannels.specs.declared.subchannel.Subchannel.{Subchannel}
 use Rattle.cp_directory.specs.Users.{DirectoryUser}
 use Rattle.cp_dispatch.specs.Policy.{always, is_of}
@@ -16,7 +17,7 @@ use Rattle.cp_core.specs.Stated.{LacksDevice, states_device}
 use Rattle.cp_core.specs.System.{SystemView}
 use Rattle.cp_core.specs.declared.events.Event.{Event}
 use Rattle.cp_core.specs.declared.events.Event.TheVariants as events
-use Rattle.vm370.specs.Schedule.{in_order, is_before, is_joining, joined, line_since, started_since, subchannels_at, with_joining, withdrawn}
+use Rattle.vm370.specs.Schedule.{first_line, in_order, is_before, is_joining, joined, line_after, line_since, started_since, subchannels_at, with_joining, withdrawn}
 use Rattle.vm370.specs.Script.{IsLineStated, IsOfStated, IsStated, as_said, is_stated, known_users}
 
 -- ---- what a script says
@@ -57,9 +58,9 @@ of_event s (events.Deck user cards) h lacks = lacks
 pub stated : (s : SystemView) (script : ScriptEvent) (event : Event) → as_said event ≡ said script → IsOfStated s.directory script → IsStated s event
 stated s script event same h = of_event s event (subst (λ (x : Said). IsOfDeviceSaid (known_users s.directory) x) (sym same) (of_said (known_users s.directory) script h))
 
--- so is a serve that is dealt
-pub serve_stated : (s : SystemView) (program : Program) → is_stated s program ≡ true → IsStated s (events.Serve program.user program.device)
-serve_stated s program h lacks = not_both (is_stated s program) h lacks
+-- a serve that is dealt is for a device of its user
+pub serve_given : (s : SystemView) (program : Program) → is_stated s program ≡ true → has_device (known_users s.directory) program.user program.device ≡ true
+serve_given s program h = had s.directory program.user program.device ∙ h
 
 user_given : (directory : List DirectoryUser) (user device : ℕ) → states_device device (slice_get directory user) ≡ true → user < length directory
 user_given [] user device h = let none : states_device device None ≡ false = refl in absurd (not_both (states_device device None) h none)
@@ -165,3 +166,13 @@ turned_stated s old new one t h =
     let later = right_of (p one) (list_all p t.after) (all_back p t.before (one ∷ t.after) split) in
     let all = all_append p t.after (t.before ++ one ∷ []) later (all_append p t.before (one ∷ []) (all_front p t.before (one ∷ t.after) split) (all_one p one here)) in
     subst (λ (l : List Program). list_all p l ≡ true) (sym t.turned) all
+
+-- the line after an event is of such programs
+pub after_stated : (old new : SystemView) (user : ℕ) (line after : List Program) → new.directory ≡ old.directory → IsLineStated old line → after ≡ line_after old new user line → IsLineStated new after
+after_stated old new user line after same h e =
+    subst (λ (l : List Program). IsLineStated new l) (sym e) (line_stated new user (next_start (subchannels_at old user)) line (still_stated old new line same h))
+
+-- so is the first line
+pub first_stated : (s : SystemView) (users : ℕ) → IsLineStated s (first_line s users)
+first_stated s zero = refl
+first_stated s (suc user) = line_stated s user 0 (first_line s user) (first_stated s user)

@@ -12,9 +12,12 @@ use Rattle.cp_script.specs.Script.{Said, Run, Line, Tick, Serve, Deck, IsOfDevic
 use Rattle.cp_script.specs.declared.event.ScriptEvent.{ScriptEvent}
 use Rattle.cp_script.specs.declared.event.ScriptEvent.TheVariants as scripts
 
--- scripts know the users of a directory by their names, and of each the addresses of his devices
+-- scripts know a user of a directory by his name, and the addresses of his devices
+abbrev pub known_user : DirectoryUser → KnownUser
+known_user user = record { name = user.name; devices = addresses_of user }
+
 abbrev pub known_users : List DirectoryUser → List KnownUser
-known_users users = map (λ user. record { name = user.name; devices = addresses_of user }) users
+known_users users = map known_user users
 
 -- an event as a script names it
 abbrev pub as_said : Event → Said

@@ -8,8 +8,6 @@ use Rattle.cp_core.specs.Histories.{IsHistory, IsStep}
 use Rattle.cp_core.specs.Local.{Step}
 use Rattle.cp_core.specs.Memory.{is_cut_short}
 use Rattle.cp_core.specs.System.{SystemView, names_of as names_in, user_at}
-use Rattle.cp_core.specs.declared.events.CpError.{CpError}
-use Rattle.cp_core.specs.declared.events.CpError.TheVariants as cp
 use Rattle.cp_core.specs.declared.events.Event.{Event}
 use Rattle.cp_core.specs.declared.events.Reply.{Reply}
 use Rattle.cp_script.specs.Users.{KnownUser}
@@ -142,14 +140,6 @@ pub record HasHappened (said : Said) (old new : SystemView) (reply : Reply) : Ty
 pub record IsUnanswered (old new : SystemView) (before after : Option (List ℕ)) : Type 0 where
   pub left : (new ≡ old) ⊎ IsSpent old new
   pub same : after ≡ before
-
--- what a system has answered, as a session has it
-abbrev pub IsAnswerOf : Result Reply CpError → Result Reply SessionError → Type 0
-IsAnswerOf (Ok reply) result = result ≡ Ok reply
-IsAnswerOf (Err cp.Memory) result = result ≡ Err errors.Memory
-IsAnswerOf (Err cp.Spent) result = result ≡ Err errors.Spent
-IsAnswerOf (Err cp.NoSuchUser) result = ⊥
-IsAnswerOf (Err cp.NoSuchDevice) result = ⊥
 
 -- how a failure of a host file is told
 abbrev pub fault_error : HostFault → SessionError

@@ -76,7 +76,7 @@ fn apply<W: HostWriter>(
     ensures spent { result ≡ Err SessionError.Spent → system.old.is_spent ≡ true }
     ensures counts { CountsWriter result (W.HostFile.failures writer.old) (W.HostFile.failures writer.new) }
 {
-    let user = user_in(event);
+    let user = user_in(system, event);
     let was_on = is_on(system, user);
     follow(alloc, system, policy, event, writer)?;
     let is_on = is_on(system, user);

@@ -1,9 +1,9 @@
 //! An event that is applied, its lines that are written, and the line of programs after it.
-ghost use Rattle.std.specs.Prelude.{◌≡◌, ◌⊎◌, ℕ, Err, IfOk, OnErr, OnOk, Some, false, length, true};
-ghost use Rattle.cp_script.specs.Script.{said, user_of_event};
+ghost use Rattle.std.specs.Prelude.{◌≡◌, ◌<◌, ◌⊎◌, ℕ, Err, IfOk, OnErr, OnOk, false, length, true};
+ghost use Rattle.cp_script.specs.Script.{Deck, said};
 ghost use Rattle.vm370.specs.Schedule.{line_after};
 ghost use Rattle.vm370.specs.Script.{IsApplicable, IsOfStated, IsOfUser, IsWhole, as_said, number_of};
-ghost use Rattle.vm370.specs.Session.{CountsWriter, HasHappened, IsAnswerOf, IsAnswered, IsAnsweredPartly, IsSpent, IsUnanswered};
+ghost use Rattle.vm370.specs.Session.{CountsWriter, HasHappened, IsAnswered, IsAnsweredPartly, IsSpent, IsUnanswered};
 
 use crate::session::SessionError;
 use crate::starts::{line_up, next_start};
@@ -15,6 +15,7 @@ use cp_users::UserNo;
 use s370_num::DevAddr;
 use s370_num::host::{HostWriter, write_all};
 use std::alloc::Global;
+use unit_record::Card;
 
 /// Applies an event, and writes its reply's lines. The programs that have ended or were withdrawn by it stand in the line
 /// no more, and those that were started by it stand at its end.
@@ -43,19 +44,23 @@ pub(crate) fn follow<W: HostWriter>(
     ensures spent { result ≡ Err SessionError.Spent → system.old.is_spent ≡ true }
     ensures counts { CountsWriter result (W.HostFile.failures writer.old) (W.HostFile.failures writer.new) }
 {
-    let user = user_in(event);
+    let user = user_in(system, event);
     let number = next_start(system, user);
     answer(alloc, system, event, writer)?;
+    let user = user_in(system, event);
     line_up(alloc, system, policy, user, number)?;
     Ok(())
 }
 
-/// The user whom an event names that is no turns.
-pub(crate) fn user_in(event: &ScriptEvent<'_>) -> UserNo
-    requires { IsApplicable event.now }
+/// The user whom an event names that is no turns, one of the directory's.
+pub(crate) fn user_in(system: &System, event: &ScriptEvent<'_>) -> UserNo
+    requires user { IsOfUser (length system.now.directory) event.now }
+    requires event { IsApplicable event.now }
     ensures number { result ≡ number_of event.now }
-    ensures user { Some result ≡ user_of_event event.now }
+    ensures inside { result < length system.now.users }
 {
+    // There are as many machines as users of the directory.
+    let _users = system.users();
     match event.user() {
         Some(user) => user,
         None => unreachable!(),
@@ -84,7 +89,7 @@ fn answer<W: HostWriter>(
     ensures counts { CountsWriter result (W.HostFile.failures writer.old) (W.HostFile.failures writer.new) }
 {
     let reply = happen(alloc, system, event)?;
-    let lines = print_reply(alloc, system, user_in(event), event, &reply)?;
+    let lines = print_reply(alloc, system, user_in(system, event), event, &reply)?;
     write_all(writer, &lines)?;
     Ok(())
 }
@@ -108,23 +113,51 @@ fn happen(
     match event {
         ScriptEvent::Deck(user, cards) => {
             let cards = cards.to_vec(alloc)?;
-            answered(system.apply(Event::Deck(*user, &cards)))
+            give(system, *user, &cards)
         }
-        _ => answered(system.apply(event_of(event))),
+        _ => ask(system, event),
     }
 }
 
-/// What a system has answered to an event of a user and a device that it has.
-fn answered(answer: Result<Reply, CpError>) -> Result<Reply, SessionError>
-    requires user { answer ≡ Err CpError.NoSuchUser → ⊥ }
-    requires device { answer ≡ Err CpError.NoSuchDevice → ⊥ }
-    ensures { IsAnswerOf answer result }
+/// The operator gives a deck of these cards to a user.
+fn give(system: &mut System, user: UserNo, cards: &[Card]) -> Result<Reply, SessionError>
+    requires user { user < length system.old.directory }
+    ensures ok { IfOk result (λ reply. HasHappened (Deck user cards.now) system.old system.new reply) }
+    ensures err { OnErr result ((system.new ≡ system.old) ⊎ IsSpent system.old system.new) }
+    ensures directory { system.new.directory ≡ system.old.directory }
+    ensures alive { OnOk result (system.new.is_spent ≡ false) }
+    ensures why { OnErr result ((result ≡ Err SessionError.Memory)
+        ⊎ ((result ≡ Err SessionError.Spent) × (system.old.is_spent ≡ true))) }
 {
-    match answer {
+    let _device = DevAddr::new(0);
+    match system.apply(Event::Deck(user, cards)) {
         Ok(reply) => Ok(reply),
         Err(CpError::Memory) => Err(SessionError::Memory),
         Err(CpError::Spent) => Err(SessionError::Spent),
-        Err(CpError::NoSuchUser) | Err(CpError::NoSuchDevice) => unreachable!(),
+        Err(CpError::NoSuchUser) => unreachable!(),
+        Err(CpError::NoSuchDevice) => unreachable!(),
+    }
+}
+
+/// Applies an event of a user and a device that the directory has.
+fn ask(system: &mut System, event: &ScriptEvent<'_>) -> Result<Reply, SessionError>
+    requires user { IsOfUser (length system.old.directory) event.now }
+    requires device { IsOfStated system.old.directory event.now }
+    requires event { IsWhole event.now }
+    ensures ok { IfOk result (λ reply. HasHappened (said event.now) system.old system.new reply) }
+    ensures err { OnErr result ((system.new ≡ system.old) ⊎ IsSpent system.old system.new) }
+    ensures directory { system.new.directory ≡ system.old.directory }
+    ensures alive { OnOk result (system.new.is_spent ≡ false) }
+    ensures why { OnErr result ((result ≡ Err SessionError.Memory)
+        ⊎ ((result ≡ Err SessionError.Spent) × (system.old.is_spent ≡ true))) }
+{
+    let _device = DevAddr::new(0);
+    match system.apply(event_of(event)) {
+        Ok(reply) => Ok(reply),
+        Err(CpError::Memory) => Err(SessionError::Memory),
+        Err(CpError::Spent) => Err(SessionError::Spent),
+        Err(CpError::NoSuchUser) => unreachable!(),
+        Err(CpError::NoSuchDevice) => unreachable!(),
     }
 }
 

@@ -1,8 +1,10 @@
 //! The files that were closed for the operator, by their numbers: the last part of a transcript.
-ghost use Rattle.std.specs.Prelude.{◌≡◌, ◌++◌, ◌∷◌, ◌<◌, [], IfOk, OnOk, length, map, slice_get, take};
+ghost use Rattle.std.specs.Prelude.{◌≡◌, ◌++◌, ◌∷◌, ◌<◌, [], IfOk, OnOk, Some, length, map, slice_get, take};
 ghost use Rattle.std.specs.Option.{option_copied};
+ghost use Rattle.std.specs.String.{string_bytes};
+ghost use Rattle.cp_console.specs.Responses.{file_number};
 ghost use Rattle.s370_num.specs.Address.{two_digits};
-ghost use Rattle.vm370.specs.Files.{closed_in, closing_lines, count_of, entry_line, file_lines, heading, is_printed, is_printer, is_punch, is_punched, kind_word, place_lines, printed_text};
+ghost use Rattle.vm370.specs.Files.{closed_in, closing_lines, count_of, entry_line, file_lines, found_lines, heading, is_printed, is_printer, is_punch, is_punched, kind_word, note_lines, place_lines, printed_text};
 ghost use Rattle.vm370.specs.Transcript.{ended};
 
 use cp_core::{FileNote, System};
@@ -34,11 +36,57 @@ fn print_note(
     ensures { OnOk result (out.new.items ≡ out.old.items
         ++ ended (place_lines system.now (take place system.now.files) (slice_get system.now.files place))) }
 {
-    let FileNote { user, kind } = system.files()[place];
-    let before = &system.files()[..place];
-    let name = name_of(system.directory().users(), user);
-    match closed_file(system, before, user, kind) {
-        Some(file) => { print_file(alloc, out, kind, place as u64 + 1, name, file) }
+    let note = note_at(system, place);
+    let before = notes_before(system, place);
+    print_noted(alloc, out, system, before, note)
+}
+
+/// What the file at this place was when it got its number.
+fn note_at(system: &System, place: usize) -> FileNote
+    requires { place < length system.now.files }
+    ensures { Some result ≡ slice_get system.now.files place }
+{
+    system.files()[place]
+}
+
+/// The files before this place.
+fn notes_before(system: &System, place: usize) -> &[FileNote]
+    requires { place < length system.now.files }
+    ensures { result.now ≡ take place system.now.files }
+{
+    &system.files()[..place]
+}
+
+/// Adds the lines of the file that was noted so, after these.
+fn print_noted(
+    alloc: Global,
+    out: &mut Vec<u8>,
+    system: &System,
+    before: &[FileNote],
+    note: FileNote,
+) -> Result<(), AllocError>
+    ensures { OnOk result (out.new.items ≡ out.old.items ++ ended (note_lines system.now before.now note)) }
+{
+    let number = before.len() as u64 + 1;
+    let name = name_of(system.directory().users(), note.user);
+    let file = closed_file(system, before, note.user, note.kind);
+    print_found(alloc, out, note.kind, number, name, file)
+}
+
+/// Adds the lines of a file of this kind and this number of the user of this name, where there is one.
+fn print_found(
+    alloc: Global,
+    out: &mut Vec<u8>,
+    kind: FileKind,
+    number: u64,
+    name: &[u8],
+    file: Option<&File>,
+) -> Result<(), AllocError>
+    ensures { OnOk result (out.new.items
+        ≡ out.old.items ++ ended (found_lines kind number name.now (option_copied file))) }
+{
+    match file {
+        Some(file) => print_file(alloc, out, kind, number, name, file),
         None => Ok(()),
     }
 }
@@ -138,7 +186,7 @@ fn print_heading(
 ) -> Result<(), AllocError>
     ensures { OnOk result (out.new.items ≡ out.old.items ++ ended (heading kind number name.now ∷ [])) }
 {
-    let number = format!(in alloc; "{number:04}")?;
+    let number = number_text(alloc, number)?;
     out.extend_from_slice(b"== ")?;
     out.extend_from_slice(kind_word(kind))?;
     out.push(b' ')?;
@@ -197,8 +245,24 @@ fn print_entry(
 fn print_code(alloc: Global, out: &mut Vec<u8>, code: u8) -> Result<(), AllocError>
     ensures { OnOk result (out.new.items ≡ out.old.items ++ (two_digits code ++ 32 ∷ [])) }
 {
-    let code = format!(in alloc; "{code:02X} ")?;
-    out.extend_from_slice(code.as_bytes())
+    let code = code_text(alloc, code)?;
+    out.extend_from_slice(code.as_bytes())?;
+    out.push(b' ')?;
+    Ok(())
+}
+
+/// The code of a command in two digits.
+fn code_text(alloc: Global, code: u8) -> Result<String, AllocError>
+    ensures { IfOk result (λ text. string_bytes text ≡ two_digits code) }
+{
+    format!(in alloc; "{code:02X}")
+}
+
+/// The number of a file in at least four digits.
+fn number_text(alloc: Global, number: u64) -> Result<String, AllocError>
+    ensures { IfOk result (λ text. string_bytes text ≡ file_number number) }
+{
+    format!(in alloc; "{number:04}")
 }
 
 /// Adds bytes as they print.

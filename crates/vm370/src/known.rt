@@ -4,7 +4,7 @@ ghost use Rattle.std.specs.Option.{option_to_list};
 ghost use Rattle.cp_directory.specs.Devices.{places_of};
 ghost use Rattle.cp_directory.specs.Users.{addresses_of};
 ghost use Rattle.cp_script.specs.Script.{IsRefusal, said, script_of};
-ghost use Rattle.vm370.specs.Script.{IsOfStated, IsOfUser, known_users};
+ghost use Rattle.vm370.specs.Script.{IsOfStated, IsOfUser, known_user, known_users};
 
 use cp_directory::{Minidisk, User, UserDevices};
 use cp_script::{ScriptError, ScriptEvent, ScriptUser, read_script};
@@ -99,12 +99,18 @@ fn script_users<'a>(
 {
     let mut known = Vec::new(alloc);
     for place in 0..users.len() {
-        let user = &users[place];
-        let devices = &devices[place];
-        known.push(ScriptUser {
-            name: user.name(),
-            devices,
-        })?;
+        known.push(known_user(&users[place], &devices[place]))?;
     }
     Ok(known)
+}
+
+/// A user of a directory as scripts know him, where these are the addresses of his devices.
+fn known_user<'a>(user: &'a User, devices: &'a [u16]) -> ScriptUser<'a>
+    requires { devices.now ≡ addresses_of user.now }
+    ensures { result ≡ known_user user.now }
+{
+    ScriptUser {
+        name: user.name(),
+        devices,
+    }
 }

@@ -19,6 +19,7 @@ use unit_record::Reader;
 /// The transcript's lines for the reply that the system has just answered to an event of this user, each ended by LF:
 /// what was said to the user, what has been written at his console, what stands at another's terminal, and then how the
 /// event ended.
+#[tactic(auto, using(crate::proofs::Endings::four_ended))]
 pub fn print_reply(
     alloc: Global,
     system: &System,

@@ -1,15 +1,15 @@
-use Rattle.std.proofs.Common.{◌≡◌, ◌∙◌, ℕ, Some, None, List, ap, sym, subst, tt}
+use Rattle.std.proofs.Common.{◌≡◌, ◌∙◌, ℕ, Some, None, List, ap, sym, subst}
 use Rattle.cp_dispatch.specs.Policy.{Lines, is_ready}
 use Rattle.cp_dispatch.specs.Turns.{IsDealt}
 use Rattle.cp_dispatch.specs.declared.program.Program.{Program}
 use Rattle.vm370.specs.Schedule.{line_after, ready_in}
 use Rattle.vm370.proofs.Histories.{not_sliced, on_err, sliced, sliced_partly}
 use Rattle.vm370.proofs.Queues.{dealt_same}
-use Rattle.vm370.proofs.Stated.{line_stated, still_stated}
+use Rattle.vm370.proofs.Stated.{after_stated}
 use Rattle.vm370.proofs.acts.slice.Goals as goal
 
 pub follow-requires : goal.follow-requires
-follow-requires g c = record { user = c.ready_users-ready.ensures.users c.in-Some.user c.in-Some.ensures.dealt.is_ready; stated = λ lacks. lacks }
+follow-requires g c = record { user = c.ready_users-ready.ensures.users c.in-Some.user c.in-Some.ensures.dealt.is_ready; device = tt; event = tt }
 
 pub returns-in_default-clause-ok : goal.returns-in_default-clause-ok
 returns-in_default-clause-ok g c =
@@ -43,3 +43,10 @@ returns-clause-ok g c =
     let line : c.follow.new.policy.programs ≡ line_after system c.follow.new.system c.in-Some.user c.args.policy.now.programs =
     ap (λ (p : Lines). p.programs) c.in_ok-follow.ensures.lined ∙ ap (line_after system c.follow.new.system c.in-Some.user) same in
     sliced c.in-Some.user system c.follow.new.system c.args.policy.now c.follow.new.policy old new turned c.in_ok-follow.ensures.ok line
+
+pub returns-clause-stated : goal.returns-clause-stated
+returns-clause-stated g c =
+    let same : c.slice.new.self.programs ≡ c.args.policy.now.programs = ap (λ (p : Lines). p.programs) c.slice.ensures.rest in
+    let line : c.follow.new.policy.programs ≡ line_after c.args.system.now c.follow.new.system c.in-Some.user c.args.policy.now.programs =
+    ap (λ (p : Lines). p.programs) c.in_ok-follow.ensures.lined ∙ ap (line_after c.args.system.now c.follow.new.system c.in-Some.user) same in
+    after_stated c.args.system.now c.follow.new.system c.in-Some.user c.args.policy.now.programs c.follow.new.policy.programs c.in_ok-follow.ensures.directory c.requires.line line

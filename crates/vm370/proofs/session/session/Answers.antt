@@ -1,12 +1,15 @@
-use Rattle.std.proofs.Common.{◌≡◌, ℕ, Err, Ok, Result, List, inr, map, ap, ◌∙◌}
+use Rattle.std.proofs.Common.{◌≡◌, ℕ, Err, Ok, Result, List, inr, map, length, ap, sym, subst, ◌∙◌}
 use Rattle.std.specs.Prelude.{IsErrAnd}
 use Rattle.cp_script.specs.Script.{IsRefusal, Said, said}
+use Rattle.cp_dispatch.specs.declared.program.Program.{Program}
+use Rattle.vm370.specs.Script.{IsLineStated}
 use Rattle.vm370.specs.Session.{refusal_error}
 use Rattle.cp_script.specs.declared.reader.ScriptError.{ScriptError}
 use Rattle.cp_script.specs.declared.reader.ScriptError.TheVariants as refusals
 use Rattle.vm370.specs.declared.session.SessionError.{SessionError}
 use Rattle.vm370.specs.declared.session.SessionError.TheVariants as errors
 use Rattle.vm370.proofs.Histories.{err_then, ok_then, on_err}
+use Rattle.vm370.proofs.Stated.{first_stated}
 use Rattle.vm370.proofs.Sessions.{cut, cut_short, whole}
 use Rattle.vm370.proofs.session.session.Goals as goal
 
@@ -24,6 +27,10 @@ returns-in_err-events-clause-line g c = λ n e.
       read = record { given = c.in_ok-text.ensures.ok; end = c.in_ok-text.ensures.end };
       refused = line_told _ c.in_err-events.field-0.0 c.from_residual-in_err-events.result n fault c.from_residual-in_err-events.ensures.1 e;
     }
+
+pub play-requires-clause-line : goal.play-requires-clause-line
+play-requires-clause-line g c =
+    subst (λ (l : List Program). IsLineStated c.args.system.now l) (sym c.in_ok-policy.ensures.programs) (first_stated c.args.system.now (length c.args.system.now.directory))
 
 pub returns-in_err-play-clause-err : goal.returns-in_err-play-clause-err
 returns-in_err-play-clause-err g c =
