@@ -1,11 +1,9 @@
 -- The lines of files that were noted one after another.
-use Rattle.std.proofs.Common.{◌≡◌, ℕ, zero, suc, ◌+◌, ◌<◌, List, [], ◌∷◌, ◌++◌, Option, Some, None, take, drop, length, refl, ap, sym, ◌∙◌, subst, add-one, arith}
+use Rattle.std.proofs.Common.{◌≡◌, ℕ, zero, suc, ◌+◌, ◌<◌, List, [], ◌∷◌, ◌++◌, Option, Some, None, take, drop, length, refl, ap, sym, ◌∙◌, add-one, arith}
 use Rattle.std.specs.Prelude.{slice_get}
-use Rattle.std.specs.Option.{option_copied}
-use Rattle.unit_record.specs.Output.{FileValue}
 use Rattle.cp_core.specs.System.{SystemView}
 use Rattle.cp_core.specs.declared.files.FileNote.{FileNote}
-use Rattle.vm370.specs.Files.{found_lines, lines_after, note_lines, place_lines}
+use Rattle.vm370.specs.Files.{lines_after, note_lines, place_lines}
 use Rattle.vm370.specs.Transcript.{ended}
 use Rattle.vm370.proofs.Rest.{from_here, lines_more}
 

@@ -8,11 +8,10 @@ use Rattle.s370_num.specs.Host.{AppendsFront}
 use Rattle.cp_dispatch.specs.Policy.{Lines, always}
 use Rattle.cp_dispatch.specs.Turns.{IsDealt}
 use Rattle.cp_dispatch.specs.declared.program.Program.{Program}
-use Rattle.cp_directory.specs.Users.{DirectoryUser}
 use Rattle.cp_core.specs.Events.{user_of}
 use Rattle.cp_core.specs.Histories.{IsHistory}
 use Rattle.cp_core.specs.Local.{Step}
-use Rattle.cp_core.specs.System.{SystemView, names_of as names_in}
+use Rattle.cp_core.specs.System.{SystemView}
 use Rattle.cp_core.specs.declared.events.Event.{Event}
 use Rattle.cp_core.specs.declared.events.Event.TheVariants as events
 use Rattle.cp_script.specs.Script.{Said, said as said_by}
@@ -22,7 +21,7 @@ use Rattle.cp_script.specs.declared.event.ScriptEvent.TheVariants as scripts
 use Rattle.vm370.specs.Script.{as_said, number_of}
 use Rattle.vm370.specs.Schedule.{Act, Applies, Slices, Serves, AreDone, Entry, Answered, Passed, Idle, IsDone, Scene, acts, acts_of, line_after, passed, queue_after, ready_in, scene, slice_units, steps_of, turn, turns, within}
 use Rattle.vm370.specs.Session.{IsAnswered, IsAnsweredPartly, IsPlayed, IsPartly, IsSpent, IsSpentOn, IsUnanswered, names_of, transcript}
-use Rattle.vm370.specs.Transcript.{ended, entry_lines, idle_line}
+use Rattle.vm370.specs.Transcript.{ended, entry_lines}
 
 done_append : (xs ys : List Act) (old mid new : Scene) (es fs : List Entry) → AreDone xs old es mid → AreDone ys mid fs new → AreDone (xs ++ ys) old (es ++ fs) new
 done_append [] ys old mid new [] fs h k = subst (λ (s : Scene). AreDone ys s fs new) h k

@@ -10,7 +10,7 @@ use Rattle.cp_dispatch.specs.declared.program.Program.{Program}
 use Rattle.cp_core.specs.System.{SystemView}
 use Rattle.cp_script.specs.Script.{Said, script_of}
 use Rattle.vm370.specs.Files.{closing_lines}
-use Rattle.vm370.specs.Schedule.{Act, Scene, acts, first_line, first_queue, scene}
+use Rattle.vm370.specs.Schedule.{Scene, acts, first_line, first_queue, scene}
 use Rattle.vm370.specs.Session.{IsCut, IsPartly, IsPlayed, IsRead, IsSession, at_first, closing, names_of, transcript, users_of}
 use Rattle.vm370.specs.Transcript.{ended}
 use Rattle.vm370.proofs.Histories.{front_after, history}

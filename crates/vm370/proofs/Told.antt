@@ -1,6 +1,5 @@
 -- What is told of an event that was answered.
-use Rattle.std.proofs.Common.{◌≡◌, ℕ, List, refl, ap, sym, ◌∙◌, subst}
-use Rattle.std.specs.Prelude.{IfOk, OnErr, Result, Ok, Err, ◌⊎◌}
+use Rattle.std.proofs.Common.{◌≡◌, ℕ, List, ap, sym, ◌∙◌}
 use Rattle.cp_directory.specs.Users.{DirectoryUser}
 use Rattle.cp_core.specs.Events.{user_of}
 use Rattle.cp_core.specs.System.{SystemView, names_of as names_in, user_at}

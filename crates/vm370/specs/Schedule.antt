@@ -1,6 +1,6 @@
 -- What a script has done, in which order: events, and turns of the dispatcher, which are dealt among those who are ready and among
 -- the programs that were started.
-use Rattle.std.specs.Prelude.{◌≡◌, ℕ, zero, suc, Bool, true, false, ◌&&◌, if◌then◌else◌, nat_lt, List, [], ◌∷◌, ◌++◌, slice_get, Option, Some, None}
+use Rattle.std.specs.Prelude.{◌≡◌, ℕ, zero, suc, Bool, true, false, ◌&&◌, if◌then◌else◌, nat_lt, List, [], ◌∷◌, ◌++◌, slice_get, Some, None}
 use Rattle.s370_subchannels.specs.Starts.{is_started, works}
 use Rattle.s370_subchannels.specs.Subchannels.{next_start}
 use Rattle.s370_subchannels.specs.declared.subchannel.Subchannel.{Subchannel}

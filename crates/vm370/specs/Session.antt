@@ -5,7 +5,6 @@ use Rattle.s370_num.specs.Host.{AppendsFront, IsCounted}
 use Rattle.s370_num.specs.declared.host.HostFault.{HostFault}
 use Rattle.s370_num.specs.declared.host.HostFault.TheVariants as faults
 use Rattle.cp_core.specs.Histories.{IsHistory, IsStep}
-use Rattle.cp_core.specs.Local.{Step}
 use Rattle.cp_core.specs.Memory.{is_cut_short}
 use Rattle.cp_core.specs.System.{SystemView, names_of as names_in, user_at}
 use Rattle.cp_core.specs.declared.events.Event.{Event}

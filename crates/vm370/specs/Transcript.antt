@@ -8,7 +8,6 @@ use Rattle.s370_intr.specs.declared.run.Ran.{Ran as RanUnits}
 use Rattle.cp_text.specs.Lines.{lines_of}
 use Rattle.cp_users.specs.Users.{name_of}
 use Rattle.cp_console.specs.Responses.{text_of}
-use Rattle.cp_console.specs.declared.responses.Response.{Response}
 use Rattle.cp_console.specs.ConsoleLine.{characters_of}
 use Rattle.unit_record.specs.Reader.{DeckValue}
 use Rattle.cp_devices.specs.declared.line.Told.{Told}

@@ -83,7 +83,7 @@ fn print_found(
     file: Option<&File>,
 ) -> Result<(), AllocError>
     ensures { OnOk result (out.new.items
-        ≡ out.old.items ++ ended (found_lines kind number name.now (option_copied file))) }
+        ≡ out.old.items ++ ended (found_lines kind number name.now (option_copied file.entry))) }
 {
     match file {
         Some(file) => print_file(alloc, out, kind, number, name, file),

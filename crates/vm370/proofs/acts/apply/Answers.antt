@@ -1,7 +1,7 @@
-use Rattle.std.proofs.Common.{◌≡◌, ◌∙◌, ℕ, List, ap, sym, subst}
+use Rattle.std.proofs.Common.{◌≡◌, ◌∙◌, ap}
 use Rattle.cp_dispatch.specs.Policy.{Lines}
 use Rattle.cp_script.specs.Script.{said}
-use Rattle.vm370.specs.Schedule.{line_after, queue_after, queue_with}
+use Rattle.vm370.specs.Schedule.{line_after, queue_after}
 use Rattle.vm370.proofs.Stated.{after_stated}
 use Rattle.vm370.proofs.Histories.{applied, applied_partly, on_err}
 use Rattle.vm370.specs.Script.{number_of}

@@ -1,7 +1,5 @@
-use Rattle.std.proofs.Common.{◌≡◌, ◌∙◌, ℕ, Some, None, List, ap, sym, subst}
-use Rattle.cp_dispatch.specs.Policy.{Lines, always}
-use Rattle.cp_dispatch.specs.Turns.{IsDealt}
-use Rattle.vm370.specs.Schedule.{line_after}
+use Rattle.std.proofs.Common.{◌≡◌, ◌∙◌, ap}
+use Rattle.cp_dispatch.specs.Policy.{Lines}
 use Rattle.vm370.proofs.Histories.{both_ok, err_then, not_served, not_served_partly, ok_then, served, served_partly}
 use Rattle.vm370.proofs.Stated.{after_stated, serve_given, taken_stated, turned_stated, user_stated}
 use Rattle.vm370.proofs.acts.serve.Goals as goal

@@ -1,7 +1,6 @@
 use Rattle.std.proofs.Common.{◌≡◌, ◌∙◌, ℕ, Some, None, List, ap, sym, subst}
 use Rattle.cp_dispatch.specs.Policy.{Lines, is_ready}
 use Rattle.cp_dispatch.specs.Turns.{IsDealt}
-use Rattle.cp_dispatch.specs.declared.program.Program.{Program}
 use Rattle.vm370.specs.Schedule.{line_after, ready_in}
 use Rattle.vm370.proofs.Histories.{not_sliced, on_err, sliced, sliced_partly}
 use Rattle.vm370.proofs.Queues.{dealt_same}

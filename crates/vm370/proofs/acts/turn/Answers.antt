@@ -1,4 +1,4 @@
-use Rattle.std.proofs.Common.{◌≡◌, ◌∙◌, [], ◌∷◌, refl}
+use Rattle.std.proofs.Common.{[], ◌∷◌}
 use Rattle.vm370.specs.Schedule.{Serves, Slices, scene, within}
 use Rattle.vm370.proofs.Histories.{err_then, ok_then, on_err, partly_more, partly_rest, played_more}
 use Rattle.vm370.proofs.acts.turn.Goals as goal

@@ -1,4 +1,4 @@
-use Rattle.std.proofs.Common.{◌≡◌, ℕ, ◌∙◌, List, inl, inr, refl, ap, sym, subst, arith}
+use Rattle.std.proofs.Common.{◌∙◌, inl, inr, refl, subst, arith}
 use Rattle.std.specs.Io.KnownBytes.{Appends}
 use Rattle.std.proofs.KnownBytes.{Appends-nil}
 use Rattle.s370_num.specs.Host.{AppendsFront}

@@ -1,4 +1,4 @@
-use Rattle.std.proofs.Common.{◌≡◌, ◌∙◌, inr, ap, sym}
+use Rattle.std.proofs.Common.{inr}
 use Rattle.cp_script.specs.Script.{said}
 use Rattle.vm370.proofs.Histories.{answered_partly, on_err}
 use Rattle.vm370.proofs.answers.follow.Goals as goal

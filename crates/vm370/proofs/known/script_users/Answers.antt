@@ -1,4 +1,4 @@
-use Rattle.std.proofs.Common.{◌≡◌, ◌∙◌, ◌<◌, ◌++◌, [], ◌∷◌, List, ap, sym, take, length, arith}
+use Rattle.std.proofs.Common.{◌∙◌, ◌++◌, [], ◌∷◌, List, ap, sym, take, arith}
 use Rattle.cp_directory.specs.Users.{addresses_of}
 use Rattle.cp_script.specs.Users.{KnownUser}
 use Rattle.vm370.specs.Script.{known_user, known_users}

@@ -1,5 +1,5 @@
 use Rattle.std.proofs.Common.{◌≡◌, drop}
-use Rattle.vm370.specs.Schedule.{started_since, subchannels_at, with_joining}
+use Rattle.vm370.specs.Schedule.{started_since, with_joining}
 use Rattle.vm370.proofs.starts.started_since.Given as goal
 
 -- with those that are left, all are there
