@@ -1,10 +1,9 @@
 -- The system at boot.
-use Rattle.std.specs.Prelude.{◌≡◌, ℕ, ◌*◌, false, List, [], ◌∷◌, map, replicate, reverse, Option, Some, None}
-use Rattle.std.specs.List.{range_with_len}
+use Rattle.std.specs.Prelude.{◌≡◌, ℕ, ◌*◌, ◌==◌, Bool, false, List, [], ◌∷◌, length, map, not, replicate, reverse, Option, Some, None}
+use Rattle.std.specs.List.{list_any, range_with_len}
 use Rattle.s370_subchannels.specs.declared.subchannel.Subchannel.{Subchannel}
 use Rattle.cp_directory.specs.Users.{DirectoryUser}
 use Rattle.cp_directory.specs.declared.devices.UserDevices.{UserDevices}
-use Rattle.cp_directory.specs.declared.minidisk.Minidisk.{Minidisk}
 use Rattle.cp_frames.specs.Layout.{FrameSupply}
 use Rattle.cp_panel.specs.Machine.{unused}
 use Rattle.cp_devices.specs.declared.places.Places.{Places}
@@ -59,11 +58,6 @@ pub record IsBooted (directory : List DirectoryUser) (frames slots : ℕ) (s : S
 
 -- ---- minidisks, for which no volume is there yet
 
-abbrev pub first_of : List Minidisk → Option (List ℕ) → Option (List ℕ)
-first_of [] later = later
-first_of (disk ∷ disks) later = Some disk.extent.volser
-
--- the volume of the first minidisk, in the order of the users
-abbrev pub first_volume : List DirectoryUser → Option (List ℕ)
-first_volume [] = None
-first_volume (user ∷ users) = first_of user.minidisks (first_volume users)
+-- whether one of these users has one
+abbrev pub has_minidisk : List DirectoryUser → Bool
+has_minidisk users = list_any (λ (user : DirectoryUser). not (length user.minidisks == 0)) users

@@ -1,13 +1,13 @@
 //! Boot: a system from a directory.
-ghost use Rattle.std.specs.Prelude.{◌≡◌, ◌<◌, ◌≤◌, ◌↔◌, ℕ, All, Err, IfOk, IfSome, IsOk, IsSome, List, None, Some, length, map};
-ghost use Rattle.cp_core.specs.Boot.{IsBooted, first_volume, places_in};
+ghost use Rattle.std.specs.Prelude.{◌≡◌, ◌<◌, ◌≤◌, ◌↔◌, ℕ, All, Err, IfOk, IfSome, IsOk, IsSome, List, None, Some, false, true, length, map};
+ghost use Rattle.cp_core.specs.Boot.{IsBooted, has_minidisk, places_in};
 ghost use Rattle.cp_core.specs.Whole.{AreNew};
 
 use crate::events::BootError;
 use crate::system::System;
 use crate::user_machine::UserMachine;
 use cp_devices::{AttachError, Places};
-use cp_directory::{Directory, User, UserDevices, Volser};
+use cp_directory::{Directory, User, UserDevices};
 use cp_frames::Frames;
 use std::alloc::{AllocError, Global};
 use std::marker::Model;
@@ -74,15 +74,14 @@ impl System {
         requires { length directory ≤ 64 }
         ensures ok { IfOk result (λ system. IsBooted directory sizes.frames sizes.slots system) }
         ensures too_few { (result ≡ Err BootError.TooFewFrames) ↔ (sizes.frames < 16) }
-        ensures no_volume { (volser : List ℕ) → result ≡ Err (BootError.NoVolume volser)
-            → first_volume directory ≡ Some volser }
-        ensures volumes { IsOk result → first_volume directory ≡ None }
+        ensures no_volume { result ≡ Err BootError.NoVolume → has_minidisk directory ≡ true }
+        ensures volumes { IsOk result → has_minidisk directory ≡ false }
     {
         if sizes.frames() < 16 {
             return Err(BootError::TooFewFrames);
         }
-        if let Some(volser) = first_volume(directory.users()) {
-            return Err(BootError::NoVolume(volser));
+        if has_minidisk(directory.users()) {
+            return Err(BootError::NoVolume);
         }
         let users = match machines_of(alloc, directory.users()) {
             Ok(users) => users,
@@ -106,16 +105,11 @@ impl System {
     }
 }
 
-/// The volume of the first minidisk, in the order of the users.
-fn first_volume(users: &[User]) -> Option<Volser>
-    ensures { result ≡ first_volume users.now }
+/// Whether one of these users has a minidisk.
+fn has_minidisk(users: &[User]) -> bool
+    ensures { result ≡ has_minidisk users.now }
 {
-    for user in users {
-        if let Some(disk) = user.minidisks().first() {
-            return Some(disk.extent.volser());
-        }
-    }
-    None
+    users.iter().any(|user| !user.minidisks().is_empty())
 }
 
 /// Why no system is booted whose devices are not attached.

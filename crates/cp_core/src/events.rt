@@ -4,7 +4,6 @@ ghost use Rattle.cp_core.specs.Replies.{silent};
 
 use crate::delivery::Delivered;
 use cp_devices::Told;
-use cp_directory::Volser;
 use cp_users::UserNo;
 use s370_intr::Ran;
 use s370_num::DevAddr;
@@ -111,9 +110,9 @@ pub enum BootError {
     /// A system has at least 16 frames.
     #[error("fewer than 16 frames")]
     TooFewFrames,
-    /// The volume of this serial number, of which a user has a minidisk, is not there: no volume is there yet.
+    /// The volume of which a user has a minidisk is not there: no volume is there yet.
     #[error("a volume of the directory is not there")]
-    NoVolume(Volser),
+    NoVolume,
     /// Two devices of a user have one address.
     #[error("two devices of a user have one address")]
     DuplicateDevice,

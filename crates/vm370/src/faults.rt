@@ -122,7 +122,7 @@ fn boot_line(alloc: Global, error: &BootError) -> Result<String, AllocError>
     match error {
         BootError::Memory => String::from_str(alloc, "fault: memory Memory"),
         BootError::TooFewFrames => String::from_str(alloc, "fault: boot TooFewFrames"),
-        BootError::NoVolume(_) => String::from_str(alloc, "fault: boot NoVolume"),
+        BootError::NoVolume => String::from_str(alloc, "fault: boot NoVolume"),
         BootError::DuplicateDevice => String::from_str(alloc, "fault: boot DuplicateDevice"),
     }
 }
