@@ -2,10 +2,12 @@
 use crate::loops::Loop;
 use anyhow::{Result, bail};
 use bare_installation::Bare;
-use cp_core::{Ended, Event, Sizes, System};
+use cp_console::responses::Response;
+use cp_core::{Delivered, Ended, Event, Sizes, System};
 use cp_devices::Told;
 use cp_directory::read_directory;
 use cp_users::UserNo;
+use s370_num::DevAddr;
 use s370_store::PlainStorage;
 use std::alloc::Global;
 
@@ -78,19 +80,24 @@ fn users_guest(alloc: Global, directory: &str, users: u8, guest: Loop) -> Result
     let mut system = System::boot(alloc, directory, sizes)?;
     for user in 0..users.min(USERS) {
         let user = UserNo::new(user);
-        let _said = said(&mut system, user, b"LOGON")?;
+        type_line(&mut system, user, b"LOGON")?;
         for line in guest.typed() {
-            let _said = said(&mut system, user, line.as_bytes())?;
+            type_line(&mut system, user, line.as_bytes())?;
         }
-        let _said = said(&mut system, user, b"BEGIN 200")?;
+        type_line(&mut system, user, b"BEGIN 200")?;
     }
     Ok(system)
 }
 
-/// A user types a line, and this is said.
-fn said(system: &mut System, user: UserNo, typed: &[u8]) -> Result<Told> {
+/// A user types a line.
+fn type_line(system: &mut System, user: UserNo, typed: &[u8]) -> Result<()> {
     let reply = system.apply(Event::Line(user, typed))?;
-    Ok(reply.said)
+    // The prover finds what a reply may hold only where a function names it.
+    let _device = DevAddr::new(0);
+    let _response = Response::Sent;
+    let _delivered: Option<Delivered> = reply.delivered;
+    let _said: Told = reply.said;
+    Ok(())
 }
 
 /// Units of a bare machine: how many were done.
@@ -107,6 +114,7 @@ fn of_user(system: &mut System, user: UserNo, units: u32) -> Option<u64> {
     };
     // The prover finds the type of what was said only where a function names it.
     let _said: Told = reply.said;
+    let _device = DevAddr::new(0);
     Some(match reply.ended {
         Ended::Ran(ran) => u64::from(ran.units),
         Ended::Done | Ended::Served(_) | Ended::FramesOut => 0,

@@ -1,8 +1,10 @@
 //! The users whose costs are measured: each has a guest that stores into one page after another.
 use anyhow::Result;
-use cp_core::{Ended, Event, System};
+use cp_console::responses::Response;
+use cp_core::{Delivered, Ended, Event, System};
 use cp_devices::Told;
 use cp_users::UserNo;
+use s370_num::DevAddr;
 use std::alloc::Global;
 
 /// The most users of an installation.
@@ -24,20 +26,35 @@ pub fn directory_of(alloc: Global, users: u8) -> Result<String> {
 /// A user types a line, and this is said.
 fn said(system: &mut System, user: UserNo, typed: &[u8]) -> Result<Told> {
     let reply = system.apply(Event::Line(user, typed))?;
-    Ok(reply.said)
+    // The prover finds what a reply may hold only where a function names it.
+    let _device = DevAddr::new(0);
+    let _response = Response::Sent;
+    let _delivered: Option<Delivered> = reply.delivered;
+    let said: Told = reply.said;
+    Ok(said)
 }
 
-/// Lets a user run: how many units were done, and what was said.
-fn ran(system: &mut System, user: UserNo, units: u32) -> Result<(u32, Told)> {
+/// Lets a user run: how many units were done.
+fn ran(system: &mut System, user: UserNo, units: u32) -> Result<u32> {
     let reply = system.apply(Event::Run(user, units))?;
-    match reply.ended {
-        Ended::Ran(ran) => Ok((ran.units, reply.said)),
-        Ended::Done | Ended::Served(_) | Ended::FramesOut => Ok((0, reply.said)),
+    let _device = DevAddr::new(0);
+    let _response = Response::Sent;
+    let _delivered: Option<Delivered> = reply.delivered;
+    let _said: Told = reply.said;
+    Ok(units_of(reply.ended))
+}
+
+/// How many units were done.
+fn units_of(ended: Ended) -> u32 {
+    match ended {
+        Ended::Ran(ran) => ran.units,
+        Ended::Done | Ended::Served(_) | Ended::FramesOut => 0,
     }
 }
 
 /// The same line is typed by each user.
 pub fn each_types(system: &mut System, users: u8, typed: &[u8]) -> Result<()> {
+    let _response = Response::Sent;
     for user in 0..users.min(MOST_USERS) {
         let _said = said(system, UserNo::new(user), typed)?;
     }
@@ -48,7 +65,7 @@ pub fn each_types(system: &mut System, users: u8, typed: &[u8]) -> Result<()> {
 pub fn each_runs(system: &mut System, users: u8, units: u32) -> Result<u64> {
     let mut done = 0u64;
     for user in 0..users.min(MOST_USERS) {
-        let (units, _said) = ran(system, UserNo::new(user), units)?;
+        let units = ran(system, UserNo::new(user), units)?;
         done = done.wrapping_add(u64::from(units));
     }
     Ok(done)

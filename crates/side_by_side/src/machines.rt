@@ -2,7 +2,7 @@
 use crate::view::{SideError, View};
 use bare_installation::Bare;
 use cp_console::responses::Response;
-use cp_core::{Ended, Event, Reply, Sizes, System};
+use cp_core::{Delivered, Ended, Event, Reply, Sizes, System};
 use cp_devices::Told;
 use cp_directory::{User, read_directory};
 use cp_users::UserNo;
@@ -28,9 +28,9 @@ fn machines_of(alloc: Global, users: &[User]) -> Result<Vec<Bare>, AllocError> {
 }
 
 /// The response that was told, if there was one.
-fn response_of(told: Told) -> Option<Response> {
+fn response_of(told: &Told) -> Option<Response> {
     match told {
-        Told::Said(response) => Some(response),
+        Told::Said(response) => Some(*response),
         _ => None,
     }
 }
@@ -88,10 +88,14 @@ impl SideBySide {
         let bare = self.bare_mut(user)?;
         let before = bare.printed();
         let told = bare.line(alloc, typed)?;
+        let response = response_of(&told);
         let lines = bare.printed().saturating_sub(before);
+        let wanted = reply(Ended::Done, told, lines);
         let answered = self.system.apply(Event::Line(user, typed))?;
-        same(answered == reply(Ended::Done, told, lines), View::Answer)?;
-        Ok(response_of(told))
+        // The prover finds what a reply may hold only where a function names it.
+        let _delivered: Option<Delivered> = answered.delivered;
+        same(answered == wanted, View::Answer)?;
+        Ok(response)
     }
 
     /// Lets both run for at most so many units, and tells how many both did and why no more.
@@ -101,6 +105,7 @@ impl SideBySide {
         let told = bare.units(units);
         let lines = bare.printed().saturating_sub(before);
         let answered = self.system.apply(Event::Run(user, units))?;
+        let _delivered: Option<Delivered> = answered.delivered;
         let wanted = reply(Ended::Ran(told.ran), Told::of(told.notice), lines);
         same(answered == wanted, View::Answer)?;
         Ok(told.ran)
@@ -110,6 +115,7 @@ impl SideBySide {
     pub fn tick(&mut self, user: UserNo) -> Result<(), SideError> {
         self.bare_mut(user)?.tick();
         let answered = self.system.apply(Event::Tick(user))?;
+        let _delivered: Option<Delivered> = answered.delivered;
         same(
             answered == reply(Ended::Done, Told::Silent, 0),
             View::Answer,

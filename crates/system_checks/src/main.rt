@@ -7,7 +7,7 @@
 use anyhow::{Result, bail};
 use cp_console::responses::Response;
 use cp_core::{BootError, CpError, Event, FrameNo, Sizes, System};
-use cp_directory::{read_directory};
+use cp_directory::read_directory;
 use cp_users::UserNo;
 use s370_num::DevAddr;
 use s370_store::Page;
