@@ -56,6 +56,21 @@ impl Track {
         })
     }
 
+    /// A track with the same home address and the same records, with room for all that it can hold.
+    pub fn copy(&self, alloc: Global) -> Result<Track, AllocError>
+        ensures { IfOk result (λ t. t ≡ self.now) }
+    {
+        let mut entries = Vec::with_capacity(alloc, MOST_RECORDS)?;
+        let mut area = Vec::with_capacity(alloc, MOST_BYTES)?;
+        entries.extend_from_slice(&self.entries)?;
+        area.extend_from_slice(&self.area)?;
+        Ok(Track {
+            home: self.home,
+            entries,
+            area,
+        })
+    }
+
     /// Flag, cylinder and head.
     pub fn home(&self) -> [u8; 5]
         ensures { result ≡ self.now.home }

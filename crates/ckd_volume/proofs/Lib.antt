@@ -1,4 +1,5 @@
 pub mod Blanks
+pub mod PutBack
 pub mod Finding
 pub mod Ends
 pub mod Moves

@@ -1,5 +1,5 @@
 -- A volume: its serial number, and its cylinders, each of 19 tracks.
-use Rattle.std.specs.Prelude.{ℕ, zero, suc, ◌+◌, ◌/◌, ◌%◌, ◌<◌, ◌≤◌, List, [], ◌∷◌}
+use Rattle.std.specs.Prelude.{ℕ, zero, suc, ◌+◌, ◌/◌, ◌%◌, ◌<◌, ◌≤◌, List, [], ◌∷◌, ◌++◌, length, take, drop}
 use Rattle.ckd_volume.specs.Front.{Cylinder}
 
 pub record VolumeFormat : Type 0 where
@@ -19,6 +19,14 @@ blank_tracks c h (suc more) = (record { home = home_of c h; records = [] }) ∷ 
 abbrev pub blank_cylinders : ℕ → ℕ → List Cylinder
 blank_cylinders c zero = []
 blank_cylinders c (suc more) = blank_tracks c 0 19 ∷ blank_cylinders (c + 1) more
+
+-- so many cylinders of a volume, from this one on
+abbrev pub slice_of : List Cylinder → ℕ → ℕ → List Cylinder
+slice_of cylinders start count = take count (drop start cylinders)
+
+-- these cylinders in the place of as many, from this one on
+abbrev pub put_back : List Cylinder → ℕ → List Cylinder → List Cylinder
+put_back cylinders start others = take start cylinders ++ (others ++ drop (start + length others) cylinders)
 
 -- a volume has 1 to 808 cylinders
 abbrev pub IsCount : ℕ → Type 0

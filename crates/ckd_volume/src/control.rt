@@ -13,9 +13,11 @@ use s370_walk::{Answer, Order, UnitStatus};
 
 /// A track, as a seek names it.
 #[derive(Clone, Copy, PartialEq, Eq)]
-pub(crate) struct Seek {
-    pub(crate) cylinder: usize,
-    pub(crate) head: usize,
+pub struct Seek {
+    /// The cylinder.
+    pub cylinder: usize,
+    /// The head.
+    pub head: usize,
 }
 
 /// Two bytes as one number.

@@ -51,6 +51,19 @@ impl Cylinder {
         Ok(Cylinder { tracks })
     }
 
+    /// A cylinder with the same tracks.
+    #[tactic(auto, using(std::proofs::lemmas::List::take_all))]
+    pub fn copy(&self, alloc: Global) -> Result<Cylinder, AllocError>
+        ensures { IfOk result (λ c. c ≡ self.now) }
+    {
+        let mut tracks = Vec::with_capacity(alloc, HEADS)?;
+        for track in &self.tracks {
+            let copy = track.copy(alloc)?;
+            tracks.push(copy)?;
+        }
+        Ok(Cylinder { tracks })
+    }
+
     /// How many heads reach it.
     pub fn heads(&self) -> usize
         ensures count { result ≡ length self.now }

@@ -30,6 +30,7 @@ mod unit;
 mod volume;
 mod write;
 
+pub use control::Seek;
 pub use cylinder::{Cylinder, HEADS};
 pub use parts::Sense;
 pub use unit::{Arm, Unit};

@@ -121,6 +121,17 @@ impl Panel {
         };
     }
 
+    /// As at the start, with another arm's head and sense.
+    pub(crate) fn restart(&mut self, writable: bool, head: usize, sense: Sense)
+        requires { head < 19 }
+        ensures { self.new ≡ record { writable = writable; head = head; place = places.Index; mask = 0; points = 0; right = rights.Nothing; sense = sense; job = jobs.Nothing; bytes = []; given = 0 } }
+    {
+        self.start(true);
+        self.writable = writable;
+        self.head = head;
+        self.sense = sense;
+    }
+
     /// A refusal, with its sense.
     pub(crate) fn refuse(&mut self, first: u8, second: u8) -> Answer
         ensures answer { result ≡ (table.refused self.old first second).answer }

@@ -56,7 +56,7 @@ impl Model for Unit {
 }
 
 impl Unit {
-    ghost use Rattle.ckd_volume.specs.Unit.{idle, begins, aimed, started, ending, after, finished, status, seek_of, seek_status, moved, keeps, disk_machine, disk_reset, disk_cleared, rested};
+    ghost use Rattle.ckd_volume.specs.Unit.{idle, begins, aimed, started, ending, after, finished, status, seek_of, seek_status, moved, keeps, disk_machine, volume_of, disk_reset, disk_cleared, rested};
 
     /// A unit whose arm stands over a volume; it has room for the longest command.
     pub fn new(alloc: Global, volume: Volume, arm: Arm) -> Result<Unit, AllocError>
@@ -109,6 +109,19 @@ impl Unit {
             writable: panel.writable,
             sense: panel.sense,
         }
+    }
+
+    /// As at the start, under this arm: so disks that are parts of one volume take turns at its unit, each with an arm and a
+    /// sense of its own.
+    pub fn set_arm(&mut self, arm: Arm)
+        requires cylinder { arm.cylinder < length self.old.cylinders }
+        requires home { arm.home < length self.old.cylinders }
+        requires head { arm.head < 19 }
+        ensures { self.new ≡ idle (volume_of self.old) arm }
+    {
+        self.panel.restart(arm.writable, arm.head, arm.sense);
+        self.cylinder = arm.cylinder;
+        self.home = arm.home;
     }
 
     /// A system reset: no command is under way, and there is no sense; the arm stays.

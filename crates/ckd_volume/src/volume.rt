@@ -1,7 +1,7 @@
 //! A volume: its serial number, and its cylinders.
 ghost use Rattle.std.specs.Prelude.{◌≡◌, ◌<◌, ◌≤◌, ◌+◌, ◌↔◌, Err, [], length, slice_index_or, IfOk, IfSome, OnErr, IsSome};
 ghost use Rattle.ckd_volume.specs.Front.{track_at};
-ghost use Rattle.ckd_volume.specs.Volume.{blank_cylinders, IsCount};
+ghost use Rattle.ckd_volume.specs.Volume.{blank_cylinders, slice_of, put_back, IsCount};
 ghost use Rattle.ckd_volume.specs.declared.volume.VolumeError.TheVariants as errors;
 
 use crate::cylinder::Cylinder;
@@ -56,6 +56,33 @@ fn blank_cylinders_of(alloc: Global, count: u16) -> Result<Vec<Cylinder>, AllocE
     Ok(cylinders)
 }
 
+/// The same cylinders once more.
+#[tactic(auto, using(std::proofs::lemmas::List::take_all))]
+fn copies_of(alloc: Global, cylinders: &[Cylinder]) -> Result<Vec<Cylinder>, AllocError>
+    ensures { IfOk result (λ made. made.items ≡ cylinders.now) }
+{
+    let mut copies = Vec::with_capacity(alloc, cylinders.len())?;
+    for cylinder in cylinders {
+        let copy = cylinder.copy(alloc)?;
+        copies.push(copy)?;
+    }
+    Ok(copies)
+}
+
+/// These cylinders in the place of as many, from this one on.
+#[tactic(auto, using(crate::proofs::PutBack::put_one, crate::proofs::PutBack::put_none))]
+fn put_cylinders(cylinders: &mut [Cylinder], start: usize, part: Vec<Cylinder>)
+    requires { start + length part.items ≤ length cylinders.old }
+    ensures cylinders { cylinders.new ≡ put_back cylinders.old start part.items }
+    ensures count { length cylinders.new ≡ length cylinders.old }
+{
+    let mut at = start;
+    for cylinder in part {
+        cylinders[at] = cylinder;
+        at += 1;
+    }
+}
+
 impl Volume {
     ghost use Rattle.std.specs.Borrow.{sem};
     ghost use Rattle.ckd_volume.specs.LendingVolume.{LendsTrackOf, LendsCylinder};
@@ -75,6 +102,28 @@ impl Volume {
             Ok(cylinders) => Ok(Volume { volser, cylinders }),
             Err(_) => Err(VolumeError::Memory),
         }
+    }
+
+    /// A volume of its own with the same serial number and these cylinders of it.
+    pub fn slice(&self, alloc: Global, start: usize, count: usize) -> Result<Volume, AllocError>
+        requires some { 0 < count }
+        requires inside { start + count ≤ length self.now.cylinders }
+        ensures { IfOk result (λ part. part ≡ record { volser = self.now.volser; cylinders = slice_of self.now.cylinders start count }) }
+    {
+        let cylinders = copies_of(alloc, &self.cylinders[start..start + count])?;
+        Ok(Volume {
+            volser: self.volser,
+            cylinders,
+        })
+    }
+
+    /// Puts the cylinders of another volume in the place of as many of its own, from this one on; the others stay. It takes
+    /// no memory.
+    pub fn put_back(&mut self, start: usize, part: Volume)
+        requires { start + length part.cylinders ≤ length self.old.cylinders }
+        ensures { self.new ≡ record { volser = self.old.volser; cylinders = put_back self.old.cylinders start part.cylinders } }
+    {
+        put_cylinders(&mut self.cylinders, start, part.cylinders);
     }
 
     /// The serial number, in ASCII, with blanks behind it.
