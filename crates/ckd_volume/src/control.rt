@@ -14,9 +14,9 @@ use s370_walk::{Answer, Order, UnitStatus};
 /// A track, as a seek names it.
 #[derive(Clone, Copy, PartialEq, Eq)]
 pub struct Seek {
-    /// The cylinder.
+    /// Its cylinder, the first of the disk being 0.
     pub cylinder: usize,
-    /// The head.
+    /// Its head, the first being 0.
     pub head: usize,
 }
 

@@ -51,7 +51,7 @@ impl Cylinder {
         Ok(Cylinder { tracks })
     }
 
-    /// A cylinder with the same tracks.
+    /// A cylinder with the same tracks. Err only where memory is lacking.
     #[tactic(auto, using(std::proofs::lemmas::List::take_all))]
     pub fn copy(&self, alloc: Global) -> Result<Cylinder, AllocError>
         ensures { IfOk result (λ c. c ≡ self.now) }

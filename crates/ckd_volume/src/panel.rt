@@ -121,10 +121,10 @@ impl Panel {
         };
     }
 
-    /// As at the start, with another arm's head and sense.
+    /// As before a program, with the mode, the head and the sense of another arm.
     pub(crate) fn restart(&mut self, writable: bool, head: usize, sense: Sense)
         requires { head < 19 }
-        ensures { self.new ≡ record { writable = writable; head = head; place = places.Index; mask = 0; points = 0; right = rights.Nothing; sense = sense; job = jobs.Nothing; bytes = []; given = 0 } }
+        ensures { self.new ≡ record (table.starting self.old true) { writable = writable; head = head; sense = sense } }
     {
         self.start(true);
         self.writable = writable;

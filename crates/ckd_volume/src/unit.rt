@@ -111,8 +111,8 @@ impl Unit {
         }
     }
 
-    /// As at the start, under this arm: so disks that are parts of one volume take turns at its unit, each with an arm and a
-    /// sense of its own.
+    /// As before a program, under this arm: so disks that are parts of one volume take turns at its unit, each with an arm
+    /// and a sense of its own. It takes no memory.
     pub fn set_arm(&mut self, arm: Arm)
         requires cylinder { arm.cylinder < length self.old.cylinders }
         requires home { arm.home < length self.old.cylinders }

@@ -104,11 +104,13 @@ impl Volume {
         }
     }
 
-    /// A volume of its own with the same serial number and these cylinders of it.
+    /// A volume of its own, with the same serial number and `count` of the cylinders, from `start` on. Err only where memory
+    /// is lacking.
     pub fn slice(&self, alloc: Global, start: usize, count: usize) -> Result<Volume, AllocError>
         requires some { 0 < count }
         requires inside { start + count ≤ length self.now.cylinders }
-        ensures { IfOk result (λ part. part ≡ record { volser = self.now.volser; cylinders = slice_of self.now.cylinders start count }) }
+        ensures { IfOk result (λ part. part
+            ≡ record { volser = self.now.volser; cylinders = slice_of self.now.cylinders start count }) }
     {
         let cylinders = copies_of(alloc, &self.cylinders[start..start + count])?;
         Ok(Volume {
@@ -117,11 +119,12 @@ impl Volume {
         })
     }
 
-    /// Puts the cylinders of another volume in the place of as many of its own, from this one on; the others stay. It takes
-    /// no memory.
+    /// Puts the cylinders of another volume in the place of as many of its own, from `start` on; the others stay. It takes no
+    /// memory.
     pub fn put_back(&mut self, start: usize, part: Volume)
         requires { start + length part.cylinders ≤ length self.old.cylinders }
-        ensures { self.new ≡ record { volser = self.old.volser; cylinders = put_back self.old.cylinders start part.cylinders } }
+        ensures { self.new
+            ≡ record { volser = self.old.volser; cylinders = put_back self.old.cylinders start part.cylinders } }
     {
         put_cylinders(&mut self.cylinders, start, part.cylinders);
     }
