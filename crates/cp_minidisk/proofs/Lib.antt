@@ -1,0 +1,16 @@
+pub mod Placing
+pub mod Seeking
+pub mod Slicing
+pub mod Along
+pub mod ReadOnly
+pub mod Protecting
+pub mod SeekStarts
+pub mod SeekWalks
+pub mod SeekBytes
+pub mod SeekSteps
+pub mod SeekEnds
+pub mod Serving
+pub mod Arming
+pub mod Prefixed
+pub mod Served
+pub mod Guests

@@ -1,0 +1,157 @@
+//! Extents of a volume, the seeks of a minidisk, and its cylinders as a volume of their own.
+ghost use Rattle.std.specs.Prelude.{◌≡◌, ◌≤◌, ◌<◌, ◌+◌, Bool, true, length, nat_le, IfOk, IfSome, IsSome, ◌↔◌};
+ghost use Rattle.ckd_volume.specs.Volume.{put_back};
+ghost use Rattle.cp_minidisk.specs.Extent.{IsExtent, IsWithin, relocated, relocated_argument, argument_of};
+ghost use Rattle.cp_minidisk.specs.Minidisk.{HasExtent, slice};
+
+use ckd_volume::{MOST_CYLINDERS, Seek, Volume};
+use std::alloc::{AllocError, Global};
+use std::marker::Model;
+
+/// The extent of a minidisk: so many cylinders of a volume, from one of them on, and whether they may be written.
+///
+/// ```
+/// let extent = Extent::new(100, 5, true)?; // cylinders 100 to 104
+/// let place = extent.relocate(Seek { cylinder: 4, head: 18 })?; // cylinder 104, head 18
+/// ```
+#[derive(Clone, Copy, Debug, PartialEq, Eq)]
+pub struct Extent {
+    start: u16,
+    count: u16,
+    writable: bool,
+}
+
+impl Model for Extent {
+    ghost use Rattle.cp_minidisk.specs.Extent.{ExtentValue, IsExtent};
+
+    ghost Value = { ExtentValue };
+
+    ghost view = { λ e. record { start = e.start; count = e.count; writable = e.writable } };
+
+    ghost invariant = { λ e. IsExtent (record { start = e.start; count = e.count; writable = e.writable }) };
+
+    ghost inverse = { λ v. record { start = v.start; count = v.count; writable = v.writable } };
+}
+
+impl Extent {
+    /// The extent of `count` cylinders from `start` on; None where it has none, or one past 807, the last that a volume
+    /// can have.
+    pub fn new(start: u16, count: u16, writable: bool) -> Option<Extent>
+        ensures some { IsSome result ↔ IsExtent (record { start = start; count = count; writable = writable }) }
+        ensures extent { IfSome result (λ e. e ≡ record { start = start; count = count; writable = writable }) }
+    {
+        if count == 0 || count > MOST_CYLINDERS || start > MOST_CYLINDERS - count {
+            return None;
+        }
+        Some(Extent {
+            start,
+            count,
+            writable,
+        })
+    }
+
+    /// The cylinder of the volume that is cylinder 0 of the minidisk.
+    pub fn start(self) -> u16
+        ensures start { result ≡ self.start }
+        ensures inside { result + self.count ≤ 808 }
+    {
+        self.start
+    }
+
+    /// How many cylinders the minidisk has.
+    pub fn count(self) -> u16
+        ensures count { result ≡ self.count }
+        ensures some { 0 < result }
+        ensures inside { self.start + result ≤ 808 }
+    {
+        self.count
+    }
+
+    /// Whether the minidisk may be written.
+    pub fn is_writable(self) -> bool
+        ensures { result ≡ self.writable }
+    {
+        self.writable
+    }
+
+    /// Whether a volume has all its cylinders.
+    pub fn fits(self, volume: &Volume) -> bool
+        ensures { result ≡ nat_le (self.start + self.count) (length volume.now.cylinders) }
+    {
+        usize::from(self.start) + usize::from(self.count) <= volume.count()
+    }
+
+    /// Where a track of the minidisk stands on the volume; None where the minidisk has no such cylinder. Of the head
+    /// nothing is asked.
+    pub fn relocate(self, seek: Seek) -> Option<Seek>
+        ensures place { result ≡ relocated self seek }
+        ensures stays { IfSome result (λ place. IsWithin self place.cylinder) }
+    {
+        if seek.cylinder < usize::from(self.count) {
+            let cylinder = usize::from(self.start) + seek.cylinder;
+            return Some(Seek {
+                cylinder,
+                head: seek.head,
+            });
+        }
+        None
+    }
+
+    /// The argument that a seek of the minidisk has on the volume; it is one that no disk accepts where the minidisk
+    /// has no such cylinder (docs/MACHINE.md, "Disks", code 07).
+    pub fn relocate_argument(self, bytes: [u8; 6]) -> [u8; 6]
+        ensures { result ≡ relocated_argument self bytes }
+    {
+        let cylinder = 256 * usize::from(bytes[2]) + usize::from(bytes[3]);
+        match self.relocate(Seek { cylinder, head: 0 }) {
+            Some(place) => [
+                bytes[0],
+                bytes[1],
+                (place.cylinder / 256) as u8,
+                (place.cylinder % 256) as u8,
+                bytes[4],
+                bytes[5],
+            ],
+            None => [0xFF, 0xFF, 0, 0, 0, 0],
+        }
+    }
+
+    /// The minidisk as a volume of its own: its cylinders, numbered from 0, with what stands on them. Err only where
+    /// memory is lacking.
+    pub fn slice(self, alloc: Global, volume: &Volume) -> Result<Volume, AllocError>
+        requires { HasExtent volume.now.cylinders self }
+        ensures { IfOk result (λ part. part ≡ slice volume.now self) }
+    {
+        volume.slice(alloc, usize::from(self.start), usize::from(self.count))
+    }
+
+    /// Puts the cylinders of a minidisk back onto its volume, whose other cylinders stay. It takes no memory.
+    pub fn put_back(self, volume: &mut Volume, part: Volume)
+        requires inside { HasExtent volume.old.cylinders self }
+        requires whole { length part.cylinders ≡ self.count }
+        requires writable { self.writable ≡ true }
+        ensures { volume.new
+            ≡ record {
+              volser = volume.old.volser;
+              cylinders = put_back volume.old.cylinders self.start part.cylinders;
+            } }
+    {
+        volume.put_back(usize::from(self.start), part);
+    }
+}
+
+/// The argument of a seek to this track: two bytes of zero, the cylinder and the head.
+pub(crate) fn argument(seek: Seek) -> [u8; 6]
+    requires cylinder { seek.cylinder < 65536 }
+    requires head { seek.head < 65536 }
+    ensures { result ≡ argument_of seek }
+{
+    [
+        0,
+        0,
+        (seek.cylinder / 256) as u8,
+        (seek.cylinder % 256) as u8,
+        (seek.head / 256) as u8,
+        (seek.head % 256) as u8,
+    ]
+}

@@ -1,0 +1,134 @@
+//! What a minidisk has of its own.
+ghost use Rattle.std.specs.Prelude.{◌≡◌, ◌≤◌, ◌<◌, ◌+◌, length};
+ghost use Rattle.cp_minidisk.specs.Extent.{IsWithin, argument_of};
+ghost use Rattle.cp_minidisk.specs.Minidisk.{HasExtent, minidisk_new, minidisk_reset, mounted, place_of, dismounted};
+
+use crate::extent::{Extent, argument};
+use ckd_volume::{Arm, Seek, Sense, Unit};
+use std::marker::Model;
+
+/// A minidisk but for its cylinders, which stand on a volume: its extent, where its arm stands, and its sense.
+#[derive(Clone, Copy, PartialEq, Eq)]
+pub struct Minidisk {
+    extent: Extent,
+    cylinder: usize,
+    head: usize,
+    sense: Sense,
+}
+
+impl Model for Minidisk {
+    ghost use Rattle.std.specs.Prelude.{◌<◌};
+    ghost use Rattle.cp_minidisk.specs.Minidisk.{MinidiskValue};
+
+    ghost Value = { MinidiskValue };
+
+    ghost view = { λ m. record { extent = m.extent; cylinder = m.cylinder; head = m.head; sense = m.sense } };
+
+    ghost invariant = { λ m. (m.cylinder < m.extent.count) × (m.head < 19) };
+
+    ghost inverse = { λ v. record { extent = v.extent; cylinder = v.cylinder; head = v.head; sense = v.sense } };
+}
+
+impl Minidisk {
+    /// A minidisk that no program has used: its arm stands at its first track, and it has no sense.
+    pub fn new(extent: Extent) -> Minidisk
+        ensures { result ≡ minidisk_new extent }
+    {
+        let _cylinders = extent.count();
+        Minidisk {
+            extent,
+            cylinder: 0,
+            head: 0,
+            sense: Sense {
+                first: 0,
+                second: 0,
+            },
+        }
+    }
+
+    /// Which cylinders of its volume it has.
+    pub fn extent(&self) -> Extent
+        ensures { result ≡ self.now.extent }
+    {
+        self.extent
+    }
+
+    /// The cylinder under its arm, the first of the extent being 0.
+    pub fn cylinder(&self) -> usize
+        ensures cylinder { result ≡ self.now.cylinder }
+        ensures inside { result < self.now.extent.count }
+    {
+        self.cylinder
+    }
+
+    /// The head that is chosen.
+    pub fn head(&self) -> usize
+        ensures head { result ≡ self.now.head }
+        ensures inside { result < 19 }
+    {
+        self.head
+    }
+
+    /// What a Sense command tells.
+    pub fn sense(&self) -> Sense
+        ensures { result ≡ self.now.sense }
+    {
+        self.sense
+    }
+
+    /// A system reset: there is no sense, and the arm stays.
+    pub fn reset(&mut self)
+        ensures { self.new ≡ minidisk_reset self.old }
+    {
+        self.sense = Sense {
+            first: 0,
+            second: 0,
+        };
+    }
+
+    /// As [`Minidisk::reset`], and the arm stands at the first track.
+    pub fn clear(&mut self)
+        ensures { self.new ≡ minidisk_new self.old.extent }
+    {
+        *self = Minidisk::new(self.extent);
+    }
+
+    /// The argument of the seek that moves the arm of the volume's unit to where the minidisk's stands.
+    pub fn arm_argument(&self) -> [u8; 6]
+        ensures { result ≡ argument_of (place_of self.now) }
+    {
+        argument(Seek {
+            cylinder: usize::from(self.extent.start()) + self.cylinder,
+            head: self.head,
+        })
+    }
+
+    /// Gives the volume's unit what the minidisk has of its own but the place of its arm: the cylinder to which Read
+    /// IPL goes, whether it may be written, and its sense. The arm stays where the program before left it, until the
+    /// seek with [`Minidisk::arm_argument`].
+    pub fn mount(&self, unit: &mut Unit)
+        requires { HasExtent unit.old.cylinders self.now.extent }
+        ensures { unit.new ≡ mounted self.now unit.old }
+    {
+        let arm = unit.arm();
+        let _cylinders = self.extent.count();
+        unit.set_arm(Arm {
+            cylinder: arm.cylinder,
+            head: arm.head,
+            home: usize::from(self.extent.start()),
+            writable: self.extent.is_writable(),
+            sense: self.sense,
+        });
+    }
+
+    /// Takes arm and sense back from the volume's unit, when its program has ended there.
+    pub fn dismount(&mut self, unit: &Unit)
+        requires { IsWithin self.old.extent unit.now.cylinder }
+        ensures { self.new ≡ dismounted self.old.extent unit.now }
+    {
+        let arm = unit.arm();
+        self.cylinder = arm.cylinder - usize::from(self.extent.start());
+        self.head = arm.head;
+        self.sense = arm.sense;
+    }
+}
