@@ -3,6 +3,7 @@ pub mod Seeking
 pub mod Slicing
 pub mod Along
 pub mod ReadOnly
+pub mod Modes
 pub mod Protecting
 pub mod SeekStarts
 pub mod SeekWalks
@@ -14,3 +15,4 @@ pub mod Arming
 pub mod Prefixed
 pub mod Served
 pub mod Guests
+pub mod Leaving

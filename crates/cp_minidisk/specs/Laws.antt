@@ -20,11 +20,11 @@ use Rattle.ckd_volume.specs.declared.parts.Job.TheVariants as jobs
 use Rattle.ckd_volume.specs.Front.{Cylinder}
 use Rattle.ckd_volume.specs.Control.{sought}
 use Rattle.ckd_volume.specs.Volume.{VolumeFormat, slice_of, put_back}
-use Rattle.ckd_volume.specs.Unit.{Disk, disk_machine, is_seeking, volume_of}
+use Rattle.ckd_volume.specs.Unit.{Disk, disk_machine, is_seeking, volume_of, rested}
 use Rattle.cp_minidisk.specs.Extent.{ExtentValue, shifted, relocated_argument, argument_of}
 use Rattle.cp_minidisk.specs.Kept.{device_in}
 use Rattle.cp_minidisk.specs.Placed.{placed, IsOnDisk, IsReadOnly, holding}
-use Rattle.cp_minidisk.specs.Minidisk.{MinidiskValue, HasExtent, slice, before, behind, users_disk, mounted, place_of}
+use Rattle.cp_minidisk.specs.Minidisk.{MinidiskValue, HasExtent, slice, before, behind, users_disk, mounted, place_of, dismounted}
 
 -- ---- Each command does the same on the minidisk and on the volume; a seek with its argument relocated.
 
@@ -233,6 +233,22 @@ ServesUsers =
     (Fetching (spot_at at 0 true) n (mounted own d)) (Over end n' e)
     → MeetsMinidisk real c key limit 0 own.extent (before (volume_of d) own.extent) (behind (volume_of d) own.extent)
     (spot_at next 0 true) m (users_disk (volume_of d) own) end n' e
+
+-- What is left when a program has ended on the volume's unit: the disk that the minidisk is after its dismount is that
+-- on which the guest's own program ended, at rest, and the cylinders of its neighbours are as they were.
+pub record IsLeft (v : VolumeFormat) (own : MinidiskValue) (disk e : Disk) : Type 0 where
+  pub taken_back : users_disk (volume_of e) (dismounted own.extent e) ≡ rested disk
+  pub cylinders_before : before (volume_of e) own.extent ≡ before v own.extent
+  pub cylinders_behind : behind (volume_of e) own.extent ≡ behind v own.extent
+
+abbrev pub LeavesItsDisk : Type 0
+LeavesItsDisk =
+    (real : ℕ → Option ℕ) (c : Program) (key limit prefix : ℕ) (v : VolumeFormat) (own : MinidiskValue) (spot : Spot)
+    (m : Memory) (e : Disk) (end : Ending) (n' : Memory)
+    → HasExtent v.cylinders own.extent
+    → (met : MeetsMinidisk real c key limit prefix own.extent (before v own.extent) (behind v own.extent) spot m
+    (users_disk v own) end n' e)
+    → IsLeft v own met.disk e
 
 -- The copy's walk is the guest's own: with each word, list and argument as it stood, and as it goes if the program is
 -- steady.

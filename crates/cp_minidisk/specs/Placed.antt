@@ -23,6 +23,11 @@ pub record IsOnDisk (d : Disk) : Type 0 where
   pub cylinder : d.cylinder < length d.cylinders
   pub home : d.home < length d.cylinders
 
+-- A disk as a minidisk is one: Read IPL goes to its first cylinder, and it may be written or not.
+pub record IsOwn (writable : Bool) (d : Disk) : Type 0 where
+  pub home : d.home ≡ 0
+  pub mode : d.front.writable ≡ writable
+
 -- a unit that has taken these bytes
 abbrev pub holding : Disk → List ℕ → Disk
 holding d bytes = keeps d (record (d.front) { bytes = bytes })

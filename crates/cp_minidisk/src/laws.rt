@@ -59,9 +59,11 @@ pub fn a_seek_before_arms()
     ensures first { laws.ArmsFirst }
 {}
 
-/// A user's program that runs behind that seek ends as on the minidisk alone.
+/// A user's program that runs behind that seek ends as on the minidisk alone; a dismount takes back the disk that it
+/// left, and no neighbour's cylinder has changed.
 pub fn a_users_program_is_served()
-    ensures { laws.ServesUsers }
+    ensures served { laws.ServesUsers }
+    ensures left { laws.LeavesItsDisk }
 {}
 
 /// The copy of a steady program with the arguments of its seeks walks as the guest's own program.
