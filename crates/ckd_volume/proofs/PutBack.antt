@@ -1,5 +1,5 @@
 -- Laws of cylinders that are put in the place of others.
-use Rattle.std.specs.Prelude.{ℕ, suc, ◌+◌, ◌≡◌, ◌<◌, refl, List, [], ◌∷◌, ◌++◌, length, take, drop, slice_set}
+use Rattle.std.specs.Prelude.{ℕ, suc, ◌+◌, ◌≡◌, ◌<◌, List, [], ◌∷◌, ◌++◌, length, take, drop, slice_set}
 use Rattle.std.proofs.Common.{sym, ◌∙◌, ap, arith, append_assoc}
 use Rattle.std.proofs.lemmas.List.{drop-drop, drop-set, take_more_set, take-append-drop}
 use Rattle.ckd_volume.specs.Front.{Cylinder}

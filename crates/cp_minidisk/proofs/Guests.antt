@@ -1,5 +1,5 @@
 -- The copy's walk is the guest's own.
-use Rattle.std.specs.Prelude.{ℕ, List}
+use Rattle.std.specs.Prelude.{List}
 use Rattle.std.proofs.Common.{ap, ◌∙◌, sym}
 use Rattle.s370_walk.specs.declared.parts.Spot.{Spot}
 use Rattle.s370_walk.specs.declared.parts.Ending.{Ending}

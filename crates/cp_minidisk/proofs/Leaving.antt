@@ -5,17 +5,17 @@ use Rattle.std.proofs.Math.Seq.{drop-append_seam, take-append_seam, drop-append-
 use Rattle.s370_walk.specs.declared.parts.Ending.{Ending}
 use Rattle.s370_walk.specs.declared.parts.Spot.{Spot}
 use Rattle.s370_walk.specs.Hardware.{Memory}
-use Rattle.s370_walk.specs.Walk.{Form, Setting, State, Fetching, Over, Reaches}
+use Rattle.s370_walk.specs.Walk.{Form, State, Fetching, Over, Reaches}
 use Rattle.channel_laws.specs.Mapped.{Program}
 use Rattle.ckd_volume.specs.Front.{Cylinder}
 use Rattle.ckd_volume.specs.Volume.{VolumeFormat, slice_of}
-use Rattle.ckd_volume.specs.Unit.{Disk, disk_machine, volume_of, rested}
+use Rattle.ckd_volume.specs.Unit.{Disk, volume_of, rested}
 use Rattle.cp_minidisk.specs.Extent.{ExtentValue}
 use Rattle.cp_minidisk.specs.Kept.{device_in}
 use Rattle.cp_minidisk.specs.Placed.{placed, IsOwn}
 use Rattle.cp_minidisk.specs.Minidisk.{MinidiskValue, HasExtent, before, behind, users_disk, dismounted}
 use Rattle.cp_minidisk.specs.Seeks.{Fits, MeetsMinidisk, disk_setting, guest_form}
-use Rattle.cp_minidisk.specs.Laws.{IsArmed, IsLeft}
+use Rattle.cp_minidisk.specs.Laws.{IsLeft}
 use Rattle.cp_minidisk.proofs.Along.{reach_keeps}
 use Rattle.cp_minidisk.proofs.Modes.{disk_own}
 use Rattle.cp_minidisk.proofs.Slicing.{has_slice}

@@ -1,4 +1,4 @@
-use Rattle.std.proofs.Common.{arith, ap, ◌∙◌, sym, ◌≡◌, ◌<◌, ◌+◌, ◌∷◌, length, length-set}
+use Rattle.std.proofs.Common.{arith, ap, ◌∙◌, sym, ◌≡◌, ◌<◌, ◌∷◌, length, length-set}
 use Rattle.ckd_volume.specs.Volume.{put_back}
 use Rattle.ckd_volume.proofs.PutBack.{put_one}
 use Rattle.ckd_volume.proofs.volume.put_cylinders.Goals as goal
