@@ -1,5 +1,5 @@
 -- What a program leaves of a user's disk on its volume's unit.
-use Rattle.std.specs.Prelude.{ℕ, ◌+◌, ◌-◌, ◌≡◌, refl, Bool, List, ◌++◌, length, take, drop, Option}
+use Rattle.std.specs.Prelude.{ℕ, ◌+◌, ◌-◌, ◌≡◌, ◌<◌, refl, Bool, List, ◌++◌, length, take, drop, Option}
 use Rattle.std.proofs.Common.{sym, ◌∙◌, ap, arith}
 use Rattle.std.proofs.Math.Seq.{drop-append_seam, take-append_seam, drop-append-add}
 use Rattle.s370_walk.specs.declared.parts.Ending.{Ending}
@@ -10,7 +10,7 @@ use Rattle.channel_laws.specs.Mapped.{Program}
 use Rattle.ckd_volume.specs.Front.{Cylinder}
 use Rattle.ckd_volume.specs.Volume.{VolumeFormat, slice_of}
 use Rattle.ckd_volume.specs.Unit.{Disk, volume_of, rested}
-use Rattle.cp_minidisk.specs.Extent.{ExtentValue}
+use Rattle.cp_minidisk.specs.Extent.{ExtentValue, IsWithin}
 use Rattle.cp_minidisk.specs.Kept.{device_in}
 use Rattle.cp_minidisk.specs.Placed.{placed, IsOwn}
 use Rattle.cp_minidisk.specs.Minidisk.{MinidiskValue, HasExtent, before, behind, users_disk, dismounted}
@@ -27,6 +27,11 @@ module _ (extent : ExtentValue) (below above : List Cylinder) (d : Disk) (starts
       ap (λ n. slice_of (below ++ (d.cylinders ++ above)) n extent.count) (sym starts)
       ∙ ap (λ n. slice_of (below ++ (d.cylinders ++ above)) (length below) n) (sym fits.1)
       ∙ has_slice below above d.cylinders
+
+  pub is_within : IsWithin extent (placed below above d).cylinder
+  is_within =
+      let low : d.cylinder < length d.cylinders = fits.0.cylinder in
+      (omega (arith, starts), omega (arith, starts, low, fits.1))
 
   -- what is taken back is the disk that is left
   pub takes_back : IsOwn extent.writable d → users_disk (volume_of (placed below above d)) (dismounted extent (placed below above d)) ≡ rested d
@@ -58,6 +63,7 @@ leaves real c key limit prefix v own spot m e end n' inside met =
     let mine : IsOwn own.extent.writable (users_disk v own) = record { home = refl; mode = refl } in
     let still : IsOwn own.extent.writable met.disk = own_along own.extent.writable (guest_form c m) key limit prefix (Fetching spot m (users_disk v own)) (Over end met.storage met.disk) mine met.reaches in
     rw met.other (record {
+      within = is_within own.extent (before v own.extent) (behind v own.extent) met.disk starts met.fits;
       taken_back = takes_back own.extent (before v own.extent) (behind v own.extent) met.disk starts met.fits still;
       cylinders_before = same_before own.extent (before v own.extent) (behind v own.extent) met.disk starts met.fits;
       cylinders_behind = same_behind own.extent (before v own.extent) (behind v own.extent) met.disk starts met.fits;

@@ -21,7 +21,7 @@ use Rattle.ckd_volume.specs.Front.{Cylinder}
 use Rattle.ckd_volume.specs.Control.{sought}
 use Rattle.ckd_volume.specs.Volume.{VolumeFormat, slice_of, put_back}
 use Rattle.ckd_volume.specs.Unit.{Disk, disk_machine, is_seeking, volume_of, rested}
-use Rattle.cp_minidisk.specs.Extent.{ExtentValue, shifted, relocated_argument, argument_of}
+use Rattle.cp_minidisk.specs.Extent.{ExtentValue, IsWithin, shifted, relocated_argument, argument_of}
 use Rattle.cp_minidisk.specs.Kept.{device_in}
 use Rattle.cp_minidisk.specs.Placed.{placed, IsOnDisk, IsReadOnly, holding}
 use Rattle.cp_minidisk.specs.Minidisk.{MinidiskValue, HasExtent, slice, before, behind, users_disk, mounted, place_of, dismounted}
@@ -234,9 +234,11 @@ ServesUsers =
     → MeetsMinidisk real c key limit 0 own.extent (before (volume_of d) own.extent) (behind (volume_of d) own.extent)
     (spot_at next 0 true) m (users_disk (volume_of d) own) end n' e
 
--- What is left when a program has ended on the volume's unit: the disk that the minidisk is after its dismount is that
--- on which the guest's own program ended, at rest, and the cylinders of its neighbours are as they were.
+-- What is left when a program has ended on the volume's unit: its arm stands on the minidisk, which may be dismounted;
+-- the disk that this takes back is that on which the guest's own program ended, at rest; and the cylinders of its
+-- neighbours are as they were.
 pub record IsLeft (v : VolumeFormat) (own : MinidiskValue) (disk e : Disk) : Type 0 where
+  pub within : IsWithin own.extent e.cylinder
   pub taken_back : users_disk (volume_of e) (dismounted own.extent e) ≡ rested disk
   pub cylinders_before : before (volume_of e) own.extent ≡ before v own.extent
   pub cylinders_behind : behind (volume_of e) own.extent ≡ behind v own.extent

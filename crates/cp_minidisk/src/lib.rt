@@ -14,7 +14,7 @@
 //! let extent = Extent::new(100, 5, true)?;
 //! let mut minidisk = Minidisk::new(extent);
 //! minidisk.mount(&mut unit);
-//! // the program runs on the unit
+//! // a seek with minidisk.arm_argument(), and the program behind it, run on the unit
 //! minidisk.dismount(&unit);
 //! ```
 #![tactic(auto)]
