@@ -1,0 +1,20 @@
+use Rattle.std.proofs.Common.{◌≡◌, ◌+◌, ◌-◌, ◌*◌, ◌/◌, ◌≤◌, length, vec_len, true}
+use Rattle.s370_walk.specs.Hardware.{memory_of}
+use Rattle.s370_channel.specs.Guest.{guest_text}
+use Rattle.cp_graph.specs.Table.{AreRows, AreHeldRows, IsLinked}
+use Rattle.cp_graph.specs.Marks.{IsIndexed, unmarked}
+use Rattle.cp_graph.proofs.copying.copy.Given as goal
+
+abbrev pub invariant-places : goal.invariant-places
+invariant-places g l = record {
+  rows : AreRows l.places.items l.nodes.items (memory_of (g.S.Storage.bytes l.storage) (g.S.Storage.keys l.storage));
+  held : AreHeldRows l.nodes.items (length (g.S.Storage.bytes l.storage)) (g.S.Storage.present l.storage);
+  known : IsIndexed l.places.items l.index.items;
+  few : vec_len l.places + unmarked l.index.items ≤ 2147483648;
+  room : vec_len l.index ≡ length (g.S.Storage.bytes l.storage) / 8 * 2;
+  behind : vec_len l.nodes ≤ vec_len l.places;
+  linked : IsLinked l.places.items (guest_text (memory_of (g.S.Storage.bytes l.storage) (g.S.Storage.keys l.storage))) true l.start l.first;
+}
+
+abbrev pub decreases-places : goal.decreases-places
+decreases-places g l = 2147483649 - vec_len l.nodes

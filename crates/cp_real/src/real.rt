@@ -1,0 +1,223 @@
+//! The storage of a channel program that was given real addresses.
+ghost use Rattle.std.specs.Prelude.{◌≡◌, ℕ, ◌+◌, ◌*◌, ◌/◌, ◌%◌, ◌<◌, ◌≤◌, Option, Some, None, true, length, slice_range, IsSome, IfSome};
+ghost use Rattle.cp_dat.specs.Lent.{lent_bytes, lent_pool, lent_keys, user_of};
+ghost use Rattle.s370_store.specs.Access.{IsGranted, put};
+ghost use Rattle.cp_real.specs.Layout.{page_of};
+
+use cp_dat::Dat;
+use cp_frames::FrameNo;
+use s370_num::{AccessKey, StorageKey};
+use s370_store::{Access, Block, Fault, Keyed, Keyring, Page, Range, Storage, put_at, test_range};
+
+/// A user's pages at the addresses of the frames in which they stand, and an area of the control program behind the frames.
+#[derive(Drop)]
+pub struct Real<'a> {
+    dat: Dat<'a>,
+    frames: u32,
+    area: &'a mut [u8],
+    ghost counted: { frames ≡ length (lent_pool dat).supply.owners },
+    ghost few: { frames ≤ 4096 },
+    ghost small: { length area.now ≤ 2147483648 },
+}
+
+impl<'a> Real<'a> {
+    ghost use Rattle.cp_real.specs.Shown.{real_bytes_of, real_keys_of, is_real_page_of, KeepsReal};
+
+    /// Lends the frames and the area to one user's program.
+    pub fn new(dat: Dat<'a>, frames: u32, area: &'a mut [u8]) -> Real<'a>
+        requires counted { frames ≡ length (lent_pool dat).supply.owners }
+        requires few { frames ≤ 4096 }
+        requires small { length area.old ≤ 2147483648 }
+        ensures dat { result.dat ≡ dat.entry }
+        ensures frames { result.frames ≡ frames }
+        ensures area { result.area.now ≡ area.old }
+        ensures same_area { result.area.ghost_name ≡ area.entry.ghost_name }
+    {
+        Real { dat, frames, area }
+    }
+
+    /// The frames, and whose pages are seen in them.
+    pub fn dat(&self) -> &Dat<'a>
+        ensures { result.now ≡ self.now.dat }
+    {
+        &self.dat
+    }
+
+    /// The user's page in a frame.
+    fn page_at(&self, frame: u32) -> Option<u32>
+        requires { frame < self.now.frames }
+        ensures page { result ≡ page_of self.now.dat frame }
+        ensures whole { IfSome result (λ page. page * 4096 + 4096 ≤ length (lent_bytes self.now.dat)) }
+        ensures low { IfSome result (λ page. page * 4096 + 4096 ≤ 4294967295) }
+        ensures keyed { IfSome result (λ page. 2 * page + 1 < length (lent_keys self.now.dat)) }
+    {
+        let there = self.dat.page_in(FrameNo(frame as u16));
+        let size = self.dat.size();
+        match there {
+            Some(page) => if page.0 as u64 * 4096 + 4096 <= size as u64 {
+                Some(page.0)
+            } else {
+                None
+            },
+            None => None,
+        }
+    }
+
+    /// Whether a page of real storage can be reached.
+    fn is_here(&self, page: u32) -> bool
+        ensures { result ≡ is_real_page_of self.now page }
+    {
+        if page < self.frames {
+            self.page_at(page).is_some()
+        } else {
+            true
+        }
+    }
+
+    /// Copies bytes of one page out.
+    fn load_part(&self, start: u32, into: &mut [u8])
+        requires some { 0 < length into.old }
+        requires short { length into.old ≤ 256 }
+        requires one_page { start % 4096 + length into.old ≤ 4096 }
+        requires inside { start + length into.old ≤ length (real_bytes_of self.now) }
+        requires here { is_real_page_of self.now (start / 4096) ≡ true }
+        ensures { into.new ≡ slice_range (real_bytes_of self.now) start (start + length into.old) }
+    {
+        let frame = start / 4096;
+        if frame < self.frames {
+            match self.page_at(frame) {
+                Some(page) => self.dat.load(page * 4096 + start % 4096, into),
+                None => {}
+            }
+        } else {
+            let first = (start - self.frames * 4096) as usize;
+            let end = first + into.len();
+            into.copy_from_slice(&self.area[first..end]);
+        }
+    }
+
+    /// Copies bytes into one page.
+    fn store_part(&mut self, start: u32, from: &[u8])
+        requires some { 0 < length from.now }
+        requires short { length from.now ≤ 256 }
+        requires one_page { start % 4096 + length from.now ≤ 4096 }
+        requires inside { start + length from.now ≤ length (real_bytes_of self.old) }
+        requires here { is_real_page_of self.old (start / 4096) ≡ true }
+        ensures bytes { real_bytes_of self.new ≡ put (real_bytes_of self.old) start from.now }
+        ensures size { length (real_bytes_of self.new) ≡ length (real_bytes_of self.old) }
+        ensures keys { real_keys_of self.new ≡ real_keys_of self.old }
+        ensures present { is_real_page_of self.new ≡ is_real_page_of self.old }
+        ensures rest { KeepsReal self.old self.new }
+    {
+        let frame = start / 4096;
+        if frame < self.frames {
+            match self.page_at(frame) {
+                Some(page) => self.dat.store(page * 4096 + start % 4096, from),
+                None => {}
+            }
+        } else {
+            put_at(self.area, (start - self.frames * 4096) as usize, from);
+        }
+    }
+}
+
+/// The keys of real storage.
+#[derive(Clone, Copy)]
+struct RealKeys<'a, 'b> {
+    real: &'b Real<'a>,
+}
+
+impl<'a, 'b> Keyring for RealKeys<'a, 'b> {
+    ghost use Rattle.cp_real.specs.Shown.{real_keys_of};
+
+    ghost of_blocks = { λ k. real_keys_of k.real.now };
+
+    fn key_at(&self, block: u32) -> StorageKey {
+        let frame = block / 2;
+        if frame >= self.real.frames {
+            return StorageKey::ZERO;
+        }
+        let Some(page) = self.real.page_at(frame) else {
+            return StorageKey::ZERO;
+        };
+        self.real.dat.key_of(2 * page + block % 2)
+    }
+}
+
+impl<'a> Storage for Real<'a> {
+    ghost use Rattle.cp_real.specs.Shown.{real_bytes_of, real_keys_of, is_real_page_of, KeepsReal, keeps_real_same, keeps_real_on};
+
+    ghost bytes = { real_bytes_of };
+
+    ghost keys = { real_keys_of };
+
+    ghost present = { is_real_page_of };
+
+    ghost Keeps = { KeepsReal };
+
+    ghost IsPlaced = { λ _ _. ⊥ };
+
+    fn size(&self) -> u32 {
+        self.frames * 4096 + self.area.len() as u32
+    }
+
+    fn check(&self, range: Range, access: Access, key: AccessKey) -> Result<(), Fault> {
+        test_range(self.size(), &RealKeys { real: self }, range, access, key)?;
+        let Range { start, count } = range;
+        if count == 0 {
+            return Ok(());
+        }
+        let first = start / 4096;
+        if !self.is_here(first) {
+            return Err(Fault::Absent(Page(first)));
+        }
+        let last = (start + (count - 1)) / 4096;
+        if !self.is_here(last) {
+            return Err(Fault::Absent(Page(last)));
+        }
+        Ok(())
+    }
+
+    /// A channel moves each byte once, so no block is found.
+    fn find_block(&self, _start: u32, _access: Access, _key: AccessKey) -> Option<Block> {
+        None
+    }
+
+    fn load_in(&self, _block: Block, _start: u32, _into: &mut [u8]) {}
+
+    fn store_in(&mut self, _block: Block, _start: u32, _from: &[u8]) {}
+
+    fn load(&self, start: u32, into: &mut [u8]) {
+        if into.is_empty() {
+            return;
+        }
+        let left = 4096 - start as usize % 4096;
+        if into.len() <= left {
+            self.load_part(start, into);
+        } else {
+            let (first, second) = into.split_at_mut(left);
+            self.load_part(start, first);
+            self.load_part(start + left as u32, second);
+        }
+    }
+
+    fn store(&mut self, start: u32, from: &[u8]) {
+        if from.is_empty() {
+            return;
+        }
+        let left = 4096 - start as usize % 4096;
+        if from.len() <= left {
+            self.store_part(start, from);
+        } else {
+            let (first, second) = from.split_at(left);
+            self.store_part(start, first);
+            self.store_part(start + left as u32, second);
+        }
+    }
+
+    ghost keeps_same = { keeps_real_same };
+
+    ghost keeps_on = { keeps_real_on };
+
+    ghost placed_kept = { λ s t block e k placed. placed };
+}
