@@ -28,8 +28,8 @@ use Rattle.cp_dat.specs.Lent.{KeepsRest}
 use Rattle.channel_laws.specs.Mapped.{real_place}
 use Rattle.cp_real.specs.Layout.{real_in}
 use Rattle.cp_real.specs.Shown.{real_bytes_of, real_keys_of, is_real_page_of, KeepsReal, same_real}
-use Rattle.cp_mapped.specs.Lent.{IsLent}
-use Rattle.cp_mapped.proofs.Lending.{lent, lent_mapped, lent_present}
+use Rattle.cp_real.specs.Mapped.{IsLent}
+use Rattle.cp_real.proofs.Lending.{lent, lent_mapped, lent_present}
 use Rattle.cp_ccw.specs.Translated.{table_written, IsTranslatedFor}
 use Rattle.cp_ccw.specs.Runs.{lent_memory}
 
@@ -61,14 +61,14 @@ module _ {D : Type 0} (h : Setting D) (places : List Place) (nodes : List Node) 
 
   module _ (s : Real) (kept : KeepsReal r s) where
     small_after : length (lent_bytes s.dat) ≤ 4194304
-    small_after = let size = kept.size in omega (arith, size, small)
+    small_after = let size = kept.lent.same_size in omega (arith, size, small)
 
     same_byte : (x : Memory) (a : ℕ) → IsMapped (real_in r.dat) (Named t.guests) x (shown s) → IsKept (real_in r.dat) (lent_memory r.dat) x → (o : Option ℕ) → real_in r.dat a ≡ o → get_or x.bytes a 0 ≡ get_or (lent_bytes s.dat) a 0
     same_byte x a map k None none = k.bytes a none ∙ sym (kept.away a none)
-    same_byte x a map k (Some place) is = map.bytes a place is ∙ sym ((lent_in s small_after).bytes a place (same_real r.dat s.dat kept.lent kept.size a ∙ is))
+    same_byte x a map k (Some place) is = map.bytes a place is ∙ sym ((lent_in s small_after).bytes a place (same_real r.dat s.dat kept.lent a ∙ is))
 
     same_storage : (x : Memory) → IsMapped (real_in r.dat) (Named t.guests) x (shown s) → IsKept (real_in r.dat) (lent_memory r.dat) x → x ≡ lent_memory s.dat
-    same_storage x map k = ap₂ memory_of (ext_get_or 0 x.bytes (lent_bytes s.dat) (k.size ∙ sym kept.size) (λ a lt. same_byte x a map k (real_in r.dat a) refl)) (k.keys ∙ sym kept.keys)
+    same_storage x map k = ap₂ memory_of (ext_get_or 0 x.bytes (lent_bytes s.dat) (k.size ∙ sym kept.lent.same_size) (λ a lt. same_byte x a map k (real_in r.dat a) refl)) (k.keys ∙ sym kept.keys)
 
     at_end : (form : Form) (e : D) (end : Ending) (at : ℕ) → at ≡ guest_of places end.at → MeetsFrozen (real_in r.dat) t.guests form h (start_spot (guest_of places start)) (lent_memory r.dat) d (renamed_ending (guest_of places) end) (shown s) e
         → Reaches form h (Fetching (start_spot (guest_of places start)) (lent_memory r.dat) d) (Over (record { at = at; unit = end.unit; channel = end.channel; count = end.count }) (lent_memory s.dat) e)
@@ -104,6 +104,6 @@ kept_translated r s places nodes m0 kept t = record {
   guests = t.guests;
   copy = t.copy;
   words = t.words;
-  reals = λ a j. t.reals a j ∙ same_place (real_in r.dat) (real_in s.dat) (λ k. sym (same_real r.dat s.dat kept.lent kept.size k)) (t.guests.lists a j);
-  held = λ a named low. (let size = kept.size in same_there r.dat s.dat kept.lent (a / 4096) ∙ t.held a named (omega (arith, size, low)));
+  reals = λ a j. t.reals a j ∙ same_place (real_in r.dat) (real_in s.dat) (λ k. sym (same_real r.dat s.dat kept.lent k)) (t.guests.lists a j);
+  held = λ a named low. (let size = kept.lent.same_size in same_there r.dat s.dat kept.lent (a / 4096) ∙ t.held a named (omega (arith, size, low)));
 }

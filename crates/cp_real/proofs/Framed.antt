@@ -13,7 +13,7 @@ use Rattle.cp_frames.specs.Layout.{frame_of}
 use Rattle.cp_frames.proofs.Layouts.{dec_eq}
 use Rattle.cp_frames.proofs.Tables.{page_is}
 use Rattle.cp_frames.proofs.Parts.{page_range, length-put}
-use Rattle.cp_real.specs.Layout.{is_frame, own_page, page_at, byte_of, key_of, framed_bytes, real_bytes, real_keys, real_of}
+use Rattle.cp_real.specs.Layout.{length-framed, is_frame, own_page, page_at, byte_of, key_of, framed_bytes, real_bytes, real_keys, real_of}
 
 put_before : (bytes xs : List ℕ) (start a : ℕ) → start + length xs ≤ length bytes → a < start → get_or (put bytes start xs) a 0 ≡ get_or bytes a 0
 unfolding put
@@ -110,10 +110,6 @@ module _ (owners : List (Option UserPage)) (user size frame : ℕ) where
 
   pub page_at_none : ((p : Page) → frame_of owners user p.0 ≡ Some frame → ⊥) → page_at owners user size frame ≡ None
   page_at_none not = none_of (get_or owners frame None) not
-
-pub length-framed : (storage : List ℕ) (owners : List (Option UserPage)) (user : ℕ) → length (framed_bytes storage owners user) ≡ 4096 * length owners
-unfolding framed_bytes
-length-framed storage owners user = length-map-range_with_len _ 0 (4096 * length owners)
 
 pub length-keys : (storage keys : List ℕ) (owners : List (Option UserPage)) (user area : ℕ) → length (real_keys storage keys owners user area) ≡ 2 * length owners + (area + 2047) / 2048
 unfolding real_keys

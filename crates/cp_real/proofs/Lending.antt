@@ -10,7 +10,8 @@ use Rattle.cp_frames.specs.declared.numbers.UserPage.{UserPage}
 use Rattle.cp_frames.specs.Layout.{frame_of}
 use Rattle.cp_frames.proofs.Layouts.{frame_found, same_frame}
 use Rattle.cp_real.specs.Layout.{at_frame, real_of, is_real_page, real_bytes, real_keys, page_at, byte_of, key_of, framed_bytes}
-use Rattle.cp_real.proofs.Framed.{real_is, page_at_some, get_framed, length-framed, key_framed}
+use Rattle.cp_real.proofs.Framed.{real_is, page_at_some, get_framed, key_framed}
+use Rattle.cp_real.specs.Layout.{length-framed}
 use Rattle.s370_walk.specs.Hardware.{memory_of, fault_of, area}
 use Rattle.channel_laws.specs.Mapped.{IsMapped, Named, Program}
 use Rattle.channel_laws.specs.Unstuck.{ArePresent}
@@ -18,7 +19,7 @@ use Rattle.s370_store.specs.declared.Fault.TheVariants.{Addressing}
 use Rattle.std.proofs.Math.Decide.{dec_lt}
 use Rattle.std.proofs.lemmas.Bool.{lt-ltb}
 use Rattle.std.specs.Prelude.{is_some, nat_lt}
-use Rattle.cp_mapped.specs.Lent.{IsLent, AreHeld}
+use Rattle.cp_real.specs.Mapped.{IsLent, AreHeld}
 
 record IsReal (owners : List (Option UserPage)) (user size a r : ℕ) : Type 0 where
   frame : ℕ

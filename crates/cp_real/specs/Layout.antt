@@ -1,6 +1,8 @@
 -- Real storage: the pages of one user at the addresses of their frames, and an area behind the frames.
 use Rattle.std.specs.Prelude.{ℕ, ◌+◌, ◌*◌, ◌/◌, ◌%◌, Bool, true, false, ◌&&◌, ◌==◌, nat_lt, nat_le, if◌then◌else◌, List, ◌++◌, map, length, slice_index, slice_index_or, Option, Some, None, is_some, replicate}
 use Rattle.std.specs.List.{range_with_len}
+use Rattle.std.proofs.Common.{◌≡◌, ◌∙◌, ap, length-append}
+use Rattle.std.proofs.lemmas.List.FromFn.{length-map-range_with_len}
 use Rattle.cp_frames.specs.declared.numbers.UserPage.{UserPage}
 use Rattle.cp_dat.specs.declared.dat.Dat.{Dat}
 use Rattle.cp_frames.specs.Layout.{frame_of}
@@ -38,14 +40,24 @@ framed_bytes storage owners user =
 abbrev pub real_bytes : List ℕ → List (Option UserPage) → ℕ → List ℕ → List ℕ
 real_bytes storage owners user area = framed_bytes storage owners user ++ area
 
+pub length-framed : (storage : List ℕ) (owners : List (Option UserPage)) (user : ℕ) → length (framed_bytes storage owners user) ≡ 4096 * length owners
+unfolding framed_bytes
+length-framed storage owners user = length-map-range_with_len _ 0 (4096 * length owners)
+
+pub length-real : (storage : List ℕ) (owners : List (Option UserPage)) (user : ℕ) (area : List ℕ) → length (real_bytes storage owners user area) ≡ 4096 * length owners + length area
+length-real storage owners user area = length-append (framed_bytes storage owners user) area ∙ ap (λ k. k + length area) (length-framed storage owners user)
+
 -- the keys of the user's pages in their frames, and the key zero for each block of the area
 unfoldable pub real_keys : List ℕ → List ℕ → List (Option UserPage) → ℕ → ℕ → List ℕ
 real_keys storage keys owners user area =
     map (λ b. key_of keys (page_at owners user (length storage) (b / 2)) (b % 2)) (range_with_len 0 (2 * length owners)) ++ replicate ((area + 2047) / 2048) 0
 
 -- a frame is present if one of the user's pages stands in it; the area is present
+abbrev pub is_page_shown : List (Option UserPage) → ℕ → ℕ → ℕ → Bool
+is_page_shown owners user size page = if nat_lt page (length owners) then is_some (page_at owners user size page) else true
+
 abbrev pub is_real_page : List ℕ → List (Option UserPage) → ℕ → ℕ → Bool
-is_real_page storage owners user page = if nat_lt page (length owners) then is_some (page_at owners user (length storage) page) else true
+is_real_page storage owners user page = is_page_shown owners user (length storage) page
 
 abbrev pub page_of : Dat → ℕ → Option ℕ
 page_of d frame = page_at (lent_pool d).supply.owners (user_of d) (length (lent_bytes d)) frame

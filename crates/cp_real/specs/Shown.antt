@@ -1,11 +1,11 @@
 -- What real storage shows, and what is kept of those who lent it.
-use Rattle.std.specs.Prelude.{◌≡◌, ℕ, Bool, List, None, length, slice_index, refl}
-use Rattle.std.proofs.Common.{◌∙◌, ap}
+use Rattle.std.specs.Prelude.{◌≡◌, ℕ, ◌+◌, ◌*◌, Bool, List, None, length, slice_index, refl}
+use Rattle.std.proofs.Common.{◌∙◌, ap, sym}
 use Rattle.cp_frames.specs.Layout.{FrameSupply}
 use Rattle.cp_dat.specs.declared.dat.Dat.{Dat}
 use Rattle.cp_dat.specs.Lent.{lent_bytes, lent_keys, lent_pool, user_of, KeepsRest, keeps_rest_same, keeps_rest_on}
 use Rattle.cp_real.specs.declared.real.Real.{Real}
-use Rattle.cp_real.specs.Layout.{real_bytes, real_keys, is_real_page, real_of, real_in}
+use Rattle.cp_real.specs.Layout.{real_bytes, real_keys, is_page_shown, is_real_page, length-real, real_of, real_in}
 
 abbrev pub real_bytes_of : Real → List ℕ
 real_bytes_of r = real_bytes (lent_bytes r.dat) (lent_pool r.dat).supply.owners (user_of r.dat) r.area.now
@@ -21,18 +21,17 @@ is_real_page_of r = is_real_page (lent_bytes r.dat) (lent_pool r.dat).supply.own
 pub record KeepsReal (old new : Real) : Type 0 where
   pub lent : KeepsRest old.dat new.dat
   pub keys : lent_keys new.dat ≡ lent_keys old.dat
-  pub size : length (lent_bytes new.dat) ≡ length (lent_bytes old.dat)
   pub away : (a : ℕ) → real_in old.dat a ≡ None → slice_index (lent_bytes new.dat) a ≡ slice_index (lent_bytes old.dat) a
   pub same_area : new.area.ghost_name ≡ old.area.ghost_name
   pub area : length new.area.now ≡ length old.area.now
 
 pub keeps_real_same : (r : Real) → KeepsReal r r
-keeps_real_same r = record { lent = keeps_rest_same r.dat; keys = refl; size = refl; away = λ a none. refl; same_area = refl; area = refl }
+keeps_real_same r = record { lent = keeps_rest_same r.dat; keys = refl; away = λ a none. refl; same_area = refl; area = refl }
 
 -- the real addresses stay the same
-pub same_real : (old new : Dat) → KeepsRest old new → length (lent_bytes new) ≡ length (lent_bytes old) → (a : ℕ) → real_in new a ≡ real_in old a
-same_real old new kept size a =
-    ap (λ s. real_of (lent_pool new).supply.owners (user_of new) s a) size
+pub same_real : (old new : Dat) → KeepsRest old new → (a : ℕ) → real_in new a ≡ real_in old a
+same_real old new kept a =
+    ap (λ s. real_of (lent_pool new).supply.owners (user_of new) s a) kept.same_size
     ∙ ap (λ (o : FrameSupply). real_of o.owners (user_of new) (length (lent_bytes old)) a) kept.same_supply
     ∙ ap (λ u. real_of (lent_pool old).supply.owners u (length (lent_bytes old)) a) kept.same_user
 
@@ -40,8 +39,20 @@ pub keeps_real_on : (r s t : Real) → KeepsReal r s → KeepsReal s t → Keeps
 keeps_real_on r s t a b = record {
   lent = keeps_rest_on r.dat s.dat t.dat a.lent b.lent;
   keys = b.keys ∙ a.keys;
-  size = b.size ∙ a.size;
-  away = λ at none. b.away at (same_real r.dat s.dat a.lent a.size at ∙ none) ∙ a.away at none;
+  away = λ at none. b.away at (same_real r.dat s.dat a.lent at ∙ none) ∙ a.away at none;
   same_area = b.same_area ∙ a.same_area;
   area = b.area ∙ a.area;
 }
+
+pub keeps_real_size : (r s : Real) → KeepsReal r s → length (real_bytes_of s) ≡ length (real_bytes_of r)
+keeps_real_size r s k =
+    length-real (lent_bytes s.dat) (lent_pool s.dat).supply.owners (user_of s.dat) s.area.now
+    ∙ ap (λ (o : FrameSupply). 4096 * length o.owners + length s.area.now) k.lent.same_supply
+    ∙ ap (λ n. 4096 * length (lent_pool r.dat).supply.owners + n) k.area
+    ∙ sym (length-real (lent_bytes r.dat) (lent_pool r.dat).supply.owners (user_of r.dat) r.area.now)
+
+pub keeps_real_present : (r s : Real) → KeepsReal r s → is_real_page_of s ≡ is_real_page_of r
+keeps_real_present r s k =
+    ap (λ (o : FrameSupply). is_page_shown o.owners (user_of s.dat) (length (lent_bytes s.dat))) k.lent.same_supply
+    ∙ ap (λ u. is_page_shown (lent_pool r.dat).supply.owners u (length (lent_bytes s.dat))) k.lent.same_user
+    ∙ ap (λ n. is_page_shown (lent_pool r.dat).supply.owners (user_of r.dat) n) k.lent.same_size

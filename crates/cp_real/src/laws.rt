@@ -6,7 +6,7 @@ ghost use Rattle.s370_walk.specs.Hardware.{memory_of};
 ghost use Rattle.channel_laws.specs.Mapped.{IsMapped, Named, Program};
 ghost use Rattle.channel_laws.specs.Unstuck.{ArePresent};
 ghost use Rattle.cp_real.specs.Layout.{real_bytes, real_keys, is_real_page, real_of};
-ghost use Rattle.cp_mapped.specs.Lent.{IsLent, AreHeld};
+ghost use Rattle.cp_real.specs.Mapped.{IsLent, AreHeld};
 
 /// What stands at a user's addresses stands at the addresses of his frames, under the same keys.
 pub fn real_storage_is_mapped()

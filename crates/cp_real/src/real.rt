@@ -145,7 +145,7 @@ impl<'a, 'b> Keyring for RealKeys<'a, 'b> {
 }
 
 impl<'a> Storage for Real<'a> {
-    ghost use Rattle.cp_real.specs.Shown.{real_bytes_of, real_keys_of, is_real_page_of, KeepsReal, keeps_real_same, keeps_real_on};
+    ghost use Rattle.cp_real.specs.Shown.{real_bytes_of, real_keys_of, is_real_page_of, KeepsReal, keeps_real_same, keeps_real_size, keeps_real_present, keeps_real_on};
 
     ghost bytes = { real_bytes_of };
 
@@ -217,7 +217,11 @@ impl<'a> Storage for Real<'a> {
 
     ghost keeps_same = { keeps_real_same };
 
+    ghost keeps_size = { keeps_real_size };
+
+    ghost keeps_present = { keeps_real_present };
+
     ghost keeps_on = { keeps_real_on };
 
-    ghost placed_kept = { λ s t block e k placed. placed };
+    ghost placed_kept = { λ s t block k placed. placed };
 }

@@ -1,5 +1,5 @@
-use Rattle.cp_mapped.proofs.Lending.{lent_mapped, lent_present}
-use Rattle.cp_mapped.proofs.lent.held_programs_are_mapped.Goals as goal
+use Rattle.cp_real.proofs.Lending.{lent_mapped, lent_present}
+use Rattle.cp_real.proofs.laws.held_programs_are_mapped.Goals as goal
 
 pub returns-clause-mapped : goal.returns-clause-mapped
 returns-clause-mapped c = λ storage keys own owners user p small few pages held. lent_mapped storage keys own owners user p small few pages held

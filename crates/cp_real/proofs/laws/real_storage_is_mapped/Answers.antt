@@ -1,5 +1,5 @@
-use Rattle.cp_mapped.proofs.Lending.{lent}
-use Rattle.cp_mapped.proofs.lent.real_storage_is_mapped.Goals as goal
+use Rattle.cp_real.proofs.Lending.{lent}
+use Rattle.cp_real.proofs.laws.real_storage_is_mapped.Goals as goal
 
 pub returns : goal.returns
 returns c = λ storage keys area owners user small few. lent storage keys area owners user small few

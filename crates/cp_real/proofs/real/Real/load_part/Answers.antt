@@ -1,7 +1,8 @@
 use Rattle.std.proofs.Common.{◌*◌, length, sym, ◌∙◌, arith, length-append}
 use Rattle.cp_dat.specs.Lent.{lent_bytes, lent_pool, user_of}
 use Rattle.cp_real.specs.Layout.{framed_bytes}
-use Rattle.cp_real.proofs.Framed.{framed_range, area_range, length-framed}
+use Rattle.cp_real.proofs.Framed.{framed_range, area_range}
+use Rattle.cp_real.specs.Layout.{length-framed}
 use Rattle.cp_real.proofs.real.Real.load_part.Goals as goal
 
 pub returns-in-Some : goal.returns-in-Some

@@ -4,7 +4,8 @@ use Rattle.cp_frames.specs.Layout.{FrameSupply}
 use Rattle.cp_frames.proofs.Parts.{length-put}
 use Rattle.cp_real.specs.Layout.{framed_bytes}
 use Rattle.cp_real.specs.Shown.{real_bytes_of}
-use Rattle.cp_real.proofs.Framed.{away_put, real_put, real_keys_put, put_second, length-framed}
+use Rattle.cp_real.proofs.Framed.{away_put, real_put, real_keys_put, put_second}
+use Rattle.cp_real.specs.Layout.{length-framed}
 use Rattle.cp_real.proofs.real.Real.store_part.Goals as goal
 
 pub put_at-requires : goal.put_at-requires
@@ -34,7 +35,7 @@ returns-in-Some-clause-keys c =
     let d = c.args.self.now.dat in
     let e = c.store.new.self in
     real_keys_put (lent_bytes d) (lent_bytes e) (lent_keys d) (lent_keys e) (lent_pool d).supply.owners (lent_pool e).supply.owners (user_of d) (user_of e) (length c.args.self.now.area.now)
-    c.store.ensures.size c.store.ensures.keys (ap (λ (s : FrameSupply). s.owners) c.store.ensures.rest.same_supply) c.store.ensures.rest.same_user
+    c.store.ensures.rest.same_size c.store.ensures.keys (ap (λ (s : FrameSupply). s.owners) c.store.ensures.rest.same_supply) c.store.ensures.rest.same_user
 
 pub returns-else-frame-self-clause-bytes : goal.returns-else-frame-self-clause-bytes
 returns-else-frame-self-clause-bytes c =
@@ -51,7 +52,6 @@ returns-in-Some-clause-rest c =
     record {
       lent = c.store.ensures.rest;
       keys = c.store.ensures.keys;
-      size = c.store.ensures.size;
       away = λ a none. ap (λ (l : List ℕ). get_or l a 0) c.store.ensures.bytes
           ∙ away_put (lent_bytes d) c.args.from.now (lent_pool d).supply.owners (user_of d) c.args.start c.in-Some.page (sym c.page_at.ensures.page ∙ c.in-Some.is) c.requires.one_page a none;
       same_area = refl;

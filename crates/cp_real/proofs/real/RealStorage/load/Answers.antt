@@ -4,7 +4,7 @@ use Rattle.cp_dat.specs.Lent.{lent_bytes, lent_pool, user_of}
 use Rattle.cp_frames.proofs.Parts.{range_range}
 use Rattle.cp_real.specs.Layout.{framed_bytes}
 use Rattle.cp_real.specs.Shown.{real_bytes_of}
-use Rattle.cp_real.proofs.Framed.{length-framed}
+use Rattle.cp_real.specs.Layout.{length-framed}
 use Rattle.cp_real.proofs.real.RealStorage.load.Goals as goal
 
 pub overflow_add-start : goal.overflow_add-start

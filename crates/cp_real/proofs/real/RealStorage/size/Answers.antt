@@ -1,6 +1,6 @@
 use Rattle.std.proofs.Common.{length, arith, length-append}
 use Rattle.cp_dat.specs.Lent.{lent_bytes, lent_pool, user_of}
-use Rattle.cp_real.proofs.Framed.{length-framed}
+use Rattle.cp_real.specs.Layout.{length-framed}
 use Rattle.cp_real.specs.Layout.{framed_bytes}
 use Rattle.cp_real.proofs.Framed.{length-keys}
 use Rattle.cp_real.proofs.real.RealStorage.size.Goals as goal

@@ -6,7 +6,7 @@ use Rattle.cp_dat.specs.Lent.{lent_bytes, lent_pool, user_of}
 use Rattle.cp_frames.proofs.Parts.{put_put, put_none}
 use Rattle.cp_real.specs.Layout.{framed_bytes}
 use Rattle.cp_real.specs.Shown.{real_bytes_of, is_real_page_of, keeps_real_on}
-use Rattle.cp_real.proofs.Framed.{length-framed}
+use Rattle.cp_real.specs.Layout.{length-framed}
 use Rattle.cp_real.proofs.real.RealStorage.store.Goals as goal
 
 pub returns-then-is_empty-clause-bytes : goal.returns-then-is_empty-clause-bytes
