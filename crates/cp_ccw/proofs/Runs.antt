@@ -3,6 +3,8 @@ use Rattle.std.specs.Prelude.{◌≡◌, ℕ, ◌%◌, ◌≤◌, List, [], leng
 use Rattle.std.proofs.Common.{ap, sym, ◌∙◌, ap₂, subst, arith, get_or, ext_get_or}
 use Rattle.s370_walk.specs.declared.parts.Word.{Word}
 use Rattle.s370_walk.specs.declared.parts.Ending.{Ending}
+use Rattle.s370_walk.specs.declared.parts.Order.{Order}
+use Rattle.std.specs.Prelude.{Bool}
 use Rattle.s370_walk.specs.Hardware.{Memory, memory_of}
 use Rattle.s370_walk.specs.Walk.{Form, Written, Setting, live, Fetching, Over, Reaches, start_spot}
 use Rattle.s370_channel.specs.Progress.{MatchStuck}
@@ -11,7 +13,8 @@ use Rattle.s370_channel.specs.declared.running.ChannelError.{ChannelError}
 use Rattle.s370_channel.specs.declared.running.ChannelError.TheVariants as errors
 use Rattle.s370_walk.specs.Stuck.{IsStuck}
 use Rattle.channel_laws.specs.declared.places.Place.{Place}
-use Rattle.channel_laws.specs.Frozen.{words_frozen, IsSteady}
+use Rattle.channel_laws.specs.Frozen.{words_frozen}
+use Rattle.s370_walk.specs.Frozen.{IsSteady}
 use Rattle.channel_laws.specs.Renaming.{renamed_ending}
 use Rattle.channel_laws.specs.Mapped.{Named, IsMapped, IsKept}
 use Rattle.channel_laws.specs.Copy.{guest_of, IsPlace, MeetsFrozen}
@@ -39,6 +42,10 @@ written_by words lists = record { text = λ _ a. words a; block = λ _ p number.
 pub few_frames : (r : Real) → length (lent_pool r.dat).supply.owners ≤ 4096
 few_frames r = let counted = r.counted in let few = r.few in omega (arith, counted, few)
 
+-- a user's storage is whole pages
+pub whole_in : (r : Real) → length (lent_bytes r.dat) % 4096 ≡ 0
+whole_in r = let sized = r.dat.sized in let whole = r.dat.whole in omega (arith, sized, whole)
+
 abbrev pub shown : Real → Memory
 shown r = memory_of (real_bytes_of r) (real_keys_of r)
 
@@ -52,9 +59,9 @@ module _ {D : Type 0} (h : Setting D) (places : List Place) (nodes : List Node) 
   mapped : IsMapped (real_in r.dat) (Named t.guests) (lent_memory r.dat) (shown r)
   mapped = lent_mapped (lent_bytes r.dat) (lent_keys r.dat) r.area.now (lent_pool r.dat).supply.owners (user_of r.dat) t.guests small (few_frames r) whole t.held
 
-  pub never_absent : (error : ChannelError) → MatchStuck (table_written nodes) h (is_real_page_of r) (Fetching (start_spot start) (shown r) d) error → error ≡ errors.Memory
-  never_absent errors.Memory stuck = refl
-  never_absent (errors.Absent page) stuck =
+  pub never_absent : (needs : D → Order → Bool) (error : ChannelError) → MatchStuck (table_written nodes) h needs (is_real_page_of r) (Fetching (start_spot start) (shown r) d) error → error ≡ errors.Memory
+  never_absent needs errors.Memory stuck = refl
+  never_absent needs (errors.Absent page) stuck =
       absurd (never_stuck (real_in r.dat) t.guests h (is_real_page_of r) (start_spot start) (lent_memory r.dat) (shown r) d page.0 (lent_in r small).paged mapped
       (lent_present (lent_bytes r.dat) (lent_pool r.dat).supply.owners (user_of r.dat))
       (subst (λ (w : Written). IsStuck w h (is_real_page_of r) (Fetching (start_spot start) (shown r) d) page.0) written_is stuck))

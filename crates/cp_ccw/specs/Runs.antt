@@ -6,7 +6,8 @@ use Rattle.s370_walk.specs.Walk.{Form, live, Fetching, Over, Reaches, start_spot
 use Rattle.s370_channel.specs.declared.limits.Limits.{Limits}
 use Rattle.s370_channel.specs.Progress.{setting}
 use Rattle.s370_channel.specs.Guest.{guest_written}
-use Rattle.channel_laws.specs.Frozen.{words_frozen, IsSteady}
+use Rattle.channel_laws.specs.Frozen.{words_frozen}
+use Rattle.s370_channel.specs.Reading.{IsSteadyFrom}
 use Rattle.cp_dat.specs.declared.dat.Dat.{Dat}
 use Rattle.cp_dat.specs.Lent.{lent_bytes, lent_keys}
 use Rattle.cp_real.specs.declared.real.Real.{Real}
@@ -23,11 +24,7 @@ lent_memory d = memory_of (lent_bytes d) (lent_keys d)
 abbrev pub IsRunOf : {D : Type 0} → Form → Machine D → Limits → ℕ → Dat → D → Ending → Dat → D → Type 0
 IsRunOf form machine limits start old d end new e = Reaches form (setting machine limits) (Fetching (start_spot start) (lent_memory old) d) (Over end (lent_memory new) e)
 
--- each word, each word of a list and each byte of a seek argument that the guest's program comes to is as it stood in m0
-abbrev pub IsSteadyFrom : {D : Type 0} → Machine D → Limits → Memory → ℕ → Dat → D → Type 0
-IsSteadyFrom machine limits m0 start old d = IsSteady (live guest_written) (setting machine limits) m0 (Fetching (start_spot start) (lent_memory old) d)
-
 -- the guest's program comes to this end with its words as they stood in m0, and if they stay so, by itself
 pub record IsGuestsRun {D : Type 0} (machine : Machine D) (limits : Limits) (m0 : Memory) (start : ℕ) (old : Dat) (d : D) (end : Ending) (new : Dat) (e : D) : Type 0 where
   pub frozen : IsRunOf (words_frozen (live guest_written) m0) machine limits start old d end new e
-  pub steady : IsSteadyFrom machine limits m0 start old d → IsRunOf (live guest_written) machine limits start old d end new e
+  pub steady : IsSteadyFrom (setting machine limits) m0 (Fetching (start_spot start) (lent_memory old) d) → IsRunOf (live guest_written) machine limits start old d end new e
