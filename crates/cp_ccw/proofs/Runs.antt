@@ -46,13 +46,16 @@ few_frames r = let counted = r.counted in let few = r.few in omega (arith, count
 pub whole_in : (r : Real) → length (lent_bytes r.dat) % 4096 ≡ 0
 whole_in r = let sized = r.dat.sized in let whole = r.dat.whole in omega (arith, sized, whole)
 
+pub short_in : (r : Real) → length (lent_bytes r.dat) ≤ 4294967295
+short_in r = r.short
+
 abbrev pub shown : Real → Memory
 shown r = memory_of (real_bytes_of r) (real_keys_of r)
 
-pub lent_in : (r : Real) → length (lent_bytes r.dat) ≤ 4194304 → IsLent (lent_bytes r.dat) (lent_keys r.dat) r.area.now (lent_pool r.dat).supply.owners (user_of r.dat)
+pub lent_in : (r : Real) → length (lent_bytes r.dat) ≤ 4294967295 → IsLent (lent_bytes r.dat) (lent_keys r.dat) r.area.now (lent_pool r.dat).supply.owners (user_of r.dat)
 lent_in r small = lent (lent_bytes r.dat) (lent_keys r.dat) r.area.now (lent_pool r.dat).supply.owners (user_of r.dat) small (few_frames r)
 
-module _ {D : Type 0} (h : Setting D) (places : List Place) (nodes : List Node) (start : ℕ) (m0 : Memory) (r : Real) (d : D) (t : IsTranslatedFor r.dat places nodes m0) (small : length (lent_bytes r.dat) ≤ 4194304) (whole : length (lent_bytes r.dat) % 4096 ≡ 0) where
+module _ {D : Type 0} (h : Setting D) (places : List Place) (nodes : List Node) (start : ℕ) (m0 : Memory) (r : Real) (d : D) (t : IsTranslatedFor r.dat places nodes m0) (small : length (lent_bytes r.dat) ≤ 4294967295) (whole : length (lent_bytes r.dat) % 4096 ≡ 0) where
   written_is : table_written nodes ≡ real_written (real_in r.dat) t.guests
   written_is = λ i. written_by (λ a. t.words a i) (λ a j. t.reals a j i)
 
@@ -67,7 +70,7 @@ module _ {D : Type 0} (h : Setting D) (places : List Place) (nodes : List Node) 
       (subst (λ (w : Written). IsStuck w h (is_real_page_of r) (Fetching (start_spot start) (shown r) d) page.0) written_is stuck))
 
   module _ (s : Real) (kept : KeepsReal r s) where
-    small_after : length (lent_bytes s.dat) ≤ 4194304
+    small_after : length (lent_bytes s.dat) ≤ 4294967295
     small_after = let size = kept.lent.same_size in omega (arith, size, small)
 
     same_byte : (x : Memory) (a : ℕ) → IsMapped (real_in r.dat) (Named t.guests) x (shown s) → IsKept (real_in r.dat) (lent_memory r.dat) x → (o : Option ℕ) → real_in r.dat a ≡ o → get_or x.bytes a 0 ≡ get_or (lent_bytes s.dat) a 0

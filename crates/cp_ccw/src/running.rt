@@ -40,7 +40,6 @@ pub fn run_translated<D: Device>(
     limits: &Limits,
     device: &mut D,
 ) -> Result<Ending, ChannelError>
-    requires small { length (lent_bytes (dat_of real.old)) ≤ 4194304 }
     ensures runs { IfOk result (λ ending. (m0 : Memory) → IsTranslatedFor (dat_of real.old) table.now.places.items table.now.nodes.items m0 → IsPlace table.now.places.items (guest_text m0) table.now.start → IsGuestsRun D.machine limits.now m0 (guest_of table.now.places.items table.now.start) (dat_of real.old) device.old ending (dat_of real.new) device.new) }
     ensures never_absent { IfErr result (λ error. (m0 : Memory) → IsTranslatedFor (dat_of real.old) table.now.places.items table.now.nodes.items m0 → error ≡ errors.Memory) }
     ensures again { (m0 : Memory) → IsTranslatedFor (dat_of real.old) table.now.places.items table.now.nodes.items m0 → IsTranslatedFor (dat_of real.new) table.now.places.items table.now.nodes.items m0 }
@@ -70,7 +69,6 @@ pub fn run_guest<D: Device>(
 ) -> Result<Ending, CopyError>
     requires even { start % 8 ≡ 0 }
     requires low { start < 2 ^ 24 }
-    requires small { length (lent_bytes (dat_of real.old)) ≤ 4194304 }
     ensures runs { IfOk result (λ ending. IsGuestsRun D.machine limits.now (lent_memory (dat_of real.old)) start (dat_of real.old) device.old ending (dat_of real.new) device.new) }
     ensures away { IfErr result (IfAbsent (λ page. IsAway (length (lent_bytes (dat_of real.old))) (is_lent_page (dat_of real.old)) page × IsSomeWordPage (lent_memory (dat_of real.old)) page)) }
     ensures untouched { IfErr result (IfAbsent (λ page. real.new ≡ real.old)) }

@@ -76,7 +76,7 @@ one_test : (size : ℕ) (keys : List ℕ) (key : ℕ) (access : Access) (a : ℕ
 unfolding is_addressable is_permitted
 one_test size keys key access a lt = let fits : nat_le (a + 1) size ≡ true = grind (arith, nat_tests) in rw fits refl
 
-pub lent : (storage keys own : List ℕ) (owners : List (Option UserPage)) (user : ℕ) → length storage ≤ 4194304 → length owners ≤ 4096 → IsLent storage keys own owners user
+pub lent : (storage keys own : List ℕ) (owners : List (Option UserPage)) (user : ℕ) → length storage ≤ 4294967295 → length owners ≤ 4096 → IsLent storage keys own owners user
 lent storage keys own owners user small few =
     let long = length-framed storage owners user in
     let all = length-append (framed_bytes storage owners user) own in
@@ -123,7 +123,7 @@ module _ (storage keys : List ℕ) (owners : List (Option UserPage)) (user : ℕ
       ]
 
 -- what stands in frames is there for a program whose pages do
-pub lent_mapped : (storage keys own : List ℕ) (owners : List (Option UserPage)) (user : ℕ) (c : Program) → length storage ≤ 4194304 → length owners ≤ 4096 → length storage % 4096 ≡ 0 → AreHeld c owners user (length storage)
+pub lent_mapped : (storage keys own : List ℕ) (owners : List (Option UserPage)) (user : ℕ) (c : Program) → length storage ≤ 4294967295 → length owners ≤ 4096 → length storage % 4096 ≡ 0 → AreHeld c owners user (length storage)
     → IsMapped (real_of owners user (length storage)) (Named c) (memory_of storage keys) (memory_of (real_bytes storage owners user own) (real_keys storage keys owners user (length own)))
 lent_mapped storage keys own owners user c small few pages held =
     let all = lent storage keys own owners user small few in

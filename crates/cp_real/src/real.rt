@@ -18,6 +18,7 @@ pub struct Real<'a> {
     ghost counted: { frames ≡ length (lent_pool dat).supply.owners },
     ghost few: { frames ≤ 4096 },
     ghost small: { length area.now ≤ 2147483648 },
+    ghost short: { length (lent_bytes dat) ≤ 4294967295 },
 }
 
 impl<'a> Real<'a> {
@@ -33,6 +34,7 @@ impl<'a> Real<'a> {
         ensures area { result.area.now ≡ area.old }
         ensures same_area { result.area.ghost_name ≡ area.entry.ghost_name }
     {
+        let _bytes = dat.size();
         Real { dat, frames, area }
     }
 
