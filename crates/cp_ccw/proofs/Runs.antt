@@ -21,7 +21,7 @@ use Rattle.channel_laws.specs.Copy.{guest_of, IsPlace, MeetsFrozen}
 use Rattle.channel_laws.specs.Unstuck.{real_written}
 use Rattle.channel_laws.proofs.Copies.{frozen_end, steady_end}
 use Rattle.channel_laws.proofs.NeverStuck.{never_stuck}
-use Rattle.cp_graph.specs.declared.copying.Node.{Node}
+use Rattle.cp_graph.specs.declared.program.Node.{Node}
 use Rattle.cp_dat.specs.Lent.{lent_bytes, lent_keys, lent_pool, user_of}
 use Rattle.cp_real.specs.declared.real.Real.{Real}
 use Rattle.std.specs.Prelude.{◌/◌}

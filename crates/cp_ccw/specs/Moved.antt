@@ -1,7 +1,7 @@
 -- Lists of addresses that are given real ones, from the first entry on.
 use Rattle.std.specs.Prelude.{◌≡◌, ℕ, ◌<◌, ◌≤◌, List, length, slice_index_or, Option, None}
 use Rattle.channel_laws.specs.Mapped.{real_place}
-use Rattle.cp_graph.specs.declared.copying.Node.{Node}
+use Rattle.cp_graph.specs.declared.program.Node.{Node}
 use Rattle.cp_graph.specs.Table.{program_of}
 
 -- the first entries have real addresses, the others are as they were

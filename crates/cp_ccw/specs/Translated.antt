@@ -6,7 +6,7 @@ use Rattle.s370_channel.specs.Guest.{guest_written}
 use Rattle.channel_laws.specs.declared.places.Place.{Place}
 use Rattle.channel_laws.specs.Mapped.{Program, real_place}
 use Rattle.channel_laws.specs.Copy.{IsCopyOf}
-use Rattle.cp_graph.specs.declared.copying.Node.{Node}
+use Rattle.cp_graph.specs.declared.program.Node.{Node}
 use Rattle.cp_graph.specs.Table.{program_of}
 use Rattle.cp_dat.specs.declared.dat.Dat.{Dat}
 use Rattle.cp_dat.specs.Lent.{lent_bytes, lent_pool, user_of}

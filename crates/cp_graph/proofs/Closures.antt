@@ -10,8 +10,8 @@ use Rattle.std.specs.Prelude.{◌≤◌, ◌-◌, ◌≢◌, ◌++◌, length, s
 use Rattle.std.proofs.Common.{sym, ◌∙◌, ap, arith, inl, inr, length-append}
 use Rattle.std.proofs.Math.Seq.{get_or-append_seam}
 use Rattle.std.proofs.lemmas.List.{get_or_append_left}
-use Rattle.cp_graph.specs.declared.copying.CopyError.{CopyError}
-use Rattle.cp_graph.specs.declared.copying.CopyError.TheVariants as errors
+use Rattle.cp_graph.specs.declared.program.CopyError.{CopyError}
+use Rattle.cp_graph.specs.declared.program.CopyError.TheVariants as errors
 use Rattle.cp_graph.specs.Table.{IsPart}
 use Rattle.cp_graph.proofs.Tables.{at_or_before}
 use Rattle.cp_graph.specs.Closure.{IsDataPage, IfAbsent, IsWordPage, IsEntryPage, IsSomeWordPage}

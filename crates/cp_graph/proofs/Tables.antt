@@ -28,7 +28,7 @@ use Rattle.s370_walk.specs.Blocks.{straight}
 use Rattle.channel_laws.specs.Tracks.{IsListOf}
 use Rattle.channel_laws.proofs.Tracked.{tracks_begin, tracks_skip, tracks_on, tracks_place}
 use Rattle.channel_laws.specs.Copy.{past, guest_of, IsPlace, IsCopyOf}
-use Rattle.cp_graph.specs.declared.copying.Node.{Node}
+use Rattle.cp_graph.specs.declared.program.Node.{Node}
 use Rattle.cp_graph.specs.Table.{word_in, entry_in, program_of, IsLink, HasLinks, IsGood, IsCopied, HasListOf, IsRow, AreRows, Grows, IsLinked, leads_next, leads_skipped, IsJumpPlain, IsPart, IsHere, AreHere, AreHeldRows}
 
 module _ (old rest : List Place) (room : length (old ++ rest) ≤ 2147483648) where

@@ -6,8 +6,8 @@ use Rattle.s370_walk.specs.declared.parts.Word.{Word}
 use Rattle.s370_walk.specs.Hardware.{Memory, area}
 use Rattle.s370_walk.specs.Walk.{is_jump, chains_data, chains_command}
 use Rattle.s370_channel.specs.Guest.{guest_text, area_block, block_asks}
-use Rattle.cp_graph.specs.declared.copying.CopyError.{CopyError}
-use Rattle.cp_graph.specs.declared.copying.CopyError.TheVariants as errors
+use Rattle.cp_graph.specs.declared.program.CopyError.{CopyError}
+use Rattle.cp_graph.specs.declared.program.CopyError.TheVariants as errors
 
 -- The least set of addresses and roles (true: of a continuation) that has the start and is closed under transfers in
 -- channel, and for any other word under the next word where CC or CD is one, and the word after that where CC is one and CD

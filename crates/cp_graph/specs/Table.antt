@@ -10,7 +10,7 @@ use Rattle.channel_laws.specs.Renaming.{renamed_found, LeadsFrom}
 use Rattle.channel_laws.specs.Mapped.{Program}
 use Rattle.channel_laws.specs.Tracks.{IsListOf}
 use Rattle.channel_laws.specs.Copy.{guest_of}
-use Rattle.cp_graph.specs.declared.copying.Node.{Node}
+use Rattle.cp_graph.specs.declared.program.Node.{Node}
 
 abbrev pub word_in : Option Node → Option Word
 word_in None = None

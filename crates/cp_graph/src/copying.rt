@@ -1,188 +1,23 @@
 //! Copies the words that a program can reach.
-ghost use Rattle.std.specs.Prelude.{◌≡◌, ℕ, ◌+◌, ◌*◌, ◌/◌, ◌%◌, ◌<◌, ◌≤◌, ◌^◌, ◌==◌, ◌&&◌, ◌⊎◌, length, vec_len, slice_index_or, IfOk, IfErr, IfSome, Bool, true, false, None, Some, Option};
-ghost use Rattle.s370_store.specs.Access.{IsAway};
-ghost use Rattle.s370_walk.specs.Hardware.{Memory, memory_of};
-ghost use Rattle.s370_walk.specs.Walk.{live};
-ghost use Rattle.s370_channel.specs.Guest.{guest_text, area_block, guest_written};
+ghost use Rattle.std.specs.Prelude.{◌≡◌, ℕ, ◌+◌, ◌*◌, ◌/◌, ◌%◌, ◌<◌, ◌≤◌, ◌^◌, IfErr, IfOk, length, true, vec_len};
+ghost use Rattle.channel_laws.specs.Copy.{IsCopyOf, IsPlace, guest_of};
 ghost use Rattle.channel_laws.specs.Mapped.{Named};
-ghost use Rattle.channel_laws.specs.Copy.{past, guest_of, IsPlace, IsCopyOf};
-ghost use Rattle.cp_graph.specs.Table.{Grows, IsLinked, IsRow, HasListOf, IsHere, AreHere, leads_next, leads_skipped, program_of};
-ghost use Rattle.cp_graph.specs.Closure.{IfAbsent, IsDataPage, IsEntryPage, IsWordPage, IsSomeWordPage};
-ghost use Rattle.cp_graph.specs.Marks.{IsIndexed, slot_of, unmarked};
+ghost use Rattle.cp_graph.specs.Closure.{IfAbsent, IsSomeWordPage, IsWordPage};
+ghost use Rattle.cp_graph.specs.Marks.{IsIndexed, unmarked};
+ghost use Rattle.cp_graph.specs.Table.{AreHere, Grows, IsRow, leads_next, leads_skipped, program_of};
+ghost use Rattle.s370_channel.specs.Guest.{guest_text, guest_written};
+ghost use Rattle.s370_store.specs.Access.{IsAway};
+ghost use Rattle.s370_walk.specs.Hardware.{memory_of};
+ghost use Rattle.s370_walk.specs.Walk.{live};
 
+use crate::index::link;
+use crate::lists::list_for;
+use crate::program::{Copied, CopyError, Node};
 use channel_laws::Place;
-use s370_channel::{fetch_block, fetch_word};
-use s370_num::AccessKey;
-use s370_store::{Access, Fault, Page, Range, Storage};
+use s370_channel::fetch_word;
+use s370_store::Storage;
 use s370_walk::{Flags, Word};
-use std::alloc::{AllocError, AllocFailed, Global};
-
-const PAST: u32 = 0x8000_0000;
-
-pub enum CopyError {
-    Memory,
-    /// A page that the program needs, and that is not present.
-    Absent(Page),
-}
-
-impl From<AllocError> for CopyError {
-    fn from(_: AllocError) -> Self {
-        CopyError::Memory
-    }
-}
-
-impl<T: Drop> From<AllocFailed<T>> for CopyError {
-    fn from(_: AllocFailed<T>) -> Self {
-        CopyError::Memory
-    }
-}
-
-impl From<Page> for CopyError {
-    fn from(page: Page) -> Self {
-        CopyError::Absent(page)
-    }
-}
-
-/// A copied word, or None where the guest has none, and the addresses that serve its bytes.
-#[derive(Drop)]
-pub struct Node {
-    pub word: Option<Word>,
-    pub list: Vec<Option<u32>>,
-}
-
-/// A copied program: the address and role of each of its places, and what stands there.
-#[derive(Drop)]
-pub struct Copied {
-    pub start: u32,
-    pub places: Vec<Place>,
-    pub nodes: Vec<Node>,
-}
-
-/// Where a place is told of in the index: two entries for each doubleword.
-fn slot(place: Place) -> usize
-    ensures { result ≡ slot_of place }
-{
-    let half = if place.continues { 1 } else { 0 };
-    place.address as usize / 8 * 2 + half
-}
-
-/// The number of a place, which is added where it is new.
-fn number_of(places: &mut Vec<Place>, index: &mut Vec<u32>, place: Place) -> Result<u32, AllocError>
-    requires even { place.address % 8 ≡ 0 }
-    requires room { slot_of place < vec_len index.old }
-    requires known { IsIndexed places.old.items index.old.items }
-    requires few { vec_len places.old + unmarked index.old.items ≤ 2147483648 }
-    ensures within { IfOk result (λ number. number < vec_len places.new) }
-    ensures found { IfOk result (λ number. slice_index_or places.new.items number (past number) ≡ place) }
-    ensures grown { IfOk result (λ _. Grows places.old.items places.new.items) }
-    ensures known { IfOk result (λ _. IsIndexed places.new.items index.new.items) }
-    ensures count { IfOk result (λ _. vec_len places.new + unmarked index.new.items ≡ vec_len places.old + unmarked index.old.items) }
-    ensures size { vec_len index.new ≡ vec_len index.old }
-{
-    let slot = slot(place);
-    let known = index[slot];
-    if known != 0 {
-        return Ok(known - 1);
-    }
-    let number = places.len();
-    places.push(place)?;
-    index[slot] = number as u32 + 1;
-    Ok(number as u32)
-}
-
-/// The link to a place, which is added where it is new; where no word lies there, or a word does not lead there, a link past
-/// the places.
-fn link<S: Storage>(
-    storage: &S,
-    places: &mut Vec<Place>,
-    index: &mut Vec<u32>,
-    leads: bool,
-    place: Place,
-) -> Result<u32, AllocError>
-    requires even { leads ≡ true → place.address % 8 ≡ 0 }
-    requires low { place.address < 2 ^ 24 }
-    requires room { vec_len index.old ≡ length (S.bytes storage.now) / 8 * 2 }
-    requires known { IsIndexed places.old.items index.old.items }
-    requires few { vec_len places.old + unmarked index.old.items ≤ 2147483648 }
-    ensures linked { IfOk result (IsLinked places.new.items (guest_text (memory_of (S.bytes storage.now) (S.keys storage.now))) leads place.address) }
-    ensures grown { IfOk result (λ _. Grows places.old.items places.new.items) }
-    ensures known { IfOk result (λ _. IsIndexed places.new.items index.new.items) }
-    ensures count { IfOk result (λ _. vec_len places.new + unmarked index.new.items ≡ vec_len places.old + unmarked index.old.items) }
-    ensures size { vec_len index.new ≡ vec_len index.old }
-{
-    if leads && place.address as u64 + 8 <= storage.size() as u64 {
-        return number_of(places, index, place);
-    }
-    Ok(PAST + place.address)
-}
-
-/// What word `number` says of the list that serves a word's bytes; where that is an address in storage, its page is present.
-fn entry<S: Storage>(storage: &S, word: &Word, number: u32) -> Result<Option<u32>, Page>
-    requires { number ≤ 64 }
-    ensures said { IfOk result (λ said. said ≡ area_block (memory_of (S.bytes storage.now) (S.keys storage.now)) word.now number) }
-    ensures here { IfOk result (IsHere (length (S.bytes storage.now)) (S.present storage.now)) }
-    ensures away { IfErr result (λ page. IsAway (length (S.bytes storage.now)) (S.present storage.now) page.0) }
-    ensures asked { IfErr result (λ page. IsEntryPage (memory_of (S.bytes storage.now) (S.keys storage.now)) word.now number page.0) }
-{
-    let Some(address) = fetch_block(storage, word, number)? else {
-        return Ok(None);
-    };
-    match storage.check(
-        Range {
-            start: address,
-            count: 1,
-        },
-        Access::Fetch,
-        AccessKey::ZERO,
-    ) {
-        Err(Fault::Absent(page)) => Err(page),
-        Err(Fault::Addressing) => Ok(Some(address)),
-        Err(Fault::Protection) => Ok(Some(address)),
-        Ok(()) => Ok(Some(address)),
-    }
-}
-
-/// The addresses that serve the bytes of a word, up to the first word of its list that says none.
-fn list_for<S: Storage>(
-    alloc: Global,
-    storage: &S,
-    word: &Word,
-) -> Result<Vec<Option<u32>>, CopyError>
-    ensures list { IfOk result (λ list. HasListOf (memory_of (S.bytes storage.now) (S.keys storage.now)) (Some word.now) list.items) }
-    ensures here { IfOk result (λ list. AreHere (length (S.bytes storage.now)) (S.present storage.now) list.items) }
-    ensures absent { IfErr result (IfAbsent (λ page. IsAway (length (S.bytes storage.now)) (S.present storage.now) page × IsDataPage (memory_of (S.bytes storage.now) (S.keys storage.now)) word.now page)) }
-{
-    let mut list = Vec::new(alloc);
-    if word.command.is_transfer_in_channel() || word.count == 0 {
-        return Ok(list);
-    }
-    let first = match entry(storage, word, 0) {
-        Ok(said) => said,
-        Err(page) => return Err(CopyError::Absent(page)),
-    };
-    match list.push(first) {
-        Ok(_) => {}
-        Err(_) => return Err(CopyError::Memory),
-    }
-    let Some(start) = first else {
-        return Ok(list);
-    };
-    let last = (start % 2048 + (word.count as u32 - 1)) / 2048;
-    'blocks: while list.len() <= last as usize {
-        let said = match entry(storage, word, list.len() as u32) {
-            Ok(said) => said,
-            Err(page) => return Err(CopyError::Absent(page)),
-        };
-        match list.push(said) {
-            Ok(_) => {}
-            Err(_) => return Err(CopyError::Memory),
-        }
-        if said.is_none() {
-            return Ok(list);
-        }
-    }
-    Ok(list)
-}
+use std::alloc::Global;
 
 /// The node of a place: the word there with its links, whose places are added.
 fn copy_word<S: Storage>(
@@ -196,13 +31,17 @@ fn copy_word<S: Storage>(
     requires room { vec_len index.old ≡ length (S.bytes storage.now) / 8 * 2 }
     requires known { IsIndexed places.old.items index.old.items }
     requires few { vec_len places.old + unmarked index.old.items ≤ 2147483648 }
-    ensures row { IfOk result (IsRow places.new.items (memory_of (S.bytes storage.now) (S.keys storage.now)) place.address) }
+    ensures row { IfOk result
+        (IsRow places.new.items (memory_of (S.bytes storage.now) (S.keys storage.now)) place.address) }
     ensures here { IfOk result (λ node. AreHere (length (S.bytes storage.now)) (S.present storage.now) node.list.items) }
     ensures grown { IfOk result (λ _. Grows places.old.items places.new.items) }
     ensures known { IfOk result (λ _. IsIndexed places.new.items index.new.items) }
-    ensures count { IfOk result (λ _. vec_len places.new + unmarked index.new.items ≡ vec_len places.old + unmarked index.old.items) }
+    ensures count { IfOk result
+        (λ _. vec_len places.new + unmarked index.new.items ≡ vec_len places.old + unmarked index.old.items) }
     ensures size { vec_len index.new ≡ vec_len index.old }
-    ensures absent { IfErr result (IfAbsent (λ page. IsAway (length (S.bytes storage.now)) (S.present storage.now) page × IsWordPage (memory_of (S.bytes storage.now) (S.keys storage.now)) place.address page)) }
+    ensures absent { IfErr result
+        (IfAbsent (λ page. IsAway (length (S.bytes storage.now)) (S.present storage.now) page
+        × IsWordPage (memory_of (S.bytes storage.now) (S.keys storage.now)) place.address page)) }
 {
     let found = match fetch_word(storage, place.address) {
         Ok(found) => found,
@@ -289,15 +128,27 @@ fn next_of(word: &Word, place: Place) -> Place
     }
 }
 
-/// Copies the words that the program from an address on can reach.
+/// Copies the words that the program from an address on can reach, as they stand in a storage, with the addresses that
+/// serve their bytes.
+///
+/// `start` is the address of a doubleword of storage, in bytes. Each address of storage that the copy names lies on a
+/// page that is present; where one does not, its page is told as [`CopyError::Absent`]. A bad word is copied as it is:
+/// it fails when it is reached, and never before.
 pub fn copy<S: Storage>(alloc: Global, storage: &S, start: u32) -> Result<Copied, CopyError>
     requires even { start % 8 ≡ 0 }
     requires low { start < 2 ^ 24 }
-    ensures copy { IfOk result (λ c. IsCopyOf c.places.items (program_of c.nodes.items) (live guest_written) (memory_of (S.bytes storage.now) (S.keys storage.now))) }
+    ensures copy { IfOk result
+        (λ c. IsCopyOf c.places.items (program_of c.nodes.items) (live guest_written)
+        (memory_of (S.bytes storage.now) (S.keys storage.now))) }
     ensures start { IfOk result (λ c. guest_of c.places.items c.start ≡ start) }
-    ensures place { IfOk result (λ c. IsPlace c.places.items (guest_text (memory_of (S.bytes storage.now) (S.keys storage.now))) c.start) }
-    ensures held { IfOk result (λ c. (a : ℕ) → Named (program_of c.nodes.items) a → a < length (S.bytes storage.now) → S.present storage.now (a / 4096) ≡ true) }
-    ensures absent { IfErr result (IfAbsent (λ page. IsAway (length (S.bytes storage.now)) (S.present storage.now) page × IsSomeWordPage (memory_of (S.bytes storage.now) (S.keys storage.now)) page)) }
+    ensures place { IfOk result
+        (λ c. IsPlace c.places.items (guest_text (memory_of (S.bytes storage.now) (S.keys storage.now))) c.start) }
+    ensures held { IfOk result
+        (λ c. (a : ℕ) → Named (program_of c.nodes.items) a → a < length (S.bytes storage.now)
+        → S.present storage.now (a / 4096) ≡ true) }
+    ensures absent { IfErr result
+        (IfAbsent (λ page. IsAway (length (S.bytes storage.now)) (S.present storage.now) page
+        × IsSomeWordPage (memory_of (S.bytes storage.now) (S.keys storage.now)) page)) }
 {
     let mut places = Vec::new(alloc);
     let mut index = match vec![in alloc; 0u32; storage.size() as usize / 8 * 2] {

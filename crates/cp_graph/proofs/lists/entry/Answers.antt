@@ -1,5 +1,5 @@
 use Rattle.cp_graph.proofs.Tables.{zero_passes, in_storage, fault_verdict}
-use Rattle.cp_graph.proofs.copying.entry.Goals as goal
+use Rattle.cp_graph.proofs.lists.entry.Goals as goal
 
 pub returns-in-Err-Addressing-clause-here : goal.returns-in-Err-Addressing-clause-here
 returns-in-Err-Addressing-clause-here g c = λ lt.

@@ -3,7 +3,7 @@ use Rattle.std.specs.Prelude.{is_some}
 use Rattle.s370_walk.specs.Hardware.{memory_of}
 use Rattle.s370_channel.specs.Guest.{area_block}
 use Rattle.cp_graph.specs.Table.{IsPart, AreHere}
-use Rattle.cp_graph.proofs.copying.list_for.Given as goal
+use Rattle.cp_graph.proofs.lists.list_for.Given as goal
 
 abbrev pub invariant-blocks-2 : goal.invariant-blocks-2
 invariant-blocks-2 g l = record {

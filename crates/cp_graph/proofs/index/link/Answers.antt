@@ -1,8 +1,8 @@
 use Rattle.std.proofs.Common.{◌≡◌, ◌≤◌, ◌∙◌, sym, arith, length, true, false}
 use Rattle.s370_walk.specs.Hardware.{memory_of}
 use Rattle.cp_graph.proofs.Tables.{linked_past}
-use Rattle.cp_graph.proofs.copying.link.Goals as goal
-use Rattle.cp_graph.proofs.copying.link.Goals.{else-leads-via-then-leads+else-place-size, else-leads-via-else-leads}
+use Rattle.cp_graph.proofs.index.link.Goals as goal
+use Rattle.cp_graph.proofs.index.link.Goals.{else-leads-via-then-leads+else-place-size, else-leads-via-else-leads}
 
 pub returns-clause-linked : goal.returns-clause-linked
 returns-clause-linked g c =

@@ -1,7 +1,7 @@
 use Rattle.std.proofs.Common.{◌≡◌, ◌≢◌, ◌<◌, ◌+◌, ◌∙◌, sym, arith, length, slice_index}
 use Rattle.std.proofs.lemmas.List.{get_or_read}
 use Rattle.cp_graph.proofs.Marking.{marked}
-use Rattle.cp_graph.proofs.copying.number_of.Goals as goal
+use Rattle.cp_graph.proofs.index.number_of.Goals as goal
 
 pub returns-clause-count : goal.returns-clause-count
 returns-clause-count c =

@@ -3,7 +3,7 @@ use Rattle.s370_walk.specs.Hardware.{memory_of}
 use Rattle.s370_channel.specs.Guest.{area_block}
 use Rattle.cp_graph.proofs.Tables.{part_on, here_on, first_on, failed_on, list_whole, none_is, some_is}
 use Rattle.cp_graph.proofs.Closures.{begun_on}
-use Rattle.cp_graph.proofs.copying.list_for.Goals as goal
+use Rattle.cp_graph.proofs.lists.list_for.Goals as goal
 
 pub returns-then-is_none-clause-list : goal.returns-then-is_none-clause-list
 returns-then-is_none-clause-list g c = λ plain.

@@ -1,0 +1,75 @@
+//! The places of a copied program, and the index in which they are found.
+ghost use Rattle.std.specs.Prelude.{◌≡◌, ◌+◌, ◌*◌, ◌/◌, ◌%◌, ◌<◌, ◌≤◌, ◌^◌, IfOk, length, slice_index_or, true, vec_len};
+ghost use Rattle.channel_laws.specs.Copy.{past};
+ghost use Rattle.cp_graph.specs.Marks.{IsIndexed, slot_of, unmarked};
+ghost use Rattle.cp_graph.specs.Table.{Grows, IsLinked};
+ghost use Rattle.s370_channel.specs.Guest.{guest_text};
+ghost use Rattle.s370_walk.specs.Hardware.{memory_of};
+
+use channel_laws::Place;
+use s370_store::Storage;
+use std::alloc::AllocError;
+
+/// Links past the places: each stands for an address of the guest at which he has no word.
+const PAST: u32 = 0x8000_0000;
+
+/// Where a place is told of in the index: two entries for each doubleword.
+fn slot(place: Place) -> usize
+    ensures { result ≡ slot_of place }
+{
+    let half = if place.continues { 1 } else { 0 };
+    place.address as usize / 8 * 2 + half
+}
+
+/// The number of a place, which is added where it is new.
+fn number_of(places: &mut Vec<Place>, index: &mut Vec<u32>, place: Place) -> Result<u32, AllocError>
+    requires even { place.address % 8 ≡ 0 }
+    requires room { slot_of place < vec_len index.old }
+    requires known { IsIndexed places.old.items index.old.items }
+    requires few { vec_len places.old + unmarked index.old.items ≤ 2147483648 }
+    ensures within { IfOk result (λ number. number < vec_len places.new) }
+    ensures found { IfOk result (λ number. slice_index_or places.new.items number (past number) ≡ place) }
+    ensures grown { IfOk result (λ _. Grows places.old.items places.new.items) }
+    ensures known { IfOk result (λ _. IsIndexed places.new.items index.new.items) }
+    ensures count { IfOk result
+        (λ _. vec_len places.new + unmarked index.new.items ≡ vec_len places.old + unmarked index.old.items) }
+    ensures size { vec_len index.new ≡ vec_len index.old }
+{
+    let slot = slot(place);
+    let known = index[slot];
+    if known != 0 {
+        return Ok(known - 1);
+    }
+    let number = places.len();
+    places.push(place)?;
+    index[slot] = number as u32 + 1;
+    Ok(number as u32)
+}
+
+/// The link to a place, which is added where it is new; where no word lies there, or a word does not lead there, a link
+/// past the places.
+pub(crate) fn link<S: Storage>(
+    storage: &S,
+    places: &mut Vec<Place>,
+    index: &mut Vec<u32>,
+    leads: bool,
+    place: Place,
+) -> Result<u32, AllocError>
+    requires even { leads ≡ true → place.address % 8 ≡ 0 }
+    requires low { place.address < 2 ^ 24 }
+    requires room { vec_len index.old ≡ length (S.bytes storage.now) / 8 * 2 }
+    requires known { IsIndexed places.old.items index.old.items }
+    requires few { vec_len places.old + unmarked index.old.items ≤ 2147483648 }
+    ensures linked { IfOk result
+        (IsLinked places.new.items (guest_text (memory_of (S.bytes storage.now) (S.keys storage.now))) leads place.address) }
+    ensures grown { IfOk result (λ _. Grows places.old.items places.new.items) }
+    ensures known { IfOk result (λ _. IsIndexed places.new.items index.new.items) }
+    ensures count { IfOk result
+        (λ _. vec_len places.new + unmarked index.new.items ≡ vec_len places.old + unmarked index.old.items) }
+    ensures size { vec_len index.new ≡ vec_len index.old }
+{
+    if leads && place.address as u64 + 8 <= storage.size() as u64 {
+        return number_of(places, index, place);
+    }
+    Ok(PAST + place.address)
+}

@@ -1,0 +1,88 @@
+//! The addresses that serve the bytes of a word (GA22-7000, "Channel Indirect Data Addressing").
+ghost use Rattle.std.specs.Prelude.{◌≡◌, ◌≤◌, IfErr, IfOk, Some, length};
+ghost use Rattle.cp_graph.specs.Closure.{IfAbsent, IsDataPage, IsEntryPage};
+ghost use Rattle.cp_graph.specs.Table.{AreHere, HasListOf, IsHere};
+ghost use Rattle.s370_channel.specs.Guest.{area_block};
+ghost use Rattle.s370_store.specs.Access.{IsAway};
+ghost use Rattle.s370_walk.specs.Hardware.{memory_of};
+
+use crate::program::CopyError;
+use s370_channel::fetch_block;
+use s370_num::AccessKey;
+use s370_store::{Access, Fault, Page, Range, Storage};
+use s370_walk::Word;
+use std::alloc::Global;
+
+/// What word `number` says of the list that serves a word's bytes; where that is an address in storage, its page is
+/// present.
+fn entry<S: Storage>(storage: &S, word: &Word, number: u32) -> Result<Option<u32>, Page>
+    requires { number ≤ 64 }
+    ensures said { IfOk result
+        (λ said. said ≡ area_block (memory_of (S.bytes storage.now) (S.keys storage.now)) word.now number) }
+    ensures here { IfOk result (IsHere (length (S.bytes storage.now)) (S.present storage.now)) }
+    ensures away { IfErr result (λ page. IsAway (length (S.bytes storage.now)) (S.present storage.now) page.0) }
+    ensures asked { IfErr result
+        (λ page. IsEntryPage (memory_of (S.bytes storage.now) (S.keys storage.now)) word.now number page.0) }
+{
+    let Some(address) = fetch_block(storage, word, number)? else {
+        return Ok(None);
+    };
+    match storage.check(
+        Range {
+            start: address,
+            count: 1,
+        },
+        Access::Fetch,
+        AccessKey::ZERO,
+    ) {
+        Err(Fault::Absent(page)) => Err(page),
+        Err(Fault::Addressing) => Ok(Some(address)),
+        Err(Fault::Protection) => Ok(Some(address)),
+        Ok(()) => Ok(Some(address)),
+    }
+}
+
+/// The addresses that serve the bytes of a word, up to the first word of its list that says none.
+pub(crate) fn list_for<S: Storage>(
+    alloc: Global,
+    storage: &S,
+    word: &Word,
+) -> Result<Vec<Option<u32>>, CopyError>
+    ensures list { IfOk result
+        (λ list. HasListOf (memory_of (S.bytes storage.now) (S.keys storage.now)) (Some word.now) list.items) }
+    ensures here { IfOk result (λ list. AreHere (length (S.bytes storage.now)) (S.present storage.now) list.items) }
+    ensures absent { IfErr result
+        (IfAbsent (λ page. IsAway (length (S.bytes storage.now)) (S.present storage.now) page
+        × IsDataPage (memory_of (S.bytes storage.now) (S.keys storage.now)) word.now page)) }
+{
+    let mut list = Vec::new(alloc);
+    if word.command.is_transfer_in_channel() || word.count == 0 {
+        return Ok(list);
+    }
+    let first = match entry(storage, word, 0) {
+        Ok(said) => said,
+        Err(page) => return Err(CopyError::Absent(page)),
+    };
+    match list.push(first) {
+        Ok(_) => {}
+        Err(_) => return Err(CopyError::Memory),
+    }
+    let Some(start) = first else {
+        return Ok(list);
+    };
+    let last = (start % 2048 + (word.count as u32 - 1)) / 2048;
+    'blocks: while list.len() <= last as usize {
+        let said = match entry(storage, word, list.len() as u32) {
+            Ok(said) => said,
+            Err(page) => return Err(CopyError::Absent(page)),
+        };
+        match list.push(said) {
+            Ok(_) => {}
+            Err(_) => return Err(CopyError::Memory),
+        }
+        if said.is_none() {
+            return Ok(list);
+        }
+    }
+    Ok(list)
+}

@@ -1,0 +1,52 @@
+//! A copied channel program.
+use channel_laws::Place;
+use s370_store::Page;
+use s370_walk::Word;
+use std::alloc::{AllocError, AllocFailed};
+
+/// A copied word, and the addresses that serve its bytes.
+#[derive(Drop)]
+pub struct Node {
+    /// The word, whose links are places; None where the guest has no word.
+    pub word: Option<Word>,
+    /// The address of the first byte, and then of each block of 2048 bytes, up to the last that its count uses or to
+    /// the first that the guest does not say: None.
+    pub list: Vec<Option<u32>>,
+}
+
+/// A copied program: the address and role of each of its places, and what stands there.
+#[derive(Drop)]
+pub struct Copied {
+    /// The place of the first word.
+    pub start: u32,
+    /// The guest's address of each place, and whether it continues the word before.
+    pub places: Vec<Place>,
+    /// What stands at each place.
+    pub nodes: Vec<Node>,
+}
+
+/// Why a program is not copied.
+pub enum CopyError {
+    /// Memory was refused.
+    Memory,
+    /// A page that the program needs, and that is not present.
+    Absent(Page),
+}
+
+impl From<AllocError> for CopyError {
+    fn from(_: AllocError) -> Self {
+        CopyError::Memory
+    }
+}
+
+impl<T: Drop> From<AllocFailed<T>> for CopyError {
+    fn from(_: AllocFailed<T>) -> Self {
+        CopyError::Memory
+    }
+}
+
+impl From<Page> for CopyError {
+    fn from(page: Page) -> Self {
+        CopyError::Absent(page)
+    }
+}
