@@ -32,17 +32,27 @@ fn guest_address(table: &Table, at: u32) -> u32
     }
 }
 
-/// Runs a translated program over real storage: it ends as the guest's own program does over his storage, where its words
-/// stay as they stood when they were copied.
+/// Runs a translated program over real storage: it ends as the guest's own program does over his storage, where its
+/// words stay as they stood when they were copied. The address of the ending is the guest's.
+///
+/// No page is ever absent; an error is told only where the device is refused memory.
 pub fn run_translated<D: Device>(
     table: &Table,
     real: &mut Real,
     limits: &Limits,
     device: &mut D,
 ) -> Result<Ending, ChannelError>
-    ensures runs { IfOk result (λ ending. (m0 : Memory) → IsTranslatedFor (dat_of real.old) table.now.places.items table.now.nodes.items m0 → IsPlace table.now.places.items (guest_text m0) table.now.start → IsGuestsRun D.machine limits.now m0 (guest_of table.now.places.items table.now.start) (dat_of real.old) device.old ending (dat_of real.new) device.new) }
-    ensures never_absent { IfErr result (λ error. (m0 : Memory) → IsTranslatedFor (dat_of real.old) table.now.places.items table.now.nodes.items m0 → error ≡ errors.Memory) }
-    ensures again { (m0 : Memory) → IsTranslatedFor (dat_of real.old) table.now.places.items table.now.nodes.items m0 → IsTranslatedFor (dat_of real.new) table.now.places.items table.now.nodes.items m0 }
+    ensures runs { IfOk result (λ ending. (m0 : Memory)
+        → IsTranslatedFor (dat_of real.old) table.now.places.items table.now.nodes.items m0
+        → IsPlace table.now.places.items (guest_text m0) table.now.start
+        → IsGuestsRun D.machine limits.now m0 (guest_of table.now.places.items table.now.start)
+        (dat_of real.old) device.old ending (dat_of real.new) device.new) }
+    ensures never_absent { IfErr result (λ error. (m0 : Memory)
+        → IsTranslatedFor (dat_of real.old) table.now.places.items table.now.nodes.items m0
+        → error ≡ errors.Memory) }
+    ensures again { (m0 : Memory)
+        → IsTranslatedFor (dat_of real.old) table.now.places.items table.now.nodes.items m0
+        → IsTranslatedFor (dat_of real.new) table.now.places.items table.now.nodes.items m0 }
     ensures rest { KeepsReal real.old real.new }
 {
     let ending = match run(table, real, table.start, limits, device) {
@@ -69,8 +79,12 @@ pub fn run_guest<D: Device>(
 ) -> Result<Ending, CopyError>
     requires even { start % 8 ≡ 0 }
     requires low { start < 2 ^ 24 }
-    ensures runs { IfOk result (λ ending. IsGuestsRun D.machine limits.now (lent_memory (dat_of real.old)) start (dat_of real.old) device.old ending (dat_of real.new) device.new) }
-    ensures away { IfErr result (IfAbsent (λ page. IsAway (length (lent_bytes (dat_of real.old))) (is_lent_page (dat_of real.old)) page × IsSomeWordPage (lent_memory (dat_of real.old)) page)) }
+    ensures runs { IfOk result
+        (λ ending. IsGuestsRun D.machine limits.now (lent_memory (dat_of real.old)) start
+        (dat_of real.old) device.old ending (dat_of real.new) device.new) }
+    ensures away { IfErr result
+        (IfAbsent (λ page. IsAway (length (lent_bytes (dat_of real.old))) (is_lent_page (dat_of real.old)) page
+        × IsSomeWordPage (lent_memory (dat_of real.old)) page)) }
     ensures untouched { IfErr result (IfAbsent (λ page. real.new ≡ real.old)) }
     ensures unstarted { IfErr result (IfAbsent (λ page. device.new ≡ device.old)) }
     ensures rest { KeepsReal real.old real.new }

@@ -102,13 +102,21 @@ impl WordForm for Table {
 }
 
 /// Copies the program from an address on, and gives it the addresses of the frames in which its pages stand.
+///
+/// `start` is the guest's address of a doubleword. Each page that the program names stands in a frame; where one does
+/// not, it is told as [`CopyError::Absent`].
 pub fn translate(alloc: Global, dat: &Dat, start: u32) -> Result<Table, CopyError>
     requires even { start % 8 ≡ 0 }
     requires low { start < 2 ^ 24 }
-    ensures translated { IfOk result (λ t. IsTranslatedFor dat.now t.places.items t.nodes.items (memory_of (lent_bytes dat.now) (lent_keys dat.now))) }
+    ensures translated { IfOk result
+        (λ t. IsTranslatedFor dat.now t.places.items t.nodes.items
+        (memory_of (lent_bytes dat.now) (lent_keys dat.now))) }
     ensures start { IfOk result (λ t. guest_of t.places.items t.start ≡ start) }
-    ensures place { IfOk result (λ t. IsPlace t.places.items (guest_text (memory_of (lent_bytes dat.now) (lent_keys dat.now))) t.start) }
-    ensures away { IfErr result (IfAbsent (λ page. IsAway (length (lent_bytes dat.now)) (is_lent_page dat.now) page × IsSomeWordPage (memory_of (lent_bytes dat.now) (lent_keys dat.now)) page)) }
+    ensures place { IfOk result
+        (λ t. IsPlace t.places.items (guest_text (memory_of (lent_bytes dat.now) (lent_keys dat.now))) t.start) }
+    ensures away { IfErr result
+        (IfAbsent (λ page. IsAway (length (lent_bytes dat.now)) (is_lent_page dat.now) page
+        × IsSomeWordPage (memory_of (lent_bytes dat.now) (lent_keys dat.now)) page)) }
 {
     let Copied {
         start,

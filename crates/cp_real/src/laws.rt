@@ -1,7 +1,6 @@
-//! The law.
-ghost use Rattle.std.specs.Prelude.{◌≡◌, ℕ, ◌*◌, ◌≤◌, ◌<◌, ◌^◌, List, Option, length};
+//! Real storage holds the guest's: what a run over real addresses takes for granted.
+ghost use Rattle.std.specs.Prelude.{◌≡◌, ℕ, ◌≤◌, ◌%◌, List, Option, length};
 ghost use Rattle.cp_frames.specs.declared.numbers.UserPage.{UserPage};
-ghost use Rattle.std.specs.Prelude.{◌%◌};
 ghost use Rattle.s370_walk.specs.Hardware.{memory_of};
 ghost use Rattle.channel_laws.specs.Mapped.{IsMapped, Named, Program};
 ghost use Rattle.channel_laws.specs.Unstuck.{ArePresent};
@@ -10,13 +9,18 @@ ghost use Rattle.cp_real.specs.Mapped.{IsLent, AreHeld};
 
 /// What stands at a user's addresses stands at the addresses of his frames, under the same keys.
 pub fn real_storage_is_mapped()
-    ensures { (storage keys area : List ℕ) (owners : List (Option UserPage)) (user : ℕ) → length storage ≤ 4294967295 → length owners ≤ 4096 → IsLent storage keys area owners user }
+    ensures { (storage keys area : List ℕ) (owners : List (Option UserPage)) (user : ℕ)
+        → length storage ≤ 4294967295 → length owners ≤ 4096 → IsLent storage keys area owners user }
 {}
 
-/// And for a program that names only addresses on pages that stand in frames, or past storage, that is all that a run over
-/// real addresses takes for granted.
+/// And for a program that names only addresses on pages that stand in frames, or past storage, that is all that a run
+/// over real addresses takes for granted.
 pub fn held_programs_are_mapped()
-    ensures mapped { (storage keys own : List ℕ) (owners : List (Option UserPage)) (user : ℕ) (c : Program) → length storage ≤ 4294967295 → length owners ≤ 4096 → length storage % 4096 ≡ 0 → AreHeld c owners user (length storage)
-        → IsMapped (real_of owners user (length storage)) (Named c) (memory_of storage keys) (memory_of (real_bytes storage owners user own) (real_keys storage keys owners user (length own))) }
-    ensures present { (storage : List ℕ) (owners : List (Option UserPage)) (user : ℕ) → ArePresent (real_of owners user (length storage)) (is_real_page storage owners user) }
+    ensures mapped { (storage keys own : List ℕ) (owners : List (Option UserPage)) (user : ℕ) (c : Program)
+        → length storage ≤ 4294967295 → length owners ≤ 4096 → length storage % 4096 ≡ 0
+        → AreHeld c owners user (length storage)
+        → IsMapped (real_of owners user (length storage)) (Named c) (memory_of storage keys)
+        (memory_of (real_bytes storage owners user own) (real_keys storage keys owners user (length own))) }
+    ensures present { (storage : List ℕ) (owners : List (Option UserPage)) (user : ℕ)
+        → ArePresent (real_of owners user (length storage)) (is_real_page storage owners user) }
 {}

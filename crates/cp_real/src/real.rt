@@ -9,7 +9,8 @@ use cp_frames::FrameNo;
 use s370_num::{AccessKey, StorageKey};
 use s370_store::{Access, Block, Fault, Keyed, Keyring, Page, Range, Storage, put_at, test_range};
 
-/// A user's pages at the addresses of the frames in which they stand, and an area of the control program behind the frames.
+/// A user's pages at the addresses of the frames in which they stand, and an area of the control program behind the
+/// frames. Addresses are counted in bytes; frame `f` begins at `4096 * f`.
 #[derive(Drop)]
 pub struct Real<'a> {
     dat: Dat<'a>,
@@ -24,7 +25,7 @@ pub struct Real<'a> {
 impl<'a> Real<'a> {
     ghost use Rattle.cp_real.specs.Shown.{real_bytes_of, real_keys_of, is_real_page_of, KeepsReal};
 
-    /// Lends the frames and the area to one user's program.
+    /// Lends the frames and the area to one user's program. `frames` is the number of all frames.
     pub fn new(dat: Dat<'a>, frames: u32, area: &'a mut [u8]) -> Real<'a>
         requires counted { frames ≡ length (lent_pool dat).supply.owners }
         requires few { frames ≤ 4096 }
