@@ -68,6 +68,11 @@ pub record IsLinked (places : List Place) (text : ℕ → Option Word) (leads : 
 abbrev pub leads_next : Word → Bool
 leads_next w = if is_jump w then (w.address % 8 == 0) else (chains_data w || chains_command w)
 
+-- whether the next word continues this one's data area: a transfer in channel, which may itself stand in such a place,
+-- leaves it as it is
+abbrev pub role_after : Word → Bool → Bool
+role_after w continues = if is_jump w then continues else chains_data w
+
 abbrev pub leads_skipped : Word → Bool
 leads_skipped w = not (is_jump w) && (chains_command w && not (chains_data w))
 

@@ -4,7 +4,7 @@ ghost use Rattle.channel_laws.specs.Copy.{IsCopyOf, IsPlace, guest_of};
 ghost use Rattle.channel_laws.specs.Mapped.{Named};
 ghost use Rattle.cp_graph.specs.Closure.{IfAbsent, IsSomeWordPage, IsWordPage};
 ghost use Rattle.cp_graph.specs.Marks.{IsIndexed, unmarked};
-ghost use Rattle.cp_graph.specs.Table.{AreHere, Grows, IsRow, leads_next, leads_skipped, program_of};
+ghost use Rattle.cp_graph.specs.Table.{AreHere, Grows, IsRow, leads_next, leads_skipped, program_of, role_after};
 ghost use Rattle.s370_channel.specs.Guest.{guest_text, guest_written};
 ghost use Rattle.s370_store.specs.Access.{IsAway};
 ghost use Rattle.s370_walk.specs.Hardware.{memory_of};
@@ -115,7 +115,8 @@ fn may_skip(word: &Word) -> bool
 
 /// Where a word leads: a transfer in channel keeps the role, CD leads to a continuation.
 fn next_of(word: &Word, place: Place) -> Place
-    ensures { result.address ≡ word.now.next }
+    ensures address { result.address ≡ word.now.next }
+    ensures role { result.continues ≡ role_after word.now place.continues }
 {
     let continues = if word.command.is_transfer_in_channel() {
         place.continues

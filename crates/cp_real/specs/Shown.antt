@@ -1,5 +1,6 @@
 -- What real storage shows, and what is kept of those who lent it.
-use Rattle.std.specs.Prelude.{◌≡◌, ℕ, ◌+◌, ◌*◌, Bool, List, None, length, slice_index, refl}
+use Rattle.s370_store.specs.declared.block.Block.{Block}
+use Rattle.std.specs.Prelude.{◌≤◌, ◌≡◌, ℕ, ◌+◌, ◌*◌, Bool, List, None, length, slice_index, refl}
 use Rattle.std.proofs.Common.{◌∙◌, ap, sym}
 use Rattle.cp_frames.specs.Layout.{FrameSupply}
 use Rattle.cp_dat.specs.declared.dat.Dat.{Dat}
@@ -56,3 +57,15 @@ keeps_real_present r s k =
     ap (λ (o : FrameSupply). is_page_shown o.owners (user_of s.dat) (length (lent_bytes s.dat))) k.lent.same_supply
     ∙ ap (λ u. is_page_shown (lent_pool r.dat).supply.owners u (length (lent_bytes s.dat))) k.lent.same_user
     ∙ ap (λ n. is_page_shown (lent_pool r.dat).supply.owners (user_of r.dat) n) k.lent.same_size
+
+-- a block of the area
+pub record IsInArea (r : Real) (block : Block) : Type 0 where
+  pub begins : 4096 * length (lent_pool r.dat).supply.owners ≤ block.first
+  pub ends : block.first + 2048 ≤ 4096 * length (lent_pool r.dat).supply.owners + length r.area.now
+
+-- it stays there
+pub in_area_kept : (r s : Real) (block : Block) → KeepsReal r s → IsInArea r block → IsInArea s block
+in_area_kept r s block k h = record {
+  begins = rw (ap (λ (o : FrameSupply). length o.owners) k.lent.same_supply) h.begins;
+  ends = rw (ap (λ (o : FrameSupply). length o.owners) k.lent.same_supply, k.area) h.ends;
+}

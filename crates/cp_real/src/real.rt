@@ -93,10 +93,30 @@ impl<'a> Real<'a> {
                 None => {}
             }
         } else {
-            let first = (start - self.frames * 4096) as usize;
-            let end = first + into.len();
-            into.copy_from_slice(&self.area[first..end]);
+            self.load_area(start, into);
         }
+    }
+
+    /// Copies bytes of the area out.
+    fn load_area(&self, start: u32, into: &mut [u8])
+        requires begins { self.now.frames * 4096 ≤ start }
+        requires inside { start + length into.old ≤ length (real_bytes_of self.now) }
+        ensures { into.new ≡ slice_range (real_bytes_of self.now) start (start + length into.old) }
+    {
+        let first = (start - self.frames * 4096) as usize;
+        let end = first + into.len();
+        into.copy_from_slice(&self.area[first..end]);
+    }
+
+    /// Copies bytes into the area.
+    fn store_area(&mut self, start: u32, from: &[u8])
+        requires begins { self.old.frames * 4096 ≤ start }
+        requires inside { start + length from.now ≤ length (real_bytes_of self.old) }
+        ensures bytes { real_bytes_of self.new ≡ put (real_bytes_of self.old) start from.now }
+        ensures keys { real_keys_of self.new ≡ real_keys_of self.old }
+        ensures rest { KeepsReal self.old self.new }
+    {
+        put_at(self.area, (start - self.frames * 4096) as usize, from);
     }
 
     /// Copies bytes into one page.
@@ -119,7 +139,7 @@ impl<'a> Real<'a> {
                 None => {}
             }
         } else {
-            put_at(self.area, (start - self.frames * 4096) as usize, from);
+            self.store_area(start, from);
         }
     }
 }
@@ -148,7 +168,7 @@ impl<'a, 'b> Keyring for RealKeys<'a, 'b> {
 }
 
 impl<'a> Storage for Real<'a> {
-    ghost use Rattle.cp_real.specs.Shown.{real_bytes_of, real_keys_of, is_real_page_of, KeepsReal, keeps_real_same, keeps_real_size, keeps_real_present, keeps_real_on};
+    ghost use Rattle.cp_real.specs.Shown.{real_bytes_of, real_keys_of, is_real_page_of, KeepsReal, keeps_real_same, keeps_real_size, keeps_real_present, keeps_real_on, IsInArea, in_area_kept};
 
     ghost bytes = { real_bytes_of };
 
@@ -158,7 +178,7 @@ impl<'a> Storage for Real<'a> {
 
     ghost Keeps = { KeepsReal };
 
-    ghost IsPlaced = { λ _ _. ⊥ };
+    ghost IsPlaced = { λ r block. IsInArea r block };
 
     fn size(&self) -> u32 {
         self.frames * 4096 + self.area.len() as u32
@@ -181,14 +201,18 @@ impl<'a> Storage for Real<'a> {
         Ok(())
     }
 
-    /// A channel moves each byte once, so no block is found.
+    /// A channel moves each byte once, so no block is found. Only one of the area could be: it moves at no time.
     fn find_block(&self, _start: u32, _access: Access, _key: AccessKey) -> Option<Block> {
         None
     }
 
-    fn load_in(&self, _block: Block, _start: u32, _into: &mut [u8]) {}
+    fn load_in(&self, _block: Block, start: u32, into: &mut [u8]) {
+        self.load_area(start, into);
+    }
 
-    fn store_in(&mut self, _block: Block, _start: u32, _from: &[u8]) {}
+    fn store_in(&mut self, _block: Block, start: u32, from: &[u8]) {
+        self.store_area(start, from);
+    }
 
     fn load(&self, start: u32, into: &mut [u8]) {
         if into.is_empty() {
@@ -226,5 +250,5 @@ impl<'a> Storage for Real<'a> {
 
     ghost keeps_on = { keeps_real_on };
 
-    ghost placed_kept = { λ s t block k placed. placed };
+    ghost placed_kept = { in_area_kept };
 }

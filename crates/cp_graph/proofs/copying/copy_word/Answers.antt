@@ -11,7 +11,7 @@ returns-clause-row g c =
     let room : length c.link-2.new.places.items ≤ 2147483648 = omega (arith, c.in-Ok-link-2.ensures.count, c.in-Ok-link.ensures.count, c.requires.few, c.link-2.new.places.ok.0) in
     record {
       copied = copied_by c.link.new.places.items c.link-2.new.places.items m c.args.place.address c.in-Some.word c.in-Ok-link.next c.in-Ok-link-2.skipped c.in-Ok-link-2.ensures.grown room is
-          (rw (c.leads_on.ensures, c.next_of.ensures) at c.in-Ok-link.ensures.linked) (rw c.may_skip.ensures at c.in-Ok-link-2.ensures.linked);
+          (rw (c.leads_on.ensures, c.next_of.ensures.address) at c.in-Ok-link.ensures.linked) (rw c.may_skip.ensures at c.in-Ok-link-2.ensures.linked);
       list = c.in-Ok-list_for.ensures.list;
     }
 

@@ -1,19 +1,10 @@
-use Rattle.std.proofs.Common.{refl, get_or, ℕ, List, ◌*◌, ◌++◌, length, sym, ◌∙◌, ap, arith, length-append}
+use Rattle.std.proofs.Common.{refl, get_or, ℕ, List, length, sym, ◌∙◌, ap, arith}
 use Rattle.cp_dat.specs.Lent.{lent_bytes, lent_keys, lent_pool, user_of}
 use Rattle.cp_frames.specs.Layout.{FrameSupply}
 use Rattle.cp_frames.proofs.Parts.{length-put}
-use Rattle.cp_real.specs.Layout.{framed_bytes}
-use Rattle.cp_real.specs.Shown.{real_bytes_of}
-use Rattle.cp_real.proofs.Framed.{away_put, real_put, real_keys_put, put_second}
-use Rattle.cp_real.specs.Layout.{length-framed}
+use Rattle.cp_real.specs.Shown.{real_bytes_of, keeps_real_size}
+use Rattle.cp_real.proofs.Framed.{away_put, real_put, real_keys_put}
 use Rattle.cp_real.proofs.real.Real.store_part.Goals as goal
-
-pub put_at-requires : goal.put_at-requires
-put_at-requires c =
-    let d = c.args.self.now.dat in
-    let f = length-framed (lent_bytes d) (lent_pool d).supply.owners (user_of d) in
-    let a = length-append (framed_bytes (lent_bytes d) (lent_pool d).supply.owners (user_of d)) c.args.self.now.area.now in
-    omega (arith, f, a, c.args.self.now.counted, c.requires.inside)
 
 pub returns-in-Some-clause-bytes : goal.returns-in-Some-clause-bytes
 returns-in-Some-clause-bytes c =
@@ -37,15 +28,6 @@ returns-in-Some-clause-keys c =
     real_keys_put (lent_bytes d) (lent_bytes e) (lent_keys d) (lent_keys e) (lent_pool d).supply.owners (lent_pool e).supply.owners (user_of d) (user_of e) (length c.args.self.now.area.now)
     c.store.ensures.rest.same_size c.store.ensures.keys (ap (λ (s : FrameSupply). s.owners) c.store.ensures.rest.same_supply) c.store.ensures.rest.same_user
 
-pub returns-else-frame-self-clause-bytes : goal.returns-else-frame-self-clause-bytes
-returns-else-frame-self-clause-bytes c =
-    let d = c.args.self.now.dat in
-    let framed = framed_bytes (lent_bytes d) (lent_pool d).supply.owners (user_of d) in
-    let f = length-framed (lent_bytes d) (lent_pool d).supply.owners (user_of d) in
-    let a = length-append framed c.args.self.now.area.now in
-    ap (λ (l : List ℕ). framed ++ l) c.put_at.ensures.bytes
-    ∙ sym (put_second framed c.args.self.now.area.now c.args.from.now (c.args.self.now.frames * 4096) c.args.start (omega (arith, f, c.args.self.now.counted)) (omega arith) (omega (arith, f, a, c.args.self.now.counted, c.requires.inside)))
-
 pub returns-in-Some-clause-rest : goal.returns-in-Some-clause-rest
 returns-in-Some-clause-rest c =
     let d = c.args.self.now.dat in
@@ -57,3 +39,6 @@ returns-in-Some-clause-rest c =
       same_area = refl;
       area = refl;
     }
+
+pub returns-else-frame-self-clause-size : goal.returns-else-frame-self-clause-size
+returns-else-frame-self-clause-size c = keeps_real_size c.args.self.now c.store_area.new.self c.store_area.ensures.rest
