@@ -33,6 +33,13 @@ impl Resident {
         }
     }
 
+    /// The disks, of which the channels are taken off.
+    pub(crate) fn into_disks(self) -> Vec<AttachedDisk>
+        ensures { result.items ≡ disks_on self }
+    {
+        self.own.into_disks()
+    }
+
     /// The disks, in the order in which they were attached.
     pub(crate) fn disks(&self) -> &[AttachedDisk]
         ensures { result.now ≡ disks_on self.now }

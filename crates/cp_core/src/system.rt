@@ -19,6 +19,7 @@ use crate::delivery::Parcel;
 use crate::events::{CpError, Ended, Event, Reply};
 use crate::files::FileNote;
 use crate::user_machine::UserMachine;
+use crate::volumes::put_back_disks;
 use crate::work::{Service, Tick, Units, Work};
 use ckd_volume::Volume;
 use cp_devices::{Devices, FileKind, Told};
@@ -108,6 +109,21 @@ impl System {
         ensures { result.now ≡ self.now.files }
     {
         &self.files
+    }
+
+    /// The volumes with which the system was booted, in their order, each with what users have written to their minidisks
+    /// on it. It takes no memory.
+    pub fn into_volumes(self) -> Vec<Volume> {
+        let System {
+            directory,
+            users,
+            mut volumes,
+            ..
+        } = self;
+        for (stated, user) in directory.users().iter().zip(users) {
+            put_back_disks(&mut volumes, stated.minidisks(), user.channels.into_disks());
+        }
+        volumes
     }
 
     /// The number of the next file.

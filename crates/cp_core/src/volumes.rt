@@ -1,5 +1,5 @@
 //! The volumes on which users have their minidisks.
-ghost use Rattle.std.specs.Prelude.{◌≡◌, ◌+◌, Bool, false, IfOk, IfSome, None, Some, length, is_some};
+ghost use Rattle.std.specs.Prelude.{◌≡◌, ◌≤◌, ◌+◌, Bool, false, IfOk, IfSome, None, Some, length, is_some, true};
 ghost use Rattle.std.specs.List.{find, list_any, position};
 ghost use Rattle.std.specs.Option.{option_copied, option_map};
 ghost use Rattle.cp_core.specs.Volumes.{AreDisks, IsDiskOn, IsFirstPast, extent_in, first_lacking, has_twins, has_volser, is_past, lacks_volume, user_is_past, user_lacks, volume_named};
@@ -163,4 +163,41 @@ fn disk_of(
     };
     let unit = Unit::new(alloc, part, arm)?;
     Ok(AttachedDisk::new(minidisk.address, unit))
+}
+
+/// Puts the cylinders of a user's disks that may be written back onto their volumes. It takes no memory.
+pub(crate) fn put_back_disks(
+    volumes: &mut [Volume],
+    minidisks: &[Minidisk],
+    disks: Vec<AttachedDisk>,
+)
+    ensures { length volumes.new ≡ length volumes.old }
+{
+    for (minidisk, disk) in minidisks.iter().zip(disks) {
+        put_back_disk(volumes, minidisk, disk);
+    }
+}
+
+/// Puts the cylinders of a disk that may be written back onto its volume.
+fn put_back_disk(volumes: &mut [Volume], minidisk: &Minidisk, disk: AttachedDisk)
+    ensures { length volumes.new ≡ length volumes.old }
+{
+    let extent = extent_in(&minidisk.extent);
+    if !extent.is_writable() {
+        return;
+    }
+    let volser = minidisk.extent.volser().padded();
+    let Some(place) = volumes.iter().position(|volume| volume.volser() == volser) else {
+        return;
+    };
+    put_back_part(&mut volumes[place], extent, disk.into_unit().into_volume());
+}
+
+/// Puts the cylinders of an extent that may be written back onto its volume, where they are as many.
+fn put_back_part(volume: &mut Volume, extent: Extent, part: Volume)
+    requires { extent.writable ≡ true }
+{
+    if extent.fits(volume) && part.count() == usize::from(extent.count()) {
+        extent.put_back(volume, part);
+    }
 }
