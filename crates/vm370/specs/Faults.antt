@@ -1,6 +1,7 @@
 -- What the program says of its failure, and its exit status.
 use Rattle.std.specs.Prelude.{ℕ, List, ◌++◌, codes, Result, Ok, Err}
 use Rattle.std.specs.Fmt.{decimal}
+use Rattle.ckd_image.specs.Told.{image_status, image_text}
 use Rattle.cp_core.specs.declared.events.BootError.{BootError}
 use Rattle.cp_core.specs.declared.events.BootError.TheVariants as boots
 use Rattle.cp_directory.specs.declared.faults.DirError.{DirError}
@@ -46,12 +47,14 @@ boot_text boots.DuplicateDevice = codes "fault: boot DuplicateDevice"
 -- the line of a failure
 abbrev pub fault_text : Failure → List ℕ
 fault_text (failures.Directory error) = directory_text error
+fault_text (failures.Image error) = image_text error
 fault_text (failures.Boot error) = boot_text error
 fault_text (failures.Script line) = codes "fault: script Line " ++ decimal line
+fault_text (failures.Unsaved error path) = image_text error
 fault_text (failures.File count) = codes "fault: file Device " ++ decimal count
 fault_text failures.Memory = codes "fault: memory Memory"
 fault_text failures.Spent = codes "fault: memory Spent"
-fault_text failures.Usage = codes "usage: vm370 DIRECTORY SCRIPT"
+fault_text failures.Usage = codes "usage: vm370 DIRECTORY SCRIPT [VOLUME]..."
 
 -- a directory that is refused is refused input, unless memory was
 abbrev pub directory_status : DirError → ℕ
@@ -66,8 +69,10 @@ boot_status _ = 1
 -- refused input is 1, a wrong use 2, a file that failed 3, memory 4
 abbrev pub status_of : Failure → ℕ
 status_of (failures.Directory error) = directory_status error
+status_of (failures.Image error) = image_status error
 status_of (failures.Boot error) = boot_status error
 status_of (failures.Script line) = 1
+status_of (failures.Unsaved error path) = image_status error
 status_of (failures.File count) = 3
 status_of failures.Memory = 4
 status_of failures.Spent = 4

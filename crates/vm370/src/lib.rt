@@ -16,6 +16,7 @@ mod answers;
 pub mod arguments;
 pub mod faults;
 pub mod files;
+pub mod images;
 mod known;
 pub mod program;
 mod queue;

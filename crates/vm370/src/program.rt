@@ -71,6 +71,9 @@ fn tell<R: AllocGlobal + Eprint>(rt: &R, failure: &Failure) {
     if let Ok(line) = fault_line(rt.alloc(), failure) {
         let _ = rt.eprintln(&line);
     }
+    if let Failure::Unsaved(_, path) = failure {
+        let _ = eprintln!(rt; "not saved: {path}");
+    }
 }
 
 /// Reads the words and both files, and writes the transcript. A wrong use is told here.
