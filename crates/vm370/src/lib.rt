@@ -14,6 +14,7 @@
 mod acts;
 mod answers;
 pub mod arguments;
+pub mod boot_faults;
 pub mod faults;
 pub mod files;
 pub mod images;
