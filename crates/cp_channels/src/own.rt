@@ -33,6 +33,13 @@ impl Own {
         self.disks.as_slice()
     }
 
+    /// The disks, of which the channels are taken off.
+    pub fn into_disks(self) -> Vec<AttachedDisk>
+        ensures { result.items ≡ disks_of self }
+    {
+        self.disks
+    }
+
     /// The program of an initial program loading runs on the disk of this index, which is at rest after it.
     pub fn load_disk<S: Storage>(
         &mut self,

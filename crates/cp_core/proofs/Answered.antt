@@ -1,7 +1,6 @@
 -- What an answer to a line leaves alone.
 use Rattle.std.proofs.Common.{◌≡◌, ◌⊎◌, ℕ, ◌<◌, Bool, true, false, List, [], ◌∷◌, length, Option, Some, None, refl, sym, ap, subst, inl, inr, arith}
-use Rattle.std.specs.Prelude.{if◌then◌else◌}
-use Rattle.s370_channel.specs.Reading.{as_reached}
+use Rattle.std.specs.Prelude.{◌||◌, if◌then◌else◌}
 use Rattle.unit_record.specs.declared.output.Target.{Target}
 use Rattle.unit_record.specs.Reader.{DeckValue}
 use Rattle.unit_record.specs.Console.{has_room}
@@ -20,13 +19,12 @@ use Rattle.cp_devices.specs.declared.request.Request.{Request}
 use Rattle.cp_devices.specs.declared.request.Request.TheVariants.{LogsOn, LogsOff, Resets, Types, Asks, Elsewhere}
 use Rattle.cp_devices.specs.Devices.{DevicesValue, part_at}
 use Rattle.cp_devices.specs.Equipped.{Equipped}
-use Rattle.cp_devices.specs.Life.{Line as Typing, Lives}
-use Rattle.cp_devices.specs.Lines.{IsAnswered, IsFollowed, IsLine, IsObeyed, MayTakeMemory, Outcome, SendsTo, SendsWhere, answered_alone, close_answered, closed_where, files_told, loads_from, logged_off, logged_on, outcome, purge_answered, requested, said, spool_answered, spooled_to, target_of, typed_at, typed_where, was_reset}
+use Rattle.cp_devices.specs.Lines.{IsAnswered, IsFollowed, IsIpl, IsLine, IsObeyed, IsWholeLine, MayTakeMemory, Outcome, SendsTo, SendsWhere, answered_alone, close_answered, closed_where, files_told, loads_from, logged_off, logged_on, outcome, purge_answered, requested, said, spool_answered, spooled_to, target_of, typed_at, typed_where, was_reset}
 use Rattle.cp_devices.specs.Spooling.{is_punch, output_of, spooled}
 use Rattle.cp_devices.specs.World.{World, is_on}
 use Rattle.cp_core.specs.Come.{HasClosed, NeedsMemory, is_sent}
-use Rattle.cp_core.specs.Local.{typed_as}
-use Rattle.cp_core.specs.Memory.{closes, command_closes}
+use Rattle.cp_core.specs.Memory.{closes, command_closes, is_cut}
+use Rattle.cp_core.specs.Wants.{LineMay, is_ipl}
 
 -- a message that is sent leaves its sender's machine
 abbrev pub SentSame : Equipped → Told → Equipped → Type 0
@@ -143,11 +141,6 @@ sends_to (Some user) w text told h = sends_where (is_on w user) user w text told
 from : (closing sends : Bool) (old new : Equipped) (told : Told) (o : Outcome) → outcome new told ≡ o → IsMild closing sends old o → IsMild closing sends old (outcome new told)
 from closing sends old new told o h mild = subst (λ (x : Outcome). IsMild closing sends old x) (sym h) mild
 
--- a request that is no IPL
-abbrev pub is_ipl : Request → Bool
-is_ipl (Asks (commands.Ipl device)) = true
-is_ipl other = false
-
 -- a command that sends a message
 abbrev pub command_sends : DeviceCommand → Bool
 command_sends (commands.Message name text) = true
@@ -184,31 +177,49 @@ mild Types w typed old told new not h = from false false old new told _ h (typed
 mild (Asks command) w typed old told new not h = obeyed_mild w command old told new not h
 mild Elsewhere w typed old told new not h = from false false old new told _ h (alone_mild typed old)
 
--- a line is what a machine of its own does, where it does not ask for an IPL
-followed : (told : Told) (new : Equipped) → loads_from told ≡ None → IsFollowed (loads_from told) told new told new
-followed told new none = subst (λ (d : Option ℕ). IsFollowed d told new told new) (sym none) refl
+true_or_false : (b : Bool) → (b ≡ true) ⊎ (b ≡ false)
+true_or_false true = inl refl
+true_or_false false = inr refl
 
-whole : (w : World) (typed : List ℕ) (old : Equipped) (told : Told) (new : Equipped) → IsLine w typed old told new → loads_from told ≡ None → Lives as_reached (Typing w typed ∷ []) old new
-whole w typed old told new h none =
-    (new, (told, record { first = told; next = new; line = h; followed = followed told new none }), refl)
+-- an IPL tells its loading, and changes nothing
+ipl_same : (q : Request) (w : World) (typed : List ℕ) (old : Equipped) (told : Told) (new : Equipped) → is_ipl q ≡ true → IsAnswered q w typed old told new → (new ≡ old) × (is_sent told ≡ false)
+ipl_same (Asks (commands.Ipl device)) w typed old told new is h = (ap (λ (o : Outcome). o.equipped) h, ap (λ (o : Outcome). is_sent o.told) h)
+ipl_same (Asks commands.QueryFiles) w typed old told new is h = cc
+ipl_same (Asks commands.QueryUsers) w typed old told new is h = cc
+ipl_same (Asks (commands.Spool device name)) w typed old told new is h = cc
+ipl_same (Asks (commands.Close device)) w typed old told new is h = cc
+ipl_same (Asks (commands.Purge file)) w typed old told new is h = cc
+ipl_same (Asks (commands.Message name text)) w typed old told new is h = cc
+ipl_same LogsOn w typed old told new is h = cc
+ipl_same LogsOff w typed old told new is h = cc
+ipl_same Resets w typed old told new is h = cc
+ipl_same Types w typed old told new is h = cc
+ipl_same Elsewhere w typed old told new is h = cc
 
-lives_as : (q : Request) (w : World) (typed : List ℕ) (old : Equipped) (told : Told) (new : Equipped) → IsLine w typed old told new → IsAnswered q w typed old told new → Lives as_reached (typed_as q w typed) old new
-lives_as LogsOn w typed old told new h a = whole w typed old told new h (mild LogsOn w typed old told new refl a).no_load
-lives_as LogsOff w typed old told new h a = whole w typed old told new h (mild LogsOff w typed old told new refl a).no_load
-lives_as Resets w typed old told new h a = whole w typed old told new h (mild Resets w typed old told new refl a).no_load
-lives_as Types w typed old told new h a = whole w typed old told new h (mild Types w typed old told new refl a).no_load
-lives_as Elsewhere w typed old told new h a = whole w typed old told new h (mild Elsewhere w typed old told new refl a).no_load
-lives_as (Asks (commands.Ipl device)) w typed old told new h a = ap (λ (o : Outcome). o.equipped) a
-lives_as (Asks commands.QueryFiles) w typed old told new h a = whole w typed old told new h (mild (Asks commands.QueryFiles) w typed old told new refl a).no_load
-lives_as (Asks commands.QueryUsers) w typed old told new h a = whole w typed old told new h (mild (Asks commands.QueryUsers) w typed old told new refl a).no_load
-lives_as (Asks (commands.Spool device name)) w typed old told new h a = whole w typed old told new h (mild (Asks (commands.Spool device name)) w typed old told new refl a).no_load
-lives_as (Asks (commands.Close device)) w typed old told new h a = whole w typed old told new h (mild (Asks (commands.Close device)) w typed old told new refl a).no_load
-lives_as (Asks (commands.Purge file)) w typed old told new h a = whole w typed old told new h (mild (Asks (commands.Purge file)) w typed old told new refl a).no_load
-lives_as (Asks (commands.Message name text)) w typed old told new h a = whole w typed old told new h (mild (Asks (commands.Message name text)) w typed old told new refl a).no_load
+-- a line that asks for no IPL is answered at once
+pub whole_plain : (w : World) (typed : List ℕ) (old : Equipped) (told : Told) (new : Equipped) → is_ipl (requested typed old) ≡ false → IsWholeLine w typed old told new → IsLine w typed old told new
+whole_plain w typed old told new plain h =
+    let none : loads_from h.first ≡ None = (mild (requested typed old) w typed old h.first h.next plain h.line).no_load in
+    let same : outcome new told ≡ outcome h.next h.first = subst (λ (d : Option ℕ). IsFollowed d h.first h.next told new) none h.followed in
+    subst (λ (o : Outcome). IsLine w typed old o.told o.equipped) (sym same) h.line
 
--- a line is to its user's machine what it is to a machine of its own; one that asks for an IPL changes nothing
-pub lives_line : (w : World) (typed : List ℕ) (old : Equipped) (told : Told) (new : Equipped) → IsLine w typed old told new → Lives as_reached (typed_as (requested typed old) w typed) old new
-lives_line w typed old told new h = lives_as (requested typed old) w typed old told new h h
+-- one that tells of no loading is whole
+pub plain_whole : (w : World) (typed : List ℕ) (old : Equipped) (told : Told) (new : Equipped) → loads_from told ≡ None → IsLine w typed old told new → IsWholeLine w typed old told new
+plain_whole w typed old told new none h = record { first = told; next = new; line = h; followed = subst (λ (d : Option ℕ). IsFollowed d told new told new) (sym none) refl }
+
+-- one that tells of a loading is whole with that
+pub loaded_whole : (w : World) (typed : List ℕ) (old : Equipped) (first : Told) (next : Equipped) (device : ℕ) (told : Told) (new : Equipped) → loads_from first ≡ Some device → IsLine w typed old first next → IsIpl device next told new → IsWholeLine w typed old told new
+loaded_whole w typed old first next device told new loads h ipl = record { first = first; next = next; line = h; followed = subst (λ (d : Option ℕ). IsFollowed d first next told new) (sym loads) ipl }
+
+-- a line that tells of a loading asks for an IPL, and has changed nothing
+pub loads_ipl : (w : World) (typed : List ℕ) (old : Equipped) (told : Told) (new : Equipped) (device : ℕ) → IsLine w typed old told new → loads_from told ≡ Some device → (is_ipl (requested typed old) ≡ true) × (new ≡ old)
+loads_ipl w typed old told new device h loads = elim (true_or_false (is_ipl (requested typed old))) [
+  | inl ipl ↦ (ipl, (ipl_same (requested typed old) w typed old told new ipl h).0)
+  | inr other ↦ absurd (some_none device (sym loads ∙ (mild (requested typed old) w typed old told new other h).no_load))
+]
+  where
+    some_none : (n : ℕ) → Some n ≡ None → ⊥
+    some_none n e = cc
 
 -- ---- where memory was refused for what comes of a line
 
@@ -257,34 +268,8 @@ sending_may Resets typed e is = cc
 sending_may Types typed e is = cc
 sending_may Elsewhere typed e is = cc
 
-true_or_false : (b : Bool) → (b ≡ true) ⊎ (b ≡ false)
-true_or_false true = inl refl
-true_or_false false = inr refl
-
--- an IPL tells its loading, and changes nothing
-ipl_same : (q : Request) (w : World) (typed : List ℕ) (old : Equipped) (told : Told) (new : Equipped) → is_ipl q ≡ true → IsAnswered q w typed old told new → (new ≡ old) × (is_sent told ≡ false)
-ipl_same (Asks (commands.Ipl device)) w typed old told new is h = (ap (λ (o : Outcome). o.equipped) h, ap (λ (o : Outcome). is_sent o.told) h)
-ipl_same (Asks commands.QueryFiles) w typed old told new is h = cc
-ipl_same (Asks commands.QueryUsers) w typed old told new is h = cc
-ipl_same (Asks (commands.Spool device name)) w typed old told new is h = cc
-ipl_same (Asks (commands.Close device)) w typed old told new is h = cc
-ipl_same (Asks (commands.Purge file)) w typed old told new is h = cc
-ipl_same (Asks (commands.Message name text)) w typed old told new is h = cc
-ipl_same LogsOn w typed old told new is h = cc
-ipl_same LogsOff w typed old told new is h = cc
-ipl_same Resets w typed old told new is h = cc
-ipl_same Types w typed old told new is h = cc
-ipl_same Elsewhere w typed old told new is h = cc
-
 not_both : {b : Bool} → b ≡ false → b ≡ true → ⊥
 not_both off on = cc
-
--- an IPL brings about nothing that takes memory
-ipl_none : (old : Equipped) (told : Told) (new : Equipped) → new ≡ old → is_sent told ≡ false → NeedsMemory (length old.devices.punch.closed) (length old.devices.printer.closed) told new → ⊥
-ipl_none old told new same unsent h = elim h [
-  | inl sent ↦ not_both unsent sent
-  | inr closed ↦ not_closed old new (ap (λ (e : Equipped). e.devices.punch.closed) same) (ap (λ (e : Equipped). e.devices.printer.closed) same) closed
-]
 
 may_mild : (q : Request) (typed : List ℕ) (old : Equipped) (told : Told) (new : Equipped) → IsMild (closes q) (sends q) old (outcome new told) → NeedsMemory (length old.devices.punch.closed) (length old.devices.printer.closed) told new → MayTakeMemory q typed old
 may_mild q typed old told new mild h = elim (true_or_false (closes q)) [
@@ -305,15 +290,19 @@ same_mild q old told new none mild h = elim h [
 ]
 
 -- what comes of a line takes memory only where the line may
-pub follow_may : (q : Request) (w : World) (typed : List ℕ) (old : Equipped) (told : Told) (new : Equipped) → IsAnswered q w typed old told new → NeedsMemory (length old.devices.punch.closed) (length old.devices.printer.closed) told new → MayTakeMemory q typed old
-follow_may q w typed old told new h needs = elim (true_or_false (is_ipl q)) [
-  | inl ipl ↦ (let s = ipl_same q w typed old told new ipl h in absurd (ipl_none old told new s.0 s.1 needs))
-  | inr other ↦ may_mild q typed old told new (mild q w typed old told new other h) needs
+pub follow_may : (w : World) (typed : List ℕ) (old : Equipped) (told : Told) (new : Equipped) → IsWholeLine w typed old told new → NeedsMemory (length old.devices.punch.closed) (length old.devices.printer.closed) told new → LineMay typed old
+follow_may w typed old told new h needs = elim (true_or_false (is_ipl (requested typed old))) [
+  | inl ipl ↦ inr ipl
+  | inr other ↦ (let q = requested typed old in inl (may_mild q typed old told new (mild q w typed old told new other (whole_plain w typed old told new other h)) needs))
 ]
 
--- and a line that closes no file has changed nothing then
-pub follow_same : (q : Request) (w : World) (typed : List ℕ) (old : Equipped) (told : Told) (new : Equipped) → closes q ≡ false → IsAnswered q w typed old told new → NeedsMemory (length old.devices.punch.closed) (length old.devices.printer.closed) told new → new ≡ old
-follow_same q w typed old told new none h needs = elim (true_or_false (is_ipl q)) [
-  | inl ipl ↦ (ipl_same q w typed old told new ipl h).0
-  | inr other ↦ same_mild q old told new none (mild q w typed old told new other h) needs
-]
+is_cut_parts : (b c : Bool) → (b || c) ≡ false → (b ≡ false) × (c ≡ false)
+is_cut_parts true c h = cc
+is_cut_parts false c h = (refl, h)
+
+-- and a line that is not cut short has changed nothing then
+pub follow_same : (w : World) (typed : List ℕ) (old : Equipped) (told : Told) (new : Equipped) → is_cut (requested typed old) ≡ false → IsWholeLine w typed old told new → NeedsMemory (length old.devices.punch.closed) (length old.devices.printer.closed) told new → new ≡ old
+follow_same w typed old told new none h needs =
+    let q = requested typed old in
+    let parts = is_cut_parts (closes q) (is_ipl q) none in
+    same_mild q old told new parts.0 (mild q w typed old told new parts.1 (whole_plain w typed old told new parts.1 h)) needs

@@ -1,6 +1,6 @@
 -- What each event leaves is a step: to every user, as the reply tells, and of the frames.
 use Rattle.std.proofs.Common.{◌≡◌, ◌∙◌, ◌⊎◌, ℕ, ◌+◌, ◌-◌, ◌<◌, ◌==◌, ◌&&◌, Bool, true, false, List, [], ◌∷◌, ◌++◌, length, get_or, set, Option, Some, None, Result, Ok, Err, refl, sym, ap, subst, inl, inr, arith, nat_lt}
-use Rattle.std.specs.Prelude.{slice_get, if◌then◌else◌, IfErr, OnErr}
+use Rattle.std.specs.Prelude.{◌||◌, slice_get, if◌then◌else◌, IfErr, OnErr}
 use Rattle.std.specs.Borrow.{Bor}
 use Rattle.std.proofs.lemmas.Bool.{false≢true}
 use Rattle.std.proofs.lemmas.Bool.Decides.{nat_tests}
@@ -27,14 +27,16 @@ use Rattle.cp_devices.specs.declared.line.Told.{Told}
 use Rattle.cp_devices.specs.declared.line.Told.TheVariants.{Silent}
 use Rattle.cp_devices.specs.declared.files.FileKind.TheVariants as kinds
 use Rattle.cp_devices.specs.Equipped.{Equipped}
-use Rattle.cp_devices.specs.Life.{Event as Local, Units, Serve as Serves, Tick as Ticks, Deck as Gets, Leaves, Lives}
+use Rattle.cp_devices.specs.Life.{Event as Local, Units, Serve as Serves, Line as Types, Tick as Ticks, Deck as Gets, Leaves, Lives}
 use Rattle.cp_devices.specs.Lines.{requested, said}
 use Rattle.cp_devices.specs.Spooling.{cards_of}
 use Rattle.cp_core.specs.Come.{HasCome, NeedsMemory, comes_by_line, comes_from_operator}
 use Rattle.cp_core.specs.Files.{closed_by, closed_since, next_file, note_where}
 use Rattle.cp_core.specs.Histories.{IsStep}
-use Rattle.cp_core.specs.Local.{Step, coming, run_of, typed_as, units_of}
-use Rattle.cp_core.specs.Memory.{IsCutShort, closes}
+use Rattle.cp_core.specs.Local.{Step, coming, run_of, units_of}
+use Rattle.cp_core.specs.Memory.{IsCutShort, closes, is_cut}
+use Rattle.cp_core.specs.Wants.{is_ipl}
+use Rattle.cp_devices.specs.declared.request.Request.{Request}
 use Rattle.cp_core.specs.Replies.{silent}
 use Rattle.cp_core.specs.Supply.{IsGivenBack}
 use Rattle.cp_core.specs.System.{SystemView, machine_at, nobody, user_at, world_of}
@@ -47,10 +49,10 @@ use Rattle.cp_core.specs.declared.events.Ended.TheVariants.{Ran, Served, Done, F
 use Rattle.cp_core.specs.declared.events.Event.TheVariants.{Run, Line, Tick, Deck, Serve}
 use Rattle.cp_core.specs.declared.events.Reply.{Reply}
 use Rattle.cp_core.specs.declared.files.FileNote.{FileNote}
-use Rattle.cp_core.proofs.Answered.{follow_may, follow_same, lives_line}
+use Rattle.cp_core.proofs.Answered.{follow_may, follow_same}
 use Rattle.cp_core.proofs.Kept.{nine_each}
 use Rattle.cp_core.proofs.Led.{come_led, led_alone, lives_on, others_stay, printer_stays, punch_stays, stays_each}
-use Rattle.cp_core.proofs.Switches.{switch_needs_none}
+use Rattle.cp_core.proofs.Switches.{switch_wants_none}
 
 -- a work on one user's machine changes him and the frames alone
 abbrev pub IsLent : SystemView → ℕ → SystemView → Type 0
@@ -187,7 +189,7 @@ line_done old middle new user typed told said' lines delivered punched printed h
     let printer = printer_stays user punched (user_at middle user) delivered middle new come user in
     record {
       applied = λ u. lives_on as_reached _ _ (user_at old u) (user_at middle u) (user_at new u)
-          (led_alone user (typed_as (requested typed.now (user_at old user)) (world_of old user) typed.now) old.users middle.users (ap (λ (x : SystemView). x.users) lent) (lives_line (world_of old user) typed.now (user_at old user) told (user_at middle user) h.leaves) u)
+          (led_alone user (Types (world_of old user) typed.now ∷ []) old.users middle.users (ap (λ (x : SystemView). x.users) lent) (user_at middle user, (told, h.leaves), refl) u)
           (come_led old step (comes_by_line user punched (user_at middle user)) delivered middle new come (come_same old middle new user punched typed step.reply at_punch punch) u);
       told = record {
         tells = record {
@@ -230,10 +232,26 @@ line_out old new user typed h lent rest between = record {
   supplied = record {
     between_before = rest;
     between = between;
-    given_back = λ on. absurd (switch_needs_none typed.now (machine_at old user) h.leaves.1.page on h.leaves.1.needed);
+    given_back = λ on. absurd (switch_wants_none typed.now (user_at old user) h.leaves.1.page on h.leaves.1.needed);
     brought = λ off. (let b = h.brought off in (b.0 ∷ [], b.1, (b.0, refl, b.2)));
   };
 }
+
+-- every user is as he was, but for one whose line is cut short
+follow_others : (old middle : SystemView) (user : ℕ) (u : ℕ) (b : Bool) (closing : Bool) → IsLent old user middle → (closing ≡ false → user_at middle user ≡ user_at old user) → (user == u) ≡ b → (if b then closing else false) ≡ false → user_at middle u ≡ user_at old u
+follow_others old middle user u true closing lent same t not = stays_each (λ (e : Equipped). e) user old.users middle.users (ap (λ (x : SystemView). x.users) lent) (same not) u
+follow_others old middle user u false closing lent same t not = others_stay user old.users middle.users (ap (λ (x : SystemView). x.users) lent) u t
+
+and_if : (b c : Bool) → (b && c) ≡ false → (if b then c else false) ≡ false
+and_if true c h = h
+and_if false c h = refl
+
+plain_parts : (b c : Bool) → (b || c) ≡ false → c ≡ false
+plain_parts true c h = cc
+plain_parts false c h = h
+
+plain_of : (q : Request) → is_cut q ≡ false → is_ipl q ≡ false
+plain_of q none = plain_parts (closes q) (is_ipl q) none
 
 -- where the line was refused memory
 pub line_refused : (old new : SystemView) (user : ℕ) (typed : Bor (List ℕ)) → HasTyped (world_of old user) user typed.now (user_at old user) old.supply (Err errors.Memory) (user_at new user) new.supply → IsLent old user new → IsBetweenUnits old.supply → IsBetweenUnits new.supply
@@ -246,18 +264,10 @@ line_refused old new user typed h lent rest between = record {
     given_back = λ on. inr (h.given_back on);
     brought = λ off. (let b = h.brought off in (b.0 ∷ [], b.1, (b.0, refl, b.2)));
   };
-  others = λ u not. stays_each (λ (e : Equipped). e) user old.users new.users (ap (λ (x : SystemView). x.users) lent) h.leaves.0 u;
+  others = λ u not. (let q = requested typed.now (user_at old user) in follow_others old new user u (user == u) (is_cut q) lent (λ none. h.leaves.0 (plain_of q none)) refl (and_if (user == u) (is_cut q) not));
 }
 
 -- where what comes of it was
-follow_others : (old middle : SystemView) (user : ℕ) (u : ℕ) (b : Bool) (closing : Bool) → IsLent old user middle → (closing ≡ false → user_at middle user ≡ user_at old user) → (user == u) ≡ b → (if b then closing else false) ≡ false → user_at middle u ≡ user_at old u
-follow_others old middle user u true closing lent same t not = stays_each (λ (e : Equipped). e) user old.users middle.users (ap (λ (x : SystemView). x.users) lent) (same not) u
-follow_others old middle user u false closing lent same t not = others_stay user old.users middle.users (ap (λ (x : SystemView). x.users) lent) u t
-
-and_if : (b c : Bool) → (b && c) ≡ false → (if b then c else false) ≡ false
-and_if true c h = h
-and_if false c h = refl
-
 pub line_cut : (old middle new : SystemView) (user : ℕ) (typed : Bor (List ℕ)) (told : Told) (punched printed : ℕ)
     → HasTyped (world_of old user) user typed.now (user_at old user) old.supply (Ok told) (user_at middle user) middle.supply
     → IsLent old user middle → IsBetweenUnits old.supply → IsBetweenUnits middle.supply
@@ -272,14 +282,14 @@ line_cut old middle new user typed told punched printed h lent rest between at_p
     let now : NeedsMemory (length e.devices.punch.closed) (length e.devices.printer.closed) told (user_at middle user) =
     subst (λ (n : ℕ). NeedsMemory n (length e.devices.printer.closed) told (user_at middle user)) at_punch (subst (λ (n : ℕ). NeedsMemory punched n told (user_at middle user)) at_printer needs) in
     record {
-      may = follow_may q w typed.now e told (user_at middle user) h.leaves now;
+      may = follow_may w typed.now e told (user_at middle user) h.leaves now;
       supplied = record {
         between_before = rest;
         between = subst IsBetweenUnits (sym supply) between;
         given_back = λ on. inl (subst (λ (x : FrameSupply). IsGivenBack user old.supply x) (sym supply) (h.given_back on));
         brought = λ off. (let b = h.brought off in (b.0 ∷ [], subst (λ (x : FrameSupply). IsBroughtInUnits user (b.0 ∷ []) old.supply x) (sym supply) b.1, (b.0, refl, b.2)));
       };
-      others = λ u not. ap (λ (us : List Equipped). get_or us u nobody) users ∙ follow_others old middle user u (user == u) (closes q) lent (λ none. follow_same q w typed.now e told (user_at middle user) none h.leaves now) refl (and_if (user == u) (closes q) not);
+      others = λ u not. ap (λ (us : List Equipped). get_or us u nobody) users ∙ follow_others old middle user u (user == u) (is_cut q) lent (λ none. follow_same w typed.now e told (user_at middle user) none h.leaves now) refl (and_if (user == u) (is_cut q) not);
     }
 
 -- ---- a serve

@@ -1,6 +1,7 @@
 -- A line that switches the machine on or off needs no page.
-use Rattle.std.proofs.Common.{◌≡◌, ℕ, List, true, Result, Ok, Err}
-use Rattle.s370_store.specs.Access.{Touches}
+use Rattle.std.proofs.Common.{◌≡◌, ℕ, Bool, List, true, false, Result, Ok, Err, refl, subst, sym}
+use Rattle.std.specs.Prelude.{if◌then◌else◌, is_some}
+use Rattle.s370_store.specs.Access.{Test, Touches}
 use Rattle.cp_console.specs.Asked.{Asked, Stop, Command as ToControlProgram, Plain, asked_of}
 use Rattle.cp_console.specs.Commands.{command_of}
 use Rattle.cp_console.specs.Lines.{cleaned}
@@ -10,6 +11,10 @@ use Rattle.cp_console.specs.declared.commands.CommandError.{CommandError}
 use Rattle.cp_panel.specs.declared.machine.Mode.{Mode}
 use Rattle.cp_panel.specs.declared.machine.Mode.TheVariants.{Off, Stopped, Running}
 use Rattle.cp_panel.specs.Machine.{Machine}
+use Rattle.cp_devices.specs.Equipped.{Equipped}
+use Rattle.cp_devices.specs.Lines.{requested}
+use Rattle.cp_devices.specs.Requests.{asked_request, command_request, off_request, plain_request, request_in}
+use Rattle.cp_core.specs.Wants.{LineWants, WantsWhere, is_ipl}
 use Rattle.cp_panel.specs.Panel.{asked_needs, asked_switches, command_needs, is_logoff, line_needs, needs_in, plain_needs, plain_switches, switches, switches_in}
 
 logoff_needs : (r : Result Command CommandError) (page : ℕ) → is_logoff r ≡ true → Touches (command_needs r) page → ⊥
@@ -41,3 +46,66 @@ none_in Running text page on need = asked_none Running (asked_of text) page on n
 
 pub switch_needs_none : (typed : List ℕ) (m : Machine) (page : ℕ) → switches typed m ≡ true → Touches (line_needs typed m) page → ⊥
 switch_needs_none typed m page on need = none_in m.mode (cleaned typed) page on need
+
+-- ---- a line that switches the machine is no IPL
+
+command_both : (r : Result Command CommandError) → is_ipl (command_request r) ≡ true → is_logoff r ≡ true → ⊥
+command_both (Ok Logoff) ipl on = cc
+command_both (Ok Nothing) ipl on = cc
+command_both (Ok Logon) ipl on = cc
+command_both (Ok (Begin address)) ipl on = cc
+command_both (Ok SystemReset) ipl on = cc
+command_both (Ok External) ipl on = cc
+command_both (Ok (Device command)) ipl on = cc
+command_both (Ok (Display place)) ipl on = cc
+command_both (Ok (Store change)) ipl on = cc
+command_both (Err fault) ipl on = cc
+
+off_both : (r : Result Command CommandError) → is_ipl (off_request r) ≡ true → ⊥
+off_both (Ok Logoff) ipl = cc
+off_both (Ok Nothing) ipl = cc
+off_both (Ok Logon) ipl = cc
+off_both (Ok (Begin address)) ipl = cc
+off_both (Ok SystemReset) ipl = cc
+off_both (Ok External) ipl = cc
+off_both (Ok (Device command)) ipl = cc
+off_both (Ok (Display place)) ipl = cc
+off_both (Ok (Store change)) ipl = cc
+off_both (Err fault) ipl = cc
+
+plain_both : (mode : Mode) (has_console : Bool) (text : List ℕ) → is_ipl (plain_request mode has_console text) ≡ true → plain_switches mode text ≡ true → ⊥
+plain_both Stopped has_console text ipl on = command_both (command_of text) ipl on
+plain_both Running has_console text ipl on = cc
+plain_both Off has_console text ipl on = cc
+
+asked_both : (mode : Mode) (has_console : Bool) (asked : Asked) → is_ipl (asked_request mode has_console asked) ≡ true → asked_switches mode asked ≡ true → ⊥
+asked_both mode has_console Stop ipl on = cc
+asked_both mode has_console (ToControlProgram text) ipl on = command_both (command_of text) ipl on
+asked_both mode has_console (Plain text) ipl on = plain_both mode has_console text ipl on
+
+in_both : (mode : Mode) (has_console : Bool) (text : List ℕ) → is_ipl (request_in mode has_console text) ≡ true → switches_in mode text ≡ true → ⊥
+in_both Off has_console text ipl on = off_both (command_of text) ipl
+in_both Stopped has_console text ipl on = asked_both Stopped has_console (asked_of text) ipl on
+in_both Running has_console text ipl on = asked_both Running has_console (asked_of text) ipl on
+
+pub switch_no_ipl : (typed : List ℕ) (e : Equipped) → is_ipl (requested typed e) ≡ true → switches typed e.machine ≡ true → ⊥
+switch_no_ipl typed e ipl on = in_both e.machine.mode (is_some e.devices.places.console) (cleaned typed) ipl on
+
+wants_where : (typed : List ℕ) (e : Equipped) (page : ℕ) (b : Bool) → is_ipl (requested typed e) ≡ b → switches typed e.machine ≡ true → WantsWhere b (line_needs typed e.machine) page → ⊥
+wants_where typed e page true is on want = switch_no_ipl typed e is on
+wants_where typed e page false is on want = switch_needs_none typed e.machine page on want
+
+pub switch_wants_none : (typed : List ℕ) (e : Equipped) (page : ℕ) → switches typed e.machine ≡ true → LineWants typed e page → ⊥
+switch_wants_none typed e page on want = wants_where typed e page (is_ipl (requested typed e)) refl on want
+
+-- ---- what a line needs is wanted
+
+want_of : (b : Bool) (tests : List Test) (page : ℕ) → Touches tests page → WantsWhere b tests page
+want_of true tests page need = tt
+want_of false tests page need = need
+
+pub wanted : (typed : List ℕ) (e : Equipped) (page : ℕ) → Touches (line_needs typed e.machine) page → LineWants typed e page
+wanted typed e page need = want_of (is_ipl (requested typed e)) (line_needs typed e.machine) page need
+
+pub any_wanted : (typed : List ℕ) (e : Equipped) (page : ℕ) → is_ipl (requested typed e) ≡ true → LineWants typed e page
+any_wanted typed e page ipl = subst (λ (b : Bool). WantsWhere b (line_needs typed e.machine) page) (sym ipl) tt

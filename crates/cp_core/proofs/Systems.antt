@@ -2,6 +2,7 @@
 use Rattle.std.specs.Prelude.{OnErr, OnOk}
 use Rattle.std.proofs.Common.{Result, Ok, Err, ◌≡◌, ℕ, ◌<◌, Bool, List, [], ◌∷◌, ◌++◌, length, map, get_or, set, zero, suc, refl, sym, subst, ◌∙◌, ap, arith, get_or-set_same}
 use Rattle.std.proofs.lemmas.List.{get_or_default}
+use Rattle.ckd_volume.specs.Volume.{VolumeFormat}
 use Rattle.cp_directory.specs.Users.{DirectoryUser}
 use Rattle.cp_frames.specs.Layout.{FrameSupply}
 use Rattle.cp_dat.specs.Lent.{set_own}
@@ -72,37 +73,37 @@ same_deliveries (s ∷ seats) zero seat seat' same kept =
 same_deliveries (s ∷ seats) (suc user) seat seat' same kept = ap (λ (ds : List (List Delivery)). s.deliveries ∷ ds) (same_deliveries seats user seat seat' same kept)
 
 -- the system as it is seen, by its parts
-abbrev pub seen : List UserParts → List (List ℕ) → List DirectoryUser → FrameSupply → List FileNote → Bool → SystemView
-seen seats storages directory supply files is_spent =
-    record { users = users_of seats storages; directory = directory; supply = supply; files = files; deliveries = deliveries_of seats; is_spent = is_spent }
+abbrev pub seen : List UserParts → List (List ℕ) → List DirectoryUser → FrameSupply → List FileNote → List VolumeFormat → Bool → SystemView
+seen seats storages directory supply files volumes is_spent =
+    record { users = users_of seats storages; directory = directory; supply = supply; files = files; deliveries = deliveries_of seats; volumes = volumes; is_spent = is_spent }
 
-with_users : (us us' : List Equipped) (ds ds' : List (List Delivery)) (directory : List DirectoryUser) (supply : FrameSupply) (files : List FileNote) (is_spent : Bool) → us' ≡ us → ds' ≡ ds → (let s : SystemView = record { users = us'; directory = directory; supply = supply; files = files; deliveries = ds'; is_spent = is_spent } in s ≡ record { users = us; directory = directory; supply = supply; files = files; deliveries = ds; is_spent = is_spent })
-with_users us us' ds ds' directory supply files is_spent e f = rw (e, f) refl
+with_users : (us us' : List Equipped) (ds ds' : List (List Delivery)) (directory : List DirectoryUser) (supply : FrameSupply) (files : List FileNote) (volumes : List VolumeFormat) (is_spent : Bool) → us' ≡ us → ds' ≡ ds → (let s : SystemView = record { users = us'; directory = directory; supply = supply; files = files; deliveries = ds'; volumes = volumes; is_spent = is_spent } in s ≡ record { users = us; directory = directory; supply = supply; files = files; deliveries = ds; volumes = volumes; is_spent = is_spent })
+with_users us us' ds ds' directory supply files volumes is_spent e f = rw (e, f) refl
 
 -- a storage that was lent changes its user and the frames, and nothing else that is seen
-pub lent_seen : (seats : List UserParts) (storages storages' : List (List ℕ)) (directory : List DirectoryUser) (supply supply' : FrameSupply) (files : List FileNote) (is_spent : Bool) (old : SystemView) (user : ℕ) (seat seat' : UserParts) → IsChange seats storages storages' old.users user seat seat' → seen seats storages directory supply files is_spent ≡ old → seat ≡ get_or seats user seat → seat'.deliveries ≡ seat.deliveries
-    → (let new = seen (set seats user seat') storages' directory supply' files is_spent in new ≡ record old { users = set old.users user (get_or new.users user nobody); supply = supply' })
-lent_seen seats storages storages' directory supply supply' files is_spent old user seat seat' changed is same kept =
-    with_users _ _ _ _ directory supply' files is_spent changed.users (same_deliveries seats user seat seat' same kept)
+pub lent_seen : (seats : List UserParts) (storages storages' : List (List ℕ)) (directory : List DirectoryUser) (supply supply' : FrameSupply) (files : List FileNote) (volumes : List VolumeFormat) (is_spent : Bool) (old : SystemView) (user : ℕ) (seat seat' : UserParts) → IsChange seats storages storages' old.users user seat seat' → seen seats storages directory supply files volumes is_spent ≡ old → seat ≡ get_or seats user seat → seat'.deliveries ≡ seat.deliveries
+    → (let new = seen (set seats user seat') storages' directory supply' files volumes is_spent in new ≡ record old { users = set old.users user (get_or new.users user nobody); supply = supply' })
+lent_seen seats storages storages' directory supply supply' files volumes is_spent old user seat seat' changed is same kept =
+    with_users _ _ _ _ directory supply' files volumes is_spent changed.users (same_deliveries seats user seat seat' same kept)
     ∙ ap (λ (s : SystemView). record s { users = set old.users user (get_or (users_of (set seats user seat') storages') user nobody); supply = supply' }) is
 
 -- a parcel changes its receiver and what was delivered to him
-pub received_seen : (seats : List UserParts) (storages : List (List ℕ)) (directory : List DirectoryUser) (supply : FrameSupply) (files : List FileNote) (is_spent : Bool) (old : SystemView) (user : ℕ) (seat seat' : UserParts) (note : Delivery) → IsChange seats storages storages old.users user seat seat' → seen seats storages directory supply files is_spent ≡ old → user < length seats → seat ≡ get_or seats user seat → seat'.deliveries ≡ seat.deliveries ++ note ∷ []
-    → (let new = seen (set seats user seat') storages directory supply files is_spent in new ≡ record old { users = set old.users user (get_or new.users user nobody); deliveries = set old.deliveries user (get_or old.deliveries user [] ++ note ∷ []) })
-received_seen seats storages directory supply files is_spent old user seat seat' note changed is inside same noted =
+pub received_seen : (seats : List UserParts) (storages : List (List ℕ)) (directory : List DirectoryUser) (supply : FrameSupply) (files : List FileNote) (volumes : List VolumeFormat) (is_spent : Bool) (old : SystemView) (user : ℕ) (seat seat' : UserParts) (note : Delivery) → IsChange seats storages storages old.users user seat seat' → seen seats storages directory supply files volumes is_spent ≡ old → user < length seats → seat ≡ get_or seats user seat → seat'.deliveries ≡ seat.deliveries ++ note ∷ []
+    → (let new = seen (set seats user seat') storages directory supply files volumes is_spent in new ≡ record old { users = set old.users user (get_or new.users user nobody); deliveries = set old.deliveries user (get_or old.deliveries user [] ++ note ∷ []) })
+received_seen seats storages directory supply files volumes is_spent old user seat seat' note changed is inside same noted =
     let old_list : seat.deliveries ≡ get_or (deliveries_of seats) user [] = ap (λ (x : UserParts). x.deliveries) same ∙ sym (get-deliveries seats user seat inside) in
     let all : deliveries_of (set seats user seat') ≡ set (deliveries_of seats) user (get_or (deliveries_of seats) user [] ++ note ∷ []) =
     set-deliveries seats user seat' ∙ ap (λ (ds : List Delivery). set (deliveries_of seats) user ds) (noted ∙ ap (λ (ds : List Delivery). ds ++ note ∷ []) old_list) in
-    with_users _ _ _ _ directory supply files is_spent changed.users all
+    with_users _ _ _ _ directory supply files volumes is_spent changed.users all
     ∙ ap (λ (s : SystemView). record s { users = set old.users user (get_or (users_of (set seats user seat') storages) user nobody); deliveries = set s.deliveries user (get_or s.deliveries user [] ++ note ∷ []) }) is
 
 -- one that was refused changes no user
-pub refused_seen : (seats : List UserParts) (storages : List (List ℕ)) (directory : List DirectoryUser) (supply : FrameSupply) (files : List FileNote) (is_spent : Bool) (old : SystemView) (user : ℕ) (seat seat' : UserParts) → IsChange seats storages storages old.users user seat seat' → seen seats storages directory supply files is_spent ≡ old → user_with seat' (get_or storages user []) ≡ user_with seat (get_or storages user [])
-    → (let new = seen (set seats user seat') storages directory supply files is_spent in new ≡ record old { deliveries = new.deliveries })
-refused_seen seats storages directory supply files is_spent old user seat seat' changed is refused =
+pub refused_seen : (seats : List UserParts) (storages : List (List ℕ)) (directory : List DirectoryUser) (supply : FrameSupply) (files : List FileNote) (volumes : List VolumeFormat) (is_spent : Bool) (old : SystemView) (user : ℕ) (seat seat' : UserParts) → IsChange seats storages storages old.users user seat seat' → seen seats storages directory supply files volumes is_spent ≡ old → user_with seat' (get_or storages user []) ≡ user_with seat (get_or storages user [])
+    → (let new = seen (set seats user seat') storages directory supply files volumes is_spent in new ≡ record old { deliveries = new.deliveries })
+refused_seen seats storages directory supply files volumes is_spent old user seat seat' changed is refused =
     let kept : users_of (set seats user seat') storages ≡ old.users =
     changed.users ∙ ap (λ (e : Equipped). set old.users user e) (changed.new ∙ refused ∙ sym changed.old) ∙ sym (set_own old.users user nobody) in
-    with_users _ _ _ _ directory supply files is_spent kept refl
+    with_users _ _ _ _ directory supply files volumes is_spent kept refl
     ∙ ap (λ (s : SystemView). record s { users = old.users; deliveries = deliveries_of (set seats user seat') }) is
 
 -- ---- a seat

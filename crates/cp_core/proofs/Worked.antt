@@ -23,10 +23,12 @@ use Rattle.cp_devices.specs.declared.places.Kind.{Kind}
 use Rattle.cp_devices.specs.declared.places.Kind.TheVariants as kinds
 use Rattle.cp_devices.specs.Devices.{kind_at}
 use Rattle.cp_devices.specs.Equipped.{Equipped, storage_in}
-use Rattle.cp_devices.specs.Lines.{IsLine, MayTakeMemory, requested}
+use Rattle.cp_devices.specs.Lines.{IsWholeLine, requested}
 use Rattle.cp_devices.specs.Serve.{IsServedAt, RunsKind, Serves}
 use Rattle.cp_devices.specs.World.{World}
-use Rattle.cp_core.specs.Supply.{IsGivenBack, IsShort, ProgramNeeds}
+use Rattle.cp_core.specs.Supply.{IsGivenBack, IsShort}
+use Rattle.cp_core.specs.Typed.{IsLineLent}
+use Rattle.cp_core.specs.Wants.{LineMay, LineWants, ProgramNeeds, is_ipl}
 use Rattle.cp_core.specs.Work.{HasServed, HasTyped, LineGivesBack, LineLeaves, ServeLeaves}
 use Rattle.cp_core.proofs.Kept.{either, given_back, given_for, lengths_left, line_short, marks_left, short_of}
 
@@ -35,13 +37,6 @@ still : (supply : FrameSupply) → IsBetweenUnits supply → unpinned supply ≡
 still supply rest =
     let count : length supply.owners ≡ length supply.pins = sym (ap (λ (ps : List Bool). length ps) rest.idle ∙ length-replicate (length supply.owners) false) in
     ap (λ (ps : List Bool). record supply { pins = ps }) (sym (rest.idle ∙ ap (λ (n : ℕ). replicate n false) count))
-
--- what a line promises of the storage that is lent to it
-pub record IsLineLent (typed : List ℕ) (before : Equipped) (old between : Dat) (r : Result Told LineError) : Type 0 where
-  pub frames : r ≡ Err errors.FramesOut → IsLacking (Touches (line_needs typed before.machine)) (length before.machine.core.processor.bytes) (λ page. IsRefused (lent_pool between).supply (user_of between) page)
-  pub cleared : switches typed before.machine ≡ true → OnOk r (GivesBack old between)
-  pub not_cleared : switches typed before.machine ≡ true → OnErr r (Supplied old [] between)
-  pub supply : switches typed before.machine ≡ false → (pages : List ℕ) × Supplied old pages between × AllNeeded (Touches (line_needs typed before.machine)) pages
 
 -- what it keeps, whether it switches the machine or not
 kept_where : (r : Result Told LineError) (old between : Dat) → OnOk r (GivesBack old between) → OnErr r (Supplied old [] between) → KeepsFrames old between
@@ -72,12 +67,12 @@ work_between typed before old between new r rest h taken =
 -- ---- what a line leaves
 
 leaves_where : (world : World) (user : ℕ) (typed : List ℕ) (before after : Equipped) (r : Result Told LineError) (supply : FrameSupply)
-    → IfOk r (λ told. IsLine world typed before told after) → OnErr r (after ≡ before) → (r ≡ Err errors.Memory → MayTakeMemory (requested typed before) typed before)
-    → (r ≡ Err errors.FramesOut → IsLacking (Touches (line_needs typed before.machine)) (length before.machine.core.processor.bytes) (IsShort supply user (Touches (line_needs typed before.machine))))
+    → IfOk r (λ told. IsWholeLine world typed before told after) → (r ≡ Err errors.FramesOut → after ≡ before) → (r ≡ Err errors.Memory → is_ipl (requested typed before) ≡ false → after ≡ before) → (r ≡ Err errors.Memory → LineMay typed before)
+    → (r ≡ Err errors.FramesOut → IsLacking (LineWants typed before) (length before.machine.core.processor.bytes) (IsShort supply user (LineWants typed before)))
     → LineLeaves world user typed before r after supply
-leaves_where world user typed before after (Ok told) supply ok err memory frames = ok
-leaves_where world user typed before after (Err errors.Memory) supply ok err memory frames = (err, memory refl)
-leaves_where world user typed before after (Err errors.FramesOut) supply ok err memory frames = (err, frames refl)
+leaves_where world user typed before after (Ok told) supply ok same kept memory frames = ok
+leaves_where world user typed before after (Err errors.Memory) supply ok same kept memory frames = (kept refl, memory refl)
+leaves_where world user typed before after (Err errors.FramesOut) supply ok same kept memory frames = (same refl, frames refl)
 
 gives_where : (user : ℕ) (old between new : Dat) (r : Result Told LineError) → user_of old ≡ user → IsBetweenUnits (lent_pool old).supply → TakesPins between new → OnOk r (GivesBack old between) → OnErr r (Supplied old [] between) → LineGivesBack user (lent_pool old).supply r (lent_pool new).supply
 gives_where user old between new (Ok told) u rest taken cleared not =
@@ -89,10 +84,10 @@ gives_where user old between new (Err error) u rest taken cleared not =
 
 pub typed_work : (world : World) (user : ℕ) (typed : List ℕ) (before after : Equipped) (old between new : Dat) (r : Result Told LineError)
     → user_of old ≡ user → IsBetweenUnits (lent_pool old).supply → IsLineLent typed before old between r → TakesPins between new
-    → IfOk r (λ told. IsLine world typed before told after) → OnErr r (after ≡ before) → (r ≡ Err errors.Memory → MayTakeMemory (requested typed before) typed before)
+    → IfOk r (λ told. IsWholeLine world typed before told after) → (r ≡ Err errors.FramesOut → after ≡ before) → (r ≡ Err errors.Memory → is_ipl (requested typed before) ≡ false → after ≡ before) → (r ≡ Err errors.Memory → LineMay typed before)
     → HasTyped world user typed before (lent_pool old).supply r after (lent_pool new).supply
-typed_work world user typed before after old between new r u rest h taken ok err memory =
-    let needs : ℕ → Type 0 = Touches (line_needs typed before.machine) in
+typed_work world user typed before after old between new r u rest h taken ok out kept' memory =
+    let needs : ℕ → Type 0 = LineWants typed before in
     let kept : KeepsFrames old between = line_keeps typed before old between r h in
     let same : user_of between ≡ user = kept.same_user ∙ u in
     let paged : switches typed before.machine ≡ false → (pages : List ℕ) × IsPagedFor user pages (lent_pool old).supply (lent_pool between).supply × AllNeeded needs pages =
@@ -103,10 +98,10 @@ typed_work world user typed before after old between new r u rest h taken ok err
       page = l.page;
       inside = l.inside;
       needed = l.needed;
-      short = line_short typed before.machine user l.page (lent_pool old).supply (lent_pool between).supply (lent_pool new).supply rest paged l.needed taken.supply (subst (λ (n : ℕ). IsRefused (lent_pool between).supply n l.page) same l.short);
+      short = line_short typed before user l.page (lent_pool old).supply (lent_pool between).supply (lent_pool new).supply rest paged l.needed taken.supply (subst (λ (n : ℕ). IsRefused (lent_pool between).supply n l.page) same l.short);
     }) in
     record {
-      leaves = leaves_where world user typed before after r (lent_pool new).supply ok err memory frames;
+      leaves = leaves_where world user typed before after r (lent_pool new).supply ok out kept' memory frames;
       given_back = λ on. gives_where user old between new r u rest taken (h.cleared on) (h.not_cleared on);
       brought = λ off. (let s = paged off in (s.0, unit_for user s.0 (lent_pool old).supply (lent_pool between).supply (lent_pool new).supply s.1 taken.supply, s.2));
     }
@@ -150,26 +145,3 @@ serve_work device user before after old between new r pages u rest brought all t
       leaves = serve_leaves device user before after r (lent_pool new).supply ok same lacking memory;
       brought = (pages, unit_for user pages (lent_pool old).supply (lent_pool between).supply (lent_pool new).supply paged taken.supply, all);
     }
-
--- ---- without disks
-
-none_on : (reads : Reading) (kind : Kind) (device : ℕ) (start : Caw) (old new : Equipped) → old.disks ≡ [] → RunsKind reads kind device start old new → new.disks ≡ []
-none_on reads kinds.Console device start old new none h = h.disks ∙ none
-none_on reads kinds.Reader device start old new none h = h.2 ∙ none
-none_on reads kinds.Punch device start old new none h = h.2 ∙ none
-none_on reads kinds.Printer device start old new none h = h.2 ∙ none
-none_on reads (kinds.Disk index) device start old new none h =
-    absurd (subst (λ (disks : List DiskAt). WalksAt reads start (storage_in old.machine) disks index (slice_get disks index) h.ending (storage_in new.machine) new.disks) none h.walk)
-
-none_served : (reads : Reading) (kind : Option Kind) (start : Option Caw) (device : ℕ) (old : Equipped) (done : Bool) (new : Equipped) → old.disks ≡ [] → Serves reads kind start device old done new → new.disks ≡ []
-none_served reads None start device old done new none h = ap (λ (e : Equipped). e.disks) h.1 ∙ none
-none_served reads (Some kind) None device old done new none h = ap (λ (e : Equipped). e.disks) h.1 ∙ none
-none_served reads (Some kind) (Some start) device old done new none h = none_on reads kind device start old new none h.1
-
--- a machine without disks is served as one that has none
-pub served_without : (reads : Reading) (device : ℕ) (r : Result Bool LineError) (old new : Equipped) → old.disks ≡ [] → IfOk r (λ done. IsServedAt reads device old done new) → IfOk r (λ done. IsServedAt reads device (record old { disks = [] }) done (record new { disks = [] }))
-served_without reads device (Ok done) old new none h =
-    let left : new.disks ≡ [] = none_served reads (kind_at old.devices old.disks device) (program_of device old.machine.core.subchannels) device old done new none h in
-    subst (λ (disks : List DiskAt). IsServedAt reads device (record old { disks = disks }) done (record new { disks = [] })) none
-    (subst (λ (disks : List DiskAt). IsServedAt reads device old done (record new { disks = disks })) left h)
-served_without reads device (Err error) old new none h = h

@@ -1,6 +1,6 @@
 -- The system at boot.
-use Rattle.std.specs.Prelude.{◌≡◌, ℕ, ◌*◌, ◌==◌, Bool, false, List, [], ◌∷◌, length, map, not, replicate, reverse, Option, Some, None}
-use Rattle.std.specs.List.{list_any, range_with_len}
+use Rattle.std.specs.Prelude.{◌≡◌, ℕ, ◌*◌, false, List, [], ◌∷◌, map, replicate, reverse, Option, Some, None}
+use Rattle.std.specs.List.{range_with_len}
 use Rattle.s370_subchannels.specs.declared.subchannel.Subchannel.{Subchannel}
 use Rattle.cp_directory.specs.Users.{DirectoryUser}
 use Rattle.cp_directory.specs.declared.devices.UserDevices.{UserDevices}
@@ -9,28 +9,36 @@ use Rattle.cp_panel.specs.Machine.{unused}
 use Rattle.cp_devices.specs.declared.places.Places.{Places}
 use Rattle.cp_devices.specs.Devices.{AreAttached, devices_new}
 use Rattle.cp_devices.specs.Equipped.{Equipped}
+use Rattle.cp_devices.specs.declared.attaching.AttachError.{AttachError}
+use Rattle.cp_devices.specs.declared.attaching.AttachError.TheVariants as attaching
+use Rattle.cp_core.specs.declared.events.BootError.{BootError}
+use Rattle.cp_core.specs.declared.events.BootError.TheVariants as errors
+use Rattle.ckd_volume.specs.Volume.{VolumeFormat}
 use Rattle.cp_core.specs.System.{SystemView}
+use Rattle.cp_core.specs.Volumes.{AreDisks}
 
 -- ---- a user
 
 abbrev pub places_in : UserDevices → Places
 places_in d = record { console = d.console; reader = d.reader; punch = d.punch; printer = d.printer }
 
--- off, with storage and keys all zero, devices that have done nothing, and a subchannel for each of them
-pub record IsNewUser (user : DirectoryUser) (e : Equipped) : Type 0 where
+-- off, with storage and keys all zero, devices that have done nothing, disks as they stand on the volumes, and a subchannel for
+-- each of them
+pub record IsNewUser (volumes : List VolumeFormat) (user : DirectoryUser) (e : Equipped) : Type 0 where
   pub subchannels : List Subchannel
-  pub attached : AreAttached (devices_new (places_in user.devices)) [] subchannels
+  pub disks : AreDisks volumes user.minidisks e.disks
+  pub attached : AreAttached (devices_new (places_in user.devices)) e.disks subchannels
   pub new : e ≡ record {
     machine = unused (replicate (user.pages * 4096) 0) (replicate (user.pages * 2) 0) subchannels;
     devices = devices_new (places_in user.devices);
-    disks = [];
+    disks = e.disks;
   }
 
-abbrev pub AreNewUsers : List DirectoryUser → List Equipped → Type 0
-AreNewUsers [] [] = Unit {0}
-AreNewUsers [] (e ∷ es) = ⊥
-AreNewUsers (user ∷ users) [] = ⊥
-AreNewUsers (user ∷ users) (e ∷ es) = IsNewUser user e × AreNewUsers users es
+abbrev pub AreNewUsers : List VolumeFormat → List DirectoryUser → List Equipped → Type 0
+AreNewUsers volumes [] [] = Unit {0}
+AreNewUsers volumes [] (e ∷ es) = ⊥
+AreNewUsers volumes (user ∷ users) [] = ⊥
+AreNewUsers volumes (user ∷ users) (e ∷ es) = IsNewUser volumes user e × AreNewUsers volumes users es
 
 -- ---- the whole
 
@@ -45,19 +53,20 @@ free_supply frames slots = record {
 }
 
 -- no file has a number, and nothing was delivered
-pub record IsBooted (directory : List DirectoryUser) (frames slots : ℕ) (s : SystemView) : Type 0 where
-  pub users : AreNewUsers directory s.users
+pub record IsBooted (directory : List DirectoryUser) (volumes : List VolumeFormat) (frames slots : ℕ) (s : SystemView) : Type 0 where
+  pub users : AreNewUsers volumes directory s.users
   pub rest : s ≡ record {
     users = s.users;
     directory = directory;
     supply = free_supply frames slots;
     files = [];
     deliveries = map (λ (user : DirectoryUser). []) directory;
+    volumes = volumes;
     is_spent = false;
   }
 
--- ---- minidisks, for which no volume is there yet
+-- ---- devices that are not attached
 
--- whether one of these users has one
-abbrev pub has_minidisk : List DirectoryUser → Bool
-has_minidisk users = list_any (λ (user : DirectoryUser). not (length user.minidisks == 0)) users
+abbrev pub boot_error : AttachError → BootError
+boot_error attaching.Memory = errors.Memory
+boot_error attaching.Address = errors.DuplicateDevice

@@ -1,10 +1,13 @@
 pub mod Events
 pub mod Files
 pub mod UserMachines
+pub mod Volumes
 pub mod System
 pub mod Stated
 pub mod Among
 pub mod Boot
+pub mod Wants
+pub mod Typed
 pub mod Local
 pub mod Parcels
 pub mod Replies

@@ -6,13 +6,8 @@ use Rattle.s370_intr.specs.declared.run.Ran.{Ran as RanUnits}
 use Rattle.unit_record.specs.declared.reader.Sender.TheVariants as senders
 use Rattle.unit_record.specs.Reader.{DeckValue}
 use Rattle.cp_console.specs.ConsoleLine.{characters_of}
-use Rattle.cp_console.specs.declared.device_commands.DeviceCommand.TheVariants as commands
-use Rattle.cp_devices.specs.declared.request.Request.{Request}
-use Rattle.cp_devices.specs.declared.request.Request.TheVariants.{Asks}
 use Rattle.cp_devices.specs.Life.{Event as Local, Units, Serve as Serves, Line as Types, Tick as Ticks, Deck as Gets, Message as Hears, Lives}
-use Rattle.cp_devices.specs.Lines.{requested}
 use Rattle.cp_devices.specs.Spooling.{deck_punched}
-use Rattle.cp_devices.specs.World.{World}
 use Rattle.cp_core.specs.Events.{user_of}
 use Rattle.cp_core.specs.System.{SystemView, user_at, world_of}
 use Rattle.cp_core.specs.declared.delivery.Delivered.{Delivered}
@@ -42,14 +37,9 @@ run_of asked (Served done) = []
 run_of asked Done = []
 run_of asked FramesOut = []
 
--- a line that asks for an IPL, which the control program does not do for its users yet, is no event of the machine
-abbrev pub typed_as : Request → World → List ℕ → List Local
-typed_as (Asks (commands.Ipl device)) world typed = []
-typed_as other world typed = Types world typed ∷ []
-
--- neither is a line that nothing came of
+-- a line that nothing came of is no event of the machine
 abbrev pub line_of : SystemView → ℕ → List ℕ → Ended → List Local
-line_of old user typed Done = typed_as (requested typed (user_at old user)) (world_of old user) typed
+line_of old user typed Done = Types (world_of old user) typed ∷ []
 line_of old user typed (Ran ran) = []
 line_of old user typed (Served done) = []
 line_of old user typed FramesOut = []

@@ -1,12 +1,13 @@
 -- Where memory may be refused, and what is left then.
-use Rattle.std.specs.Prelude.{◌≡◌, ℕ, ◌<◌, ◌==◌, ◌&&◌, Bool, true, false, length, IsSome}
+use Rattle.std.specs.Prelude.{◌≡◌, ℕ, ◌<◌, ◌==◌, ◌&&◌, ◌||◌, Bool, true, false, length, IsSome}
 use Rattle.s370_subchannels.specs.Programs.{program_of}
 use Rattle.cp_console.specs.declared.device_commands.DeviceCommand.{DeviceCommand}
 use Rattle.cp_console.specs.declared.device_commands.DeviceCommand.TheVariants as commands
 use Rattle.cp_devices.specs.declared.request.Request.{Request}
 use Rattle.cp_devices.specs.declared.request.Request.TheVariants.{LogsOn, LogsOff, Resets, Types, Asks, Elsewhere}
-use Rattle.cp_devices.specs.Lines.{MayTakeMemory as LineMayTakeMemory, requested}
+use Rattle.cp_devices.specs.Lines.{requested}
 use Rattle.cp_core.specs.Supply.{IsSuppliedInPart}
+use Rattle.cp_core.specs.Wants.{LineMay, is_ipl}
 use Rattle.cp_core.specs.System.{SystemView, machine_at, user_at}
 use Rattle.cp_core.specs.declared.events.Event.{Event}
 use Rattle.cp_core.specs.declared.events.Event.TheVariants.{Run, Line, Tick, Deck, Serve}
@@ -14,7 +15,7 @@ use Rattle.cp_core.specs.declared.events.Event.TheVariants.{Run, Line, Tick, Dec
 -- the events that may take memory: such lines of a machine with devices, decks, and a device that is served and works on a program
 abbrev pub MayTakeMemory : SystemView → Event → Type 0
 MayTakeMemory old (Run user asked) = ⊥
-MayTakeMemory old (Line user typed) = LineMayTakeMemory (requested typed.now (user_at old user)) typed.now (user_at old user)
+MayTakeMemory old (Line user typed) = LineMay typed.now (user_at old user)
 MayTakeMemory old (Tick user) = ⊥
 MayTakeMemory old (Deck user cards) = 0 < length cards.now
 MayTakeMemory old (Serve user device) = IsSome (program_of device (machine_at old user).core.subchannels)
@@ -38,17 +39,20 @@ closes Resets = false
 closes Types = false
 closes Elsewhere = false
 
--- a user whose own line closes files, or whose device is served: where memory is refused meanwhile, nothing is said of his
--- machine
+-- such a line, or an IPL, is cut short where memory is refused meanwhile
+abbrev pub is_cut : Request → Bool
+is_cut q = closes q || is_ipl q
+
+-- a user whose own line is one of those, or whose device is served: nothing is said of his machine then
 abbrev pub is_cut_short : SystemView → Event → ℕ → Bool
-is_cut_short old (Line named typed) user = (named == user) && closes (requested typed.now (user_at old named))
+is_cut_short old (Line named typed) user = (named == user) && is_cut (requested typed.now (user_at old named))
 is_cut_short old (Run named asked) user = false
 is_cut_short old (Tick named) user = false
 is_cut_short old (Deck named cards) user = false
 is_cut_short old (Serve named device) user = named == user
 
 -- what is left where memory was refused: pages have come and left as the event lets them, and each user is as he was, but for
--- one whose own line closes files, or whose device is served
+-- one whose own line closes files or is an IPL, or whose device is served
 pub record IsCutShort (old : SystemView) (event : Event) (new : SystemView) : Type 0 where
   pub may : MayTakeMemory old event
   pub supplied : IsSuppliedInPart old event new

@@ -2,16 +2,16 @@
 -- cp_dat/specs/Supplied.antt.
 use Rattle.std.specs.Prelude.{◌≡◌, ℕ, ◌*◌, ◌<◌, ◌≤◌, ◌⊎◌, All, length, IsSome, Bool, true, false, List, [], ◌∷◌}
 use Rattle.std.specs.List.{concat}
-use Rattle.s370_store.specs.Access.{Touches}
 use Rattle.s370_intr.specs.Run.{AllNeeded, EachBrings}
 use Rattle.s370_intr.specs.Laws.{begun}
 use Rattle.cp_frames.specs.Layout.{FrameSupply, cleared_of, is_there}
 use Rattle.cp_dat.specs.Supplied.{HasSuch, IsBetweenUnits, IsBroughtInUnits}
 use Rattle.cp_panel.specs.Machine.{Machine}
-use Rattle.cp_panel.specs.Panel.{line_needs, switches}
+use Rattle.cp_panel.specs.Panel.{switches}
 use Rattle.cp_panel.specs.Tick.{TickNeeds}
 use Rattle.cp_core.specs.Events.{user_of}
-use Rattle.cp_core.specs.System.{SystemView, machine_at}
+use Rattle.cp_core.specs.System.{SystemView, machine_at, user_at}
+use Rattle.cp_core.specs.Wants.{LineWants, ProgramNeeds}
 use Rattle.cp_core.specs.declared.events.Ended.{Ended}
 use Rattle.cp_core.specs.declared.events.Ended.TheVariants.{Ran, Served, Done, FramesOut}
 use Rattle.cp_core.specs.declared.events.Event.{Event}
@@ -65,16 +65,12 @@ RunBrings m FramesOut units = ⊥
 abbrev pub OneBrings : (ℕ → Type 0) → List (List ℕ) → Type 0
 OneBrings needs units = (pages : List ℕ) × (units ≡ pages ∷ []) × AllNeeded needs pages
 
--- a channel program may need any page: which of them is not told yet
-abbrev pub ProgramNeeds : ℕ → Type 0
-ProgramNeeds page = Unit {0}
-
 -- what the units of an event may bring: each unit of a run, and the one that lacked a page, nine pages that it needs; a line, as
--- one unit, those of the bytes that it shows or changes; a tick the page of the timer, of a machine that runs; a deck none; a serve, as one unit, those of
+-- one unit, those of the bytes that it shows or changes, or those of the program of an IPL; a tick the page of the timer, of a machine that runs; a deck none; a serve, as one unit, those of
 -- the program
 abbrev pub MayBring : SystemView → Event → Ended → List (List ℕ) → Type 0
 MayBring old (Run user asked) ended units = RunBrings (machine_at old user) ended units
-MayBring old (Line user typed) ended units = OneBrings (Touches (line_needs typed.now (machine_at old user))) units
+MayBring old (Line user typed) ended units = OneBrings (LineWants typed.now (user_at old user)) units
 MayBring old (Tick user) ended units = OneBrings (TickNeeds (machine_at old user)) units × (length (concat units) ≤ 1)
 MayBring old (Deck user cards) ended units = units ≡ []
 MayBring old (Serve user device) ended units = OneBrings ProgramNeeds units

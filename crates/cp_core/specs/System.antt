@@ -1,5 +1,6 @@
 -- The whole system as it is seen.
 use Rattle.std.specs.Prelude.{ℕ, Bool, List, [], ◌∷◌, map, slice_index_or}
+use Rattle.ckd_volume.specs.Volume.{VolumeFormat}
 use Rattle.cp_users.specs.Users.{name_of}
 use Rattle.cp_directory.specs.Users.{DirectoryUser}
 use Rattle.cp_frames.specs.Layout.{FrameSupply}
@@ -12,13 +13,15 @@ use Rattle.cp_core.specs.declared.delivery.Delivery.{Delivery}
 use Rattle.cp_core.specs.declared.files.FileNote.{FileNote}
 
 -- each user's machine with its devices, the users of the directory, where pages stand and how many have come, what each file
--- was when it got its number and whose it is, what was delivered to each user, and whether want of memory has ended the system
+-- was when it got its number and whose it is, what was delivered to each user, the volumes as they were at boot, and whether want
+-- of memory has ended the system
 pub record SystemView : Type 0 where
   pub users : List Equipped
   pub directory : List DirectoryUser
   pub supply : FrameSupply
   pub files : List FileNote
   pub deliveries : List (List Delivery)
+  pub volumes : List VolumeFormat
   pub is_spent : Bool
 
 -- the users that these are with these storages

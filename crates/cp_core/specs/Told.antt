@@ -1,6 +1,5 @@
 -- What is told to an event, and what becomes of the files and deliveries of all users.
 use Rattle.std.specs.Prelude.{◌≡◌, ℕ, ◌-◌, nat_lt, if◌then◌else◌, Bool, true, false, List, [], ◌∷◌, ◌++◌, length, slice_get, slice_index_or, slice_set, Option, Some, None}
-use Rattle.s370_store.specs.Access.{Touches}
 use Rattle.s370_channel.specs.Reading.{as_reached}
 use Rattle.s370_intr.specs.Run.{IsLacking}
 use Rattle.unit_record.specs.declared.output.Target.{Target}
@@ -8,19 +7,19 @@ use Rattle.unit_record.specs.declared.output.Target.TheVariants as targets
 use Rattle.unit_record.specs.Output.{FileValue}
 use Rattle.cp_console.specs.declared.responses.Response.TheVariants as responses
 use Rattle.cp_dat.specs.Supplied.{HasNoRoom}
-use Rattle.cp_panel.specs.Panel.{line_needs}
 use Rattle.cp_panel.specs.Run.{TellsRun, notice_of}
 use Rattle.cp_panel.specs.Tick.{TickNeeds}
 use Rattle.cp_devices.specs.declared.files.FileKind.TheVariants as kinds
 use Rattle.cp_devices.specs.declared.line.Told.{Told}
 use Rattle.cp_devices.specs.declared.line.Told.TheVariants.{Silent, Said, Files, Sent, Loads, Closed}
 use Rattle.cp_devices.specs.Equipped.{Equipped}
-use Rattle.cp_devices.specs.Lines.{IsLine, said}
+use Rattle.cp_devices.specs.Lines.{IsWholeLine, said}
 use Rattle.cp_devices.specs.Serve.{IsServedAt}
 use Rattle.cp_core.specs.Events.{user_of}
 use Rattle.cp_core.specs.Files.{closed_by, next_file}
 use Rattle.cp_core.specs.Local.{Step}
-use Rattle.cp_core.specs.Supply.{IsShort, ProgramNeeds}
+use Rattle.cp_core.specs.Supply.{IsShort}
+use Rattle.cp_core.specs.Wants.{LineWants, ProgramNeeds}
 use Rattle.cp_core.specs.System.{SystemView, deliveries_at, machine_at, user_at, world_of}
 use Rattle.cp_core.specs.declared.delivery.Delivered.{Delivered}
 use Rattle.cp_core.specs.declared.delivery.Delivery.{Delivery}
@@ -62,14 +61,14 @@ TellsOfTick user old reply (Served done) new = ⊥
 
 -- ---- a line
 
--- a message is sent to its receiver, a file that was closed has this number, and a machine is not loaded: no such command is
--- known yet
+-- a message is sent to its receiver, and a file that was closed has this number; that a machine is loaded is told by what the
+-- loading tells
 abbrev pub said_to_line : ℕ → Told → Told
 said_to_line number Silent = Silent
 said_to_line number (Said response) = Said response
 said_to_line number Files = Files
 said_to_line number (Sent user line) = Said responses.Sent
-said_to_line number (Loads device) = Said responses.UnknownCommand
+said_to_line number (Loads device) = Loads device
 said_to_line number Closed = Said (responses.FileClosed number)
 
 -- what is for a user of whom there are fewer comes to nobody
@@ -102,14 +101,14 @@ delivered_by users number before Closed answered = punched users number before a
 pub record IsLineTold (user : ℕ) (typed : List ℕ) (old : SystemView) (reply : Reply) : Type 0 where
   pub told : Told
   pub answered : Equipped
-  pub line : IsLine (world_of old user) typed (user_at old user) told answered
+  pub line : IsWholeLine (world_of old user) typed (user_at old user) told answered
   pub said : reply.said ≡ said_to_line (next_file old.files) told
   pub delivered : reply.delivered ≡ delivered_by (length old.users) (next_file old.files) (length (user_at old user).devices.punch.closed) told answered
 
 abbrev pub TellsOfLine : ℕ → List ℕ → SystemView → Reply → Ended → SystemView → Type 0
 TellsOfLine user typed old reply Done new = IsLineTold user typed old reply
 TellsOfLine user typed old reply FramesOut new =
-    let needs = Touches (line_needs typed (machine_at old user)) in
+    let needs = LineWants typed (user_at old user) in
     IsOut needs (length (machine_at old user).core.processor.bytes) old reply new (IsShort new.supply user needs)
 TellsOfLine user typed old reply (Ran ran) new = ⊥
 TellsOfLine user typed old reply (Served done) new = ⊥

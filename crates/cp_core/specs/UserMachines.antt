@@ -3,6 +3,7 @@ use Rattle.std.specs.Prelude.{◌≡◌, ℕ, ◌*◌, ◌≤◌, List, [], leng
 use Rattle.s370_subchannels.specs.declared.subchannel.Subchannel.{Subchannel}
 use Rattle.cp_panel.specs.Machine.{Parts, machine_of, unused}
 use Rattle.cp_devices.specs.Devices.{AreAttached, DevicesValue}
+use Rattle.cp_channels.specs.Disks.{DiskAt}
 use Rattle.cp_devices.specs.Equipped.{Equipped, equipped}
 use Rattle.cp_core.specs.declared.delivery.Delivery.{Delivery}
 
@@ -10,20 +11,21 @@ use Rattle.cp_core.specs.declared.delivery.Delivery.{Delivery}
 pub record UserParts : Type 0 where
   pub parts : Parts
   pub devices : DevicesValue
+  pub disks : List DiskAt
   pub keys : List ℕ
   pub deliveries : List Delivery
 
--- the machine with its devices that it is with this storage; no user has a disk
+-- the machine with its devices that it is with this storage
 abbrev pub user_with : UserParts → List ℕ → Equipped
-user_with u bytes = equipped u.parts u.devices [] bytes u.keys
+user_with u bytes = equipped u.parts u.devices u.disks bytes u.keys
 
 -- a storage that such a machine can have: of 8K at least, with a key for each block
 pub record Fits (u : UserParts) (bytes : List ℕ) : Type 0 where
   pub large : 8192 ≤ length bytes
   pub keyed : length bytes ≤ 2048 * length u.keys
 
--- the parts of a machine that was never switched on and has these devices, whatever its storage, which is zero
-pub record IsUnused (parts : Parts) (devices : DevicesValue) : Type 0 where
+-- the parts of a machine that was never switched on and has these devices and disks, whatever its storage, which is zero
+pub record IsUnused (parts : Parts) (devices : DevicesValue) (disks : List DiskAt) : Type 0 where
   pub subchannels : List Subchannel
-  pub attached : AreAttached devices [] subchannels
+  pub attached : AreAttached devices disks subchannels
   pub off : (bytes keys : List ℕ) → machine_of parts (replicate (length bytes) 0) (replicate (length keys) 0) ≡ unused bytes keys subchannels

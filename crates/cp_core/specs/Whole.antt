@@ -1,5 +1,6 @@
 -- What is always so of the system's parts.
 use Rattle.std.specs.Prelude.{◌≡◌, ℕ, ◌*◌, ◌<◌, ◌≤◌, List, [], ◌∷◌, length, replicate, slice_index_or}
+use Rattle.ckd_volume.specs.Volume.{VolumeFormat}
 use Rattle.cp_directory.specs.Users.{DirectoryUser}
 use Rattle.cp_frames.specs.Layout.{Pool}
 use Rattle.cp_dat.specs.Supplied.{IsBetweenUnits}
@@ -14,6 +15,7 @@ abbrev pub no_user : UserParts
 no_user = record {
   parts = record { cpu = reset_cpu (replicate 16 0); pending = nothing_pending; subchannels = []; mode = Off; output = []; room = 0 };
   devices = devices_new no_places;
+  disks = [];
   keys = [];
   deliveries = [];
 }
@@ -31,14 +33,14 @@ pub record IsSystem (users : List UserParts) (pool : Pool) (directory : List Dir
   pub between : IsBetweenUnits pool.supply
 
 -- a user's machine at boot; a storage has 8K at least
-pub record IsNew (seat : UserParts) (user : DirectoryUser) : Type 0 where
-  pub off : IsNewUser user (user_with seat (replicate (user.pages * 4096) 0))
+pub record IsNew (volumes : List VolumeFormat) (seat : UserParts) (user : DirectoryUser) : Type 0 where
+  pub off : IsNewUser volumes user (user_with seat (replicate (user.pages * 4096) 0))
   pub none : seat.deliveries ≡ []
   pub sized : 2 ≤ user.pages
 
 -- each user has a machine at boot
-abbrev pub AreNew : List UserParts → List DirectoryUser → Type 0
-AreNew [] [] = Unit {0}
-AreNew [] (user ∷ directory) = ⊥
-AreNew (seat ∷ seats) [] = ⊥
-AreNew (seat ∷ seats) (user ∷ directory) = IsNew seat user × AreNew seats directory
+abbrev pub AreNew : List VolumeFormat → List UserParts → List DirectoryUser → Type 0
+AreNew volumes [] [] = Unit {0}
+AreNew volumes [] (user ∷ directory) = ⊥
+AreNew volumes (seat ∷ seats) [] = ⊥
+AreNew volumes (seat ∷ seats) (user ∷ directory) = IsNew volumes seat user × AreNew volumes seats directory

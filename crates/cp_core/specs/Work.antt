@@ -1,7 +1,6 @@
 -- What is done with the machine of one user while its storage is lent: what it leaves of his machine with its devices and of the
 -- frames, and what it tells. No frame is pinned before and after it.
 use Rattle.std.specs.Prelude.{◌≡◌, ℕ, ◌≤◌, Bool, List, [], ◌∷◌, true, false, length, IsSome, Result, Ok, Err}
-use Rattle.s370_store.specs.Access.{Touches}
 use Rattle.s370_store.specs.declared.supply.FramesOut.{FramesOut}
 use Rattle.s370_channel.specs.Reading.{as_reached}
 use Rattle.s370_intr.specs.declared.run.Ran.{Ran}
@@ -12,15 +11,16 @@ use Rattle.cp_frames.specs.Layout.{FrameSupply}
 use Rattle.cp_dat.specs.Supplied.{HasNoRoom, IsBroughtInUnits}
 use Rattle.cp_panel.specs.declared.line.LineError.{LineError}
 use Rattle.cp_panel.specs.declared.line.LineError.TheVariants as errors
-use Rattle.cp_panel.specs.Panel.{line_needs, switches}
+use Rattle.cp_panel.specs.Panel.{switches}
 use Rattle.cp_panel.specs.Run.{TellsRun, notice_of}
 use Rattle.cp_panel.specs.Tick.{TickNeeds, ticked}
 use Rattle.cp_devices.specs.declared.line.Told.{Told}
 use Rattle.cp_devices.specs.Equipped.{Equipped}
-use Rattle.cp_devices.specs.Lines.{IsLine, MayTakeMemory, requested}
+use Rattle.cp_devices.specs.Lines.{IsWholeLine, requested}
 use Rattle.cp_devices.specs.Serve.{IsServedAt}
 use Rattle.cp_devices.specs.World.{World}
-use Rattle.cp_core.specs.Supply.{IsGivenBack, IsShort, ProgramNeeds}
+use Rattle.cp_core.specs.Supply.{IsGivenBack, IsShort}
+use Rattle.cp_core.specs.Wants.{LineMay, LineWants, ProgramNeeds, is_ipl}
 
 -- ---- a run
 
@@ -46,11 +46,10 @@ pub record HasTicked (user : ℕ) (old : Equipped) (before : FrameSupply) (resul
 -- ---- a line
 
 abbrev pub LineLeaves : World → ℕ → List ℕ → Equipped → Result Told LineError → Equipped → FrameSupply → Type 0
-LineLeaves world user typed old (Ok told) new after = IsLine world typed old told new
-LineLeaves world user typed old (Err errors.Memory) new after = (new ≡ old) × MayTakeMemory (requested typed old) typed old
+LineLeaves world user typed old (Ok told) new after = IsWholeLine world typed old told new
+LineLeaves world user typed old (Err errors.Memory) new after = (is_ipl (requested typed old) ≡ false → new ≡ old) × LineMay typed old
 LineLeaves world user typed old (Err errors.FramesOut) new after =
-    let needs = Touches (line_needs typed old.machine) in
-    (new ≡ old) × IsLacking needs (length old.machine.core.processor.bytes) (IsShort after user needs)
+    (new ≡ old) × IsLacking (LineWants typed old) (length old.machine.core.processor.bytes) (IsShort after user (LineWants typed old))
 
 -- LOGON and LOGOFF give back all pages, unless they are refused memory
 abbrev pub LineGivesBack : ℕ → FrameSupply → Result Told LineError → FrameSupply → Type 0
@@ -61,7 +60,7 @@ LineGivesBack user before (Err error) after = after ≡ before
 pub record HasTyped (world : World) (user : ℕ) (typed : List ℕ) (old : Equipped) (before : FrameSupply) (result : Result Told LineError) (new : Equipped) (after : FrameSupply) : Type 0 where
   pub leaves : LineLeaves world user typed old result new after
   pub given_back : switches typed old.machine ≡ true → LineGivesBack user before result after
-  pub brought : switches typed old.machine ≡ false → (pages : List ℕ) × IsBroughtInUnits user (pages ∷ []) before after × AllNeeded (Touches (line_needs typed old.machine)) pages
+  pub brought : switches typed old.machine ≡ false → (pages : List ℕ) × IsBroughtInUnits user (pages ∷ []) before after × AllNeeded (LineWants typed old) pages
 
 -- ---- a serve
 

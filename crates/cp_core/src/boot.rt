@@ -1,11 +1,15 @@
 //! Boot: a system from a directory.
-ghost use Rattle.std.specs.Prelude.{◌≡◌, ◌<◌, ◌≤◌, ◌↔◌, ℕ, All, Err, IfOk, IfSome, IsOk, IsSome, List, None, Some, false, true, length, map};
-ghost use Rattle.cp_core.specs.Boot.{IsBooted, has_minidisk, places_in};
+ghost use Rattle.std.specs.Prelude.{◌≡◌, ◌<◌, ◌≤◌, ◌↔◌, ℕ, All, Err, IfOk, IfSome, IsOk, IsSome, List, None, Some, true, length, map};
+ghost use Rattle.std.specs.List.{find, position};
+ghost use Rattle.cp_core.specs.Boot.{IsBooted, boot_error, places_in};
+ghost use Rattle.cp_core.specs.Volumes.{IsFirstPast, first_lacking, has_twins, user_is_past, user_lacks};
 ghost use Rattle.cp_core.specs.Whole.{AreNew};
 
 use crate::events::BootError;
 use crate::system::System;
 use crate::user_machine::UserMachine;
+use crate::volumes::{disks_of, has_twins, lacking_volume, past_end};
+use ckd_volume::Volume;
 use cp_devices::{AttachError, Places};
 use cp_directory::{Directory, User, UserDevices};
 use cp_frames::Frames;
@@ -68,22 +72,39 @@ impl Sizes {
 }
 
 impl System {
-    /// The system that a directory states, on so many frames and slots: every user is off, and storage is zero. Where a
-    /// user has a minidisk, its volume is not there.
-    pub fn boot(alloc: Global, directory: Directory, sizes: Sizes) -> Result<System, BootError>
+    /// The system that a directory states, on these volumes, and on so many frames and slots: every user is off, and
+    /// storage is zero; each minidisk has the cylinders of its extent.
+    pub fn boot(
+        alloc: Global,
+        directory: Directory,
+        volumes: Vec<Volume>,
+        sizes: Sizes,
+    ) -> Result<System, BootError>
         requires { length directory ≤ 64 }
-        ensures ok { IfOk result (λ system. IsBooted directory sizes.frames sizes.slots system) }
+        ensures ok { IfOk result (λ system. IsBooted directory volumes.items sizes.frames sizes.slots system) }
         ensures too_few { (result ≡ Err BootError.TooFewFrames) ↔ (sizes.frames < 16) }
-        ensures no_volume { result ≡ Err BootError.NoVolume → has_minidisk directory ≡ true }
-        ensures volumes { IsOk result → has_minidisk directory ≡ false }
+        ensures duplicate { (result ≡ Err BootError.DuplicateVolume)
+            ↔ ((16 ≤ sizes.frames) × (has_twins volumes.items ≡ true)) }
+        ensures no_volume { (volser : List ℕ) → result ≡ Err (BootError.NoVolume volser)
+            → first_lacking volumes.items (find (user_lacks volumes.items) directory) ≡ Some volser }
+        ensures past { (user address : ℕ) → result ≡ Err (BootError.ExtentPastEnd user address)
+            → IsFirstPast volumes.items directory user address }
+        ensures lacking { IsOk result → find (user_lacks volumes.items) directory ≡ None }
+        ensures inside { IsOk result → position (user_is_past volumes.items) directory ≡ None }
     {
         if sizes.frames() < 16 {
             return Err(BootError::TooFewFrames);
         }
-        if has_minidisk(directory.users()) {
-            return Err(BootError::NoVolume);
+        if has_twins(&volumes) {
+            return Err(BootError::DuplicateVolume);
         }
-        let users = match machines_of(alloc, directory.users()) {
+        if let Some(volser) = lacking_volume(&volumes, directory.users()) {
+            return Err(BootError::NoVolume(volser));
+        }
+        if let Some((user, address)) = past_end(&volumes, directory.users()) {
+            return Err(BootError::ExtentPastEnd(user, address));
+        }
+        let users = match machines_of(alloc, &volumes, directory.users()) {
             Ok(users) => users,
             Err(error) => return Err(boot_error(error)),
         };
@@ -98,6 +119,7 @@ impl System {
                 users,
                 frames,
                 files: Vec::new(alloc),
+                volumes,
                 is_spent: false,
             }),
             Err(_) => Err(BootError::Memory),
@@ -105,17 +127,9 @@ impl System {
     }
 }
 
-/// Whether one of these users has a minidisk.
-fn has_minidisk(users: &[User]) -> bool
-    ensures { result ≡ has_minidisk users.now }
-{
-    users.iter().any(|user| !user.minidisks().is_empty())
-}
-
 /// Why no system is booted whose devices are not attached.
 fn boot_error(error: AttachError) -> BootError
-    ensures memory { (result ≡ BootError.Memory) ↔ (error ≡ AttachError.Memory) }
-    ensures other { (result ≡ BootError.DuplicateDevice) ↔ (error ≡ AttachError.Address) }
+    ensures { result ≡ boot_error error }
 {
     match error {
         AttachError::Memory => BootError::Memory,
@@ -135,13 +149,23 @@ fn places_in(devices: UserDevices) -> Places
     }
 }
 
-/// A machine for each user.
-fn machines_of(alloc: Global, users: &[User]) -> Result<Vec<UserMachine>, AttachError>
-    ensures { IfOk result (λ machines. AreNew machines.items users.now) }
+/// A machine for each user, with his minidisks on these volumes.
+fn machines_of(
+    alloc: Global,
+    volumes: &[Volume],
+    users: &[User],
+) -> Result<Vec<UserMachine>, AttachError>
+    requires there { find (user_lacks volumes.now) users.now ≡ None }
+    requires inside { position (user_is_past volumes.now) users.now ≡ None }
+    ensures { IfOk result (λ machines. AreNew volumes.now machines.items users.now) }
 {
     let mut machines = Vec::new(alloc);
     for user in users {
-        let machine = UserMachine::new(alloc, user.storage().pages(), places_in(user.devices()))?;
+        let Ok(disks) = disks_of(alloc, volumes, user.minidisks()) else {
+            return Err(AttachError::Memory);
+        };
+        let places = places_in(user.devices());
+        let machine = UserMachine::new(alloc, user.storage().pages(), places, disks)?;
         match machines.push(machine) {
             Ok(()) => {}
             Err(_) => return Err(AttachError::Memory),

@@ -4,6 +4,7 @@ ghost use Rattle.cp_core.specs.Replies.{silent};
 
 use crate::delivery::Delivered;
 use cp_devices::Told;
+use cp_directory::Volser;
 use cp_users::UserNo;
 use s370_intr::Ran;
 use s370_num::DevAddr;
@@ -110,9 +111,15 @@ pub enum BootError {
     /// A system has at least 16 frames.
     #[error("fewer than 16 frames")]
     TooFewFrames,
-    /// The volume of which a user has a minidisk is not there: no volume is there yet.
+    /// Two volumes have one serial number.
+    #[error("two volumes have one serial number")]
+    DuplicateVolume,
+    /// There is no volume of this serial number, of which a user has a minidisk.
     #[error("a volume of the directory is not there")]
-    NoVolume,
+    NoVolume(Volser),
+    /// The minidisk of this user, at this address, ends past the last cylinder of its volume.
+    #[error("a minidisk ends past the last cylinder of its volume")]
+    ExtentPastEnd(UserNo, DevAddr),
     /// Two devices of a user have one address.
     #[error("two devices of a user have one address")]
     DuplicateDevice,

@@ -28,6 +28,7 @@ mod serving;
 mod system;
 mod user_machine;
 mod views;
+mod volumes;
 mod work;
 mod world;
 

@@ -32,16 +32,14 @@ struct Closed {
     printed: usize,
 }
 
-/// What is said to a line that was answered so, where the next file has this number. Users cannot load their machines
-/// yet: no such command is known.
+/// What is said to a line that was answered so, where the next file has this number.
 fn said_to_line(number: u64, told: &Told) -> Told
     ensures { result ≡ said_to_line number told.now }
 {
     match told {
         Told::Sent(_, _) => Told::Said(Response::Sent),
-        Told::Loads(_) => Told::Said(Response::UnknownCommand),
         Told::Closed => Told::Said(Response::FileClosed(number)),
-        Told::Silent | Told::Said(_) | Told::Files => *told,
+        Told::Silent | Told::Said(_) | Told::Files | Told::Loads(_) => *told,
     }
 }
 

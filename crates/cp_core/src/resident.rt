@@ -1,5 +1,5 @@
 //! Channels of users, on which a program runs where all of its user's storage stands in frames.
-ghost use Rattle.std.specs.Prelude.{◌≡◌, [], IfErr, IfOk, IfNone, IfSome, length};
+ghost use Rattle.std.specs.Prelude.{◌≡◌, IfErr, IfOk, IfNone, IfSome, length};
 ghost use Rattle.s370_channel.specs.Reading.{as_reached};
 ghost use Rattle.s370_channel.specs.Runs.{Walks};
 ghost use Rattle.s370_channel.specs.declared.running.ChannelError.TheVariants as errors;
@@ -8,30 +8,43 @@ ghost use Rattle.s370_walk.specs.Hardware.{memory_of};
 ghost use Rattle.cp_dat.specs.Lent.{is_lent_page, lent_bytes};
 ghost use Rattle.cp_core.specs.Resident.{IsResident};
 
-use cp_channels::{Channels, Disks, Own};
+use cp_channels::{AttachedDisk, Channels, Disks, Own};
 use cp_dat::Dat;
 use s370_channel::{Caw, ChannelError, Guest, Limits, MOST_COMMANDS, run};
 use s370_store::{PAGE_SIZE, Page, Storage};
 use s370_walk::{Device, Ending};
-use std::alloc::Global;
 
 /// A program runs as on a machine of its own, each word read when it is reached, where each page of its user's storage
 /// stands in a frame. Else the first page that does not is told, and nothing has happened.
 #[derive(Drop)]
 pub(crate) struct Resident {
-    own: Own,
+    pub(crate) own: Own,
 }
 
 impl Resident {
     ghost use Rattle.cp_core.specs.Resident.{disks_on};
 
-    /// Channels on which no disk hangs.
-    pub(crate) fn without_disks(alloc: Global) -> Resident
-        ensures { disks_on result ≡ [] }
+    /// The channels on which these disks hang, in this order.
+    pub(crate) fn new(disks: Vec<AttachedDisk>) -> Resident
+        ensures { disks_on result ≡ disks.items }
     {
         Resident {
-            own: Own::new(Vec::new(alloc)),
+            own: Own::new(disks),
         }
+    }
+
+    /// The disks, of which the channels are taken off.
+    pub(crate) fn into_disks(self) -> Vec<AttachedDisk>
+        ensures { result.items ≡ disks_on self }
+    {
+        self.own.into_disks()
+    }
+
+    /// The disks, in the order in which they were attached.
+    pub(crate) fn disks(&self) -> &[AttachedDisk]
+        ensures { result.now ≡ disks_on self.now }
+    {
+        self.own.disks()
     }
 }
 
@@ -87,7 +100,7 @@ impl<'a> Channels<Dat<'a>> for Resident {
 }
 
 /// The first page of a storage that stands in no frame.
-fn absent_page(storage: &Dat<'_>) -> Option<Page>
+pub(crate) fn absent_page(storage: &Dat<'_>) -> Option<Page>
     ensures some { IfSome result
         (λ page. IsAway (length (lent_bytes storage.now)) (is_lent_page storage.now) page.0) }
     ensures none { IfNone result (IsResident (length (lent_bytes storage.now)) (is_lent_page storage.now)) }

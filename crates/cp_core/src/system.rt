@@ -19,7 +19,9 @@ use crate::delivery::Parcel;
 use crate::events::{CpError, Ended, Event, Reply};
 use crate::files::FileNote;
 use crate::user_machine::UserMachine;
+use crate::volumes::put_back_disks;
 use crate::work::{Service, Tick, Units, Work};
+use ckd_volume::Volume;
 use cp_devices::{Devices, FileKind, Told};
 use cp_directory::Directory;
 use cp_frames::Frames;
@@ -37,6 +39,7 @@ pub struct System {
     pub(crate) users: Vec<UserMachine>,
     pub(crate) frames: Frames,
     pub(crate) files: Vec<FileNote>,
+    pub(crate) volumes: Vec<Volume>,
     pub(crate) is_spent: bool,
 }
 
@@ -52,6 +55,7 @@ impl Model for System {
       supply = s.frames.supply;
       files = s.files.items;
       deliveries = deliveries_of s.users.items;
+      volumes = s.volumes.items;
       is_spent = s.is_spent;
     } };
 
@@ -87,6 +91,7 @@ impl System {
             users: _,
             frames: _,
             files: _,
+            volumes: _,
             is_spent,
         } = self;
         *is_spent
@@ -104,6 +109,21 @@ impl System {
         ensures { result.now ≡ self.now.files }
     {
         &self.files
+    }
+
+    /// The volumes with which the system was booted, in their order, each with what users have written to their minidisks
+    /// on it. It takes no memory.
+    pub fn into_volumes(self) -> Vec<Volume> {
+        let System {
+            directory,
+            users,
+            mut volumes,
+            ..
+        } = self;
+        for (stated, user) in directory.users().iter().zip(users) {
+            put_back_disks(&mut volumes, stated.minidisks(), user.channels.into_disks());
+        }
+        volumes
     }
 
     /// The number of the next file.
@@ -362,11 +382,7 @@ impl System {
         ensures spent { self.new.is_spent ≡ self.old.is_spent }
     {
         let before = self.printed_by(user);
-        let service = Service {
-            alloc: self.alloc,
-            device,
-        };
-        match self.lend(user, &service) {
+        match self.lend(user, &Service { device }) {
             Ok(done) => Ok(Reply {
                 ended: Ended::Served(done),
                 said: Told::Silent,

@@ -7,10 +7,13 @@ ghost use Rattle.cp_devices.specs.Devices.{devices_new};
 ghost use Rattle.cp_devices.specs.Equipped.{equipped};
 ghost use Rattle.cp_devices.specs.Life.{Leaves};
 ghost use Rattle.cp_core.specs.Parcels.{contents, note_of};
+ghost use Rattle.cp_core.specs.Resident.{disks_on};
 ghost use Rattle.cp_core.specs.UserMachines.{Fits, IsUnused, user_with};
 
 use crate::delivery::{Delivery, Parcel};
+use crate::resident::Resident;
 use crate::work::Work;
+use cp_channels::AttachedDisk;
 use cp_console::responses::Response;
 use cp_dat::Dat;
 use cp_devices::{AttachError, Devices, Places};
@@ -27,11 +30,13 @@ use std::marker::Model;
 pub(crate) struct UserMachine {
     pub(crate) machine: Machine,
     pub(crate) devices: Devices,
+    pub(crate) channels: Resident,
     pub(crate) keys: Vec<StorageKey>,
     pub(crate) deliveries: Vec<Delivery>,
 }
 
 impl Model for UserMachine {
+    ghost use Rattle.cp_core.specs.Resident.{disks_on};
     ghost use Rattle.cp_core.specs.UserMachines.{UserParts};
 
     ghost Value = { UserParts };
@@ -39,28 +44,36 @@ impl Model for UserMachine {
     ghost view = { λ u. record {
       parts = u.machine;
       devices = u.devices;
+      disks = disks_on u.channels;
       keys = u.keys.items;
       deliveries = u.deliveries.items;
     } };
 }
 
 impl UserMachine {
-    /// A machine that is off, with zero keys for this many pages of 4096 bytes, and devices at these places.
-    pub(crate) fn new(alloc: Global, pages: u32, places: Places) -> Result<UserMachine, AttachError>
+    /// A machine that is off, with zero keys for this many pages of 4096 bytes, devices at these places, and these disks.
+    pub(crate) fn new(
+        alloc: Global,
+        pages: u32,
+        places: Places,
+        disks: Vec<AttachedDisk>,
+    ) -> Result<UserMachine, AttachError>
         requires { pages ≤ 1024 }
         ensures keys { IfOk result (λ user. user.keys ≡ replicate (pages * 2) 0) }
-        ensures parts { IfOk result (λ user. IsUnused user.parts (devices_new places)) }
+        ensures parts { IfOk result (λ user. IsUnused user.parts (devices_new places) disks.items) }
         ensures devices { IfOk result (λ user. user.devices ≡ devices_new places) }
+        ensures disks { IfOk result (λ user. user.disks ≡ disks.items) }
         ensures deliveries { IfOk result (λ user. user.deliveries ≡ []) }
     {
         let Ok(keys) = vec![in alloc; StorageKey::ZERO; pages as usize * 2] else {
             return Err(AttachError::Memory);
         };
         let devices = Devices::new(alloc, places);
-        match devices.subchannels(alloc, &[]) {
+        match devices.subchannels(alloc, &disks) {
             Ok(subchannels) => Ok(UserMachine {
                 machine: Machine::new(alloc, subchannels),
                 devices,
+                channels: Resident::new(disks),
                 keys,
                 deliveries: Vec::new(alloc),
             }),
@@ -90,6 +103,7 @@ impl UserMachine {
         lend_over(
             &mut self.machine,
             &mut self.devices,
+            &mut self.channels,
             frames,
             &mut self.keys,
             user,
@@ -123,6 +137,7 @@ impl UserMachine {
 fn lend_over<W: Work>(
     machine: &mut Machine,
     devices: &mut Devices,
+    channels: &mut Resident,
     frames: &mut Frames,
     keys: &mut [StorageKey],
     user: UserNo,
@@ -132,13 +147,13 @@ fn lend_over<W: Work>(
     requires large { 8192 ≤ length (bytes_of frames.old user) }
     requires keyed { length (bytes_of frames.old user) ≤ 2048 * length keys.old }
     requires between { IsBetweenUnits frames.old.supply }
-    ensures does { let before = equipped machine.old devices.old [] (bytes_of frames.old user) keys.old in
-        let after = equipped machine.new devices.new [] (bytes_of frames.new user) keys.new in
+    ensures does { let before = equipped machine.old devices.old (disks_on channels.old) (bytes_of frames.old user) keys.old in
+        let after = equipped machine.new devices.new (disks_on channels.new) (bytes_of frames.new user) keys.new in
         W.Does work.now directory.now user before frames.old.supply result after frames.new.supply }
     ensures others { frames.new.storages ≡ slice_set frames.old.storages user (bytes_of frames.new user) }
     ensures size { length (bytes_of frames.new user) ≡ length (bytes_of frames.old user) }
     ensures between { IsBetweenUnits frames.new.supply }
 {
     let mut storage = Dat::new(frames, keys, user);
-    work.work(directory, machine, devices, &mut storage)
+    work.work(directory, machine, devices, channels, &mut storage)
 }

@@ -1,20 +1,23 @@
 //! What is seen of a user's machine with its devices. No view takes memory; where there is no such user the answer is
 //! `None`.
 ghost use Rattle.std.specs.Prelude.{◌≡◌, ◌<◌, ◌↔◌, IfSome, IsSome, length, slice_get};
-ghost use Rattle.std.specs.Option.{option_map};
+ghost use Rattle.std.specs.List.{find};
+ghost use Rattle.std.specs.Option.{option_copied, option_map};
 ghost use Rattle.cp_console.specs.Responses.{text_of};
+ghost use Rattle.cp_channels.specs.Disks.{is_disk_at};
 ghost use Rattle.cp_core.specs.UserMachines.{user_with};
 ghost use Rattle.cp_core.specs.System.{deliveries_at, machine_at, user_at};
 
 use crate::delivery::Delivery;
 use crate::system::System;
 use crate::user_machine::UserMachine;
+use ckd_volume::Unit;
 use cp_console::responses::Response;
 use cp_devices::Devices;
 use cp_panel::Mode;
 use cp_users::UserNo;
 use s370_intr::Pending;
-use s370_num::StorageKey;
+use s370_num::{DevAddr, StorageKey};
 use s370_psw::Psw;
 use s370_subchannels::Subchannel;
 
@@ -152,6 +155,20 @@ impl System {
             Some(user) => Some(&user.devices),
             None => None,
         }
+    }
+
+    /// The disk at this address: its tracks, its arm and its sense; `None` where the user has none there.
+    pub fn minidisk(&self, user: UserNo, device: DevAddr) -> Option<&Unit>
+        ensures { option_copied result
+            ≡ option_map (λ disk. disk.unit) (find (is_disk_at device) (user_at self.now user).disks) }
+    {
+        let user = self.user(user)?;
+        let disk = user
+            .channels
+            .disks()
+            .iter()
+            .find(|disk| disk.address() == device)?;
+        Some(disk.unit())
     }
 
     /// What replies told as delivered to the user since boot, in order.

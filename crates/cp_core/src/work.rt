@@ -1,17 +1,17 @@
 //! What is done with the machine of one user while its storage is lent from frames: a run, a tick, a line,
 //! a serve.
-ghost use Rattle.std.specs.Prelude.{◌≡◌, ℕ, ◌≤◌, List, [], length};
+ghost use Rattle.std.specs.Prelude.{◌≡◌, ℕ, ◌≤◌, List, length};
 ghost use Rattle.cp_directory.specs.Users.{DirectoryUser};
 ghost use Rattle.cp_frames.specs.Layout.{FrameSupply};
 ghost use Rattle.cp_dat.specs.Lent.{KeepsFrames, lent_bytes, lent_keys, lent_pool, user_of};
 ghost use Rattle.cp_dat.specs.Supplied.{IsBetweenUnits};
 ghost use Rattle.cp_devices.specs.Equipped.{Equipped, equipped};
+ghost use Rattle.cp_core.specs.Resident.{disks_on};
 
 use crate::resident::Resident;
-use crate::serving::serve_supplied;
+use crate::serving::{serve_supplied, type_supplied};
 use crate::world::Among;
 use arrayvec::ArrayVec;
-use cp_channels::NoDisks;
 use cp_dat::Dat;
 use cp_devices::{Devices, Told};
 use cp_directory::Directory;
@@ -32,19 +32,21 @@ pub(crate) trait Work {
     ghost Does: { Self → List DirectoryUser → ℕ → Equipped → FrameSupply → Self.Answer → Equipped → FrameSupply
         → Type 0 };
 
-    /// Does it. No frame is pinned before and after.
+    /// Does it, with the disks that hang on these channels. No frame is pinned before and after.
     fn work(
         &self,
         directory: &Directory,
         machine: &mut Machine,
         devices: &mut Devices,
+        channels: &mut Resident,
         storage: &mut Dat<'_>,
     ) -> Self::Answer
         requires large { 8192 ≤ length (lent_bytes storage.old) }
         requires between { IsBetweenUnits (lent_pool storage.old).supply }
-        ensures does { let before = equipped machine.old devices.old [] (lent_bytes storage.old)
-            (lent_keys storage.old) in
-            let after = equipped machine.new devices.new [] (lent_bytes storage.new) (lent_keys storage.new) in
+        ensures does { let before = equipped machine.old devices.old (disks_on channels.old)
+            (lent_bytes storage.old) (lent_keys storage.old) in
+            let after = equipped machine.new devices.new (disks_on channels.new)
+            (lent_bytes storage.new) (lent_keys storage.new) in
             Does self.now directory.now (user_of storage.old) before (lent_pool storage.old).supply result after (lent_pool storage.new).supply }
         ensures kept { KeepsFrames storage.old storage.new }
         ensures size { length (lent_bytes storage.new) ≡ length (lent_bytes storage.old) }
@@ -68,6 +70,7 @@ impl Work for Units {
         _directory: &Directory,
         machine: &mut Machine,
         _devices: &mut Devices,
+        _channels: &mut Resident,
         storage: &mut Dat<'_>,
     ) -> Ran {
         machine.run::<VirtualCpu, Dat<'_>>(storage, self.0)
@@ -90,6 +93,7 @@ impl Work for Tick {
         _directory: &Directory,
         machine: &mut Machine,
         _devices: &mut Devices,
+        _channels: &mut Resident,
         storage: &mut Dat<'_>,
     ) -> Result<(), FramesOut> {
         machine.tick(storage)
@@ -120,6 +124,7 @@ impl<'a> Work for Line<'a> {
         directory: &Directory,
         machine: &mut Machine,
         devices: &mut Devices,
+        channels: &mut Resident,
         storage: &mut Dat<'_>,
     ) -> Result<Told, LineError> {
         let world = Among {
@@ -127,11 +132,12 @@ impl<'a> Work for Line<'a> {
             own: self.user,
             on: self.on.as_slice(),
         };
-        let told = devices.line(
+        let told = type_supplied(
             self.alloc,
+            devices,
             machine,
             storage,
-            &mut NoDisks,
+            channels,
             &world,
             self.typed,
         );
@@ -141,9 +147,8 @@ impl<'a> Work for Line<'a> {
 }
 
 /// A device is served. It holds what it brings until it ends.
-#[derive(Drop)]
+#[derive(Clone, Copy)]
 pub(crate) struct Service {
-    pub(crate) alloc: Global,
     pub(crate) device: DevAddr,
 }
 
@@ -159,10 +164,10 @@ impl Work for Service {
         _directory: &Directory,
         machine: &mut Machine,
         devices: &mut Devices,
+        channels: &mut Resident,
         storage: &mut Dat<'_>,
     ) -> Result<bool, LineError> {
-        let mut channels = Resident::without_disks(self.alloc);
-        let served = serve_supplied(devices, machine, storage, &mut channels, self.device);
+        let served = serve_supplied(devices, machine, storage, channels, self.device);
         storage.let_go();
         served
     }

@@ -6,3 +6,4 @@ pub mod Cards
 pub mod Copies
 pub mod Marks
 pub mod Attention
+pub mod Staying

@@ -2,7 +2,7 @@
 use Rattle.std.specs.Prelude.{ℕ, ◌≡◌, ◌==◌, ◌&&◌, ◌⊎◌, Bool, true, false, List, [], ◌∷◌, slice_range}
 use Rattle.std.specs.Int.{w16, to_be_bytes}
 use Rattle.s370_psw.specs.Fields.{loaded as loaded_psw}
-use Rattle.s370_store.specs.Access.{Touches, put}
+use Rattle.s370_store.specs.Access.{IsAway, Touches, put}
 use Rattle.s370_store.specs.declared.Access.TheVariants.{Store}
 use Rattle.s370_walk.specs.declared.parts.Ending.{Ending}
 use Rattle.s370_walk.specs.declared.parts.Order.{Order}
@@ -46,6 +46,11 @@ pub record IsLoaded {D : Type 0} (machine : Device D) (device : ℕ) (old : Mach
 abbrev pub LacksPsw : (ℕ → Bool) → ChannelError → Type 0
 LacksPsw present errors.Memory = ⊥
 LacksPsw present (errors.Absent page) = (present page.0 ≡ false) × Touches (area Store 0 8 ∷ []) page.0
+
+-- a page of the storage is lacking that is not present
+abbrev pub LacksPage : ℕ → (ℕ → Bool) → ChannelError → Type 0
+LacksPage size present errors.Memory = Unit {0}
+LacksPage size present (errors.Absent page) = IsAway size present page.0
 
 -- why a machine is not loaded: the program of the loading stops, or has run and the page of its PSW is not present
 abbrev pub StopsLoading : {D : Type 0} → Device D → (D → Order → Bool) → (ℕ → Bool) → Machine → D → ChannelError → Type 0

@@ -1,5 +1,6 @@
 //! IPL, which the owner of a machine with disks of its own does for it.
-ghost use Rattle.std.specs.Prelude.{◌≡◌, ◌<◌, ◌≤◌, ℕ, false, Err, IfOk, length, map, slice_get};
+ghost use Rattle.std.specs.Prelude.{◌≡◌, ◌<◌, ◌≤◌, ℕ, Err, IfOk, length, map, slice_get};
+ghost use Rattle.s370_store.specs.Access.{IsAway};
 ghost use Rattle.cp_channels.specs.Disks.{reset_disk};
 ghost use Rattle.cp_channels.specs.Own.{disks_of};
 ghost use Rattle.cp_devices.specs.Equipped.{equipped};
@@ -43,8 +44,9 @@ impl Devices {
             let after = equipped machine.new self.new (disks_of channels.new) (S.bytes storage.new)
             (S.keys storage.new) in
             IfOk result (λ told. IsIpl device before told after) }
-        ensures frames { result ≡ Err LineError.FramesOut → ((page : ℕ) × (S.present storage.old page ≡ false)) }
-        ensures size { length (S.bytes storage.new) ≡ length (S.bytes storage.old) }
+        ensures frames { result ≡ Err LineError.FramesOut
+            → ((page : ℕ) × IsAway (length (S.bytes storage.old)) (S.present storage.old) page) }
+        ensures rest { S.Keeps storage.old storage.new }
     {
         match self.kind_at(channels, device.get()) {
             Some(Kind::Reader) => self.load_reader(machine, storage, channels, device),
@@ -67,8 +69,9 @@ impl Devices {
             let after = equipped machine.new self.new (disks_of channels.new) (S.bytes storage.new)
             (S.keys storage.new) in
             IfOk result (λ told. LoadsReader device before told after) }
-        ensures frames { result ≡ Err LineError.FramesOut → ((page : ℕ) × (S.present storage.old page ≡ false)) }
-        ensures size { length (S.bytes storage.new) ≡ length (S.bytes storage.old) }
+        ensures frames { result ≡ Err LineError.FramesOut
+            → ((page : ℕ) × IsAway (length (S.bytes storage.old)) (S.present storage.old) page) }
+        ensures rest { S.Keeps storage.old storage.new }
     {
         match machine.make_room(1) {
             Ok(()) => {}
@@ -100,8 +103,9 @@ impl Devices {
             let after = equipped machine.new self.new (disks_of channels.new) (S.bytes storage.new)
             (S.keys storage.new) in
             IfOk result (λ told. LoadsDisk index (slice_get (map reset_disk (disks_of channels.old)) index) device before told after) }
-        ensures frames { result ≡ Err LineError.FramesOut → ((page : ℕ) × (S.present storage.old page ≡ false)) }
-        ensures size { length (S.bytes storage.new) ≡ length (S.bytes storage.old) }
+        ensures frames { result ≡ Err LineError.FramesOut
+            → ((page : ℕ) × IsAway (length (S.bytes storage.old)) (S.present storage.old) page) }
+        ensures rest { S.Keeps storage.old storage.new }
     {
         match machine.make_room(1) {
             Ok(()) => {}

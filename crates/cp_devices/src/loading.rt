@@ -1,8 +1,7 @@
 //! The initial program loading of a machine.
 ghost use Rattle.std.specs.Prelude.{◌≡◌, ◌<◌, ◌≤◌, IfErr, IfOk, length};
-ghost use Rattle.s370_channel.specs.Runs.{TellsAway};
 ghost use Rattle.cp_panel.specs.Machine.{machine_of};
-ghost use Rattle.cp_devices.specs.Loading.{IsLoaded, LacksPsw, StopsLoading, is_good, left_by};
+ghost use Rattle.cp_devices.specs.Loading.{IsLoaded, LacksPage, LacksPsw, StopsLoading, is_good, left_by};
 
 use cp_console::responses::Response;
 use cp_panel::Machine;
@@ -19,6 +18,7 @@ const IPL_PSW: Range = Range { start: 0, count: 8 };
 /// whether it did. An error is told only where the program comes to a command that needs memory, or to a step that
 /// needs a page which is not present, or where the page of the PSW is not; nothing is said of the machine then. There
 /// is room for a line and for the notice of the machine's stop.
+#[tactic(auto, using(crate::proofs::Staying::loading_lacks, crate::proofs::Staying::psw_lacks))]
 pub(crate) fn load<S: Storage, D: Device>(
     machine: &mut Machine,
     storage: &mut S,
@@ -30,15 +30,17 @@ pub(crate) fn load<S: Storage, D: Device>(
     ensures loaded { let before = machine_of machine.old (S.bytes storage.old) (S.keys storage.old) in
         let after = machine_of machine.new (S.bytes storage.new) (S.keys storage.new) in
         IfOk result (λ well. IsLoaded D.machine device before part.old well after part.new) }
-    ensures away { IfErr result (TellsAway (S.present storage.old)) }
+    ensures lacks { IfErr result (LacksPage (length (S.bytes storage.old)) (S.present storage.old)) }
     ensures stopped { let before = machine_of machine.old (S.bytes storage.old) (S.keys storage.old) in
         IfErr result (StopsLoading D.machine D.needs_memory (S.present storage.old) before part.old) }
     ensures keys { S.keys storage.new ≡ S.keys storage.old }
     ensures rest { S.Keeps storage.old storage.new }
 {
     machine.reset();
-    let ending = run_ipl(&Guest, storage, part)?;
-    start_loaded(machine, storage, device, &ending)
+    match run_ipl(&Guest, storage, part) {
+        Ok(ending) => start_loaded(machine, storage, device, &ending),
+        Err(error) => Err(error),
+    }
 }
 
 /// Lets a machine run whose program of loading ended well, and tells whether it did. There is room for a line and for

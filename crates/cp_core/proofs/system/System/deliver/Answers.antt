@@ -21,9 +21,9 @@ pub returns-clause-rest : goal.returns-clause-rest
 returns-clause-rest c =
     let changed = change c.self.inside.users.items c.self.inside.frames.storages c.self.inside.frames.storages c.self.inside.directory c.args.self.now.users c.args.to c.index_mut.result.now c.receive.new.self c.self.invariant.whole (ap (λ (s : SystemView). s.users) c.self.view_is) c.requires c.index_mut.ensures.value (set_own c.self.inside.frames.storages c.args.to []) in
     let inside = has_seat c.self.inside.users.items c.self.inside.frames.storages c.self.inside.directory c.args.self.now.users c.args.to c.self.invariant.whole (ap (λ (s : SystemView). s.users) c.self.view_is) c.requires in
-    on_ok c.receive.result _ _ (received_seen c.self.inside.users.items c.self.inside.frames.storages c.self.inside.directory c.self.inside.frames.supply c.self.inside.files.items c.self.inside.is_spent c.args.self.now c.args.to c.index_mut.result.now c.receive.new.self (note_of c.args.parcel) changed c.self.view_is inside c.index_mut.ensures.value) c.receive.ensures.noted
+    on_ok c.receive.result _ _ (received_seen c.self.inside.users.items c.self.inside.frames.storages c.self.inside.directory c.self.inside.frames.supply c.self.inside.files.items c.self.inside.volumes.items c.self.inside.is_spent c.args.self.now c.args.to c.index_mut.result.now c.receive.new.self (note_of c.args.parcel) changed c.self.view_is inside c.index_mut.ensures.value) c.receive.ensures.noted
 
 pub returns-clause-err : goal.returns-clause-err
 returns-clause-err c =
     let changed = change c.self.inside.users.items c.self.inside.frames.storages c.self.inside.frames.storages c.self.inside.directory c.args.self.now.users c.args.to c.index_mut.result.now c.receive.new.self c.self.invariant.whole (ap (λ (s : SystemView). s.users) c.self.view_is) c.requires c.index_mut.ensures.value (set_own c.self.inside.frames.storages c.args.to []) in
-    on_err c.receive.result _ _ (refused_seen c.self.inside.users.items c.self.inside.frames.storages c.self.inside.directory c.self.inside.frames.supply c.self.inside.files.items c.self.inside.is_spent c.args.self.now c.args.to c.index_mut.result.now c.receive.new.self changed c.self.view_is) (c.receive.ensures.err (get_or c.self.inside.frames.storages c.args.to []))
+    on_err c.receive.result _ _ (refused_seen c.self.inside.users.items c.self.inside.frames.storages c.self.inside.directory c.self.inside.frames.supply c.self.inside.files.items c.self.inside.volumes.items c.self.inside.is_spent c.args.self.now c.args.to c.index_mut.result.now c.receive.new.self changed c.self.view_is) (c.receive.ensures.err (get_or c.self.inside.frames.storages c.args.to []))

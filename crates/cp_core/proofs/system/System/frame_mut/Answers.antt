@@ -22,10 +22,10 @@ returns c =
     let seats = c.self.inside.users.items in
     let users = c.self.inside.directory in
     let pool = c.self.inside.frames in
-    let see = seen_with seats users c.self.inside.files.items c.self.inside.is_spent in (
+    let see = seen_with seats users c.self.inside.files.items c.self.inside.volumes.items c.self.inside.is_spent in (
       (
         refl,
-        λ w. ap see (c.frame_mut.follows.holds w) ∙ (seen_written seats users c.self.inside.files.items c.self.inside.is_spent pool c.args.frame.0 w ∙ ap (λ (s : SystemView). written_frame s c.args.frame.0 w) c.self.view_is),
+        λ w. ap see (c.frame_mut.follows.holds w) ∙ (seen_written seats users c.self.inside.files.items c.self.inside.volumes.items c.self.inside.is_spent pool c.args.frame.0 w ∙ ap (λ (s : SystemView). written_frame s c.args.frame.0 w) c.self.view_is),
         ap see c.frame_mut.follows.holds-at-none ∙ c.self.view_is,
       ),
       record { writes_back = tt; some = rw (← c.self.view_is) c.frame_mut.ensures.some },

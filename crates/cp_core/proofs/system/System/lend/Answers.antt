@@ -28,4 +28,4 @@ pub returns-clause-rest : goal.returns-clause-rest
 returns-clause-rest g c =
     let others = subst (λ (u : ℕ). c.lend.new.frames.storages ≡ set c.self.inside.frames.storages u (get_or c.lend.new.frames.storages u [])) c.number_of-number.ensures c.lend.ensures.others in
     let changed = change c.self.inside.users.items c.self.inside.frames.storages c.lend.new.frames.storages c.self.inside.directory c.args.self.now.users c.args.user c.index_mut-machine.result.now c.lend.new.self c.self.invariant.whole (ap (λ (s : SystemView). s.users) c.self.view_is) c.requires (c.index_mut-machine.ensures.value) others in
-    lent_seen c.self.inside.users.items c.self.inside.frames.storages c.lend.new.frames.storages c.self.inside.directory c.self.inside.frames.supply c.lend.new.frames.supply c.self.inside.files.items c.self.inside.is_spent c.args.self.now c.args.user c.index_mut-machine.result.now c.lend.new.self changed c.self.view_is c.index_mut-machine.ensures.value c.lend.ensures.deliveries
+    lent_seen c.self.inside.users.items c.self.inside.frames.storages c.lend.new.frames.storages c.self.inside.directory c.self.inside.frames.supply c.lend.new.frames.supply c.self.inside.files.items c.self.inside.volumes.items c.self.inside.is_spent c.args.self.now c.args.user c.index_mut-machine.result.now c.lend.new.self changed c.self.view_is c.index_mut-machine.ensures.value c.lend.ensures.deliveries

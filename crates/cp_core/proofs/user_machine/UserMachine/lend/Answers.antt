@@ -1,4 +1,5 @@
-use Rattle.std.proofs.Common.{◌≡◌, [], ℕ, List, arith, rules, subst, sym}
+use Rattle.cp_core.specs.Resident.{disks_on}
+use Rattle.std.proofs.Common.{◌≡◌, ℕ, List, arith, rules, subst, sym}
 use Rattle.std.specs.Vec.{with_items}
 use Rattle.std.proofs.lemmas.List.{with_items_is}
 use Rattle.cp_frames.specs.Layout.{bytes_of}
@@ -8,10 +9,10 @@ use Rattle.cp_core.proofs.user_machine.UserMachine.lend.Goals as goal
 
 pub returns-clause-does : goal.returns-clause-does
 returns-clause-does g c =
-    let before = equipped c.self.inside.machine c.self.inside.devices [] (bytes_of c.args.frames.now c.args.user) c.deref_mut.result.now in
+    let before = equipped c.self.inside.machine c.self.inside.devices (disks_on c.self.inside.channels) (bytes_of c.args.frames.now c.args.user) c.deref_mut.result.now in
     let left = c.lend_over.new.frames in
     let Done : Equipped → List ℕ → Type 0 =
-    λ e keys. g.W.Work.Does c.args.work.now c.args.directory.now c.args.user e c.args.frames.now.supply c.lend_over.result (equipped c.lend_over.new.machine c.lend_over.new.devices [] (bytes_of left c.args.user) keys) left.supply in
+    λ e keys. g.W.Work.Does c.args.work.now c.args.directory.now c.args.user e c.args.frames.now.supply c.lend_over.result (equipped c.lend_over.new.machine c.lend_over.new.devices (disks_on c.lend_over.new.channels) (bytes_of left c.args.user) keys) left.supply in
     let was : before ≡ user_with c.args.self.now (bytes_of c.args.frames.now c.args.user) = search rules in
     let keys : (with_items c.self.inside.keys c.lend_over.new.keys).items ≡ c.lend_over.new.keys = with_items_is c.self.inside.keys c.lend_over.new.keys (omega (arith, c.lend_over.auto.keys, c.deref_mut.ensures.len)) in
     let first : Done before c.lend_over.new.keys = c.lend_over.ensures.does in
