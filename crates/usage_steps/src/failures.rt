@@ -33,7 +33,10 @@ fn failure_of(alloc: Global, words: &[&str]) -> Result<Failure> {
         )),
         ["directory-memory"] => Failure::Directory(DirError::Memory),
         ["image", name @ ..] => Failure::from(image_error(name)?),
-        ["unsaved", path] => Failure::Unsaved(ImageError::Device(1), String::from_str(alloc, path)?),
+        ["unsaved", path] => Failure::Unsaved(
+            ImageError::Device(1),
+            String::from_str(alloc, path)?,
+        ),
         ["boot", name @ ..] => unbooted(alloc, name)?,
         ["script", line] => Failure::Script(u64::from(decimal(line)?)),
         ["file", count] => Failure::File(u64::from(decimal(count)?)),

@@ -5,8 +5,8 @@ use vm370::arguments::{UsageError, arguments};
 /// The program's name in its texts.
 const NAME: &str = "vm370";
 
-/// `words vm370 users script`: the paths, how many frames and slots the machine has, how many volumes, and whether they are
-/// saved; or that the words are refused.
+/// `words vm370 users script`: the paths, how many frames and slots the machine has, how many volumes, and whether they
+/// are saved; or that the words are refused.
 pub fn options(alloc: Global, words: &[&str]) -> Result<String, AllocError> {
     match arguments(alloc, NAME, words) {
         Ok(options) => {

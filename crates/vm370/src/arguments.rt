@@ -266,9 +266,9 @@ fn directory<'a>(alloc: Global) -> Arg<'a>
     ensures rule { rule_of result ≡ directory_rule }
     ensures local { result.global ≡ false }
 {
-    Arg::new(alloc, "DIRECTORY")
-        .required(true)
-        .help("The users, and the storage and the devices of each (docs/FORMATS.md)")
+    Arg::new(alloc, "DIRECTORY").required(true).help(
+        "The users, and the storage and the devices of each (docs/FORMATS.md)",
+    )
 }
 
 /// The second word, which is the path of the script.

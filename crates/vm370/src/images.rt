@@ -50,7 +50,11 @@ pub fn save_volume<R: AllocGlobal + Files>(
 /// Puts the image of a volume to a path.
 fn put<R: AllocGlobal + Files>(rt: &R, volume: &Volume, path: &str) -> Result<(), ImageError> {
     let place = place_of(rt, path)?;
-    let Ok(old) = OpenOptions::new().write(true).create(true).open(rt, place.as_str()) else {
+    let Ok(old) = OpenOptions::new()
+        .write(true)
+        .create(true)
+        .open(rt, place.as_str())
+    else {
         return Err(FAILED);
     };
     let Ok(new) = format!(in rt.alloc(); "{place}.new") else {
@@ -127,11 +131,7 @@ fn write_over<R: AllocGlobal + Files>(
 }
 
 /// Writes the image of a volume to a file.
-fn write<R: AllocGlobal + Files>(
-    rt: &R,
-    volume: &Volume,
-    file: R::File,
-) -> Result<(), ImageError> {
+fn write<R: AllocGlobal + Files>(rt: &R, volume: &Volume, file: R::File) -> Result<(), ImageError> {
     let alloc = rt.alloc();
     match io::BufWriter::new(alloc, file) {
         Ok(output) => write_image(alloc, volume, &mut Counted::new(output)),

@@ -51,8 +51,8 @@ impl Termination for Ended {
     }
 }
 
-/// The whole program: what it is started with names a directory, a script and volumes, and the transcript of that script
-/// is written. A failure is told on standard error.
+/// The whole program: what it is started with names a directory, a script and volumes, and the transcript of that
+/// script is written. A failure is told on standard error.
 pub fn program<R: AllocGlobal + Files + Env + Print + Eprint>(rt: &R) -> Ended {
     finish(rt, run(rt))
 }
@@ -78,8 +78,8 @@ fn tell<R: AllocGlobal + Eprint>(rt: &R, failure: &Failure) {
     }
 }
 
-/// Reads the words, the directory, the images and the script, writes the transcript, and saves the volumes where that is
-/// asked for. A wrong use is told here.
+/// Reads the words, the directory, the images and the script, writes the transcript, and saves the volumes where that
+/// is asked for. A wrong use is told here.
 fn run<R: AllocGlobal + Files + Env + Print + Eprint>(rt: &R) -> Result<(), Failure> {
     let alloc = rt.alloc();
     let words = words(rt, PROGRAM)?;
