@@ -53,7 +53,7 @@ fn boot_of(alloc: Global, text: &[u8], frames: u32) -> Result<Result<System, Boo
     let Some(sizes) = Sizes::new(frames, 0) else {
         bail!("{frames} frames are too many");
     };
-    Ok(System::boot(alloc, directory, sizes))
+    Ok(System::boot(alloc, directory, Vec::new(alloc), sizes))
 }
 
 /// The error of an event that was refused. A system for which memory was refused has to answer nothing else from then
@@ -239,7 +239,7 @@ fn crowded(alloc: Global) -> Result<System> {
     let Some(sizes) = Sizes::new(FEWEST_FRAMES, FEW_SLOTS) else {
         bail!("so many frames and slots are too many");
     };
-    Ok(System::boot(alloc, directory, sizes)?)
+    Ok(System::boot(alloc, directory, Vec::new(alloc), sizes)?)
 }
 
 /// Displays the pages 16 to 31 of A, which take all frames; six pages that came before go to slots.

@@ -40,7 +40,9 @@ directory_text (directories.TooMany line) = codes "fault: directory TooMany " ++
 abbrev pub boot_text : BootError → List ℕ
 boot_text boots.Memory = codes "fault: memory Memory"
 boot_text boots.TooFewFrames = codes "fault: boot TooFewFrames"
-boot_text boots.NoVolume = codes "fault: boot NoVolume"
+boot_text boots.DuplicateVolume = codes "fault: boot DuplicateVolume"
+boot_text (boots.NoVolume _) = codes "fault: boot NoVolume"
+boot_text (boots.ExtentPastEnd _ _) = codes "fault: boot ExtentPastEnd"
 boot_text boots.DuplicateDevice = codes "fault: boot DuplicateDevice"
 
 -- the line of a failure

@@ -122,7 +122,9 @@ fn boot_line(alloc: Global, error: &BootError) -> Result<String, AllocError>
     match error {
         BootError::Memory => String::from_str(alloc, "fault: memory Memory"),
         BootError::TooFewFrames => String::from_str(alloc, "fault: boot TooFewFrames"),
-        BootError::NoVolume => String::from_str(alloc, "fault: boot NoVolume"),
+        BootError::DuplicateVolume => String::from_str(alloc, "fault: boot DuplicateVolume"),
+        BootError::NoVolume(_) => String::from_str(alloc, "fault: boot NoVolume"),
+        BootError::ExtentPastEnd(_, _) => String::from_str(alloc, "fault: boot ExtentPastEnd"),
         BootError::DuplicateDevice => String::from_str(alloc, "fault: boot DuplicateDevice"),
     }
 }

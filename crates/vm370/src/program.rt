@@ -137,5 +137,5 @@ pub fn boot<R: AllocGlobal + Files>(rt: &R, path: &str, sizes: Sizes) -> Result<
     let alloc = rt.alloc();
     let text = read_all(alloc, &mut open(rt, path)?)?;
     let directory = read_directory(alloc, &text)?;
-    Ok(System::boot(alloc, directory, sizes)?)
+    Ok(System::boot(alloc, directory, Vec::new(alloc), sizes)?)
 }

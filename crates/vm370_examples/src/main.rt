@@ -77,7 +77,7 @@ fn compare<R: AllocGlobal + Files>(
 fn transcript<R: AllocGlobal + Files>(rt: &R, folder: &str, sizes: Sizes) -> Result<Vec<u8>> {
     let alloc = rt.alloc();
     let directory = read_directory(alloc, &contents(rt, folder, "directory")?)?;
-    let mut system = System::boot(alloc, directory, sizes)?;
+    let mut system = System::boot(alloc, directory, Vec::new(alloc), sizes)?;
     let mut script = open(rt, folder, "script")?;
     let mut transcript = Vec::new(alloc);
     session(alloc, &mut system, &mut script, &mut transcript)?;
