@@ -12,14 +12,12 @@ use anyhow::{Context, Result, bail};
 use bare_installation::Bare;
 use bare370::session::{FIRST_DISK, MOST_DISKS};
 use bare370::{bare_session, machine_of};
-use ckd_image::image;
-use ckd_text::make_volume;
 use ckd_volume::Volume;
 use cp_directory::{StorageSize, storage_of};
-use s370_num::host::{Counted, read_all};
+use example_files::{contents, have_one_image, open, volume};
 use std::io::Write;
 use std::rt::Files;
-use std::{env, fs, io};
+use std::{env, io};
 
 /// The size of the machine's storage where an example does not tell it.
 const STORAGE: &[u8] = b"64K";
@@ -66,10 +64,10 @@ fn volumes<R: AllocGlobal + Files>(rt: &R, folder: &str) -> Result<Vec<Volume>> 
     let mut volumes = Vec::new(alloc);
     for address in FIRST_DISK..FIRST_DISK + MOST_DISKS {
         let name = format!(in alloc; "{address:X}")?;
-        let Some(text) = contents(rt, folder, name.as_str())? else {
+        let Some(volume) = volume(rt, folder, name.as_str())? else {
             break;
         };
-        volumes.push(make_volume(alloc, &text)?)?;
+        volumes.push(volume)?;
     }
     Ok(volumes)
 }
@@ -79,29 +77,15 @@ fn compare_disks<R: AllocGlobal + Files>(rt: &R, folder: &str, machine: &Bare) -
     let alloc = rt.alloc();
     for address in FIRST_DISK..FIRST_DISK + MOST_DISKS {
         let name = format!(in alloc; "{address:X}-saved")?;
-        let Some(text) = contents(rt, folder, name.as_str())? else {
+        let Some(wanted) = volume(rt, folder, name.as_str())? else {
             continue;
         };
         let index = usize::from(address - FIRST_DISK);
         let disk = machine.disks().get(index);
-        let volume = disk.context("there is no such disk")?.unit().volume();
-        if image(alloc, volume)? != image(alloc, &make_volume(alloc, &text)?)? {
+        let ended = disk.context("there is no such disk")?.unit().volume();
+        if !have_one_image(alloc, ended, &wanted)? {
             bail!("{folder}: the disk {address:X} has another image at the end");
         }
     }
     Ok(())
-}
-
-/// A file of a folder, whole; none where there is no such file.
-fn contents<R: AllocGlobal + Files>(rt: &R, folder: &str, name: &str) -> Result<Option<Vec<u8>>> {
-    match open(rt, folder, name) {
-        Ok(mut file) => Ok(Some(read_all(rt.alloc(), &mut file)?)),
-        Err(_) => Ok(None),
-    }
-}
-
-/// A file of a folder, to be read.
-fn open<R: AllocGlobal + Files>(rt: &R, folder: &str, name: &str) -> Result<Counted<R::File>> {
-    let path = format!(in rt.alloc(); "{folder}/{name}")?;
-    Ok(Counted::new(fs::open(rt, &path)?))
 }

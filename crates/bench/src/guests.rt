@@ -77,7 +77,7 @@ fn users_guest(alloc: Global, directory: &str, users: u8, guest: Loop) -> Result
     let Some(sizes) = Sizes::new(512, 0) else {
         bail!("sizes");
     };
-    let mut system = System::boot(alloc, directory, sizes)?;
+    let mut system = System::boot(alloc, directory, Vec::new(alloc), sizes)?;
     for user in 0..users.min(USERS) {
         let user = UserNo::new(user);
         type_line(&mut system, user, b"LOGON")?;

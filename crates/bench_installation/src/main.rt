@@ -106,7 +106,7 @@ fn main(rt: HostRuntime) -> Result<ExitCode> {
         bail!("there are 16 to 4096 frames, and at most 65536 slots");
     };
     let start = rt.process_cpu_time()?;
-    let mut system = System::boot(rt.alloc(), directory, sizes)?;
+    let mut system = System::boot(rt.alloc(), directory, Vec::new(rt.alloc()), sizes)?;
     tell(&rt, start, "boot", 1)?;
     let start = rt.process_cpu_time()?;
     each_types(&mut system, asked.users, b"LOGON")?;

@@ -1,4 +1,5 @@
-//! Runs channel programs of a disk that an independent System/370 executed, and prints how many it agrees with.
+//! Runs channel programs of a disk that an independent System/370 executed, and prints how many it agrees with. Each is
+//! run on a unit of its own, and some of them are run once more by a user whose disk lies in the middle of a volume.
 //!
 //! `programs.txt` has one program a line, with the disk, the storage and the keys that it finds, and all that it
 //! leaves: status word, storage, sense, arm and tracks; its first lines tell the fields. A line that does not agree is
@@ -8,9 +9,11 @@
 mod case;
 mod outcome;
 mod tracks;
+mod users;
 
 use crate::case::{Case, case_of};
 use crate::outcome::difference;
+use crate::users::difference_of_user;
 use anyhow::{Context, Result};
 use cp_text::words::words_of;
 use s370_store::PlainStorage;
@@ -18,15 +21,23 @@ use std::alloc::Global;
 use step_table::{table, tally};
 use storage_lists::{clear_bytes, clear_keys, is_clear};
 
+/// Each program of which the number is a multiple of this is run by a user too: that takes a system of 4 megabytes.
+const EACH: u64 = 8;
+
 fn main(rt: HostRuntime) -> Result<()> {
     let alloc = rt.alloc();
     let table = table(&rt)?;
+    let mut number = 0u64;
+    let mut by_users = 0u64;
     let mut storage = PlainStorage::new(alloc, 2048)?;
     let mut image = PlainStorage::new(alloc, 2048)?;
     let agreement = tally(&rt, &table, |line| {
-        try_line(alloc, &mut storage, &mut image, line.as_bytes())
+        number = number.wrapping_add(1);
+        let by_user = number % EACH == 0;
+        by_users = by_users.wrapping_add(u64::from(by_user));
+        try_line(alloc, &mut storage, &mut image, line.as_bytes(), by_user)
     })?;
-    println!(rt; "{} of {}", agreement.agreed, agreement.steps)?;
+    println!(rt; "{} of {}, {by_users} of them by users too", agreement.agreed, agreement.steps)?;
     if !is_clear(&mut storage) {
         println!(rt; "bytes or keys were changed that no line names")?;
     }
@@ -39,10 +50,14 @@ fn try_line(
     storage: &mut PlainStorage,
     image: &mut PlainStorage,
     line: &[u8],
+    by_user: bool,
 ) -> Result<Option<String>> {
     let words = words_of(alloc, line)?;
     let case = case_of(&words).context("a line has twelve fields")?;
-    let differs = difference(alloc, storage, image, &case)?;
+    let mut differs = difference(alloc, storage, image, &case)?;
+    if by_user && differs.is_none() {
+        differs = difference_of_user(alloc, image, &case)?;
+    }
     clear(storage, &case);
     clear(image, &case);
     match differs {

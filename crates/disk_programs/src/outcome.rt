@@ -14,7 +14,7 @@ fn volume_of(alloc: Global, case: &Case<'_>) -> Result<Volume> {
         bail!("too many cylinders");
     };
     let mut volume = Volume::blank(alloc, *b"TEST01", cylinders)?;
-    write_tracks(alloc, &mut volume, case.tracks)?;
+    write_tracks(alloc, &mut volume, 0, case.tracks)?;
     Ok(volume)
 }
 
@@ -39,8 +39,7 @@ fn unit_of(alloc: Global, case: &Case<'_>) -> Result<Unit> {
 }
 
 /// Whether a status word is the one of a line, but for bytes of dots.
-fn is_same_status(csw: Csw, wanted: &[u8]) -> bool {
-    let bytes = csw.to_bytes();
+pub fn is_same_status(bytes: [u8; 8], wanted: &[u8]) -> bool {
     if wanted.len() != 16 {
         return false;
     }
@@ -75,7 +74,7 @@ pub fn difference(
         prefix: 0,
     };
     let ending = run(&Guest, storage, start.address.get(), &limits, &mut unit)?;
-    if !is_same_status(Csw::of_ending(start.key, ending), case.csw) {
+    if !is_same_status(Csw::of_ending(start.key, ending).to_bytes(), case.csw) {
         return Ok(Some("the status word"));
     }
     if !is_same_in(storage, image, case.storage)
@@ -86,20 +85,27 @@ pub fn difference(
     disk_difference(alloc, &unit, case)
 }
 
-/// What differs first of the disk.
-fn disk_difference(alloc: Global, unit: &Unit, case: &Case<'_>) -> Result<Option<&'static str>> {
-    let arm = unit.arm();
+/// What differs first of the sense and the arm.
+pub fn arm_difference(arm: Arm, case: &Case<'_>) -> Option<&'static str> {
     if case.sense.len() != 4
         || arm.sense.first != byte_of(case.sense[0], case.sense[1])
         || arm.sense.second != byte_of(case.sense[2], case.sense[3])
     {
-        return Ok(Some("the sense"));
+        return Some("the sense");
     }
     if (arm.cylinder, arm.head) != case.arm_after {
-        return Ok(Some("the arm"));
+        return Some("the arm");
+    }
+    None
+}
+
+/// What differs first of the disk.
+fn disk_difference(alloc: Global, unit: &Unit, case: &Case<'_>) -> Result<Option<&'static str>> {
+    if let Some(what) = arm_difference(unit.arm(), case) {
+        return Ok(Some(what));
     }
     let mut after = volume_of(alloc, case)?;
-    write_tracks(alloc, &mut after, case.tracks_after)?;
+    write_tracks(alloc, &mut after, 0, case.tracks_after)?;
     if !is_same_volume(unit.volume(), &after) {
         return Ok(Some("a track"));
     }

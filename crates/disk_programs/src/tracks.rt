@@ -29,10 +29,17 @@ fn write_record(alloc: Global, track: &mut Track, i: usize, item: &[u8]) -> Resu
     Ok(())
 }
 
-/// Writes the tracks of a list onto a volume.
-pub fn write_tracks(alloc: Global, volume: &mut Volume, list: &[u8]) -> Result<()> {
+/// Writes the tracks of a list onto a disk that begins at this cylinder of a volume.
+pub fn write_tracks(
+    alloc: Global,
+    volume: &mut Volume,
+    first: usize,
+    list: &[u8],
+) -> Result<()> {
     for item in list.split(|c| *c == b';') {
         if let Some((place, records)) = cut_item(b'=', item) {
+            let (cylinder, head) = pair_of(b'.', place).context("a track has a place")?;
+            let place = (first.wrapping_add(cylinder), head);
             write_track(alloc, volume, place, records)?;
         }
     }
@@ -40,8 +47,13 @@ pub fn write_tracks(alloc: Global, volume: &mut Volume, list: &[u8]) -> Result<(
 }
 
 /// Writes the records of a track.
-fn write_track(alloc: Global, volume: &mut Volume, place: &[u8], records: &[u8]) -> Result<()> {
-    let (cylinder, head) = pair_of(b'.', place).context("a track has a place")?;
+fn write_track(
+    alloc: Global,
+    volume: &mut Volume,
+    place: (usize, usize),
+    records: &[u8],
+) -> Result<()> {
+    let (cylinder, head) = place;
     let track = volume.track_mut(cylinder, head).context("no such track")?;
     let mut i = 0usize;
     for item in records.split(|c| *c == b'+') {

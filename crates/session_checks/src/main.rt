@@ -50,7 +50,7 @@ fn booted(alloc: Global) -> Result<System> {
         bail!("two users are too many");
     }
     let sizes = Sizes::new(16, 0).context("16 frames are too many")?;
-    Ok(System::boot(alloc, directory, sizes)?)
+    Ok(System::boot(alloc, directory, Vec::new(alloc), sizes)?)
 }
 
 /// Whether a block's session is as it says.

@@ -59,7 +59,7 @@ impl SideBySide {
     pub fn boot(alloc: Global, directory: &[u8], sizes: Sizes) -> Result<SideBySide, SideError> {
         let directory = read_directory(alloc, directory)?;
         let machines = machines_of(alloc, directory.users())?;
-        let system = System::boot(alloc, directory, sizes)?;
+        let system = System::boot(alloc, directory, Vec::new(alloc), sizes)?;
         Ok(SideBySide { system, machines })
     }
 

@@ -1,13 +1,14 @@
-//! What no script shows of a system, beside the transcripts of `vm370_examples`: too few frames, the machine of nobody,
-//! what a console keeps, a frame that is lent, how many pages have come, and where they stand.
+//! What no script shows of a system, beside the transcripts of `vm370_examples`: too few frames, volumes that lack, the
+//! machine of nobody, what a console keeps, a frame that is lent, how many pages have come, and where they stand.
 //!
 //! It fails at the first thing that is otherwise, and tells it.
 #![tactic(auto)]
 
-use anyhow::{Result, bail};
+use anyhow::{Context, Result, bail};
+use ckd_volume::Volume;
 use cp_console::responses::Response;
 use cp_core::{BootError, CpError, Event, FrameNo, Sizes, System};
-use cp_directory::read_directory;
+use cp_directory::{Volser, read_directory};
 use cp_users::UserNo;
 use s370_num::DevAddr;
 use s370_store::Page;
@@ -44,16 +45,22 @@ fn see(holds: bool, what: &str) -> Result<()> {
 
 /// A system of two users with two pages each on so many frames, or why it is not booted.
 fn booted(alloc: Global, frames: u32) -> Result<Result<System, BootError>> {
-    boot_of(alloc, b"USER A PW 8K\nUSER B PW 8K\n", frames)
+    let users = b"USER A PW 8K\nUSER B PW 8K\n";
+    boot_of(alloc, users, Vec::new(alloc), frames)
 }
 
-/// The system of a directory, on so many frames.
-fn boot_of(alloc: Global, text: &[u8], frames: u32) -> Result<Result<System, BootError>> {
+/// The system of a directory, with these volumes and on so many frames.
+fn boot_of(
+    alloc: Global,
+    text: &[u8],
+    volumes: Vec<Volume>,
+    frames: u32,
+) -> Result<Result<System, BootError>> {
     let directory = read_directory(alloc, text)?;
     let Some(sizes) = Sizes::new(frames, 0) else {
         bail!("{frames} frames are too many");
     };
-    Ok(System::boot(alloc, directory, sizes))
+    Ok(System::boot(alloc, directory, volumes, sizes))
 }
 
 /// The error of an event that was refused. A system for which memory was refused has to answer nothing else from then
@@ -109,12 +116,43 @@ fn too_few_frames(alloc: Global) -> Result<()> {
     Ok(())
 }
 
-fn users_with_minidisks(alloc: Global) -> Result<()> {
-    let text = "USER A PW 8K\nUSER B PW 8K\nMDISK 190 3330 0 10 PACK01 W\n";
-    let booted = boot_of(alloc, text.as_bytes(), FEWEST_FRAMES)?;
+/// A directory whose user B has three disks, the last of which ends at cylinder 10 of its volume.
+const DISKS: &[u8] = b"USER A PW 8K
+USER B PW 8K
+MDISK 190 3330 0 5 PACK01 W
+MDISK 191 3330 0 10 PACK02 W
+MDISK 192 3330 5 6 PACK01 W
+";
+
+/// Why no system of that directory is booted that has volumes of these serial numbers, with ten cylinders each.
+fn refusal(alloc: Global, serials: &[[u8; 6]], frames: u32) -> Result<Option<BootError>> {
+    let mut volumes = Vec::new(alloc);
+    for serial in serials {
+        volumes.push(Volume::blank(alloc, *serial, 10)?)?;
+    }
+    match boot_of(alloc, DISKS, volumes, frames)? {
+        Ok(_) => Ok(None),
+        Err(error) => Ok(Some(error)),
+    }
+}
+
+fn volumes_that_lack(alloc: Global) -> Result<()> {
+    let first = Volser::new(b"PACK01").context("it is a serial number")?;
+    let second = Volser::new(b"PACK02").context("it is a serial number")?;
+    let past = BootError::ExtentPastEnd(b(), DevAddr::new(0x192));
+    for (serials, reason) in [
+        ([*b"PACK02", *b"PACK03"], BootError::NoVolume(first)),
+        ([*b"PACK01", *b"PACK03"], BootError::NoVolume(second)),
+        ([*b"PACK03", *b"PACK03"], BootError::DuplicateVolume),
+        ([*b"PACK02", *b"PACK01"], past),
+    ] {
+        let told = refusal(alloc, &serials, FEWEST_FRAMES)?;
+        see(told == Some(reason), "each disk has its cylinders")?;
+    }
+    let told = refusal(alloc, &[*b"PACK03", *b"PACK03"], FEWEST_FRAMES - 1)?;
     see(
-        is_refused(booted, BootError::NoVolume),
-        "no volume is there yet",
+        told == Some(BootError::TooFewFrames),
+        "frames are counted before volumes",
     )
 }
 
@@ -239,7 +277,7 @@ fn crowded(alloc: Global) -> Result<System> {
     let Some(sizes) = Sizes::new(FEWEST_FRAMES, FEW_SLOTS) else {
         bail!("so many frames and slots are too many");
     };
-    Ok(System::boot(alloc, directory, sizes)?)
+    Ok(System::boot(alloc, directory, Vec::new(alloc), sizes)?)
 }
 
 /// Displays the pages 16 to 31 of A, which take all frames; six pages that came before go to slots.
@@ -343,7 +381,7 @@ fn an_overflow_of_seven_pages(system: &mut System) -> Result<()> {
 fn main(rt: HostRuntime) -> Result<()> {
     let alloc = rt.alloc();
     too_few_frames(alloc)?;
-    users_with_minidisks(alloc)?;
+    volumes_that_lack(alloc)?;
     machine_of_nobody(&mut booted(alloc, FEWEST_FRAMES)??)?;
     kept_lines(&mut booted(alloc, FEWEST_FRAMES)??)?;
     a_lent_frame(&mut booted(alloc, FEWEST_FRAMES)??)?;

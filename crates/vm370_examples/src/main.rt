@@ -3,18 +3,21 @@
 //!
 //! The words of the program are the folders of the examples, each of which has the files `directory`, `script`
 //! and `transcript`. One that is about want of frames has the file `sizes` too, with numbers of frames and slots, as
-//! `16 0`: it gives its transcript on these alone. The transcripts go to standard output, in the order of the words.
+//! `16 0`: it gives its transcript on these alone. One whose users have disks has the file `volumes`, with the names of
+//! the volumes, one a line: each is stated by the text `NAME.volume`, and where the script changes it `NAME.after` states
+//! what it has to be at the end. The transcripts go to standard output, in the order of the words.
 #![tactic(auto)]
 
 use anyhow::{Context, Result, bail};
+use ckd_volume::Volume;
 use cp_core::{Sizes, System};
 use cp_directory::read_directory;
 use cp_text::numbers::decimal_of;
 use cp_text::words::cut_word;
-use s370_num::host::{Counted, read_all};
+use example_files::{contents, have_one_image, open, volume};
 use std::io::Write;
 use std::rt::Files;
-use std::{env, fs, io};
+use std::{env, io};
 use vm370::session::session;
 
 /// How many frames the machine of the program `vm370` has.
@@ -32,13 +35,13 @@ const DIGITS: usize = 5;
 fn main(rt: HostRuntime) -> Result<()> {
     let mut output = io::writer(&rt);
     for folder in env::args(&rt)?.skip(1) {
-        let stored = contents(&rt, &folder, "transcript")?;
-        match contents(&rt, &folder, "sizes") {
-            Ok(text) => {
+        let stored = contents(&rt, &folder, "transcript")?.context("there is no transcript")?;
+        match contents(&rt, &folder, "sizes")? {
+            Some(text) => {
                 let (frames, slots) = numbers(&text).context("no such sizes")?;
                 compare(&rt, &folder, frames, slots, &stored)?;
             }
-            Err(_) => {
+            None => {
                 compare(&rt, &folder, FRAMES, SLOTS, &stored)?;
                 compare(&rt, &folder, FEWEST_FRAMES, SLOTS, &stored)?;
             }
@@ -73,24 +76,56 @@ fn compare<R: AllocGlobal + Files>(
     Ok(())
 }
 
-/// What a folder's script gives over its directory, on a machine of these sizes.
+/// What a folder's script gives over its directory and its volumes, on a machine of these sizes.
 fn transcript<R: AllocGlobal + Files>(rt: &R, folder: &str, sizes: Sizes) -> Result<Vec<u8>> {
     let alloc = rt.alloc();
-    let directory = read_directory(alloc, &contents(rt, folder, "directory")?)?;
-    let mut system = System::boot(alloc, directory, sizes)?;
+    let text = contents(rt, folder, "directory")?.context("there is no directory")?;
+    let directory = read_directory(alloc, &text)?;
+    let names = names(rt, folder)?;
+    let mut system = System::boot(alloc, directory, volumes(rt, folder, &names)?, sizes)?;
     let mut script = open(rt, folder, "script")?;
     let mut transcript = Vec::new(alloc);
     session(alloc, &mut system, &mut script, &mut transcript)?;
+    compare_volumes(rt, folder, &names, &system.into_volumes())?;
     Ok(transcript)
 }
 
-/// A file of a folder, whole.
-fn contents<R: AllocGlobal + Files>(rt: &R, folder: &str, name: &str) -> Result<Vec<u8>> {
-    Ok(read_all(rt.alloc(), &mut open(rt, folder, name)?)?)
+/// The names of an example's volumes, one a line.
+fn names<R: AllocGlobal + Files>(rt: &R, folder: &str) -> Result<String> {
+    match contents(rt, folder, "volumes")? {
+        Some(text) => Ok(String::from_utf8(text)?),
+        None => Ok(String::new(rt.alloc())),
+    }
 }
 
-/// A file of a folder, to be read.
-fn open<R: AllocGlobal + Files>(rt: &R, folder: &str, name: &str) -> Result<Counted<R::File>> {
-    let path = format!(in rt.alloc(); "{folder}/{name}")?;
-    Ok(Counted::new(fs::open(rt, &path)?))
+/// The volumes of these names.
+fn volumes<R: AllocGlobal + Files>(rt: &R, folder: &str, names: &str) -> Result<Vec<Volume>> {
+    let alloc = rt.alloc();
+    let mut volumes = Vec::new(alloc);
+    for name in names.lines() {
+        let file = format!(in alloc; "{name}.volume")?;
+        volumes.push(volume(rt, folder, &file)?.context("there is no such volume")?)?;
+    }
+    Ok(volumes)
+}
+
+/// Whether each volume is at the end what its example says, and where that says nothing, what it was.
+fn compare_volumes<R: AllocGlobal + Files>(
+    rt: &R,
+    folder: &str,
+    names: &str,
+    ended: &[Volume],
+) -> Result<()> {
+    let alloc = rt.alloc();
+    for (name, ended) in names.lines().zip(ended) {
+        let after = volume(rt, folder, &format!(in alloc; "{name}.after")?)?;
+        let wanted = match after {
+            Some(wanted) => Some(wanted),
+            None => volume(rt, folder, &format!(in alloc; "{name}.volume")?)?,
+        };
+        if !have_one_image(alloc, ended, &wanted.context("there is no such volume")?)? {
+            bail!("{folder}: the volume {name} has another image at the end");
+        }
+    }
+    Ok(())
 }

@@ -1,0 +1,136 @@
+//! A session is played, and compared with its block.
+use crate::block::Block;
+use anyhow::{Context, Result, bail};
+use ckd_volume::Volume;
+use cp_core::{Sizes, System};
+use cp_directory::{Directory, read_directory};
+use cp_text::lines::numbered_lines;
+use example_files::{have_one_image, volume};
+use s370_num::host::Bytes;
+use std::alloc::Global;
+use std::rt::Files;
+use vm370::faults::{Failure, fault_line};
+use vm370::session::session;
+
+/// The folder of the volumes.
+const FOLDER: &str = ".";
+
+/// How many frames the machine of the program `vm370` has.
+const FRAMES: u32 = 64;
+
+/// The fewest that a system may have.
+const FEWEST_FRAMES: u32 = 16;
+
+/// How many slots for pages it has.
+const SLOTS: u32 = 256;
+
+/// What differs first from what a block says; none where all is as it says.
+pub fn difference<R: AllocGlobal + Files>(rt: &R, block: &Block) -> Result<Option<String>> {
+    if let Some(fault) = &block.fault {
+        return refusal(rt.alloc(), block, fault);
+    }
+    if let Some((frames, slots)) = block.sizes {
+        return difference_on(rt, block, frames, slots);
+    }
+    match difference_on(rt, block, FRAMES, SLOTS)? {
+        Some(what) => Ok(Some(what)),
+        None => difference_on(rt, block, FEWEST_FRAMES, SLOTS),
+    }
+}
+
+/// What is told of the directory of a block, if that is not this fault.
+fn refusal(alloc: Global, block: &Block, fault: &str) -> Result<Option<String>> {
+    match read_directory(alloc, &block.directory) {
+        Ok(_) => Ok(Some(String::from_str(alloc, "it is read")?)),
+        Err(error) => {
+            let told = fault_line(alloc, &Failure::Directory(error))?;
+            Ok(if told.as_str() == fault {
+                None
+            } else {
+                Some(told)
+            })
+        }
+    }
+}
+
+/// What differs first where a session is played on so many frames and slots.
+fn difference_on<R: AllocGlobal + Files>(
+    rt: &R,
+    block: &Block,
+    frames: u32,
+    slots: u32,
+) -> Result<Option<String>> {
+    let alloc = rt.alloc();
+    let mut system = booted(rt, block, frames, slots)?;
+    let mut told = Vec::new(alloc);
+    session(alloc, &mut system, &mut Bytes::new(&block.script), &mut told)?;
+    if let Some(line) = other_line(&told, &block.told) {
+        let line = str::from_utf8(line)?;
+        return Ok(Some(format!(in alloc; "on {frames} frames: {line}")?));
+    }
+    match other_volume(rt, block, &system.into_volumes())? {
+        Some(name) => Ok(Some(format!(in alloc; "on {frames} frames {name} is not what there is")?)),
+        None => Ok(None),
+    }
+}
+
+/// The system of a block on so many frames and slots.
+fn booted<R: AllocGlobal + Files>(
+    rt: &R,
+    block: &Block,
+    frames: u32,
+    slots: u32,
+) -> Result<System> {
+    let directory = read(rt.alloc(), block)?;
+    let mut volumes = Vec::new(rt.alloc());
+    for name in block.volumes.iter() {
+        volumes.push(stated(rt, name)?)?;
+    }
+    let sizes = Sizes::new(frames, slots).context("so many frames or slots are too many")?;
+    Ok(System::boot(rt.alloc(), directory, volumes, sizes)?)
+}
+
+/// The directory of a block.
+fn read(alloc: Global, block: &Block) -> Result<Directory> {
+    let directory = read_directory(alloc, &block.directory)?;
+    if directory.len() > 64 {
+        bail!("so many users are too many");
+    }
+    Ok(directory)
+}
+
+/// The volume that a file states.
+fn stated<R: AllocGlobal + Files>(rt: &R, name: &str) -> Result<Volume> {
+    volume(rt, FOLDER, name)?.context("there is no such volume")
+}
+
+/// The first line of a transcript that is not that of another one; where the other has more, the empty one.
+fn other_line<'a>(told: &'a [u8], wanted: &[u8]) -> Option<&'a [u8]> {
+    let mut others = numbered_lines(wanted);
+    for line in numbered_lines(told) {
+        match others.next() {
+            Some(other) if other.text == line.text => {}
+            _ => return Some(line.text),
+        }
+    }
+    match others.next() {
+        Some(_) => Some(b""),
+        None => None,
+    }
+}
+
+/// The file that states the first volume that is not as a block says; none where all are.
+fn other_volume<'a, R: AllocGlobal + Files>(
+    rt: &R,
+    block: &'a Block,
+    ended: &[Volume],
+) -> Result<Option<&'a str>> {
+    for (index, volume) in ended.iter().enumerate() {
+        let stating = block.ended.get(index).or(block.volumes.get(index));
+        let name = stating.context("there are more volumes than before")?;
+        if !have_one_image(rt.alloc(), volume, &stated(rt, name)?)? {
+            return Ok(Some(name.as_str()));
+        }
+    }
+    Ok(None)
+}
