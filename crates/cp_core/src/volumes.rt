@@ -130,9 +130,7 @@ fn past_user(volumes: &[Volume], users: &[User]) -> Option<usize>
 fn past_minidisk<'a>(volumes: &[Volume], minidisks: &'a [Minidisk]) -> Option<&'a Minidisk>
     ensures { option_copied result ≡ find (is_past volumes.now) minidisks.now }
 {
-    minidisks
-        .iter()
-        .find(|minidisk| is_past(volumes, minidisk))
+    minidisks.iter().find(|minidisk| is_past(volumes, minidisk))
 }
 
 /// The first minidisk that ends past the last cylinder of its volume: whose it is, and its address.

@@ -37,7 +37,10 @@ fn main(rt: HostRuntime) -> Result<()> {
         by_users = by_users.wrapping_add(u64::from(by_user));
         try_line(alloc, &mut storage, &mut image, line.as_bytes(), by_user)
     })?;
-    println!(rt; "{} of {}, {by_users} of them by users too", agreement.agreed, agreement.steps)?;
+    println!(rt;
+        "{} of {}, {by_users} of them by users too",
+        agreement.agreed, agreement.steps
+    )?;
     if !is_clear(&mut storage) {
         println!(rt; "bytes or keys were changed that no line names")?;
     }
