@@ -422,7 +422,7 @@ fn main(rt: HostRuntime) -> Result<()> {
     machine_of_nobody(&mut booted(alloc, FEWEST_FRAMES)??)?;
     kept_lines(&mut booted(alloc, FEWEST_FRAMES)??)?;
     a_lent_frame(&mut booted(alloc, FEWEST_FRAMES)??)?;
-    a_lent_frame_is_written(&mut boot_of(alloc, CONSOLE, FEWEST_FRAMES)??)?;
+    a_lent_frame_is_written(&mut boot_of(alloc, CONSOLE, Vec::new(alloc), FEWEST_FRAMES)??)?;
     pages_that_came(&mut booted(alloc, FEWEST_FRAMES)??)?;
     a_move_of_eight_pages(&mut crowded(alloc)?)?;
     an_overflow_of_seven_pages(&mut crowded(alloc)?)?;
