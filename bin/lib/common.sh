@@ -56,9 +56,9 @@ check_paths() {
     check_texts "$@"
 }
 
-# check_sized_paths WORD..: refuses at once what a program of a directory and a script, with frames and slots, would refuse after
-# its build
-check_sized_paths() {
+# check_run_words WORD..: refuses at once what a program of a directory, a script and volumes, with frames, slots and --save, would
+# refuse after its build
+check_run_words() {
     count=0
     expected=option
     for word in "$@"; do
@@ -66,12 +66,12 @@ check_sized_paths() {
         number*) expected=option ;;
         option--) expected=path ;;
         option--frames | option--slots) expected=number ;;
-        option--frames=* | option--slots=*) ;;
+        option--frames=* | option--slots=* | option--save) ;;
         option-?*) wrong_use ;;
         *) count=$((count + 1)) ;;
         esac
     done
-    [ "$count" -eq 2 ] && [ "$expected" != number ] || wrong_use
+    [ "$count" -ge 2 ] && [ "$expected" != number ] || wrong_use
     check_texts "$@"
 }
 
@@ -84,11 +84,11 @@ check_texts() {
     }
 }
 
-# the statuses of a command that builds and runs, for its usage text; 1 is said of what is named, or of directory and script
+# the statuses of a command that builds and runs, for its usage text; 1 is said of what is named, or of what bin/vm370 reads
 build_statuses() {
     cat <<END
   0   it ended well
-  1   ${1-the directory or the script} is refused; standard error says where
+  1   ${1-the directory, an image or the script} is refused; standard error says where
   2   a wrong use, or a question for this text
   3   a file failed
   4   the host had no memory

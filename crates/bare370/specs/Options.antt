@@ -1,26 +1,14 @@
 -- What the words of the program name, as those of a simple command of `clap`.
-use Rattle.std.specs.Prelude.{◌≡◌, ℕ, Bool, true, false, List, [], map, codes, Option, Some, None}
+use Rattle.std.specs.Prelude.{◌≡◌, ℕ, true, List, [], map, codes, Option, Some}
 use Rattle.std.specs.Option.{option_and_then}
 use Rattle.clap.specs.Words.{App, Row, Rule, all_of, fault_of, first_of, matches_of, new_app, new_rule, one_of, with_rule}
-use Rattle.clap.specs.declared.builder.action.ArgAction.TheVariants.{Append, SetTrue}
 use Rattle.cp_directory.specs.Sizes.{storage_of}
+use Rattle.vm370.specs.Options.{IsFlag, save_rule, script_rule, texts_of, volume_rule}
 use Rattle.bare370.specs.declared.arguments.BareOptions.{BareOptions}
-
--- `--save`
-abbrev pub save_rule : Rule
-save_rule = record (new_rule (codes "save")) { long = Some (codes "save"); action = Some SetTrue }
 
 -- the first word after the program's name: the size of the storage
 abbrev pub storage_rule : Rule
 storage_rule = record (new_rule (codes "STORAGE")) { required = true }
-
--- the word after it: the script
-abbrev pub script_rule : Rule
-script_rule = record (new_rule (codes "SCRIPT")) { required = true }
-
--- the words after it, any number of them: the volumes
-abbrev pub volume_rule : Rule
-volume_rule = record (new_rule (codes "VOLUME")) { action = Some Append }
 
 -- `PROGRAM [--save] STORAGE SCRIPT [VOLUME]...`
 abbrev pub command_of : List ℕ → App
@@ -33,17 +21,6 @@ rows_named program words = matches_of (command_of program) words
 -- nothing is wrong with the words: none is unknown or missing, and none asks for help
 unfoldable pub HasNoFault : List ℕ → List (List ℕ) → Type 0
 HasNoFault program words = fault_of (command_of program) words ≡ []
-
--- a flag is given where its text is `true`, and not where it is `false` or there is none
-pub record IsFlag (text : Option (List ℕ)) (given : Bool) : Type 0 where
-  pub yes : text ≡ Some (codes "true") → given ≡ true
-  pub no : text ≡ Some (codes "false") → given ≡ false
-  pub none : text ≡ None → given ≡ false
-
--- the texts of an argument that need not be given
-abbrev pub texts_of : Option (List (List ℕ)) → List (List ℕ)
-texts_of None = []
-texts_of (Some texts) = texts
 
 -- the pages of the storage that the words name, where there may be one
 abbrev pub storage_named : List Row → Option ℕ

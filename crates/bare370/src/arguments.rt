@@ -1,14 +1,14 @@
 //! The words of the program: its machine's storage, its script and its volumes.
-ghost use Rattle.std.specs.Prelude.{◌≡◌, ◌≤◌, IfOk, IfSome, OnOk, Option, Some, None, codes, false, length, map, true};
-ghost use Rattle.std.specs.Option.{option_map};
-ghost use Rattle.clap.specs.Words.{all_of, app_of, found_of, one_of, rows_of, rule_of};
-ghost use Rattle.bare370.specs.Options.{HasNoFault, IsFlag, IsNamed, command_of, rows_named, save_rule, script_rule, storage_named, storage_rule, texts_of, volume_rule};
+ghost use Rattle.std.specs.Prelude.{◌≡◌, ◌≤◌, IfOk, OnOk, false, length, map};
+ghost use Rattle.clap.specs.Words.{app_of, found_of, rows_of, rule_of};
+ghost use Rattle.vm370.specs.Options.{script_rule, volume_rule};
+ghost use Rattle.bare370.specs.Options.{HasNoFault, IsNamed, command_of, rows_named, storage_named, storage_rule};
 
 use clap::{Arg, ArgAction, ArgMatches, Command};
 use cp_directory::{StorageSize, storage_of};
 use std::alloc::{AllocError, Global};
 use std::convert::AsStr;
-use vm370::arguments::{UsageError, refusal, text_of, usage};
+use vm370::arguments::{UsageError, is_given, paths_of, refusal, save, text_of, usage};
 
 /// The most volumes that a machine has.
 pub const MOST_VOLUMES: usize = 16;
@@ -76,43 +76,6 @@ fn storage_in(matches: &ArgMatches<'_>) -> Option<StorageSize>
     storage_of(text_of(matches, "STORAGE")?.as_bytes())
 }
 
-/// Whether the words have this flag.
-fn is_given(matches: &ArgMatches<'_>, id: &str) -> bool
-    ensures { IsFlag (one_of id.now (rows_of (found_of matches.now))) result }
-{
-    matches.get_flag(id)
-}
-
-/// The texts that the words give for an argument, in order.
-fn paths_of<'a>(
-    alloc: Global,
-    matches: &ArgMatches<'a>,
-    id: &str,
-) -> Result<Vec<&'a str>, AllocError>
-    ensures { IfOk result (λ paths. map (λ path. path.now) paths.items
-        ≡ texts_of (all_of id.now (rows_of (found_of matches.now)))) }
-{
-    match texts_in(matches, id) {
-        Some(paths) => copied(alloc, paths),
-        None => Ok(Vec::new(alloc)),
-    }
-}
-
-/// The texts that the words give for an argument, where they give any.
-fn texts_in<'b, 'a>(matches: &'b ArgMatches<'a>, id: &str) -> Option<&'b [&'a str]>
-    ensures { option_map (λ texts. map (λ text. text.now) texts.now) result
-        ≡ all_of id.now (rows_of (found_of matches.now)) }
-{
-    matches.get_strs(id)
-}
-
-/// The same texts, in a list of their own.
-fn copied<'a>(alloc: Global, texts: &[&'a str]) -> Result<Vec<&'a str>, AllocError>
-    ensures { IfOk result (λ all. map (λ text. text.now) all.items ≡ map (λ text. text.now) texts.now) }
-{
-    texts.iter().copied().collect(alloc)
-}
-
 /// What `clap` finds in the words.
 fn matched<'a, S: AsStr>(
     alloc: Global,
@@ -140,17 +103,6 @@ fn command<'a>(alloc: Global, program: &'a str) -> Result<Command<'a>, AllocErro
         .arg(script(alloc))?
         .arg(volumes(alloc))?;
     Ok(command)
-}
-
-/// `--save`
-fn save<'a>(alloc: Global) -> Arg<'a>
-    ensures rule { rule_of result ≡ save_rule }
-    ensures local { result.global ≡ false }
-{
-    Arg::new(alloc, "save")
-        .long("save")
-        .action(ArgAction::SetTrue)
-        .help("Writes the images of the volumes back at the end")
 }
 
 /// The first word, which is the size of the storage.

@@ -7,14 +7,12 @@
 #![tactic(auto)]
 
 pub mod arguments;
-mod ended;
-mod images;
 pub mod program;
 mod script;
 pub mod session;
 mod transcript;
 
 pub use arguments::{BareOptions, bare_arguments};
-pub use ended::Ended;
 pub use program::bare_program;
 pub use session::{bare_session, machine_of};
+pub use vm370::program::Ended;

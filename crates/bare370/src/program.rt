@@ -4,15 +4,15 @@
 //! The transcript goes to standard output. A failure is one line on standard error, and its kind is the
 //! exit status.
 use crate::arguments::bare_arguments;
-use crate::ended::{BareFailure, Ended, finish};
-use crate::images::{read_volumes, save_volumes};
 use crate::session::{bare_session, machine_of};
 use bare_installation::Bare;
+use cp_devices::AttachError;
 use s370_num::host::Counted;
 use std::io;
 use std::rt::{Env, Files};
 use vm370::faults::Failure;
-use vm370::program::{open, words, wrong_use};
+use vm370::images::{read_volumes, save_volume};
+use vm370::program::{Ended, finish, open, words, wrong_use};
 
 /// The program's name, as it tells it.
 const PROGRAM: &str = "bare370";
@@ -39,18 +39,21 @@ pub fn bare_program<R: AllocGlobal + Files + Env + Print + Eprint>(rt: &R) -> En
 
 /// Reads the words, the images and the script, writes the transcript, and saves the volumes where that is asked for. A
 /// wrong use is told here.
-fn run<R: AllocGlobal + Files + Env + Print + Eprint>(rt: &R) -> Result<(), BareFailure> {
+fn run<R: AllocGlobal + Files + Env + Print + Eprint>(rt: &R) -> Result<(), Failure> {
     let alloc = rt.alloc();
     let words = words(rt, PROGRAM)?;
     let options = match bare_arguments(alloc, PROGRAM, words.as_slice()) {
         Ok(options) => options,
-        Err(error) => return Err(wrong_use(rt, &error, USAGE_NOTE).into()),
+        Err(error) => return Err(wrong_use(rt, &error, USAGE_NOTE)),
     };
     let volumes = read_volumes(rt, options.volumes.as_slice())?;
-    let mut machine = machine_of(alloc, options.storage.blocks(), volumes)?;
+    let mut machine = match machine_of(alloc, options.storage.blocks(), volumes) {
+        Ok(machine) => machine,
+        Err(error) => return Err(unattached(error)),
+    };
     play(rt, &mut machine, options.script)?;
     if options.save {
-        save_volumes(rt, &machine, options.volumes.as_slice())?;
+        save_disks(rt, &machine, options.volumes.as_slice())?;
     }
     Ok(())
 }
@@ -60,10 +63,31 @@ fn play<R: AllocGlobal + Files + Print>(
     rt: &R,
     machine: &mut Bare,
     path: &str,
-) -> Result<(), BareFailure> {
+) -> Result<(), Failure> {
     let mut script = open(rt, path)?;
     let Ok(output) = io::BufWriter::new(rt.alloc(), io::writer(rt)) else {
-        return Err(BareFailure::Session(Failure::Memory));
+        return Err(Failure::Memory);
     };
     Ok(bare_session(rt.alloc(), machine, &mut script, &mut Counted::new(output))?)
+}
+
+/// Why no machine is made whose disks are not attached.
+fn unattached(error: AttachError) -> Failure {
+    match error {
+        AttachError::Memory => Failure::Memory,
+        // More volumes than a machine has disks, which are words that are not the program's.
+        AttachError::Address => Failure::Usage,
+    }
+}
+
+/// Writes the images of all volumes of the machine back to these paths, in their order.
+fn save_disks<R: AllocGlobal + Files>(
+    rt: &R,
+    machine: &Bare,
+    paths: &[&str],
+) -> Result<(), Failure> {
+    for (disk, path) in machine.disks().iter().zip(paths.iter()) {
+        save_volume(rt, disk.unit().volume(), path)?;
+    }
+    Ok(())
 }

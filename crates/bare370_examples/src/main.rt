@@ -6,6 +6,9 @@
 //! the text of what such a disk has at the end, `190-saved`, whose image has to be the disk's, byte for byte. The
 //! transcripts go to standard output, in the order of the words. `hello` and `compute` are whole guests, loaded from
 //! cards, and an independent System/370 printed the same lines.
+//!
+//! A script that uses no disk and loads nothing has to give the same transcript for a user of the control program whose
+//! name is that of the machine's own, on as many frames as `vm370` has, and on the fewest.
 #![tactic(auto)]
 
 use anyhow::{Context, Result, bail};
@@ -13,14 +16,30 @@ use bare_installation::Bare;
 use bare370::session::{FIRST_DISK, MOST_DISKS};
 use bare370::{bare_session, machine_of};
 use ckd_volume::Volume;
-use cp_directory::{StorageSize, storage_of};
+use cp_core::{Sizes, System};
+use cp_directory::{StorageSize, read_directory, storage_of};
+use cp_text::lines::numbered_lines;
 use example_files::{contents, have_one_image, open, volume};
 use std::io::Write;
 use std::rt::Files;
 use std::{env, io};
+use vm370::session::session;
 
 /// The size of the machine's storage where an example does not tell it.
 const STORAGE: &[u8] = b"64K";
+
+/// The devices of a user who has those of the machine.
+const DEVICES: &[u8] =
+    b"\nCONSOLE 009 3215\nSPOOL 00C READER\nSPOOL 00D PUNCH\nSPOOL 00E PRINTER\n";
+
+/// How many frames the machine of the program `vm370` has.
+const FRAMES: u32 = 64;
+
+/// The fewest that a system may have.
+const FEWEST_FRAMES: u32 = 16;
+
+/// How many slots for pages it has.
+const SLOTS: u32 = 256;
 
 fn main(rt: HostRuntime) -> Result<()> {
     let mut output = io::writer(&rt);
@@ -28,6 +47,10 @@ fn main(rt: HostRuntime) -> Result<()> {
         let stored = contents(&rt, &folder, "transcript")?.context("there is no transcript")?;
         if transcript(&rt, &folder)? != stored {
             bail!("{folder}: the script gives another transcript");
+        }
+        if is_for_a_user(&rt, &folder)? {
+            compare_user(&rt, &folder, FRAMES, &stored)?;
+            compare_user(&rt, &folder, FEWEST_FRAMES, &stored)?;
         }
         output.write_all(&stored)?;
     }
@@ -46,8 +69,49 @@ fn transcript<R: AllocGlobal + Files>(rt: &R, folder: &str) -> Result<Vec<u8>> {
     Ok(transcript)
 }
 
-/// The size of the machine's storage.
-fn size<R: AllocGlobal + Files>(rt: &R, folder: &str) -> Result<StorageSize> {
+/// Whether a folder's script is one for a user of the control program too: it uses no disk and loads nothing.
+fn is_for_a_user<R: AllocGlobal + Files>(rt: &R, folder: &str) -> Result<bool> {
+    let disk = format!(in rt.alloc(); "{FIRST_DISK:X}")?;
+    if contents(rt, folder, disk.as_str())?.is_some() {
+        return Ok(false);
+    }
+    let script = contents(rt, folder, "script")?.context("there is no script")?;
+    Ok(!numbered_lines(&script).any(|line| loads(line.text)))
+}
+
+/// Whether a line of a script has the word `IPL`.
+fn loads(line: &[u8]) -> bool {
+    line.split(|character| *character == b' ')
+        .any(|word| word == b"IPL".as_slice())
+}
+
+/// Whether a folder's script gives this transcript for a user of the same name, with the same storage and devices, on
+/// so many frames.
+fn compare_user<R: AllocGlobal + Files>(
+    rt: &R,
+    folder: &str,
+    frames: u32,
+    stored: &[u8],
+) -> Result<()> {
+    let alloc = rt.alloc();
+    let mut text = Vec::new(alloc);
+    text.extend_from_slice(b"USER BARE PW ")?;
+    text.extend_from_slice(&storage(rt, folder)?)?;
+    text.extend_from_slice(DEVICES)?;
+    let directory = read_directory(alloc, &text)?;
+    let sizes = Sizes::new(frames, SLOTS).context("so many frames or slots are too many")?;
+    let mut system = System::boot(alloc, directory, Vec::new(alloc), sizes)?;
+    let mut script = open(rt, folder, "script")?;
+    let mut transcript = Vec::new(alloc);
+    session(alloc, &mut system, &mut script, &mut transcript)?;
+    if transcript.as_slice() != stored {
+        bail!("{folder}: a user on {frames} frames has another transcript");
+    }
+    Ok(())
+}
+
+/// What tells the size of the machine's storage.
+fn storage<R: AllocGlobal + Files>(rt: &R, folder: &str) -> Result<Vec<u8>> {
     let told = contents(rt, folder, "storage")?;
     let digits = match &told {
         Some(text) => text
@@ -55,7 +119,12 @@ fn size<R: AllocGlobal + Files>(rt: &R, folder: &str) -> Result<StorageSize> {
             .context("a line is cut")?,
         None => STORAGE,
     };
-    storage_of(digits).context("no machine has such a storage")
+    Ok(digits.to_vec(rt.alloc())?)
+}
+
+/// The size of the machine's storage.
+fn size<R: AllocGlobal + Files>(rt: &R, folder: &str) -> Result<StorageSize> {
+    storage_of(&storage(rt, folder)?).context("no machine has such a storage")
 }
 
 /// The volumes of the disks, of which the first that has no text ends them.

@@ -12,14 +12,14 @@ ghost use Rattle.s370_subchannels.specs.declared.subchannel.Subchannel.{Subchann
 ghost use Rattle.cp_devices.specs.Devices.{AreAttached, devices_new, no_places};
 ghost use Rattle.cp_devices.specs.Lines.{IsIpl, IsLine, IsWholeLine};
 ghost use Rattle.cp_devices.specs.Serve.{IsServedAt};
-ghost use Rattle.bare_installation.specs.Bare.{IsTyped, next_file, noted, printed_file, punched, received, with_deck, world_of};
+ghost use Rattle.bare_installation.specs.Bare.{IsTyped, alone, next_file, noted, printed_file, punched, received, with_deck, world_of};
 ghost use Rattle.bare_installation.specs.Life.{AttentionAgreesThroughout, EachIsLife, IsApplied, LacksMemory, MayLackMemory};
 
 use crate::alone::Alone;
 use crate::events::{Event, Reply};
 use cp_channels::{AttachedDisk, Own};
 use cp_console::responses::Response;
-use cp_devices::{AttachError, Devices, FileKind, Places, Told, copy_of, is_logged_on};
+use cp_devices::{AttachError, Devices, FileKind, Places, Told, World, copy_of, is_logged_on};
 use cp_panel::{LineError, Machine, MachineRan, Mode};
 use s370_channel::ChannelError;
 use s370_intr::{Pending, RealCpu};
@@ -34,8 +34,8 @@ use unit_record::{Card, Deck, Sender, Target};
 /// One System/370 with its panel, its own storage and its devices. Its user is `BARE`.
 #[derive(Drop)]
 pub struct Bare {
-    machine: Machine,
-    devices: Devices,
+    pub(crate) machine: Machine,
+    pub(crate) devices: Devices,
     channels: Own,
     storage: PlainStorage,
     files: Vec<FileKind>,
@@ -221,40 +221,57 @@ impl Bare {
     {
         let punched = self.devices.punch().closed().len();
         let printed = self.devices.printer().closed().len();
-        let first = self.answer_whole(alloc, typed)?;
+        let world = self.world();
+        let first = self.answer_whole(alloc, &world, typed)?;
         let told = self.receive(first)?;
         self.note(alloc, punched, printed)?;
         Ok(told)
     }
 
-    /// What a line does in the small world of one user, an IPL included.
-    fn answer_whole(&mut self, alloc: Global, typed: &[u8]) -> Result<Told, AllocError>
+    /// The small world of its one user.
+    fn world(&self) -> Alone
+        ensures { alone result.on ≡ world_of self.now }
+    {
+        Alone {
+            on: is_logged_on(self.machine.mode()),
+        }
+    }
+
+    /// What a line does in this world, an IPL included.
+    pub(crate) fn answer_whole<W: World>(
+        &mut self,
+        alloc: Global,
+        world: &W,
+        typed: &[u8],
+    ) -> Result<Told, AllocError>
         ensures line { IfOk result
-            (λ told. IsWholeLine (world_of self.old) typed.now self.old.equipped told self.new.equipped) }
+            (λ told. IsWholeLine (W.known world.now) typed.now self.old.equipped told self.new.equipped) }
         ensures files { self.new.files ≡ self.old.files }
     {
-        let first = self.answer(alloc, typed)?;
+        let first = self.answer(alloc, world, typed)?;
         match first.loads_from() {
             Some(device) => self.ipl(device),
             None => Ok(first),
         }
     }
 
-    /// What a line does in the small world of one user.
-    fn answer(&mut self, alloc: Global, typed: &[u8]) -> Result<Told, AllocError>
+    /// What a line does in this world.
+    fn answer<W: World>(
+        &mut self,
+        alloc: Global,
+        world: &W,
+        typed: &[u8],
+    ) -> Result<Told, AllocError>
         ensures line { IfOk result
-            (λ told. IsLine (world_of self.old) typed.now self.old.equipped told self.new.equipped) }
+            (λ told. IsLine (W.known world.now) typed.now self.old.equipped told self.new.equipped) }
         ensures files { self.new.files ≡ self.old.files }
     {
-        let world = Alone {
-            on: is_logged_on(self.machine.mode()),
-        };
         let told = self.devices.line(
             alloc,
             &mut self.machine,
             &mut self.storage,
             &mut self.channels,
-            &world,
+            world,
             typed,
         );
         match told {

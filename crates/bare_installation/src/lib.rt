@@ -16,6 +16,7 @@
 #![tactic(auto)]
 
 mod alone;
+mod among;
 mod bare;
 mod events;
 

@@ -2,3 +2,4 @@ pub mod Image
 pub mod Faults
 pub mod Reading
 pub mod Parts
+pub mod Told

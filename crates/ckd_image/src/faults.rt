@@ -1,4 +1,8 @@
-//! Why an image is not read or written.
+//! Why an image is not read or written, and what a program says of it.
+ghost use Rattle.std.specs.Prelude.{◌≡◌, IfOk, string_bytes};
+ghost use Rattle.ckd_image.specs.Told.{image_status, image_text};
+
+use std::alloc::{AllocError, Global};
 use thiserror::Error;
 
 /// Why an image is not read or written.
@@ -25,4 +29,34 @@ pub enum ImageError {
     /// The number of all records is wrong.
     #[error("the number of all records is wrong")]
     BadTotal,
+}
+
+/// The line that a program prints where an image is not read or written, without its end: `fault:`, what failed, the
+/// name of the refusal and its numbers.
+pub fn fault_line(alloc: Global, error: ImageError) -> Result<String, AllocError>
+    ensures { IfOk result (λ line. string_bytes line ≡ image_text error) }
+{
+    match error {
+        ImageError::Memory => String::from_str(alloc, "fault: memory Memory"),
+        ImageError::BadMagic => String::from_str(alloc, "fault: image BadMagic"),
+        ImageError::Truncated => String::from_str(alloc, "fault: image Truncated"),
+        ImageError::BadTrack(cylinder, head) => {
+            format!(in alloc; "fault: image BadTrack {cylinder} {head}")
+        }
+        ImageError::Trailing => String::from_str(alloc, "fault: image Trailing"),
+        ImageError::Device(count) => format!(in alloc; "fault: file Device {count}"),
+        ImageError::BadTotal => String::from_str(alloc, "fault: image BadTotal"),
+    }
+}
+
+/// The exit status of a program whose image is not read or written: 1 where it is none, 3 where its file failed, 4
+/// where memory did.
+pub fn status(error: ImageError) -> u8
+    ensures { result ≡ image_status error }
+{
+    match error {
+        ImageError::Memory => 4,
+        ImageError::Device(_) => 3,
+        _ => 1,
+    }
 }

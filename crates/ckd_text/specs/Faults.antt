@@ -3,6 +3,7 @@ use Rattle.std.specs.Prelude.{ℕ, List, ◌++◌, codes, Result, Ok, Err}
 use Rattle.std.specs.Fmt.{decimal}
 use Rattle.ckd_image.specs.declared.faults.ImageError.{ImageError}
 use Rattle.ckd_image.specs.declared.faults.ImageError.TheVariants as images
+use Rattle.ckd_image.specs.Told.{image_status, image_text}
 use Rattle.s370_num.specs.declared.host.HostFault.{HostFault}
 use Rattle.s370_num.specs.declared.host.HostFault.TheVariants as hosts
 use Rattle.ckd_text.specs.declared.reader.TextError.{TextError}
@@ -30,16 +31,6 @@ image_failure (images.BadTrack cylinder head) = failures.Image (images.BadTrack 
 image_failure images.Trailing = failures.Image images.Trailing
 image_failure images.BadTotal = failures.Image images.BadTotal
 
--- the line of an image's fault
-abbrev pub image_text : ImageError → List ℕ
-image_text images.Memory = codes "fault: memory Memory"
-image_text (images.Device count) = codes "fault: file Device " ++ decimal count
-image_text images.BadMagic = codes "fault: image BadMagic"
-image_text images.Truncated = codes "fault: image Truncated"
-image_text (images.BadTrack cylinder head) = codes "fault: image BadTrack " ++ (decimal cylinder ++ (codes " " ++ decimal head))
-image_text images.Trailing = codes "fault: image Trailing"
-image_text images.BadTotal = codes "fault: image BadTotal"
-
 -- the line of a failure
 abbrev pub fault_text : Failure → List ℕ
 fault_text (failures.Text line) = codes "fault: text Line " ++ decimal line
@@ -47,12 +38,6 @@ fault_text (failures.Image error) = image_text error
 fault_text (failures.File count) = codes "fault: file Device " ++ decimal count
 fault_text failures.Memory = codes "fault: memory Memory"
 fault_text failures.Usage = codes "wrong words"
-
--- an image that is refused is refused input, unless its file or memory failed
-abbrev pub image_status : ImageError → ℕ
-image_status images.Memory = 4
-image_status (images.Device count) = 3
-image_status _ = 1
 
 -- refused input is 1, a wrong use 2, a file that failed 3, memory 4
 abbrev pub status_of : Failure → ℕ

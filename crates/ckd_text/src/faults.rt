@@ -1,7 +1,7 @@
 //! What the programs say of a failure, and their exit status.
 ghost use Rattle.std.specs.Prelude.{◌≡◌, IfOk, string_bytes};
 ghost use Rattle.ckd_text.specs.declared.faults.Failure.TheVariants.{Memory};
-ghost use Rattle.ckd_text.specs.Faults.{fault_text, file_failure, image_failure, image_status, image_text, outcome_of, status_of, text_failure};
+ghost use Rattle.ckd_text.specs.Faults.{fault_text, file_failure, image_failure, outcome_of, status_of, text_failure};
 
 use crate::reader::TextError;
 use ckd_image::ImageError;
@@ -72,27 +72,10 @@ pub fn fault_line(alloc: Global, failure: &Failure) -> Result<String, AllocError
 {
     match failure {
         Failure::Text(line) => format!(in alloc; "fault: text Line {line}"),
-        Failure::Image(error) => image_line(alloc, *error),
+        Failure::Image(error) => ckd_image::fault_line(alloc, *error),
         Failure::File(count) => format!(in alloc; "fault: file Device {count}"),
         Failure::Memory => String::from_str(alloc, "fault: memory Memory"),
         Failure::Usage => String::from_str(alloc, "wrong words"),
-    }
-}
-
-/// The line for an image that is none.
-fn image_line(alloc: Global, error: ImageError) -> Result<String, AllocError>
-    ensures { IfOk result (λ line. string_bytes line ≡ image_text error) }
-{
-    match error {
-        ImageError::Memory => String::from_str(alloc, "fault: memory Memory"),
-        ImageError::BadMagic => String::from_str(alloc, "fault: image BadMagic"),
-        ImageError::Truncated => String::from_str(alloc, "fault: image Truncated"),
-        ImageError::BadTrack(cylinder, head) => {
-            format!(in alloc; "fault: image BadTrack {cylinder} {head}")
-        }
-        ImageError::Trailing => String::from_str(alloc, "fault: image Trailing"),
-        ImageError::Device(count) => format!(in alloc; "fault: file Device {count}"),
-        ImageError::BadTotal => String::from_str(alloc, "fault: image BadTotal"),
     }
 }
 
@@ -103,20 +86,10 @@ pub fn status(failure: &Failure) -> u8
 {
     match failure {
         Failure::Text(_) => 1,
-        Failure::Image(error) => image_status(*error),
+        Failure::Image(error) => ckd_image::status(*error),
         Failure::File(_) => 3,
         Failure::Memory => 4,
         Failure::Usage => 2,
-    }
-}
-
-fn image_status(error: ImageError) -> u8
-    ensures { result ≡ image_status error }
-{
-    match error {
-        ImageError::Memory => 4,
-        ImageError::Device(_) => 3,
-        _ => 1,
     }
 }
 

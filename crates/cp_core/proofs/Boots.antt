@@ -15,7 +15,8 @@ use Rattle.cp_devices.specs.Equipped.{Equipped}
 use Rattle.cp_core.specs.UserMachines.{Fits, IsUnused, UserParts, user_with}
 use Rattle.cp_core.specs.Boot.{AreNewUsers, IsNewUser, free_supply, places_in}
 use Rattle.cp_core.specs.System.{SystemView, deliveries_of, users_of}
-use Rattle.cp_core.specs.Volumes.{AreDisks}
+use Rattle.cp_directory.specs.declared.minidisk.Minidisk.{Minidisk}
+use Rattle.cp_core.specs.Volumes.{AreDisks, IsDiskOn, volume_named}
 use Rattle.cp_core.specs.Whole.{AreNew, IsNew, IsWhole, no_user}
 use Rattle.cp_core.specs.declared.delivery.Delivery.{Delivery}
 
@@ -99,3 +100,10 @@ off_new volumes u user k disks h d =
 pub boot_seen : (us : List Equipped) (directory : List DirectoryUser) (volumes : List VolumeFormat) (supply supply' : FrameSupply) (ds ds' : List (List Delivery)) → supply ≡ supply' → ds ≡ ds'
     → (let s : SystemView = record { users = us; directory = directory; supply = supply; files = []; deliveries = ds; volumes = volumes; is_spent = false } in s ≡ record { users = us; directory = directory; supply = supply'; files = []; deliveries = ds'; volumes = volumes; is_spent = false })
 boot_seen us directory volumes supply supply' ds ds' b c = rw (b, c) refl
+
+-- one disk more
+pub disks_more : (volumes : List VolumeFormat) (ms : List Minidisk) (ds : List DiskAt) (m : Minidisk) (d : DiskAt) → AreDisks volumes ms ds → IsDiskOn (volume_named volumes m.extent.volser) m d → AreDisks volumes (ms ++ m ∷ []) (ds ++ d ∷ [])
+disks_more volumes [] [] m d h n = (n, tt)
+disks_more volumes [] (e ∷ ds) m d h n = absurd h
+disks_more volumes (k ∷ ms) [] m d h n = absurd h
+disks_more volumes (k ∷ ms) (e ∷ ds) m d h n = (h.0, disks_more volumes ms ds m d h.1 n)

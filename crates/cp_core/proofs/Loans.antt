@@ -14,6 +14,7 @@ use Rattle.cp_dat.specs.Supplied.{IsBetweenUnits}
 use Rattle.cp_devices.specs.Equipped.{Equipped}
 use Rattle.cp_core.specs.UserMachines.{UserParts, user_with, Fits}
 use Rattle.cp_core.specs.System.{SystemView, nobody, users_of}
+use Rattle.ckd_volume.specs.Volume.{VolumeFormat}
 use Rattle.cp_core.proofs.Systems.{seen}
 use Rattle.cp_core.specs.declared.files.FileNote.{FileNote}
 use Rattle.cp_core.specs.Loan.{frame_at, slot_at, with_page, written_page, written_frame}
@@ -71,19 +72,19 @@ set_written (seat ∷ seats) (bytes ∷ storages) zero page written = refl
 set_written (seat ∷ seats) (bytes ∷ storages) (suc user) page written = ap (λ (ms : List Equipped). user_with seat bytes ∷ ms) (set_written seats storages user page written)
 
 -- a system as it is seen, by its frames
-abbrev pub seen_with : List UserParts → List DirectoryUser → List FileNote → Bool → Pool → SystemView
-seen_with seats directory files is_spent pool = seen seats pool.storages directory pool.supply files is_spent
+abbrev pub seen_with : List UserParts → List DirectoryUser → List FileNote → List VolumeFormat → Bool → Pool → SystemView
+seen_with seats directory files volumes is_spent pool = seen seats pool.storages directory pool.supply files volumes is_spent
 
-seen_page : (seats : List UserParts) (directory : List DirectoryUser) (files : List FileNote) (is_spent : Bool) (pool : Pool) (o : Option UserPage) (written : List ℕ)
-    → seen_with seats directory files is_spent (pool_page pool o written) ≡ written_page (seen_with seats directory files is_spent pool) o written
-seen_page seats directory files is_spent pool None written = refl
-seen_page seats directory files is_spent pool (Some there) written =
-    ap (λ (us : List Equipped). record (seen_with seats directory files is_spent pool) { users = us }) (set_written seats pool.storages there.user there.page.0 written)
+seen_page : (seats : List UserParts) (directory : List DirectoryUser) (files : List FileNote) (volumes : List VolumeFormat) (is_spent : Bool) (pool : Pool) (o : Option UserPage) (written : List ℕ)
+    → seen_with seats directory files volumes is_spent (pool_page pool o written) ≡ written_page (seen_with seats directory files volumes is_spent pool) o written
+seen_page seats directory files volumes is_spent pool None written = refl
+seen_page seats directory files volumes is_spent pool (Some there) written =
+    ap (λ (us : List Equipped). record (seen_with seats directory files volumes is_spent pool) { users = us }) (set_written seats pool.storages there.user there.page.0 written)
 
 -- what is written to a frame of the pool is written to that frame of the system
-pub seen_written : (seats : List UserParts) (directory : List DirectoryUser) (files : List FileNote) (is_spent : Bool) (pool : Pool) (frame : ℕ) (written : List ℕ)
-    → seen_with seats directory files is_spent (pool_frame pool frame written) ≡ written_frame (seen_with seats directory files is_spent pool) frame written
-seen_written seats directory files is_spent pool frame written = seen_page seats directory files is_spent pool (get_or pool.supply.owners frame None) written
+pub seen_written : (seats : List UserParts) (directory : List DirectoryUser) (files : List FileNote) (volumes : List VolumeFormat) (is_spent : Bool) (pool : Pool) (frame : ℕ) (written : List ℕ)
+    → seen_with seats directory files volumes is_spent (pool_frame pool frame written) ≡ written_frame (seen_with seats directory files volumes is_spent pool) frame written
+seen_written seats directory files volumes is_spent pool frame written = seen_page seats directory files volumes is_spent pool (get_or pool.supply.owners frame None) written
 
 -- ---- where a page stands
 

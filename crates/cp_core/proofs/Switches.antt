@@ -1,5 +1,5 @@
 -- A line that switches the machine on or off needs no page.
-use Rattle.std.proofs.Common.{◌≡◌, ℕ, Bool, List, true, false, Result, Ok, Err, refl, subst, sym}
+use Rattle.std.proofs.Common.{◌≡◌, ℕ, Bool, List, [], ◌∷◌, true, false, Result, Ok, Err, refl, subst, sym}
 use Rattle.std.specs.Prelude.{if◌then◌else◌, is_some}
 use Rattle.s370_store.specs.Access.{Test, Touches}
 use Rattle.cp_console.specs.Asked.{Asked, Stop, Command as ToControlProgram, Plain, asked_of}
@@ -11,6 +11,7 @@ use Rattle.cp_console.specs.declared.commands.CommandError.{CommandError}
 use Rattle.cp_panel.specs.declared.machine.Mode.{Mode}
 use Rattle.cp_panel.specs.declared.machine.Mode.TheVariants.{Off, Stopped, Running}
 use Rattle.cp_panel.specs.Machine.{Machine}
+use Rattle.s370_intr.specs.Run.{AllNeeded}
 use Rattle.cp_devices.specs.Equipped.{Equipped}
 use Rattle.cp_devices.specs.Lines.{requested}
 use Rattle.cp_devices.specs.Requests.{asked_request, command_request, off_request, plain_request, request_in}
@@ -109,3 +110,13 @@ wanted typed e page need = want_of (is_ipl (requested typed e)) (line_needs type
 
 pub any_wanted : (typed : List ℕ) (e : Equipped) (page : ℕ) → is_ipl (requested typed e) ≡ true → LineWants typed e page
 any_wanted typed e page ipl = subst (λ (b : Bool). WantsWhere b (line_needs typed e.machine) page) (sym ipl) tt
+
+-- ---- lists of pages
+
+pub all_wanted : (typed : List ℕ) (e : Equipped) (pages : List ℕ) → AllNeeded (Touches (line_needs typed e.machine)) pages → AllNeeded (LineWants typed e) pages
+all_wanted typed e [] all = tt
+all_wanted typed e (page ∷ pages) all = (wanted typed e page all.0, all_wanted typed e pages all.1)
+
+pub all_loaded : (typed : List ℕ) (e : Equipped) (pages : List ℕ) → is_ipl (requested typed e) ≡ true → AllNeeded (LineWants typed e) pages
+all_loaded typed e [] ipl = tt
+all_loaded typed e (page ∷ pages) ipl = (any_wanted typed e page ipl, all_loaded typed e pages ipl)

@@ -1,5 +1,5 @@
 -- What is done with a machine while its storage is lent, by what its own calls leave.
-use Rattle.std.proofs.Common.{◌≡◌, ◌∙◌, ap, sym, subst, ℕ, Bool, true, false, List, [], ◌∷◌, length, replicate, refl, Option, None, Some, Result, Ok, Err}
+use Rattle.std.proofs.Common.{◌≡◌, ◌∙◌, ap, sym, subst, ℕ, Bool, true, false, List, [], ◌∷◌, ◌++◌, ◌*◌, ◌<◌, length, replicate, refl, Option, None, Some, Result, Ok, Err}
 use Rattle.std.specs.Prelude.{IfOk, IsSome, OnErr, OnOk, slice_get}
 use Rattle.std.proofs.lemmas.List.{length-replicate}
 use Rattle.s370_store.specs.Access.{Touches}
@@ -10,7 +10,8 @@ use Rattle.s370_subchannels.specs.Programs.{program_of}
 use Rattle.cp_frames.specs.Layout.{FrameSupply}
 use Rattle.cp_frames.specs.Paging.{IsRefused}
 use Rattle.cp_dat.specs.declared.dat.Dat.{Dat}
-use Rattle.cp_dat.specs.Lent.{KeepsFrames, keeps_frames_on, lent_pool, user_of}
+use Rattle.cp_dat.specs.Bringing.{supplied_on}
+use Rattle.cp_dat.specs.Lent.{KeepsFrames, keeps_frames_on, lent_bytes, lent_pool, user_of}
 use Rattle.cp_dat.specs.Letting.{between_again, unit_for}
 use Rattle.cp_dat.specs.Supplied.{GivesBack, IsBetweenUnits, IsBroughtInUnits, IsPagedFor, Supplied, TakesPins, unpinned}
 use Rattle.cp_panel.specs.declared.line.LineError.{LineError}
@@ -30,6 +31,7 @@ use Rattle.cp_core.specs.Supply.{IsGivenBack, IsShort}
 use Rattle.cp_core.specs.Typed.{IsLineLent}
 use Rattle.cp_core.specs.Wants.{LineMay, LineWants, ProgramNeeds, is_ipl}
 use Rattle.cp_core.specs.Work.{HasServed, HasTyped, LineGivesBack, LineLeaves, ServeLeaves}
+use Rattle.cp_core.proofs.Switches.{all_loaded, all_wanted, any_wanted, switch_no_ipl, wanted}
 use Rattle.cp_core.proofs.Kept.{either, given_back, given_for, lengths_left, line_short, marks_left, short_of}
 
 -- where no frame is pinned, nothing is taken away with the pins
@@ -37,6 +39,33 @@ still : (supply : FrameSupply) → IsBetweenUnits supply → unpinned supply ≡
 still supply rest =
     let count : length supply.owners ≡ length supply.pins = sym (ap (λ (ps : List Bool). length ps) rest.idle ∙ length-replicate (length supply.owners) false) in
     ap (λ (ps : List Bool). record supply { pins = ps }) (sym (rest.idle ∙ ap (λ (n : ℕ). replicate n false) count))
+
+-- a line that is no IPL promises it of the storage that is lent to it
+pub plainly_lent : (typed : List ℕ) (before : Equipped) (old between : Dat) (r : Result Told LineError)
+    → (r ≡ Err errors.FramesOut → IsLacking (Touches (line_needs typed before.machine)) (length before.machine.core.processor.bytes) (λ page. IsRefused (lent_pool between).supply (user_of between) page))
+    → (switches typed before.machine ≡ true → OnOk r (GivesBack old between)) → (switches typed before.machine ≡ true → OnErr r (Supplied old [] between))
+    → (switches typed before.machine ≡ false → (pages : List ℕ) × Supplied old pages between × AllNeeded (Touches (line_needs typed before.machine)) pages)
+    → IsLineLent typed before old between r
+plainly_lent typed before old between r frames cleared not_cleared supply = record {
+  frames = λ failed. (let l = frames failed in record { page = l.page; inside = l.inside; needed = wanted typed before l.page l.needed; short = l.short });
+  cleared = cleared;
+  not_cleared = not_cleared;
+  supply = λ off. (let s = supply off in (s.0, s.1, all_wanted typed before s.0 s.2));
+}
+
+-- and so does an IPL, after its line
+pub loading_lent : (typed : List ℕ) (before : Equipped) (old middle between : Dat) (r : Result Told LineError) → is_ipl (requested typed before) ≡ true
+    → (switches typed before.machine ≡ false → (pages : List ℕ) × Supplied old pages middle × AllNeeded (Touches (line_needs typed before.machine)) pages)
+    → length (lent_bytes middle) ≡ length before.machine.core.processor.bytes
+    → (r ≡ Err errors.FramesOut → IsLacking ProgramNeeds (length (lent_bytes middle)) (λ page. IsRefused (lent_pool between).supply (user_of between) page))
+    → ((pages : List ℕ) × Supplied middle pages between × AllNeeded ProgramNeeds pages)
+    → IsLineLent typed before old between r
+loading_lent typed before old middle between r ipl supply size frames brought = record {
+  frames = λ failed. (let l = frames failed in record { page = l.page; inside = subst (λ (n : ℕ). l.page * 4096 < n) size l.inside; needed = any_wanted typed before l.page ipl; short = l.short });
+  cleared = λ on. absurd (switch_no_ipl typed before ipl on);
+  not_cleared = λ on. absurd (switch_no_ipl typed before ipl on);
+  supply = λ off. (let s = supply off in (s.0 ++ brought.0, supplied_on old middle between s.0 brought.0 s.1 brought.1, all_loaded typed before (s.0 ++ brought.0) ipl));
+}
 
 -- what it keeps, whether it switches the machine or not
 kept_where : (r : Result Told LineError) (old between : Dat) → OnOk r (GivesBack old between) → OnErr r (Supplied old [] between) → KeepsFrames old between

@@ -7,10 +7,11 @@
 //! What is written to a frame that is lent ([`System::frame_mut`]) is the content of the page that stands in it, and
 //! all else stays.
 //!
-//! It is given a directory and the numbers of frames and slots ([`System::boot`]), and then one event after another.
+//! It is given a directory, the volumes of its minidisks, and the numbers of frames and slots ([`System::boot`]), and then
+//! one event after another.
 //!
 //! ```
-//! let mut system = System::boot(alloc, directory, sizes)?;
+//! let mut system = System::boot(alloc, directory, volumes, sizes)?;
 //! let reply = system.apply(Event::Line(user, b"LOGON"))?;
 //! let general = system.registers(user);
 //! ```

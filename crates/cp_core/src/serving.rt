@@ -96,11 +96,14 @@ pub(crate) fn type_supplied<W: World>(
     ensures lent { let before = equipped machine.old devices.old (disks_on channels.old) (lent_bytes storage.old)
         (lent_keys storage.old) in
         IsLineLent typed.now before storage.old storage.new result }
+    ensures size { length (lent_bytes storage.new) ≡ length (lent_bytes storage.old) }
 {
-    let first = devices.line(alloc, machine, storage, channels, world, typed)?;
-    match first.loads_from() {
-        Some(device) => load_supplied(devices, machine, storage, channels, device),
-        None => Ok(first),
+    match devices.line(alloc, machine, storage, channels, world, typed) {
+        Ok(first) => match first.loads_from() {
+            Some(device) => load_supplied(devices, machine, storage, channels, device),
+            None => Ok(first),
+        },
+        Err(error) => Err(error),
     }
 }
 
@@ -128,6 +131,7 @@ fn load_supplied(
         → IsLacking ProgramNeeds (length (lent_bytes storage.old))
         (λ page. IsRefused (lent_pool storage.new).supply (user_of storage.new) page) }
     ensures supply { (pages : List ℕ) × Supplied storage.old pages storage.new × AllNeeded ProgramNeeds pages }
+    ensures size { length (lent_bytes storage.new) ≡ length (lent_bytes storage.old) }
 {
     match devices.kind_at(channels, device.get()) {
         Some(Kind::Reader) => {}

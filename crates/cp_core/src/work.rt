@@ -133,13 +133,7 @@ impl<'a> Work for Line<'a> {
             on: self.on.as_slice(),
         };
         let told = type_supplied(
-            self.alloc,
-            devices,
-            machine,
-            storage,
-            channels,
-            &world,
-            self.typed,
+            self.alloc, devices, machine, storage, channels, &world, self.typed,
         );
         storage.let_go();
         told

@@ -30,7 +30,10 @@ fn main(rt: HostRuntime) -> Result<()> {
     let agreement = tally(&rt, &table, |line| {
         try_line(alloc, &mut storage, &mut image, line.as_bytes(), &mut by_users)
     })?;
-    println!(rt; "{} of {}, {by_users} of them by users too", agreement.agreed, agreement.steps)?;
+    println!(rt;
+        "{} of {}, {by_users} of them by users too",
+        agreement.agreed, agreement.steps
+    )?;
     if !is_clear(&mut storage) {
         println!(rt; "bytes or keys were changed that no line names")?;
     }

@@ -30,12 +30,7 @@ fn write_record(alloc: Global, track: &mut Track, i: usize, item: &[u8]) -> Resu
 }
 
 /// Writes the tracks of a list onto a disk that begins at this cylinder of a volume.
-pub fn write_tracks(
-    alloc: Global,
-    volume: &mut Volume,
-    first: usize,
-    list: &[u8],
-) -> Result<()> {
+pub fn write_tracks(alloc: Global, volume: &mut Volume, first: usize, list: &[u8]) -> Result<()> {
     for item in list.split(|c| *c == b';') {
         if let Some((place, records)) = cut_item(b'=', item) {
             let (cylinder, head) = pair_of(b'.', place).context("a track has a place")?;

@@ -96,12 +96,7 @@ fn volume_of(alloc: Global, case: &Case<'_>) -> Result<Volume> {
 }
 
 /// Writes a record of the neighbour.
-fn write_neighbour(
-    alloc: Global,
-    volume: &mut Volume,
-    cylinder: usize,
-    head: usize,
-) -> Result<()> {
+fn write_neighbour(alloc: Global, volume: &mut Volume, cylinder: usize, head: usize) -> Result<()> {
     let track = volume.track_mut(cylinder, head).context("no such track")?;
     Ok(track.write_after(0, [0, 0, 0, 0, 1], &Vec::new(alloc), b"NEIGHBOUR")?)
 }
@@ -179,7 +174,11 @@ fn run_program(alloc: Global, system: &mut System, caw: u32) -> Result<()> {
     type_line(system, &format!(in alloc; "#CP STORE 48 {caw:08X}")?)?;
     type_line(system, "#CP STORE PSW 00000000 00000100")?;
     run(system)?;
-    apply(system, Event::Serve(user(), DevAddr::new(DISK)), Ended::Served(true))?;
+    apply(
+        system,
+        Event::Serve(user(), DevAddr::new(DISK)),
+        Ended::Served(true),
+    )?;
     run(system)
 }
 

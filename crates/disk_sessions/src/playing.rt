@@ -63,13 +63,20 @@ fn difference_on<R: AllocGlobal + Files>(
     let alloc = rt.alloc();
     let mut system = booted(rt, block, frames, slots)?;
     let mut told = Vec::new(alloc);
-    session(alloc, &mut system, &mut Bytes::new(&block.script), &mut told)?;
+    session(
+        alloc,
+        &mut system,
+        &mut Bytes::new(&block.script),
+        &mut told,
+    )?;
     if let Some(line) = other_line(&told, &block.told) {
         let line = str::from_utf8(line)?;
         return Ok(Some(format!(in alloc; "on {frames} frames: {line}")?));
     }
     match other_volume(rt, block, &system.into_volumes())? {
-        Some(name) => Ok(Some(format!(in alloc; "on {frames} frames {name} is not what there is")?)),
+        Some(name) => Ok(Some(format!(in alloc;
+            "on {frames} frames {name} is not what there is"
+        )?)),
         None => Ok(None),
     }
 }

@@ -36,11 +36,7 @@ pub fn contents<R: AllocGlobal + Files>(
 }
 
 /// The volume that a file of a folder states; none where there is no such file.
-pub fn volume<R: AllocGlobal + Files>(
-    rt: &R,
-    folder: &str,
-    name: &str,
-) -> Result<Option<Volume>> {
+pub fn volume<R: AllocGlobal + Files>(rt: &R, folder: &str, name: &str) -> Result<Option<Volume>> {
     match contents(rt, folder, name)? {
         Some(text) => Ok(Some(make_volume(rt.alloc(), &text)?)),
         None => Ok(None),

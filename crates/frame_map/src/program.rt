@@ -1,5 +1,5 @@
-//! The program `framemap [--frames N] [--slots N] DIRECTORY SCRIPT`: the script is done as `vm370` does it, and then
-//! the map of frames and slots is printed.
+//! The program `framemap [--frames N] [--slots N] [--save] DIRECTORY SCRIPT [VOLUME]...`: the script is done as `vm370`
+//! does it, and then the map of frames and slots is printed.
 //!
 //! Its words, its refusals and its exit statuses are those of `vm370`; what that would print is not kept.
 use crate::map::frame_map;
@@ -9,7 +9,7 @@ use std::io;
 use std::rt::{Env, Files};
 use vm370::arguments::arguments;
 use vm370::faults::Failure;
-use vm370::program::{Ended, boot, finish, open, words, wrong_use};
+use vm370::program::{Ended, boot, finish, open, save, words, wrong_use};
 use vm370::session::session;
 
 /// The program's name, as it tells it.
@@ -26,19 +26,20 @@ Example:
 
 The map goes to standard output, a fault as one line to standard error. Exit statuses:
   0  the script was done to its end, and the map is printed
-  1  the directory or the script was refused; the line tells where
+  1  the directory, an image, the boot or the script was refused; the line tells where
   2  wrong words, or --help
   3  a file could not be opened, read or written
   4  there was not memory enough
 ";
 
-/// The whole program: what it is started with names a directory and a script, and the map of what that leaves is
-/// written. A failure is told on standard error.
+/// The whole program: what it is started with names a directory, a script and volumes, and the map of what that leaves
+/// is written. A failure is told on standard error.
 pub fn program<R: AllocGlobal + Files + Env + Print + Eprint>(rt: &R) -> Ended {
     finish(rt, run(rt))
 }
 
-/// Reads the words and both files, does the script, and writes the map. A wrong use is told here.
+/// Reads the words, the directory, the images and the script, does the script, writes the map, and saves the volumes
+/// where that is asked for. A wrong use is told here.
 fn run<R: AllocGlobal + Files + Env + Print + Eprint>(rt: &R) -> Result<(), Failure> {
     let alloc = rt.alloc();
     let words = words(rt, PROGRAM)?;
@@ -46,7 +47,7 @@ fn run<R: AllocGlobal + Files + Env + Print + Eprint>(rt: &R) -> Result<(), Fail
         Ok(options) => options,
         Err(error) => return Err(wrong_use(rt, &error, USAGE_NOTE)),
     };
-    let mut system = boot(rt, options.directory, options.sizes)?;
+    let mut system = boot(rt, &options)?;
     let mut script = open(rt, options.script)?;
     session(alloc, &mut system, &mut script, &mut Nowhere)?;
     let map = frame_map(alloc, &system, options.sizes)?;
@@ -56,5 +57,5 @@ fn run<R: AllocGlobal + Files + Env + Print + Eprint>(rt: &R) -> Result<(), Fail
     let mut writer = Counted::new(output);
     write_all(&mut writer, &map)?;
     writer.flush()?;
-    Ok(())
+    save(rt, system, &options)
 }

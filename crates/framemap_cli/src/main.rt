@@ -1,4 +1,4 @@
-//! The program `framemap [--frames N] [--slots N] DIRECTORY SCRIPT` (docs/FORMATS.md, "Frame maps").
+//! The program `framemap [--frames N] [--slots N] [--save] DIRECTORY SCRIPT [VOLUME]...` (docs/FORMATS.md).
 #![tactic(auto)]
 
 use frame_map::program::program;

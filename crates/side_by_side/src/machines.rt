@@ -1,42 +1,66 @@
-//! The machines, their events, and what is compared of them.
+//! The machines, and the events that are for one of them alone.
 use crate::view::{SideError, View};
 use bare_installation::Bare;
-use cp_console::responses::Response;
-use cp_core::{Delivered, Ended, Event, Reply, Sizes, System};
-use cp_devices::Told;
-use cp_directory::{User, read_directory};
+use cp_core::{Delivered, Delivery, Ended, Event, Reply, Sizes, System};
+use cp_devices::{AttachError, Devices, Places, Told};
+use cp_directory::{User, UserDevices, read_directory};
 use cp_users::UserNo;
-use s370_intr::Ran;
-use s370_store::{BLOCK_SIZE, PlainStorage};
-use std::alloc::{AllocError, Global};
+use s370_intr::{Ran, Reason};
+use s370_num::DevAddr;
+use s370_store::PlainStorage;
+use std::alloc::Global;
 
-/// A system, and for each of its users a bare machine with a storage of the same size.
+/// A user's bare machine, and what came to it from others and from the operator.
+#[derive(Drop)]
+pub(crate) struct Beside {
+    pub(crate) bare: Bare,
+    pub(crate) came: Vec<Delivery>,
+}
+
+/// A system, and for each of its users a bare machine with a storage of the same size and the same devices.
 #[derive(Drop)]
 pub struct SideBySide {
-    system: System,
-    machines: Vec<Bare>,
+    pub(crate) system: System,
+    pub(crate) machines: Vec<Beside>,
+    /// How many files there were so far.
+    pub(crate) files: u64,
+    pub(crate) out_of_frames: u64,
+    pub(crate) delivered: Option<Delivered>,
+}
+
+/// Where the devices of a user are.
+fn places_in(devices: UserDevices) -> Places {
+    Places {
+        console: devices.console,
+        reader: devices.reader,
+        punch: devices.punch,
+        printer: devices.printer,
+    }
+}
+
+/// The bare machine of a user.
+fn machine_of(alloc: Global, user: &User) -> Result<Bare, AttachError> {
+    let Ok(storage) = PlainStorage::new(alloc, user.storage().blocks()) else {
+        return Err(AttachError::Memory);
+    };
+    let devices = Devices::new(alloc, places_in(user.devices()));
+    Bare::new(alloc, storage, devices, Vec::new(alloc))
 }
 
 /// A bare machine for each user.
-fn machines_of(alloc: Global, users: &[User]) -> Result<Vec<Bare>, AllocError> {
+fn machines_of(alloc: Global, users: &[User]) -> Result<Vec<Beside>, SideError> {
     let mut machines = Vec::new(alloc);
     for user in users {
-        let storage = PlainStorage::new(alloc, user.storage().blocks())?;
-        machines.push(Bare::without_devices(alloc, storage))?;
+        machines.push(Beside {
+            bare: machine_of(alloc, user)?,
+            came: Vec::new(alloc),
+        })?;
     }
     Ok(machines)
 }
 
-/// The response that was told, if there was one.
-fn response_of(told: &Told) -> Option<Response> {
-    match told {
-        Told::Said(response) => Some(*response),
-        _ => None,
-    }
-}
-
 /// The reply to an event that ended so, where this was told and so many lines joined the console.
-fn reply(ended: Ended, said: Told, lines: usize) -> Reply {
+pub(crate) fn reply(ended: Ended, said: Told, lines: usize) -> Reply {
     Reply {
         ended,
         said,
@@ -46,11 +70,19 @@ fn reply(ended: Ended, said: Told, lines: usize) -> Reply {
 }
 
 /// An error where two views differ.
-fn same(is_same: bool, view: View) -> Result<(), SideError> {
+pub(crate) fn same(is_same: bool, view: View) -> Result<(), SideError> {
     if is_same {
         Ok(())
     } else {
         Err(SideError::Differs(view))
+    }
+}
+
+/// Of the units that were asked for, those that were done where frames were lacking.
+fn units_of(asked: u32, ended: Ended) -> u32 {
+    match ended {
+        Ended::Ran(ran) if ran.reason == Reason::FramesOut => ran.units,
+        _ => asked,
     }
 }
 
@@ -60,116 +92,111 @@ impl SideBySide {
         let directory = read_directory(alloc, directory)?;
         let machines = machines_of(alloc, directory.users())?;
         let system = System::boot(alloc, directory, Vec::new(alloc), sizes)?;
-        Ok(SideBySide { system, machines })
+        Ok(SideBySide {
+            system,
+            machines,
+            files: 0,
+            out_of_frames: 0,
+            delivered: None,
+        })
     }
 
     /// The bare machine beside a user.
     pub fn bare(&self, user: UserNo) -> Result<&Bare, SideError> {
         match self.machines.get(user.index()) {
-            Some(bare) => Ok(bare),
+            Some(beside) => Ok(&beside.bare),
             None => Err(SideError::NoSuchUser),
         }
     }
 
-    fn bare_mut(&mut self, user: UserNo) -> Result<&mut Bare, SideError> {
+    pub(crate) fn bare_mut(&mut self, user: UserNo) -> Result<&mut Bare, SideError> {
         match self.machines.get_mut(user.index()) {
-            Some(bare) => Ok(bare),
+            Some(beside) => Ok(&mut beside.bare),
             None => Err(SideError::NoSuchUser),
         }
     }
 
-    /// Types a line at both, and tells the response of both.
-    pub fn line(
-        &mut self,
-        alloc: Global,
-        user: UserNo,
-        typed: &[u8],
-    ) -> Result<Option<Response>, SideError> {
-        let bare = self.bare_mut(user)?;
-        let before = bare.printed();
-        let told = bare.line(alloc, typed)?;
-        let response = response_of(&told);
-        let lines = bare.printed().saturating_sub(before);
-        let wanted = reply(Ended::Done, told, lines);
-        let answered = self.system.apply(Event::Line(user, typed))?;
+    /// How many files there were so far.
+    pub fn files(&self) -> u64 {
+        self.files
+    }
+
+    /// What the last event delivered, and to whom.
+    pub fn delivered(&self) -> Option<Delivered> {
+        self.delivered
+    }
+
+    /// How many events were out of frames.
+    pub fn out_of_frames(&self) -> u64 {
+        self.out_of_frames
+    }
+
+    /// How many pages have come into frames.
+    pub fn page_ins(&self) -> u64 {
+        self.system.page_ins()
+    }
+
+    /// Whether an event was out of frames, and so did nothing. Nothing may be told of it but that.
+    pub(crate) fn lacks_frames(&mut self, answered: Reply) -> Result<bool, SideError> {
+        self.delivered = None;
         // The prover finds what a reply may hold only where a function names it.
         let _delivered: Option<Delivered> = answered.delivered;
-        same(answered == wanted, View::Answer)?;
-        Ok(response)
+        if answered.ended != Ended::FramesOut {
+            return Ok(false);
+        }
+        self.out_of_frames = self.out_of_frames.saturating_add(1);
+        let nothing = reply(Ended::FramesOut, Told::Silent, 0);
+        same(answered == nothing, View::Answer)?;
+        Ok(true)
     }
 
     /// Lets both run for at most so many units, and tells how many both did and why no more.
     pub fn run(&mut self, user: UserNo, units: u32) -> Result<Ran, SideError> {
+        let answered = self.system.apply(Event::Run(user, units))?;
+        let _is_out = self.lacks_frames(answered)?;
+        let asked = units_of(units, answered.ended);
         let bare = self.bare_mut(user)?;
         let before = bare.printed();
-        let told = bare.units(units);
+        let told = bare.units(asked);
         let lines = bare.printed().saturating_sub(before);
-        let answered = self.system.apply(Event::Run(user, units))?;
-        let _delivered: Option<Delivered> = answered.delivered;
+        let Ended::Ran(ran) = answered.ended else {
+            return Err(SideError::Differs(View::Answer));
+        };
+        if ran.reason == Reason::FramesOut {
+            self.out_of_frames = self.out_of_frames.saturating_add(1);
+            same(ran.units == told.ran.units, View::Answer)?;
+            let wanted = reply(answered.ended, Told::Silent, lines);
+            same(answered == wanted, View::Answer)?;
+            return Ok(ran);
+        }
         let wanted = reply(Ended::Ran(told.ran), Told::of(told.notice), lines);
         same(answered == wanted, View::Answer)?;
-        Ok(told.ran)
+        Ok(ran)
     }
 
     /// Lets the timers of both tick.
     pub fn tick(&mut self, user: UserNo) -> Result<(), SideError> {
-        self.bare_mut(user)?.tick();
         let answered = self.system.apply(Event::Tick(user))?;
-        let _delivered: Option<Delivered> = answered.delivered;
-        same(
-            answered == reply(Ended::Done, Told::Silent, 0),
-            View::Answer,
-        )
-    }
-
-    /// Compares all views of a user, the bytes of storage and the whole console among them.
-    pub fn compare(&self, user: UserNo) -> Result<(), SideError> {
-        self.compare_registers(user)?;
-        self.compare_console(user, 0)?;
-        self.compare_storage(user)
-    }
-
-    /// Compares the registers, the PSW, the mode, what is pending, and how many lines were printed.
-    pub fn compare_registers(&self, user: UserNo) -> Result<(), SideError> {
-        let bare = self.bare(user)?;
-        let system = &self.system;
-        let general = system.registers(user) == Some(*bare.general());
-        same(general, View::General)?;
-        let control = system.control(user) == Some(*bare.control());
-        same(control, View::Control)?;
-        same(system.psw(user) == Some(bare.psw()), View::Psw)?;
-        same(system.mode(user) == Some(bare.mode()), View::Mode)?;
-        let pending = system.pending(user) == Some(bare.pending());
-        same(pending, View::Pending)?;
-        let printed = system.printed(user) == Some(bare.printed());
-        same(printed, View::Console)
-    }
-
-    /// Compares the lines that the console has printed, from one on.
-    pub fn compare_console(&self, user: UserNo, first: usize) -> Result<(), SideError> {
-        let bare = self.bare(user)?;
-        for line in first..bare.printed() {
-            let is_same = self.system.console_output(user, line) == bare.console_output(line);
-            same(is_same, View::Console)?;
+        if self.lacks_frames(answered)? {
+            return Ok(());
         }
-        Ok(())
+        self.bare_mut(user)?.tick();
+        let wanted = reply(Ended::Done, Told::Silent, 0);
+        same(answered == wanted, View::Answer)
     }
 
-    /// Compares the bytes of storage and the keys.
-    pub fn compare_storage(&self, user: UserNo) -> Result<(), SideError> {
-        let bare = self.bare(user)?;
-        let mut address = 0u32;
-        for byte in bare.storage() {
-            same(
-                self.system.storage(user, address) == Some(*byte),
-                View::Storage,
-            )?;
-            address = address.wrapping_add(1);
+    /// Serves the device of this address of both, and tells whether it had a program.
+    pub fn serve(&mut self, user: UserNo, device: DevAddr) -> Result<bool, SideError> {
+        let answered = self.system.apply(Event::Serve(user, device))?;
+        if self.lacks_frames(answered)? {
+            return Ok(false);
         }
-        same(self.system.storage(user, address).is_none(), View::Storage)?;
-        for block in 0..=address / BLOCK_SIZE {
-            same(self.system.key(user, block) == bare.key(block), View::Keys)?;
-        }
-        Ok(())
+        let bare = self.bare_mut(user)?;
+        let before = bare.printed();
+        let done = bare.serve(device)?;
+        let lines = bare.printed().saturating_sub(before);
+        let wanted = reply(Ended::Served(done), Told::Silent, lines);
+        same(answered == wanted, View::Answer)?;
+        Ok(done)
     }
 }

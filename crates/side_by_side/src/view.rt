@@ -1,5 +1,6 @@
 //! What is seen of a machine, and why two machines are not the same.
 use cp_core::{BootError, CpError};
+use cp_devices::AttachError;
 use cp_directory::DirError;
 use std::alloc::AllocError;
 use std::fmt;
@@ -26,6 +27,20 @@ pub enum View {
     Keys,
     /// The bytes of storage.
     Storage,
+    /// The subchannels: what each device is about, and its status.
+    Subchannels,
+    /// The lines that wait at the console.
+    Waiting,
+    /// The decks of the reader.
+    Reader,
+    /// What was punched, and for whom.
+    Punch,
+    /// What was printed by the line printer.
+    Printer,
+    /// The sense byte of a device.
+    Sense,
+    /// What was delivered.
+    Deliveries,
 }
 
 impl fmt::Display for View {
@@ -40,6 +55,13 @@ impl fmt::Display for View {
             View::Console => "the console",
             View::Keys => "the keys",
             View::Storage => "storage",
+            View::Subchannels => "the subchannels",
+            View::Waiting => "the lines that wait",
+            View::Reader => "the reader's decks",
+            View::Punch => "what was punched",
+            View::Printer => "what the printer printed",
+            View::Sense => "a sense byte",
+            View::Deliveries => "what was delivered",
         };
         write!(f, "{name}")
     }
@@ -54,6 +76,9 @@ pub enum SideError {
     /// A growth was refused.
     #[error("no memory is left")]
     Memory(#[from(alloc)] AllocError),
+    /// The bare machine has no such devices.
+    #[error("{0}")]
+    Devices(#[from] AttachError),
     /// The directory is refused.
     #[error("{0}")]
     Directory(#[from] DirError),

@@ -6,8 +6,9 @@
 
 use anyhow::{Context, Result, bail};
 use ckd_volume::Volume;
+use cp_console::console_line::ConsoleLine;
 use cp_console::responses::Response;
-use cp_core::{BootError, CpError, Event, FrameNo, Sizes, System};
+use cp_core::{BootError, CpError, Ended, Event, FrameNo, Sizes, System};
 use cp_directory::{Volser, read_directory};
 use cp_users::UserNo;
 use s370_num::DevAddr;
@@ -19,6 +20,9 @@ const FEWEST_FRAMES: u32 = 16;
 
 /// The slots of a crowded system.
 const FEW_SLOTS: u32 = 8;
+
+/// The directory of a user with a console.
+const CONSOLE: &[u8] = b"USER A PW 8K\nCONSOLE 009 3215\n";
 
 /// User A.
 fn a() -> UserNo {
@@ -220,7 +224,7 @@ fn a_lent_frame(system: &mut System) -> Result<()> {
         let frame = system.frame_of(user, Page(page));
         see(frame.is_none(), "such a page stands in no frame")?;
     }
-    write_to_first_page(system, a())?;
+    write_to_first_page(system, a(), 0xFFE, 0xEE)?;
     run(system, a(), 1)?;
     let loaded = system.registers(a()).map(|general| general[1]);
     see(loaded == Some(0xEECD_0000), "A has loaded what was written")?;
@@ -234,17 +238,50 @@ fn a_lent_frame(system: &mut System) -> Result<()> {
     Ok(())
 }
 
-/// Writes EE to the byte at FFE of a user, in the frame where its first page stands.
-fn write_to_first_page(system: &mut System, user: UserNo) -> Result<()> {
+/// Writes a byte at this place of a user's first page, in the frame where that stands.
+fn write_to_first_page(system: &mut System, user: UserNo, place: usize, byte: u8) -> Result<()> {
     let Some(frame) = system.frame_of(user, Page(0)) else {
         bail!("the first page stands in no frame");
     };
     match system.frame_mut(frame) {
-        Some(bytes) => bytes[0xFFE] = 0xEE,
+        Some(bytes) => match bytes.get_mut(place) {
+            Some(there) => *there = byte,
+            None => bail!("the place is past the frame"),
+        },
         None => bail!("the frame is none of the system"),
     }
     let past = system.frame_mut(FrameNo(FEWEST_FRAMES as u16));
     see(past.is_none(), "no frame lies past the last")
+}
+
+/// A's channel program is to write HELLO; before it is served, the first letter is changed in the frame that is lent.
+fn a_lent_frame_is_written(system: &mut System) -> Result<()> {
+    let places = [
+        "LOGON",
+        "STORE 100 9C000009",
+        "STORE 800 0900084000000005",
+        "STORE 840 C8C5D3D3D6",
+        "STORE 48 00000800",
+        "STORE PSW 00000000 00000100",
+        "BEGIN",
+    ];
+    type_lines(system, a(), &places)?;
+    run(system, a(), 1)?;
+    write_to_first_page(system, a(), 0x840, 0xD1)?;
+    match system.apply(Event::Serve(a(), DevAddr::new(0x009))) {
+        Ok(reply) => see(reply.ended == Ended::Served(true), "the console is served")?,
+        Err(error) => refused(system, error)?,
+    }
+    see(
+        system.printed(a()) == Some(6),
+        "the stores and the line are kept",
+    )?;
+    let line = system.console_output(a(), 5);
+    let wanted = Response::Written(ConsoleLine::of(b"JELLO"));
+    see(
+        line == Some(wanted),
+        "what was written to the frame is written",
+    )
 }
 
 /// Types lines of A, and compares how many pages have come into frames after each.
@@ -385,6 +422,7 @@ fn main(rt: HostRuntime) -> Result<()> {
     machine_of_nobody(&mut booted(alloc, FEWEST_FRAMES)??)?;
     kept_lines(&mut booted(alloc, FEWEST_FRAMES)??)?;
     a_lent_frame(&mut booted(alloc, FEWEST_FRAMES)??)?;
+    a_lent_frame_is_written(&mut boot_of(alloc, CONSOLE, Vec::new(alloc), FEWEST_FRAMES)??)?;
     pages_that_came(&mut booted(alloc, FEWEST_FRAMES)??)?;
     a_move_of_eight_pages(&mut crowded(alloc)?)?;
     an_overflow_of_seven_pages(&mut crowded(alloc)?)?;

@@ -11,3 +11,4 @@ pub mod Queues
 pub mod Sessions
 pub mod Told
 pub mod Rules
+pub mod Words

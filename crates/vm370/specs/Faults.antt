@@ -1,14 +1,14 @@
 -- What the program says of its failure, and its exit status.
 use Rattle.std.specs.Prelude.{ℕ, List, ◌++◌, codes, Result, Ok, Err}
 use Rattle.std.specs.Fmt.{decimal}
-use Rattle.cp_core.specs.declared.events.BootError.{BootError}
-use Rattle.cp_core.specs.declared.events.BootError.TheVariants as boots
+use Rattle.ckd_image.specs.Told.{image_status, image_text}
 use Rattle.cp_directory.specs.declared.faults.DirError.{DirError}
 use Rattle.cp_directory.specs.declared.faults.DirError.TheVariants as directories
 use Rattle.s370_num.specs.declared.host.HostFault.{HostFault}
 use Rattle.s370_num.specs.declared.host.HostFault.TheVariants as hosts
 use Rattle.vm370.specs.declared.session.SessionError.{SessionError}
 use Rattle.vm370.specs.declared.session.SessionError.TheVariants as sessions
+use Rattle.vm370.specs.BootFaults.{boot_text}
 use Rattle.vm370.specs.declared.faults.Failure.{Failure}
 use Rattle.vm370.specs.declared.faults.Failure.TheVariants as failures
 
@@ -36,40 +36,30 @@ directory_text (directories.BadExtent line) = codes "fault: directory BadExtent 
 directory_text (directories.Overlap first line) = codes "fault: directory Overlap " ++ (decimal first ++ (codes " " ++ decimal line))
 directory_text (directories.TooMany line) = codes "fault: directory TooMany " ++ decimal line
 
--- a system that was not booted
-abbrev pub boot_text : BootError → List ℕ
-boot_text boots.Memory = codes "fault: memory Memory"
-boot_text boots.TooFewFrames = codes "fault: boot TooFewFrames"
-boot_text boots.DuplicateVolume = codes "fault: boot DuplicateVolume"
-boot_text (boots.NoVolume _) = codes "fault: boot NoVolume"
-boot_text (boots.ExtentPastEnd _ _) = codes "fault: boot ExtentPastEnd"
-boot_text boots.DuplicateDevice = codes "fault: boot DuplicateDevice"
-
 -- the line of a failure
 abbrev pub fault_text : Failure → List ℕ
 fault_text (failures.Directory error) = directory_text error
-fault_text (failures.Boot error) = boot_text error
+fault_text (failures.Image error) = image_text error
+fault_text (failures.Boot fault) = boot_text fault
 fault_text (failures.Script line) = codes "fault: script Line " ++ decimal line
+fault_text (failures.Unsaved error path) = image_text error
 fault_text (failures.File count) = codes "fault: file Device " ++ decimal count
 fault_text failures.Memory = codes "fault: memory Memory"
 fault_text failures.Spent = codes "fault: memory Spent"
-fault_text failures.Usage = codes "usage: vm370 DIRECTORY SCRIPT"
+fault_text failures.Usage = codes "usage: vm370 DIRECTORY SCRIPT [VOLUME]..."
 
 -- a directory that is refused is refused input, unless memory was
 abbrev pub directory_status : DirError → ℕ
 directory_status directories.Memory = 4
 directory_status _ = 1
 
--- so is what can't be booted
-abbrev pub boot_status : BootError → ℕ
-boot_status boots.Memory = 4
-boot_status _ = 1
-
 -- refused input is 1, a wrong use 2, a file that failed 3, memory 4
 abbrev pub status_of : Failure → ℕ
 status_of (failures.Directory error) = directory_status error
-status_of (failures.Boot error) = boot_status error
+status_of (failures.Image error) = image_status error
+status_of (failures.Boot fault) = 1
 status_of (failures.Script line) = 1
+status_of (failures.Unsaved error path) = image_status error
 status_of (failures.File count) = 3
 status_of failures.Memory = 4
 status_of failures.Spent = 4

@@ -1,7 +1,7 @@
 -- What the words of the program name, as those of a simple command of `clap`.
-use Rattle.std.specs.Prelude.{◌≡◌, ◌≤◌, ◌&&◌, ℕ, Bool, true, List, [], codes, Option, Some, None, is_some}
-use Rattle.clap.specs.Words.{App, Row, Rule, fault_of, first_of, matches_of, new_app, new_rule, takes, with_rule}
-use Rattle.clap.specs.declared.builder.action.ArgAction.TheVariants.{Set}
+use Rattle.std.specs.Prelude.{◌≡◌, ◌≤◌, ◌&&◌, ℕ, Bool, true, false, List, [], map, codes, Option, Some, None, is_some}
+use Rattle.clap.specs.Words.{App, Row, Rule, all_of, fault_of, first_of, matches_of, new_app, new_rule, one_of, takes, with_rule}
+use Rattle.clap.specs.declared.builder.action.ArgAction.TheVariants.{Append, Set, SetTrue}
 use Rattle.cp_text.specs.Numbers.{decimal_of}
 use Rattle.cp_core.specs.Sizes.{SystemSizes}
 use Rattle.vm370.specs.declared.arguments.Options.{Options}
@@ -14,6 +14,10 @@ frames_rule = record (new_rule (codes "frames")) { long = Some (codes "frames");
 abbrev pub slots_rule : Rule
 slots_rule = record (new_rule (codes "slots")) { long = Some (codes "slots"); action = Some Set }
 
+-- `--save`
+abbrev pub save_rule : Rule
+save_rule = record (new_rule (codes "save")) { long = Some (codes "save"); action = Some SetTrue }
+
 -- the first word after the program's name: the directory
 abbrev pub directory_rule : Rule
 directory_rule = record (new_rule (codes "DIRECTORY")) { required = true }
@@ -22,9 +26,21 @@ directory_rule = record (new_rule (codes "DIRECTORY")) { required = true }
 abbrev pub script_rule : Rule
 script_rule = record (new_rule (codes "SCRIPT")) { required = true }
 
--- `PROGRAM [--frames N] [--slots N] DIRECTORY SCRIPT`
+-- the words after it, any number of them: the volumes
+abbrev pub volume_rule : Rule
+volume_rule = record (new_rule (codes "VOLUME")) { action = Some Append }
+
+-- `[--frames N] [--slots N] [--save]`
+abbrev pub with_options : App → App
+with_options app = with_rule (with_rule (with_rule app frames_rule) slots_rule) save_rule
+
+-- `DIRECTORY SCRIPT [VOLUME]...`
+abbrev pub with_paths : App → App
+with_paths app = with_rule (with_rule (with_rule app directory_rule) script_rule) volume_rule
+
+-- `PROGRAM [--frames N] [--slots N] [--save] DIRECTORY SCRIPT [VOLUME]...`
 abbrev pub command_of : List ℕ → App
-command_of program = with_rule (with_rule (with_rule (with_rule (new_app program) frames_rule) slots_rule) directory_rule) script_rule
+command_of program = with_paths (with_options (new_app program))
 
 -- what the words give for the arguments of this program, in their order
 unfoldable pub rows_named : List ℕ → List (List ℕ) → List Row
@@ -34,7 +50,7 @@ rows_named program words = matches_of (command_of program) words
 unfoldable pub is_taken : List ℕ → List (List ℕ) → Bool
 is_taken program words = takes (command_of program) words
 
--- nothing is wrong with the words: none is unknown, missing or one too many, and none asks for help
+-- nothing is wrong with the words: none is unknown or missing, and none asks for help
 unfoldable pub HasNoFault : List ℕ → List (List ℕ) → Type 0
 HasNoFault program words = fault_of (command_of program) words ≡ []
 
@@ -54,8 +70,21 @@ pub record IsSized (rows : List Row) (sizes : SystemSizes) : Type 0 where
   pub most_frames : sizes.frames ≤ 4096
   pub most_slots : sizes.slots ≤ 65536
 
+-- a flag is given where its text is `true`, and not where it is `false` or there is none
+pub record IsFlag (text : Option (List ℕ)) (given : Bool) : Type 0 where
+  pub yes : text ≡ Some (codes "true") → given ≡ true
+  pub no : text ≡ Some (codes "false") → given ≡ false
+  pub none : text ≡ None → given ≡ false
+
+-- the texts of an argument that need not be given
+abbrev pub texts_of : Option (List (List ℕ)) → List (List ℕ)
+texts_of None = []
+texts_of (Some texts) = texts
+
 -- the options are what these words give
 pub record IsNamed (rows : List Row) (options : Options) : Type 0 where
   pub sizes : IsSized rows options.sizes
+  pub save : IsFlag (one_of (codes "save") rows) options.save
   pub directory : first_of (codes "DIRECTORY") rows ≡ Some options.directory.now
   pub script : first_of (codes "SCRIPT") rows ≡ Some options.script.now
+  pub volumes : map (λ path. path.now) options.volumes.items ≡ texts_of (all_of (codes "VOLUME") rows)

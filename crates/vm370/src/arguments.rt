@@ -1,11 +1,11 @@
-//! The words of the program: how much it has, and which files it is to read.
+//! The words of the program: how much it has, and which files it is to read and to write.
 ghost use Rattle.std.specs.Prelude.{◌≡◌, IfOk, IfErr, IfSome, OnOk, IsSome, Some, codes, map, option_map, false, true};
-ghost use Rattle.clap.specs.Words.{app_of, first_of, found_of, rows_of, rule_of};
+ghost use Rattle.clap.specs.Words.{all_of, app_of, first_of, found_of, one_of, rows_of, rule_of};
 ghost use Rattle.clap.specs.Values.{kind_of};
 ghost use Rattle.clap.specs.declared.error.kind.ErrorKind.TheVariants.{OutOfMemory};
 ghost use Rattle.vm370.specs.declared.arguments.UsageError.TheVariants.{Memory};
 ghost use Rattle.cp_core.specs.Sizes.{SystemSizes};
-ghost use Rattle.vm370.specs.Options.{HasNoFault, IsNamed, IsSized, command_of, directory_rule, frames_rule, gives_paths, is_taken, number_or, rows_named, script_rule, slots_rule};
+ghost use Rattle.vm370.specs.Options.{HasNoFault, IsFlag, IsNamed, IsSized, command_of, directory_rule, frames_rule, gives_paths, is_taken, number_or, rows_named, save_rule, script_rule, slots_rule, texts_of, volume_rule};
 
 use clap::error::ErrorKind;
 use clap::{Arg, ArgAction, ArgMatches, Command, Error as ClapError};
@@ -22,15 +22,19 @@ const SLOTS: u32 = 256;
 /// The most digits of a number of frames or slots.
 const MOST_DIGITS: usize = 7;
 
-/// What the words of the program name: `vm370 [--frames N] [--slots N] DIRECTORY SCRIPT`.
+/// What the words of the program name: `vm370 [--frames N] [--slots N] [--save] DIRECTORY SCRIPT [VOLUME]...`.
 #[derive(Drop)]
 pub struct Options<'a> {
     /// How many frames and slots the machine has.
     pub sizes: Sizes,
+    /// The images of the volumes are written back at the end.
+    pub save: bool,
     /// The path of the directory.
     pub directory: &'a str,
     /// The path of the script.
     pub script: &'a str,
+    /// The paths of the volumes' images, in order.
+    pub volumes: Vec<&'a str>,
 }
 
 /// Why the words of the program name no options.
@@ -76,14 +80,17 @@ pub fn arguments<'a, S: AsStr>(
             "there are at most 4096 frames and 65536 slots, each a decimal number\n",
         ));
     };
-    match paths_in(&matches) {
-        Some((directory, script)) => Ok(Options {
-            sizes,
-            directory,
-            script,
-        }),
-        None => Err(usage(alloc, "a path is missing\n")),
-    }
+    let Some((directory, script)) = paths_in(&matches) else {
+        return Err(usage(alloc, "a path is missing\n"));
+    };
+    let volumes = paths_of(alloc, &matches, "VOLUME")?;
+    Ok(Options {
+        sizes,
+        save: is_given(&matches, "save"),
+        directory,
+        script,
+        volumes,
+    })
 }
 
 /// A wrong use, told by this text.
@@ -134,6 +141,43 @@ pub fn text_of<'a>(matches: &ArgMatches<'a>, id: &str) -> Option<&'a str>
     matches.get_str(id)
 }
 
+/// Whether the words have this flag.
+pub fn is_given(matches: &ArgMatches<'_>, id: &str) -> bool
+    ensures { IsFlag (one_of id.now (rows_of (found_of matches.now))) result }
+{
+    matches.get_flag(id)
+}
+
+/// The texts that the words give for an argument, in order.
+pub fn paths_of<'a>(
+    alloc: Global,
+    matches: &ArgMatches<'a>,
+    id: &str,
+) -> Result<Vec<&'a str>, AllocError>
+    ensures { IfOk result (λ paths. map (λ path. path.now) paths.items
+        ≡ texts_of (all_of id.now (rows_of (found_of matches.now)))) }
+{
+    match texts_in(matches, id) {
+        Some(paths) => copied(alloc, paths),
+        None => Ok(Vec::new(alloc)),
+    }
+}
+
+/// The texts that the words give for an argument, where they give any.
+fn texts_in<'b, 'a>(matches: &'b ArgMatches<'a>, id: &str) -> Option<&'b [&'a str]>
+    ensures { option_map (λ texts. map (λ text. text.now) texts.now) result
+        ≡ all_of id.now (rows_of (found_of matches.now)) }
+{
+    matches.get_strs(id)
+}
+
+/// The same texts, in a list of their own.
+fn copied<'a>(alloc: Global, texts: &[&'a str]) -> Result<Vec<&'a str>, AllocError>
+    ensures { IfOk result (λ all. map (λ text. text.now) all.items ≡ map (λ text. text.now) texts.now) }
+{
+    texts.iter().copied().collect(alloc)
+}
+
 /// What `clap` finds in the words.
 fn matched<'a, S: AsStr>(
     alloc: Global,
@@ -173,8 +217,10 @@ fn command<'a>(alloc: Global, program: &'a str) -> Result<Command<'a>, AllocErro
         .about("Runs many System/370 machines at once, and prints what their terminals show")
         .arg(frames(alloc))?
         .arg(slots(alloc))?
+        .arg(save(alloc))?
         .arg(directory(alloc))?
-        .arg(script(alloc))?;
+        .arg(script(alloc))?
+        .arg(volumes(alloc))?;
     Ok(command)
 }
 
@@ -204,14 +250,25 @@ fn slots<'a>(alloc: Global) -> Arg<'a>
         )
 }
 
+/// `--save`
+pub fn save<'a>(alloc: Global) -> Arg<'a>
+    ensures rule { rule_of result ≡ save_rule }
+    ensures local { result.global ≡ false }
+{
+    Arg::new(alloc, "save")
+        .long("save")
+        .action(ArgAction::SetTrue)
+        .help("Writes the images of the volumes back at the end")
+}
+
 /// The first word, which is the path of the directory.
 fn directory<'a>(alloc: Global) -> Arg<'a>
     ensures rule { rule_of result ≡ directory_rule }
     ensures local { result.global ≡ false }
 {
-    Arg::new(alloc, "DIRECTORY")
-        .required(true)
-        .help("The users and the storage of each (docs/FORMATS.md)")
+    Arg::new(alloc, "DIRECTORY").required(true).help(
+        "The users, and the storage and the devices of each (docs/FORMATS.md)",
+    )
 }
 
 /// The second word, which is the path of the script.
@@ -221,5 +278,15 @@ fn script<'a>(alloc: Global) -> Arg<'a>
 {
     Arg::new(alloc, "SCRIPT").required(true).help(
         "What happens to their machines, one event a line (docs/FORMATS.md)",
+    )
+}
+
+/// The words after them, which are the paths of images.
+fn volumes<'a>(alloc: Global) -> Arg<'a>
+    ensures rule { rule_of result ≡ volume_rule }
+    ensures local { result.global ≡ false }
+{
+    Arg::new(alloc, "VOLUME").action(ArgAction::Append).help(
+        "The images of the volumes that have the users' disks (docs/FORMATS.md)",
     )
 }

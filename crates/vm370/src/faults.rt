@@ -1,10 +1,11 @@
 //! What the program says of its failure, and its exit status.
 ghost use Rattle.std.specs.Prelude.{◌≡◌, IfOk, string_bytes};
-ghost use Rattle.vm370.specs.declared.faults.Failure.TheVariants.{Boot, Directory, Memory};
-ghost use Rattle.vm370.specs.Faults.{boot_text, directory_text, fault_text, file_failure, outcome_of, session_failure, status_of};
+ghost use Rattle.vm370.specs.declared.faults.Failure.TheVariants.{Directory, Image, Memory};
+ghost use Rattle.vm370.specs.Faults.{directory_text, fault_text, file_failure, outcome_of, session_failure, status_of};
 
+use crate::boot_faults::{BootFault, boot_line};
 use crate::session::SessionError;
-use cp_core::BootError;
+use ckd_image::ImageError;
 use cp_directory::DirError;
 use s370_num::host::HostFault;
 use std::alloc::{AllocError, Global};
@@ -14,10 +15,14 @@ use std::alloc::{AllocError, Global};
 pub enum Failure {
     /// The directory was not read.
     Directory(DirError),
+    /// An image was not read.
+    Image(ImageError),
     /// The system was not booted.
-    Boot(BootError),
+    Boot(BootFault),
     /// This line of the script, counted from 1, is the first that is refused.
     Script(u64),
+    /// The image at this path was not written.
+    Unsaved(ImageError, String),
     /// A file of the host failed, for this time in number.
     File(u64),
     /// A growth was refused.
@@ -36,11 +41,11 @@ impl From<DirError> for Failure {
     }
 }
 
-impl From<BootError> for Failure {
-    ghost from_gives = { λ error failure. failure ≡ Boot error };
+impl From<ImageError> for Failure {
+    ghost from_gives = { λ error failure. failure ≡ Image error };
 
-    fn from(error: BootError) -> Failure {
-        Failure::Boot(error)
+    fn from(error: ImageError) -> Failure {
+        Failure::Image(error)
     }
 }
 
@@ -83,12 +88,14 @@ pub fn fault_line(alloc: Global, failure: &Failure) -> Result<String, AllocError
 {
     match failure {
         Failure::Directory(error) => directory_line(alloc, *error),
-        Failure::Boot(error) => boot_line(alloc, error),
+        Failure::Image(error) => ckd_image::fault_line(alloc, *error),
+        Failure::Boot(fault) => boot_line(alloc, fault),
         Failure::Script(line) => format!(in alloc; "fault: script Line {line}"),
+        Failure::Unsaved(error, _) => ckd_image::fault_line(alloc, *error),
         Failure::File(count) => format!(in alloc; "fault: file Device {count}"),
         Failure::Memory => String::from_str(alloc, "fault: memory Memory"),
         Failure::Spent => String::from_str(alloc, "fault: memory Spent"),
-        Failure::Usage => String::from_str(alloc, "usage: vm370 DIRECTORY SCRIPT"),
+        Failure::Usage => String::from_str(alloc, "usage: vm370 DIRECTORY SCRIPT [VOLUME]..."),
     }
 }
 
@@ -115,20 +122,6 @@ fn directory_line(alloc: Global, error: DirError) -> Result<String, AllocError>
     }
 }
 
-/// The line for a system that was not booted.
-fn boot_line(alloc: Global, error: &BootError) -> Result<String, AllocError>
-    ensures { IfOk result (λ line. string_bytes line ≡ boot_text error.now) }
-{
-    match error {
-        BootError::Memory => String::from_str(alloc, "fault: memory Memory"),
-        BootError::TooFewFrames => String::from_str(alloc, "fault: boot TooFewFrames"),
-        BootError::DuplicateVolume => String::from_str(alloc, "fault: boot DuplicateVolume"),
-        BootError::NoVolume(_) => String::from_str(alloc, "fault: boot NoVolume"),
-        BootError::ExtentPastEnd(_, _) => String::from_str(alloc, "fault: boot ExtentPastEnd"),
-        BootError::DuplicateDevice => String::from_str(alloc, "fault: boot DuplicateDevice"),
-    }
-}
-
 /// The exit status of a failure: 1 where input was refused, 2 for a wrong use, 3 where a file of the
 /// host failed, 4 where memory did.
 pub fn status(failure: &Failure) -> u8
@@ -137,9 +130,10 @@ pub fn status(failure: &Failure) -> u8
     match failure {
         Failure::Directory(DirError::Memory) => 4,
         Failure::Directory(_) => 1,
-        Failure::Boot(BootError::Memory) => 4,
+        Failure::Image(error) => ckd_image::status(*error),
         Failure::Boot(_) => 1,
         Failure::Script(_) => 1,
+        Failure::Unsaved(error, _) => ckd_image::status(*error),
         Failure::File(_) => 3,
         Failure::Memory => 4,
         Failure::Spent => 4,

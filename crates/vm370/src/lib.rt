@@ -14,8 +14,10 @@
 mod acts;
 mod answers;
 pub mod arguments;
+pub mod boot_faults;
 pub mod faults;
 pub mod files;
+pub mod images;
 mod known;
 pub mod program;
 mod queue;

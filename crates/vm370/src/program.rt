@@ -1,16 +1,18 @@
-//! The program `vm370 [--frames N] [--slots N] DIRECTORY SCRIPT`: its words, its files, its session, and what it says
-//! of a failure.
+//! The program `vm370 [--frames N] [--slots N] [--save] DIRECTORY SCRIPT [VOLUME]...`: its words, its files, its
+//! session, and what it says of a failure.
 //!
 //! The transcript goes to standard output. A failure is one line on standard error, and its kind is the
-//! exit status.
+//! exit status; of an image that is not saved a second line has the path.
 ghost use Rattle.std.specs.Prelude.{◌≡◌};
 ghost use Rattle.std.specs.Process.{exit_status};
 ghost use Rattle.vm370.specs.Faults.{outcome_of};
 
-use crate::arguments::{UsageError, arguments};
+use crate::arguments::{Options, UsageError, arguments};
+use crate::boot_faults::{boot_failure, names_of};
 use crate::faults::{Failure, fault_line, outcome};
+use crate::images::{read_volumes, save_volume};
 use crate::session::session;
-use cp_core::{Sizes, System};
+use cp_core::System;
 use cp_directory::read_directory;
 use s370_num::host::{Counted, read_all};
 use std::process::{ExitCode, Termination};
@@ -29,7 +31,7 @@ Example:
 
 The transcript goes to standard output, a fault as one line to standard error. Exit statuses:
   0  the script was done to its end
-  1  the directory or the script was refused; the line tells where
+  1  the directory, an image, the boot or the script was refused; the line tells where
   2  wrong words, or --help
   3  a file could not be opened, read or written
   4  there was not memory enough
@@ -49,8 +51,8 @@ impl Termination for Ended {
     }
 }
 
-/// The whole program: what it is started with names a directory and a script, and the transcript of that script is
-/// written. A failure is told on standard error.
+/// The whole program: what it is started with names a directory, a script and volumes, and the transcript of that
+/// script is written. A failure is told on standard error.
 pub fn program<R: AllocGlobal + Files + Env + Print + Eprint>(rt: &R) -> Ended {
     finish(rt, run(rt))
 }
@@ -71,9 +73,13 @@ fn tell<R: AllocGlobal + Eprint>(rt: &R, failure: &Failure) {
     if let Ok(line) = fault_line(rt.alloc(), failure) {
         let _ = rt.eprintln(&line);
     }
+    if let Failure::Unsaved(_, path) = failure {
+        let _ = eprintln!(rt; "not saved: {path}");
+    }
 }
 
-/// Reads the words and both files, and writes the transcript. A wrong use is told here.
+/// Reads the words, the directory, the images and the script, writes the transcript, and saves the volumes where that
+/// is asked for. A wrong use is told here.
 fn run<R: AllocGlobal + Files + Env + Print + Eprint>(rt: &R) -> Result<(), Failure> {
     let alloc = rt.alloc();
     let words = words(rt, PROGRAM)?;
@@ -81,13 +87,22 @@ fn run<R: AllocGlobal + Files + Env + Print + Eprint>(rt: &R) -> Result<(), Fail
         Ok(options) => options,
         Err(error) => return Err(wrong_use(rt, &error, USAGE_NOTE)),
     };
-    let mut system = boot(rt, options.directory, options.sizes)?;
-    let mut script = open(rt, options.script)?;
-    let Ok(output) = io::BufWriter::new(alloc, io::writer(rt)) else {
+    let mut system = boot(rt, &options)?;
+    play(rt, &mut system, options.script)?;
+    save(rt, system, &options)
+}
+
+/// Plays the script at a path, and writes its transcript to standard output.
+fn play<R: AllocGlobal + Files + Print>(
+    rt: &R,
+    system: &mut System,
+    path: &str,
+) -> Result<(), Failure> {
+    let mut script = open(rt, path)?;
+    let Ok(output) = io::BufWriter::new(rt.alloc(), io::writer(rt)) else {
         return Err(Failure::Memory);
     };
-    let mut transcript = Counted::new(output);
-    Ok(session(alloc, &mut system, &mut script, &mut transcript)?)
+    Ok(session(rt.alloc(), system, &mut script, &mut Counted::new(output))?)
 }
 
 /// What words that name no options are as a failure. A wrong use is told here, by its text and then this note.
@@ -132,10 +147,31 @@ pub fn open<R: Files>(rt: &R, path: &str) -> Result<Counted<R::File>, Failure> {
     }
 }
 
-/// The system that the directory at a path states, with so many frames and slots.
-pub fn boot<R: AllocGlobal + Files>(rt: &R, path: &str, sizes: Sizes) -> Result<System, Failure> {
+/// The system that the directory and the volumes of these options state.
+pub fn boot<R: AllocGlobal + Files>(rt: &R, options: &Options<'_>) -> Result<System, Failure> {
     let alloc = rt.alloc();
-    let text = read_all(alloc, &mut open(rt, path)?)?;
+    let text = read_all(alloc, &mut open(rt, options.directory)?)?;
     let directory = read_directory(alloc, &text)?;
-    Ok(System::boot(alloc, directory, Vec::new(alloc), sizes)?)
+    let volumes = read_volumes(rt, options.volumes.as_slice())?;
+    let names = names_of(alloc, directory.users())?;
+    match System::boot(alloc, directory, volumes, options.sizes) {
+        Ok(system) => Ok(system),
+        Err(error) => Err(boot_failure(alloc, names, error)),
+    }
+}
+
+/// Writes the images of the volumes of the system back, in their order, where the options ask for that.
+pub fn save<R: AllocGlobal + Files>(
+    rt: &R,
+    system: System,
+    options: &Options<'_>,
+) -> Result<(), Failure> {
+    if !options.save {
+        return Ok(());
+    }
+    let volumes = system.into_volumes();
+    for (volume, path) in volumes.iter().zip(options.volumes.iter()) {
+        save_volume(rt, volume, path)?;
+    }
+    Ok(())
 }

@@ -1,4 +1,4 @@
-//! The program `vm370 DIRECTORY SCRIPT` (docs/COMMANDS.md, docs/FORMATS.md).
+//! The program `vm370 [--frames N] [--slots N] [--save] DIRECTORY SCRIPT [VOLUME]...` (docs/FORMATS.md).
 #![tactic(auto)]
 
 use vm370::program::{Ended, program};

@@ -1,7 +1,7 @@
 use Rattle.std.proofs.Common.{[], ◌∷◌, ◌++◌, ◌∙◌, ap, length, List, ℕ}
 use Rattle.s370_channel.specs.declared.running.ChannelError.TheVariants as errors
 use Rattle.s370_intr.proofs.Runs.{all_needed}
-use Rattle.cp_core.specs.Supply.{ProgramNeeds}
+use Rattle.cp_core.specs.Wants.{ProgramNeeds}
 use Rattle.cp_core.proofs.Steps.{error_at}
 use Rattle.cp_core.proofs.serving.serve_supplied.Goals as goal
 

@@ -1,7 +1,7 @@
 use Rattle.std.proofs.Common.{◌≡◌, ℕ, List, length}
 use Rattle.s370_intr.specs.Run.{AllNeeded}
 use Rattle.cp_devices.specs.Equipped.{equipped}
-use Rattle.cp_core.specs.Supply.{ProgramNeeds}
+use Rattle.cp_core.specs.Wants.{ProgramNeeds}
 use Rattle.cp_core.proofs.serving.serve_supplied.Given as goal
 
 abbrev pub invariant-loop-done : goal.invariant-loop-done

@@ -3,7 +3,7 @@ use Rattle.cp_devices.specs.Lines.{IsFollowed}
 use Rattle.bare_installation.proofs.bare.Bare.answer_whole.Goals as goal
 
 pub returns-in-None-clause-line : goal.returns-in-None-clause-line
-returns-in-None-clause-line c =
+returns-in-None-clause-line g c =
     let left = c.answer.new.self.equipped in
     record {
       first = c.in_ok-first.first;

@@ -1,7 +1,7 @@
 use Rattle.std.proofs.Common.{◌∙◌}
 use Rattle.clap.specs.Words.{found_of}
 use Rattle.clap.proofs.WalkLemmas.{one_text-rows}
-use Rattle.bare370.proofs.arguments.is_given.Goals as goal
+use Rattle.vm370.proofs.arguments.is_given.Goals as goal
 
 pub returns : goal.returns
 returns c =

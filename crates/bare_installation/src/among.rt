@@ -1,0 +1,53 @@
+//! A machine of its own that stands for a user among others: a line in a world of several users, a deck with a number of
+//! all their files, and a message.
+ghost use Rattle.std.specs.Prelude.{◌≡◌, IfOk, OnOk};
+ghost use Rattle.s370_channel.specs.Reading.{as_reached};
+ghost use Rattle.cp_console.specs.ConsoleLine.{characters_of};
+ghost use Rattle.cp_devices.specs.Life.{Deck as Gets, Leaves, Message as Hears};
+ghost use Rattle.cp_devices.specs.Lines.{IsWholeLine};
+
+use crate::bare::Bare;
+use cp_console::console_line::ConsoleLine;
+use cp_console::responses::Response;
+use cp_devices::{Told, World};
+use std::alloc::{AllocError, Global};
+use unit_record::Deck;
+
+impl Bare {
+    /// A line that is typed in this world, and what is told. What it sends goes to nobody, and a file that it closed
+    /// stays with its device alone, without a number: that is for whoever knows the others. Where memory is refused,
+    /// nothing is said of the machine.
+    pub fn line_among<W: World>(
+        &mut self,
+        alloc: Global,
+        world: &W,
+        typed: &[u8],
+    ) -> Result<Told, AllocError>
+        ensures line { IfOk result
+            (λ told. IsWholeLine (W.known world.now) typed.now self.old.equipped told self.new.equipped) }
+        ensures files { self.new.files ≡ self.old.files }
+    {
+        self.answer_whole(alloc, world, typed)
+    }
+
+    /// A deck that another sent, or the operator, with the number that it has among the files of all. Where memory is
+    /// refused, nothing is said of the machine.
+    pub fn take_deck(&mut self, deck: Deck) -> Result<(), AllocError>
+        ensures taken { OnOk result (Leaves as_reached (Gets deck) self.old.equipped self.new.equipped) }
+        ensures files { self.new.files ≡ self.old.files }
+    {
+        self.devices.deck(deck)
+    }
+
+    /// A message that another sent, as the whole line that the console prints. Where memory is refused, nothing is said
+    /// of the machine.
+    pub fn hear(&mut self, line: ConsoleLine) -> Result<(), AllocError>
+        ensures heard { OnOk result
+            (Leaves as_reached (Hears (characters_of line)) self.old.equipped self.new.equipped) }
+        ensures files { self.new.files ≡ self.old.files }
+    {
+        self.machine.make_room(1)?;
+        self.machine.print(&Response::Written(line));
+        Ok(())
+    }
+}

@@ -1,0 +1,88 @@
+//! What is compared of a user and his bare machine.
+use crate::devices::{compare_console_device, compare_printer, compare_punch, compare_reader};
+use crate::machines::{SideBySide, same};
+use crate::view::{SideError, View};
+use cp_users::UserNo;
+use s370_store::BLOCK_SIZE;
+
+impl SideBySide {
+    /// Compares all views of a user, the bytes of storage and the whole console among them.
+    pub fn compare(&self, user: UserNo) -> Result<(), SideError> {
+        self.compare_registers(user)?;
+        self.compare_console(user, 0)?;
+        self.compare_storage(user)?;
+        self.compare_devices(user)
+    }
+
+    /// Compares the registers, the PSW, the mode, what is pending, and how many lines were printed.
+    pub fn compare_registers(&self, user: UserNo) -> Result<(), SideError> {
+        let bare = self.bare(user)?;
+        let system = &self.system;
+        let general = system.registers(user) == Some(*bare.general());
+        same(general, View::General)?;
+        let control = system.control(user) == Some(*bare.control());
+        same(control, View::Control)?;
+        same(system.psw(user) == Some(bare.psw()), View::Psw)?;
+        same(system.mode(user) == Some(bare.mode()), View::Mode)?;
+        let pending = system.pending(user) == Some(bare.pending());
+        same(pending, View::Pending)?;
+        let printed = system.printed(user) == Some(bare.printed());
+        same(printed, View::Console)
+    }
+
+    /// Compares the lines that the console has printed, from one on.
+    pub fn compare_console(&self, user: UserNo, first: usize) -> Result<(), SideError> {
+        let bare = self.bare(user)?;
+        for line in first..bare.printed() {
+            let is_same = self.system.console_output(user, line) == bare.console_output(line);
+            same(is_same, View::Console)?;
+        }
+        Ok(())
+    }
+
+    /// Compares the bytes of storage and the keys.
+    pub fn compare_storage(&self, user: UserNo) -> Result<(), SideError> {
+        let bare = self.bare(user)?;
+        let mut address = 0u32;
+        for byte in bare.storage() {
+            same(
+                self.system.storage(user, address) == Some(*byte),
+                View::Storage,
+            )?;
+            address = address.wrapping_add(1);
+        }
+        same(self.system.storage(user, address).is_none(), View::Storage)?;
+        for block in 0..=address / BLOCK_SIZE {
+            same(self.system.key(user, block) == bare.key(block), View::Keys)?;
+        }
+        Ok(())
+    }
+
+    /// Compares the subchannels, the devices with their lines, decks and files, and what was delivered.
+    pub fn compare_devices(&self, user: UserNo) -> Result<(), SideError> {
+        let bare = self.bare(user)?;
+        let Some(subchannels) = self.system.subchannels(user) else {
+            return Err(SideError::NoSuchUser);
+        };
+        same(subchannels == bare.subchannels(), View::Subchannels)?;
+        let Some(devices) = self.system.spool(user) else {
+            return Err(SideError::NoSuchUser);
+        };
+        compare_console_device(devices.console(), bare.devices().console())?;
+        compare_reader(devices.reader(), bare.devices().reader())?;
+        compare_punch(devices.punch(), bare.devices().punch())?;
+        compare_printer(devices.printer(), bare.devices().printer())?;
+        let target = devices.target() == bare.devices().target();
+        same(target, View::Punch)?;
+        self.compare_deliveries(user)
+    }
+
+    /// Compares what replies told as delivered with what came to the bare machine.
+    fn compare_deliveries(&self, user: UserNo) -> Result<(), SideError> {
+        let Some(beside) = self.machines.get(user.index()) else {
+            return Err(SideError::NoSuchUser);
+        };
+        let told = self.system.deliveries(user);
+        same(told == Some(beside.came.as_slice()), View::Deliveries)
+    }
+}

@@ -1,0 +1,193 @@
+//! Lines and decks, and what comes of them for others.
+use crate::machines::{Beside, SideBySide, reply, same};
+use crate::view::{SideError, View};
+use crate::world::Others;
+use bare_installation::Bare;
+use cp_console::console_line::ConsoleLine;
+use cp_console::responses::Response;
+use cp_core::{Delivered, Delivery, Ended, Event};
+use cp_devices::{Told, copy_of, is_logged_on};
+use cp_users::{MOST_USERS, UserNo};
+use s370_num::DevAddr;
+use std::alloc::{AllocError, Global};
+use unit_record::{Card, Deck, Sender, Target};
+
+/// How many lines a machine has printed, and how many files its punch and its printer have closed.
+#[derive(Clone, Copy)]
+struct Before {
+    lines: usize,
+    punched: usize,
+    printed: usize,
+}
+
+impl Before {
+    fn of(bare: &Bare) -> Before {
+        Before {
+            lines: bare.printed(),
+            punched: bare.devices().punch().closed().len(),
+            printed: bare.devices().printer().closed().len(),
+        }
+    }
+}
+
+/// The response that was told, if there was one.
+fn response_of(told: &Told) -> Option<Response> {
+    match told {
+        Told::Said(response) => Some(*response),
+        _ => None,
+    }
+}
+
+/// What a user is told where his bare machine tells this, and the next file has this number.
+fn said(told: Told, number: u64) -> Told {
+    match told {
+        Told::Sent(_, _) => Told::Said(Response::Sent),
+        Told::Closed => Told::Said(Response::FileClosed(number)),
+        other => other,
+    }
+}
+
+/// Of each user, whether his bare machine is on.
+fn on_of(alloc: Global, machines: &[Beside]) -> Result<Vec<bool>, AllocError> {
+    let mut on = Vec::new(alloc);
+    for beside in machines {
+        on.push(is_logged_on(beside.bare.mode()))?;
+    }
+    Ok(on)
+}
+
+impl SideBySide {
+    /// Types a line at both, which does not ask for an IPL, and tells the response of both.
+    pub fn line(
+        &mut self,
+        alloc: Global,
+        user: UserNo,
+        typed: &[u8],
+    ) -> Result<Option<Response>, SideError> {
+        let answered = self.system.apply(Event::Line(user, typed))?;
+        if self.lacks_frames(answered)? {
+            return Ok(None);
+        }
+        let before = Before::of(self.bare(user)?);
+        let number = self.files.saturating_add(1);
+        let told = self.type_line(alloc, user, typed)?;
+        self.delivered = self.follow(alloc, user, before, told)?;
+        let told = said(told, number);
+        let lines = self.bare(user)?.printed().saturating_sub(before.lines);
+        let mut wanted = reply(Ended::Done, told, lines);
+        wanted.delivered = self.delivered;
+        same(answered == wanted, View::Answer)?;
+        Ok(response_of(&told))
+    }
+
+    /// Types a line at the bare machine of a user, in the world of all.
+    fn type_line(&mut self, alloc: Global, user: UserNo, typed: &[u8]) -> Result<Told, SideError> {
+        let on = on_of(alloc, &self.machines)?;
+        let world = Others {
+            users: self.system.directory().users(),
+            own: user,
+            on: on.as_slice(),
+        };
+        match self.machines.get_mut(user.index()) {
+            Some(beside) => Ok(beside.bare.line_among(alloc, &world, typed)?),
+            None => Err(SideError::NoSuchUser),
+        }
+    }
+
+    /// What a line brings about for others: each file that it closed gets its number, the punched one first, and a
+    /// message or a punched file comes to the user for whom it is.
+    fn follow(
+        &mut self,
+        alloc: Global,
+        user: UserNo,
+        before: Before,
+        told: Told,
+    ) -> Result<Option<Delivered>, SideError> {
+        if let Told::Sent(to, line) = told {
+            return self.hear(to, line);
+        }
+        let now = Before::of(self.bare(user)?);
+        let has_punched = now.punched > before.punched;
+        let number = self.files.saturating_add(1);
+        self.files = self
+            .files
+            .saturating_add(u64::from(has_punched))
+            .saturating_add(u64::from(now.printed > before.printed));
+        if has_punched {
+            self.send_cards(alloc, user, before.punched, number)
+        } else {
+            Ok(None)
+        }
+    }
+
+    /// A message comes to the console of the user of this number.
+    fn hear(&mut self, to: u8, line: ConsoleLine) -> Result<Option<Delivered>, SideError> {
+        match self.machines.get_mut(usize::from(to)) {
+            Some(beside) => beside.bare.hear(line)?,
+            None => return Ok(None),
+        }
+        self.note(to, Delivery::Message(line))
+    }
+
+    /// The file of this index, which a user's punch has closed, comes to the reader of the user for whom it is.
+    fn send_cards(
+        &mut self,
+        alloc: Global,
+        user: UserNo,
+        index: usize,
+        number: u64,
+    ) -> Result<Option<Delivered>, SideError> {
+        let devices = self.bare(user)?.devices();
+        let Some(file) = devices.punch().closed().get(index) else {
+            return Ok(None);
+        };
+        let Target::User(to) = file.target() else {
+            return Ok(None);
+        };
+        let sender = Sender::User(user.number());
+        let deck = devices.deck_of_punched(alloc, index, number, sender)?;
+        self.take_deck(to, deck)
+    }
+
+    /// A deck comes to the reader of the user of this number.
+    fn take_deck(&mut self, to: u8, deck: Deck) -> Result<Option<Delivered>, SideError> {
+        let number = deck.label();
+        match self.machines.get_mut(usize::from(to)) {
+            Some(beside) => beside.bare.take_deck(deck)?,
+            None => return Ok(None),
+        }
+        self.note(to, Delivery::Deck(number))
+    }
+
+    /// Notes what came to the user of this number.
+    fn note(&mut self, to: u8, what: Delivery) -> Result<Option<Delivered>, SideError> {
+        if usize::from(to) >= MOST_USERS {
+            return Ok(None);
+        }
+        let to = UserNo::new(to);
+        match self.machines.get_mut(to.index()) {
+            Some(beside) => beside.came.push(what)?,
+            None => return Ok(None),
+        }
+        Ok(Some(Delivered { to, what }))
+    }
+
+    /// The operator gives a deck of these cards to both; no cards are no deck.
+    pub fn deck(&mut self, alloc: Global, user: UserNo, cards: &[Card]) -> Result<(), SideError> {
+        // The prover finds what a reply may hold only where a function names it.
+        let _device: Option<DevAddr> = None;
+        let _response: Option<Response> = None;
+        let answered = self.system.apply(Event::Deck(user, cards))?;
+        if self.lacks_frames(answered)? {
+            return Err(SideError::Differs(View::Answer));
+        }
+        if !cards.is_empty() {
+            self.files = self.files.saturating_add(1);
+            let deck = Deck::new(self.files, Sender::System, copy_of(alloc, cards)?);
+            self.delivered = self.take_deck(user.number(), deck)?;
+        }
+        let mut wanted = reply(Ended::Done, Told::Silent, 0);
+        wanted.delivered = self.delivered;
+        same(answered == wanted, View::Answer)
+    }
+}

@@ -1,0 +1,29 @@
+//! A fixed sequence of numbers that look as if they were drawn.
+
+/// A linear congruential generator, with the factor and the increment of Knuth's MMIX.
+#[derive(Drop)]
+pub struct Sequence {
+    state: u64,
+}
+
+impl Sequence {
+    /// The sequence that begins with this number.
+    pub fn new(seed: u64) -> Sequence {
+        Sequence { state: seed }
+    }
+
+    /// The next number, of 31 bits.
+    pub fn next_number(&mut self) -> u32 {
+        self.state = self
+            .state
+            .wrapping_mul(6_364_136_223_846_793_005)
+            .wrapping_add(1_442_695_040_888_963_407);
+        (self.state >> 33) as u32
+    }
+
+    /// The next of these texts, of which there is at least one.
+    pub fn pick(&mut self, texts: &[&'static str]) -> &'static str {
+        let place = self.next_number() as usize % texts.len().max(1);
+        texts.get(place).copied().unwrap_or("")
+    }
+}

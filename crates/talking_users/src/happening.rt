@@ -1,0 +1,128 @@
+//! What happens next to a user.
+use crate::guest::{READY, TEXTS, TYPED};
+use cp_users::UserNo;
+use s370_num::DevAddr;
+use side_by_side::Sequence;
+use std::alloc::{AllocError, Global};
+use unit_record::Card;
+
+/// How many users there are.
+pub const USERS: u8 = 16;
+
+/// The devices of a user on his channel: console, reader, punch and printer.
+const DEVICES: [u16; 4] = [0x009, 0x00C, 0x00D, 0x00E];
+
+/// What happens to a user.
+#[derive(Drop)]
+pub enum Happening {
+    /// His machine runs for so many units.
+    Run(u32),
+    /// This device of his is served.
+    Serve(DevAddr),
+    /// His timer ticks.
+    Tick,
+    /// The operator gives him these cards.
+    Deck(Vec<Card>),
+    /// He types this.
+    Line(String),
+}
+
+/// The channel of a user's devices: 0 or 2.
+pub fn channel_of(user: UserNo) -> u16 {
+    u16::from(user.number() % 2) * 2
+}
+
+/// A text for a user, in which `@` stands for his channel, and `_` for his number in EBCDIC.
+pub fn text_for(alloc: Global, user: UserNo, text: &str) -> Result<String, AllocError> {
+    let channel = channel_of(user);
+    let number = user.number();
+    let mut made = String::new(alloc);
+    for character in text.chars() {
+        let piece = match character {
+            '@' => format!(in alloc; "{channel}")?,
+            '_' => format!(in alloc; "F{}F{}", number / 10, number % 10)?,
+            other => format!(in alloc; "{other}")?,
+        };
+        made.push_str(piece.as_str())?;
+    }
+    Ok(made)
+}
+
+/// The line of this place that makes a user's machine ready.
+pub fn ready_line(alloc: Global, user: UserNo, place: usize) -> Result<Happening, AllocError> {
+    let text = READY.get(place).copied().unwrap_or("");
+    Ok(Happening::Line(text_for(alloc, user, text)?))
+}
+
+/// What happens next to a user, while there are so many files.
+pub fn next_happening(
+    alloc: Global,
+    sequence: &mut Sequence,
+    user: UserNo,
+    files: u64,
+) -> Result<Happening, AllocError> {
+    Ok(match sequence.next_number() % 32 {
+        0..=9 => Happening::Run(sequence.next_number() % 24 + 1),
+        10..=18 => Happening::Serve(next_device(sequence, user)),
+        19 => Happening::Tick,
+        20 => Happening::Deck(next_cards(alloc, sequence)?),
+        21..=25 => Happening::Line(text_for(alloc, user, sequence.pick(&TYPED))?),
+        26 => Happening::Line(text_for(alloc, user, sequence.pick(&TEXTS))?),
+        other => Happening::Line(next_talk(alloc, sequence, user, other, files)?),
+    })
+}
+
+/// One of a user's devices.
+fn next_device(sequence: &mut Sequence, user: UserNo) -> DevAddr {
+    let place = sequence.next_number() as usize % 4;
+    DevAddr::new(DEVICES[place] + channel_of(user) * 0x100)
+}
+
+/// One to three cards.
+fn next_cards(alloc: Global, sequence: &mut Sequence) -> Result<Vec<Card>, AllocError> {
+    let mut cards = Vec::new(alloc);
+    for _card in 0..sequence.next_number() % 3 + 1 {
+        cards.push(next_card(sequence))?;
+    }
+    Ok(cards)
+}
+
+/// A card.
+fn next_card(sequence: &mut Sequence) -> Card {
+    let mut card = [0x40; 80];
+    for column in 0..20 {
+        card[column] = (sequence.next_number() % 256) as u8;
+    }
+    card
+}
+
+/// A line by which a user talks to others, or works with his files.
+fn next_talk(
+    alloc: Global,
+    sequence: &mut Sequence,
+    user: UserNo,
+    kind: u32,
+    files: u64,
+) -> Result<String, AllocError> {
+    let channel = channel_of(user);
+    let other = sequence.next_number() % (u32::from(USERS) + 1);
+    let before = sequence.pick(&["#CP ", "#CP ", "#CP ", ""]);
+    match kind {
+        27 | 28 => {
+            let text = sequence.pick(&TEXTS);
+            format!(in alloc; "{before}MSG U{other} {text}")
+        }
+        29 => match sequence.next_number() % 4 {
+            0 => format!(in alloc; "{before}SPOOL {channel}0D TO SYSTEM"),
+            _ => format!(in alloc; "{before}SPOOL {channel}0D TO U{other}"),
+        },
+        30 => {
+            let device = sequence.pick(&["0D", "0D", "0E", "0C"]);
+            format!(in alloc; "{before}CLOSE {channel}{device}")
+        }
+        _ => {
+            let number = u64::from(sequence.next_number()) % (files.saturating_add(1));
+            format!(in alloc; "{before}PURGE {number}")
+        }
+    }
+}

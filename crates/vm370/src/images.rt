@@ -1,0 +1,140 @@
+//! The images of volumes: files of the host that are read at first, and written again at the end.
+use crate::faults::Failure;
+use crate::program::open;
+use ckd_image::{ImageError, read_image, write_image};
+use ckd_volume::Volume;
+use s370_num::host::Counted;
+use std::fs::{File, OpenFile, OpenOptions};
+use std::rt::Files;
+use std::{fs, io};
+
+/// What is told where the host makes, opens or renames no file: its first failure.
+const FAILED: ImageError = ImageError::Device(1);
+
+/// The volumes whose images stand at these paths, in their order.
+pub fn read_volumes<R: AllocGlobal + Files>(
+    rt: &R,
+    paths: &[&str],
+) -> Result<Vec<Volume>, Failure> {
+    let alloc = rt.alloc();
+    let mut volumes = Vec::new(alloc);
+    for path in paths {
+        let mut file = open(rt, path)?;
+        let volume = read_image(alloc, &mut file)?;
+        if volumes.push(volume).is_err() {
+            return Err(Failure::Memory);
+        }
+    }
+    Ok(volumes)
+}
+
+/// Writes the image of a volume to a path, in place of the file that stands there.
+///
+/// It is written to a new file beside that one, which is renamed when it is whole. So whatever fails, either image is
+/// there, and none that is half written; but where no file can be made beside it, the one that stands there is written
+/// over.
+pub fn save_volume<R: AllocGlobal + Files>(
+    rt: &R,
+    volume: &Volume,
+    path: &str,
+) -> Result<(), Failure> {
+    match put(rt, volume, path) {
+        Ok(()) => Ok(()),
+        Err(error) => {
+            let path = String::from_str(rt.alloc(), path)?;
+            Err(Failure::Unsaved(error, path))
+        }
+    }
+}
+
+/// Puts the image of a volume to a path.
+fn put<R: AllocGlobal + Files>(rt: &R, volume: &Volume, path: &str) -> Result<(), ImageError> {
+    let place = place_of(rt, path)?;
+    let Ok(old) = OpenOptions::new()
+        .write(true)
+        .create(true)
+        .open(rt, place.as_str())
+    else {
+        return Err(FAILED);
+    };
+    let Ok(new) = format!(in rt.alloc(); "{place}.new") else {
+        return Err(ImageError::Memory);
+    };
+    match File::create_new(rt, new.as_str()) {
+        Ok(file) => {
+            keep_permissions(&old, &file);
+            replace(rt, volume, file, &new, &place)
+        }
+        Err(_) => write_over(rt, volume, &place),
+    }
+}
+
+/// Where the file of a path stands: a link leads to it.
+fn place_of<R: AllocGlobal + Files>(rt: &R, path: &str) -> Result<String, ImageError> {
+    match fs::canonicalize(rt, path) {
+        Ok(place) => Ok(place.into_string()),
+        Err(_) => match String::from_str(rt.alloc(), path) {
+            Ok(place) => Ok(place),
+            Err(_) => Err(ImageError::Memory),
+        },
+    }
+}
+
+/// Who may read and write the old file may do so with the new one, where the host allows to say that.
+fn keep_permissions<F: OpenFile>(old: &F, new: &F) {
+    if let Ok(metadata) = old.metadata() {
+        let _ = new.set_permissions(metadata.permissions());
+    }
+}
+
+/// Writes the image of a volume to a new file, and renames that when it is whole. It is removed where that fails.
+fn replace<R: AllocGlobal + Files>(
+    rt: &R,
+    volume: &Volume,
+    file: R::File,
+    new: &str,
+    place: &str,
+) -> Result<(), ImageError> {
+    let replaced = match write_whole(rt, volume, file) {
+        Ok(()) => fs::rename(rt, new, place).map_err(|_| FAILED),
+        Err(error) => Err(error),
+    };
+    if replaced.is_err() {
+        let _ = fs::remove_file(rt, new);
+    }
+    replaced
+}
+
+/// Writes the image of a volume to a new file, until the host has all of it on its disk.
+fn write_whole<R: AllocGlobal + Files>(
+    rt: &R,
+    volume: &Volume,
+    file: R::File,
+) -> Result<(), ImageError> {
+    let Ok(same) = file.try_clone() else {
+        return Err(FAILED);
+    };
+    write(rt, volume, file)?;
+    same.sync_all().map_err(|_| FAILED)
+}
+
+/// Writes the image of a volume over the file that stands at a place.
+fn write_over<R: AllocGlobal + Files>(
+    rt: &R,
+    volume: &Volume,
+    place: &str,
+) -> Result<(), ImageError> {
+    match fs::create(rt, place) {
+        Ok(file) => write(rt, volume, file),
+        Err(_) => Err(FAILED),
+    }
+}
+
+/// Writes the image of a volume to a file.
+fn write<R: AllocGlobal + Files>(rt: &R, volume: &Volume, file: R::File) -> Result<(), ImageError> {
+    let alloc = rt.alloc();
+    match io::BufWriter::new(alloc, file) {
+        Ok(output) => write_image(alloc, volume, &mut Counted::new(output)),
+        Err(_) => Err(ImageError::Memory),
+    }
+}
