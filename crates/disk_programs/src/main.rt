@@ -13,7 +13,7 @@ mod users;
 
 use crate::case::{Case, case_of};
 use crate::outcome::difference;
-use crate::users::difference_of_user;
+use crate::users::{difference_of_user, is_of_user};
 use anyhow::{Context, Result};
 use cp_text::words::words_of;
 use s370_store::PlainStorage;
@@ -21,21 +21,14 @@ use std::alloc::Global;
 use step_table::{table, tally};
 use storage_lists::{clear_bytes, clear_keys, is_clear};
 
-/// Each program of which the number is a multiple of this is run by a user too: that takes a system of 4 megabytes.
-const EACH: u64 = 8;
-
 fn main(rt: HostRuntime) -> Result<()> {
     let alloc = rt.alloc();
     let table = table(&rt)?;
-    let mut number = 0u64;
     let mut by_users = 0u64;
     let mut storage = PlainStorage::new(alloc, 2048)?;
     let mut image = PlainStorage::new(alloc, 2048)?;
     let agreement = tally(&rt, &table, |line| {
-        number = number.wrapping_add(1);
-        let by_user = number % EACH == 0;
-        by_users = by_users.wrapping_add(u64::from(by_user));
-        try_line(alloc, &mut storage, &mut image, line.as_bytes(), by_user)
+        try_line(alloc, &mut storage, &mut image, line.as_bytes(), &mut by_users)
     })?;
     println!(rt;
         "{} of {}, {by_users} of them by users too",
@@ -53,12 +46,13 @@ fn try_line(
     storage: &mut PlainStorage,
     image: &mut PlainStorage,
     line: &[u8],
-    by_user: bool,
+    by_users: &mut u64,
 ) -> Result<Option<String>> {
     let words = words_of(alloc, line)?;
     let case = case_of(&words).context("a line has twelve fields")?;
     let mut differs = difference(alloc, storage, image, &case)?;
-    if by_user && differs.is_none() {
+    if differs.is_none() && is_of_user(&case) {
+        *by_users = by_users.wrapping_add(1);
         differs = difference_of_user(alloc, image, &case)?;
     }
     clear(storage, &case);

@@ -12,8 +12,11 @@ use s370_store::PlainStorage;
 use std::alloc::Global;
 use storage_lists::{addressed, byte_at};
 
-/// The frames: a user's program runs where all of the user's storage stands in frames.
-const FRAMES: u32 = 1040;
+/// The frames: a user's program runs where all of the user's storage, which is a megabyte, stands in frames.
+const FRAMES: u32 = 272;
+
+/// The user has the programs that lie below this address, and all that is told of them.
+const END: u32 = 0x80000;
 
 /// The address of the disk.
 const DISK: u16 = 0x190;
@@ -27,6 +30,21 @@ const DIGITS: usize = 32;
 /// The user.
 fn user() -> UserNo {
     UserNo::new(0)
+}
+
+/// Whether a user has the program of a line: a smaller storage than that of the line is brought sooner.
+pub fn is_of_user(case: &Case<'_>) -> bool {
+    [case.keys, case.storage, case.storage_after]
+        .iter()
+        .all(|list| is_below(list))
+}
+
+/// Whether a list names no address from the end on.
+fn is_below(list: &[u8]) -> bool {
+    list.split(|c| *c == b',').all(|item| match addressed(item) {
+        Some((at, _)) => at < END,
+        None => true,
+    })
 }
 
 /// What differs first, after the program of a line was run by a user; none where all is as it should be. The image has
@@ -96,7 +114,7 @@ fn booted(alloc: Global, case: &Case<'_>) -> Result<System> {
     let mode = if case.writable { "W" } else { "R" };
     let count = case.cylinders;
     let behind = count.wrapping_add(1);
-    let own = format!(in alloc; "USER A PW 4M\nMDISK 190 3330 1 {count} TEST01 {mode}")?;
+    let own = format!(in alloc; "USER A PW 1M\nMDISK 190 3330 1 {count} TEST01 {mode}")?;
     let before = "USER B PW 8K\nMDISK 190 3330 0 1 TEST01 W";
     let text = format!(in alloc; "{own}\n{before}\nMDISK 191 3330 {behind} 1 TEST01 W\n")?;
     let directory = read_directory(alloc, text.as_bytes())?;
