@@ -1414,6 +1414,7 @@ class Assembler:
 
     def begin(self, statement):
         """START."""
+        self.here_in = PROGRAM
         reader = statement.reader()
         if not reader.is_done():
             self.move_to(self.absolute(reader, 0, MOST_STORAGE, "the address"))
@@ -1554,9 +1555,11 @@ def print_deck(program):
     loader = assembled_statements(loader.statements)
     cards = [loader[:24], loader[place : place + 72], loader[place + 72 : place + 144]]
     for start in range(0, len(program.memory), 48):
-        data = program.memory[start : start + 48]
-        if any(data):
-            cards.append(card("TXT", start, data))
+        # the loader is not written over
+        below, above = min(start + 48, max(start, place)), max(start, min(start + 48, place + LOADER_SIZE))
+        for first, data in ((start, program.memory[start:below]), (above, program.memory[above : start + 48])):
+            if any(data):
+                cards.append(card("TXT", first, data))
     cards.append(card("END", entry, program.memory[64:76].ljust(12, b"\0")))
     for data in cards:
         sys.stdout.buffer.write(data + b"\x40" * (80 - len(data)))
