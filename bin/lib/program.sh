@@ -95,16 +95,28 @@ END_OF_STATUSES
 # --- running ---
 
 # Runs the program on these words, and ends as it does. Where it names a line of a text that is refused, that line is shown: of
-# the file in $script, $directory or $text.
+# the file in $script, $directory or $text. A signal ends the program too.
 run_program() {
-    exec 3>&1
+    errors=$(mktemp 2> /dev/null) || exec "$program" "$@"
+    trap 'rm -f -- "$errors"' EXIT
+    # what runs beside a shell has no standard input, unless it is given it
+    exec 4<&0
+    "$program" "$@" <&4 2> "$errors" &
+    running=$!
+    trap 'stop_program 129' HUP
+    trap 'stop_program 130' INT
+    trap 'stop_program 143' TERM
     ended=0
-    faults=$("$program" "$@" 2>&1 >&3 3>&-) || ended=$?
-    if [ -n "$faults" ]; then
-        printf '%s\n' "$faults" >&2
-        explain "$faults"
-    fi
+    wait "$running" || ended=$?
+    cat -- "$errors" >&2
+    explain "$(head -n 1 -- "$errors")"
     exit "$ended"
+}
+
+# stop_program STATUS: ends the program that runs
+stop_program() {
+    kill "$running" 2> /dev/null || true
+    exit "$1"
 }
 
 # what is told beside a fault
