@@ -5,7 +5,7 @@
     asm370.py begin USER SOURCE      the same, and one that starts it where END says
     asm370.py deck SOURCE            cards for initial program loading
     asm370.py volume NAME SOURCE     the text of a volume for initial program loading
-    asm370.py listing SOURCE         addresses and bytes beside the statements
+    asm370.py listing SOURCE         addresses and bytes beside the statements, and all names
 
 A source goes through three rooms. Expander makes statements of its lines: macros, conditional assembly and COPY end here.
 Assembler goes over the statements until each name keeps its address, and then makes bytes of them. A form prints the bytes.
@@ -203,7 +203,7 @@ def read_lines(path):
 
 # --- macros and conditional assembly ---
 
-CONDITIONAL = {"AIF", "AGO", "ANOP", "SETA", "SETB", "SETC", "LCLA", "LCLB", "LCLC", "GBLA", "GBLB", "GBLC", "MNOTE", "MEXIT", "COPY"}
+CONDITIONAL = set("AIF AGO ANOP SETA SETB SETC LCLA LCLB LCLC GBLA GBLB GBLC MNOTE MEXIT COPY".split())
 MOST_JUMPS = 10000
 MOST_DEPTH = 40
 
