@@ -60,8 +60,8 @@ def status_text(word):
 
 
 def chained(start, word_at):
-    """The places of a program's words and the words, in the order in which chaining and transfers lead to them; of a transfer back
-    what a status modifier leads to behind it. word_at gives a word, or None where there is none."""
+    """The places of a program's words and the words, in the order in which chaining and transfers lead to them; of a transfer
+    back what a status modifier leads to behind it. word_at gives a word, or None where there is none."""
     found = {}
     place, before = start, None
     while place is not None and place not in found and len(found) < 400:

@@ -80,7 +80,8 @@ def run(command, usage):
 
 
 def read_words(words, options, least, most):
-    """The options, each to a list of its values, and the other words; options maps a name to how its value is read, or to None."""
+    """The options, each to a list of its values, and the other words; options maps a name to how its value is read, or to None
+    where it has none."""
     found = {it: [] for it in options}
     paths = []
     words = list(words)

@@ -19,10 +19,10 @@ class Session:
         return self.script().count(b"\n")
 
     def do(self, lines, turns, kept=None):
-        """Does these lines, and deals turns until nobody is ready, at most so many. Where somebody is ready even then, only `kept`
-        turns are dealt, where a number is given: so a guest that never waits does not make each later line slow. Gives the new lines
-        of the transcript, and how many turns were dealt where somebody is still ready, else None. Where the program refuses or
-        fails, nothing has happened."""
+        """Does these lines, and deals turns until nobody is ready, at most so many. Where somebody is ready even then, only
+        `kept` turns are dealt, where a number is given: so a guest that never waits does not make each later line slow. Gives
+        the new lines of the transcript, and how many turns were dealt where somebody is still ready, else None. Where the
+        program refuses or fails, nothing has happened."""
         added = b"".join(it + b"\n" for it in lines)
         events, files, idle = self.dealt(added, turns)
         if turns and not idle and kept:

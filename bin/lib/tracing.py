@@ -1,5 +1,6 @@
-"""The units of a guest one by one. A script is done again with its runs as single units, and between these the machine is asked
-by DISPLAY; the guest does not notice. What is asked depends on earlier answers, so the script is run until nothing is left to ask."""
+"""The units of a guest one by one. A script is done again with its runs as single units, and between these the machine is
+asked by DISPLAY; the guest does not notice. What is asked depends on earlier answers, so the script is run until nothing is
+left to ask."""
 from typing import NamedTuple
 
 from channels import chained, command_text, is_jump, status_text
@@ -19,6 +20,7 @@ GENERAL = [f"G{it}" for it in range(16)]
 CONTROL = [f"X{it}" for it in range(16)]
 LOW_ROWS = range(0x10, 0x80, 0x10)
 PREFETCHED = 8
+CHANGED = "the machines do something else when the script is done again: has a volume changed meanwhile?"
 
 
 class Step(NamedTuple):
@@ -46,8 +48,8 @@ def events_of(script):
 
 
 class Expansion:
-    """The steps of a script: turns as the runs and the served devices that they were, and the runs of one user as single units, of
-    which those from `first` on are traced, at most `most`."""
+    """The steps of a script: turns as the runs and the served devices that they were, and the runs of one user as single
+    units, of which those from `first` on are traced, at most `most`."""
 
     def __init__(self, machines, user, script, first, most):
         self.user = user
@@ -56,6 +58,7 @@ class Expansion:
         self.is_cut = False
         self.steps = []
         told, _ = parts(machines.run(script))
+        self.printed = printed(told)
         self.ends = [it.split(" ") for it in told if it.startswith("= ")]
         if any(it[-1] == "FRAMES" for it in self.ends):
             raise Failure(REFUSED, "an event of the script finds no frame free, also with as many as there may be")
@@ -81,8 +84,8 @@ class Expansion:
             return
         if self.ends[0][2] != "SERVED":
             self.run(self.ends[0][1], SLICE)
-        # A device is served in the turn of the slice before it, or in a turn without a slice: where a turn with a slice serves none,
-        # no program stands in the line, and none is served in the next one.
+        # A device is served in the turn of the slice before it, or in a turn without a slice: where a turn with a slice
+        # serves none, no program stands in the line, and none is served in the next one.
         if self.ends and not self.is_cut and self.ends[0][2:3] == ["SERVED"]:
             self.serve()
 
@@ -114,16 +117,24 @@ class Expansion:
             self.add("run", f"RUN {user} {count - done}", user)
 
 
+def printed(told):
+    """The lines of a transcript that terminals show."""
+    return [it for it in told if not it.startswith("= ")]
+
+
 class Machine:
     """What is known of a machine after each number of steps: `ask` gives an answer, or None where it is yet to be asked."""
 
-    def __init__(self, machines, user, steps):
+    def __init__(self, machines, user, expansion):
         self.machines = machines
         self.user = user
-        self.steps = steps
+        self.steps = steps = expansion.steps
         self.known = {}
         self.wanted = {}
         self.told, _ = parts(machines.run(b"".join(it.text for it in steps)))
+        shown = printed(self.told)
+        if shown != expansion.printed[: len(shown) if expansion.is_cut else None]:
+            raise Failure(REFUSED, CHANGED)
         self.behind = {0: 0, len(steps): len(self.told)}
         ends = [place + 1 for place, it in enumerate(self.told) if it.startswith("= ")]
         for place, step in enumerate(steps):
@@ -157,7 +168,7 @@ class Machine:
         for place in sorted(wanted):
             behind = self.lines_behind(place)
             if told[: behind - last] != self.told[last:behind]:
-                raise Failure(REFUSED, "the machines do something else where they are asked: has a volume changed meanwhile?")
+                raise Failure(REFUSED, CHANGED)
             told, last = told[behind - last :], behind
             for what in wanted[place]:
                 self.known[place, what] = told.pop(0).removeprefix(self.user + ": ")
