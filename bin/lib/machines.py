@@ -4,8 +4,9 @@ import re
 import subprocess
 import tempfile
 
-from people import FILE_FAILED, Failure, REFUSED, WrongUse, built, last, number, read_file, read_words, user_name
+from people import FILE_FAILED, Failure, REFUSED, WrongUse, last, number, read_file, read_words, user_name
 
+ROOT = os.path.dirname(os.path.dirname(os.path.dirname(os.path.realpath(__file__))))
 BARE = "BARE"
 UNITS = {"CONSOLE": "console", "READER": "reader", "PUNCH": "punch", "PRINTER": "printer", "MDISK": "disk"}
 STORAGE = re.compile("([1-9][0-9]{0,6})([KM])")
@@ -22,26 +23,40 @@ class ScriptRefused(Failure):
 class Machines:
     """A program, its words and the users whose machines it runs; `run` gives it a script."""
 
-    def __init__(self, crate, before, volumes, users, devices):
-        self.crate = crate
+    def __init__(self, name, before, volumes, users, devices):
+        self.name = name
         self.before = before
         self.volumes = volumes
         self.users = users
         self.devices = devices
         self.folder = tempfile.TemporaryDirectory(prefix="people-")
-        self.program = None
+        self.is_built = False
 
     def close(self):
         self.folder.cleanup()
 
-    def run(self, script):
-        """The transcript of a script, both as bytes."""
-        self.program = self.program or built(self.crate)
+    def words(self, script):
+        """The words behind the program's name, for a script that is written for them."""
         path = os.path.join(self.folder.name, "script")
         with open(path, "wb") as file:
             file.write(script)
-        words = [self.program, *self.before[:-1], "--", self.before[-1], path, *self.volumes]
-        done = subprocess.run(words, stdin=subprocess.DEVNULL, capture_output=True)
+        return [*self.before[:-1], "--", self.before[-1], path, *self.volumes]
+
+    def build(self):
+        """Has the command of this name do nothing, which proves and builds the program where that is to be done, and judges what
+        it is given; it tells what is wrong by itself."""
+        command = os.path.join(ROOT, "bin", self.name)
+        status = subprocess.run([command, *self.words(b"")], stdin=subprocess.DEVNULL, stdout=subprocess.DEVNULL).returncode
+        if status:
+            raise Failure(status)
+        self.is_built = True
+
+    def run(self, script):
+        """The transcript of a script, both as bytes."""
+        if not self.is_built:
+            self.build()
+        program = os.path.join(ROOT, "crates", self.name + "_cli", "out", self.name + "_cli")
+        done = subprocess.run([program, *self.words(script)], stdin=subprocess.DEVNULL, capture_output=True)
         if done.returncode == 0:
             return done.stdout
         told = done.stderr.decode(errors="surrogateescape").splitlines()
@@ -94,7 +109,7 @@ def of_bare(storage, volumes):
         raise WrongUse("there are more than 16 volumes")
     devices = {"009": "console", "00C": "reader", "00D": "punch", "00E": "printer"}
     devices |= {f"{0x190 + it:03X}": "disk" for it in range(len(volumes))}
-    return Machines("bare370_cli", [storage], volumes, {BARE: pages}, {BARE: devices})
+    return Machines("bare370", [storage], volumes, {BARE: pages}, {BARE: devices})
 
 
 def of_directory(directory, sizes, volumes):
@@ -102,7 +117,7 @@ def of_directory(directory, sizes, volumes):
     users, devices = stated(read_file(directory))
     if not users:
         raise Failure(REFUSED, f"{directory} states no user")
-    return Machines("vm370_cli", [*sizes, directory], volumes, users, devices)
+    return Machines("vm370", [*sizes, directory], volumes, users, devices)
 
 
 SIZE_OPTIONS = {"--frames": number(0, 4096), "--slots": number(0, 65536)}

@@ -1,7 +1,6 @@
 """What the commands in Python share: their words, how they end, and the programs that they run (docs/COMMAND_LINE.md)."""
 import os
 import re
-import subprocess
 import sys
 import tempfile
 
@@ -193,13 +192,3 @@ def write_whole(path, data):
     except BaseException:
         os.unlink(beside)
         raise
-
-
-def built(crate):
-    """The path of the program of a crate, which is proved and built first where it is not what the sources say."""
-    command = os.path.realpath(sys.argv[0])
-    text = '. "$(dirname -- "$0")/lib/common.sh"; ensure_built "$1"; printf "%s\\n" "$program"'
-    done = subprocess.run(["sh", "-euc", text, command, crate], stdin=subprocess.DEVNULL, stdout=subprocess.PIPE)
-    if done.returncode:
-        raise Failure(done.returncode)
-    return os.fsdecode(done.stdout).rstrip("\n")

@@ -1,6 +1,7 @@
 """The units of a guest one by one. A script is done again with its runs as single units, and between these the machine is
 asked by DISPLAY; the guest does not notice. What is asked depends on earlier answers, so the script is run until nothing is
 left to ask."""
+import re
 from typing import NamedTuple
 
 from channels import chained, command_text, is_jump, status_text
@@ -15,7 +16,8 @@ PROGRAM_CODES = {
     1: "operation", 2: "privileged operation", 3: "execute", 4: "protection", 5: "addressing", 6: "specification", 7: "data",
     8: "fixed-point overflow", 9: "fixed-point divide",
 }  # fmt: skip
-CSW, CAW = 0x40, 0x48
+CSW = 0x40
+LOADING = re.compile(rb"LINE [A-Z0-9]+ (?:#CP )?IPL ([0-5][0-9A-F]{2})\n")
 GENERAL = [f"G{it}" for it in range(16)]
 CONTROL = [f"X{it}" for it in range(16)]
 LOW_ROWS = range(0x10, 0x80, 0x10)
@@ -238,6 +240,8 @@ class Trace:
                 yield from self.program(place, step)
             else:
                 yield from (f"{'CARD' if it else 'DO'} {text}" for it, text in enumerate(text_lines(step)))
+                if typed := LOADING.fullmatch(step.text):
+                    yield from self.loading(place, step.user, typed[1].decode())
             # a typed line's replies come where they are known to end
             if place + 1 in self.machine.behind:
                 behind = self.machine.behind[place + 1]
@@ -356,9 +360,21 @@ class Trace:
         if step.device not in self.started:
             yield f"CCW {step.device} its start was not traced"
             return
-        kind = self.devices.get(step.device, "")
-        for at, word in chained(self.started.pop(step.device), lambda it: self.word(place, it)):
-            yield f"CCW {step.device} {at:06X} " + ("stands past storage" if not word else command_text(word, kind))
+        yield from self.words(step.device, place, self.started.pop(step.device))
+
+    def words(self, device, place, start):
+        kind = self.devices.get(device, "")
+        for at, word in chained(start, lambda it: self.word(place, it)):
+            yield f"CCW {device} {at:06X} " + ("stands past storage" if not word else command_text(word, kind))
+
+    def loading(self, place, user, device):
+        """The words of a program that has loaded the machine: the implied first one, and those that it read, as they stand then."""
+        if user != self.machine.user:
+            return
+        low = self.machine.storage(place + 1, 0, 8)
+        if low and low[2:4] == int(device, 16).to_bytes(2, "big"):
+            yield f"CCW {device} ------ {command_text(bytes.fromhex('0200000060000018'), self.devices.get(device, ''))}"
+            yield from self.words(device, place + 1, 8)
 
     def word(self, place, address):
         """A command word; None where there is none, or where it is yet to be asked."""
