@@ -204,7 +204,7 @@ def read_lines(path):
 # --- macros and conditional assembly ---
 
 CONDITIONAL = set("AIF AGO ANOP SETA SETB SETC LCLA LCLB LCLC GBLA GBLB GBLC MNOTE MEXIT COPY".split())
-MOST_JUMPS = 10000
+MOST_JUMPS = 4096
 MOST_DEPTH = 40
 
 Macro = namedtuple("Macro", "name label positional keywords path lines first takes_lists")
@@ -398,7 +398,8 @@ class Expander:
         elif operation == "AGO":
             self.jump(frame, reader)
         elif operation in ("SETA", "SETB"):
-            self.assign(frame, statement, str(int(Terms(reader, frame, self).either())))
+            terms = Terms(reader, frame, self)
+            self.assign(frame, statement, str(terms.number(terms.either())))
         elif operation == "SETC":
             self.assign(frame, statement, read_text(reader, frame, self))
         elif operation[:3] in ("LCL", "GBL"):
