@@ -1,0 +1,168 @@
+"""The machines that a command drives: a program with its words, which runs a script and prints a transcript (docs/FORMATS.md)."""
+import os
+import re
+import subprocess
+import tempfile
+
+from people import FILE_FAILED, Failure, REFUSED, WrongUse, last, number, read_file, read_words, user_name
+
+ROOT = os.path.dirname(os.path.dirname(os.path.dirname(os.path.realpath(__file__))))
+BARE = "BARE"
+UNITS = {"CONSOLE": "console", "READER": "reader", "PUNCH": "punch", "PRINTER": "printer", "MDISK": "disk"}
+STORAGE = re.compile("([1-9][0-9]{0,6})([KM])")
+
+
+class ScriptRefused(Failure):
+    """A script that the program refuses, and the number of its first wrong line."""
+
+    def __init__(self, line, *lines):
+        super().__init__(REFUSED, *lines)
+        self.line = line
+
+
+class Machines:
+    """A program, its words and the users whose machines it runs; `run` gives it a script."""
+
+    def __init__(self, name, before, volumes, users, devices):
+        self.name = name
+        self.before = before
+        self.volumes = volumes
+        self.users = users
+        self.devices = devices
+        self.folder = tempfile.TemporaryDirectory(prefix="people-")
+        self.is_built = False
+
+    def close(self):
+        self.folder.cleanup()
+
+    def words(self, script):
+        """The words behind the program's name, for a script that is written for them."""
+        path = os.path.join(self.folder.name, "script")
+        with open(path, "wb") as file:
+            file.write(script)
+        return [*self.before[:-1], "--", self.before[-1], path, *self.volumes]
+
+    def build(self):
+        """Has the command of this name do nothing, which proves and builds the program where that is to be done, and judges what
+        it is given; it tells what is wrong by itself."""
+        command = os.path.join(ROOT, "bin", self.name)
+        status = subprocess.run([command, *self.words(b"")], stdin=subprocess.DEVNULL, stdout=subprocess.DEVNULL).returncode
+        if status:
+            raise Failure(status)
+        self.is_built = True
+
+    def run(self, script):
+        """The transcript of a script, both as bytes."""
+        if not self.is_built:
+            self.build()
+        program = os.path.join(ROOT, "crates", self.name + "_cli", "out", self.name + "_cli")
+        done = subprocess.run([program, *self.words(script)], stdin=subprocess.DEVNULL, capture_output=True)
+        if done.returncode == 0:
+            return done.stdout
+        told = done.stderr.decode(errors="surrogateescape").splitlines()
+        wrong = re.fullmatch("fault: script Line ([0-9]+)", told[0]) if told else None
+        if wrong:
+            raise ScriptRefused(int(wrong[1]), *told)
+        if done.returncode < 0:
+            raise Failure(FILE_FAILED, f"the program was ended by signal {-done.returncode}")
+        raise Failure(done.returncode, *(it for it in told if it))
+
+
+def read_storage(text):
+    """How many pages a size of storage has, as a directory or bare370 takes it."""
+    found = STORAGE.fullmatch(text)
+    kilobytes = int(found[1]) * (1024 if found[2] == "M" else 1) if found else 0
+    if kilobytes % 4 or not 8 <= kilobytes <= 4096:
+        raise ValueError
+    return kilobytes // 4
+
+
+def statements(directory):
+    """The words of each statement of a directory."""
+    for line in directory.decode("latin-1").split("\n"):
+        words = [it for it in line.split(" ") if it]
+        if words and not line.startswith("*"):
+            yield words
+
+
+def stated(directory):
+    """The users of a directory with their pages, and what is at each of their addresses; what is wrong the program tells."""
+    users, devices = {}, {}
+    for words in statements(directory):
+        if words[0] == "USER" and len(words) == 4:
+            user = words[1]
+            users[user] = read_storage(words[3]) if STORAGE.fullmatch(words[3]) else 0
+            devices[user] = {}
+        elif users and len(words) > 2:
+            kind = words[2] if words[0] == "SPOOL" else words[0]
+            devices[user][words[1]] = UNITS.get(kind, "")
+    return users, devices
+
+
+def of_bare(storage, volumes):
+    """One machine of its own with its devices."""
+    try:
+        pages = read_storage(storage)
+    except ValueError:
+        raise WrongUse(f"{storage} is no size of storage: 8K to 4096K in steps of 4K, or 1M to 4M") from None
+    if len(volumes) > 16:
+        raise WrongUse("there are more than 16 volumes")
+    devices = {"009": "console", "00C": "reader", "00D": "punch", "00E": "printer"}
+    devices |= {f"{0x190 + it:03X}": "disk" for it in range(len(volumes))}
+    return Machines("bare370", [storage], volumes, {BARE: pages}, {BARE: devices})
+
+
+def of_directory(directory, sizes, volumes):
+    """The machines of the users of a directory."""
+    users, devices = stated(read_file(directory))
+    if not users:
+        raise Failure(REFUSED, f"{directory} states no user")
+    return Machines("vm370", [*sizes, directory], volumes, users, devices)
+
+
+SIZE_OPTIONS = {"--frames": number(16, 4096), "--slots": number(0, 65536)}
+
+
+def read_machines(words, options, paths_behind):
+    """The machines that the words name, the other options and the paths that stand behind the first one."""
+    found, paths = read_words(words, {"--bare": None} | SIZE_OPTIONS | options, 1 + paths_behind, 1000)
+    first, behind, volumes = paths[0], paths[1 : 1 + paths_behind], paths[1 + paths_behind :]
+    for path in [*behind, *volumes]:
+        with open(path, "rb"):
+            pass
+    frames, slots = last(found["--frames"], None), last(found["--slots"], None)
+    if found["--bare"]:
+        if frames is not None or slots is not None:
+            raise WrongUse("a machine of its own has no frames and slots")
+        return of_bare(first, volumes), found, behind
+    sizes = [] if frames is None else ["--frames", str(frames)]
+    sizes += [] if slots is None else ["--slots", str(slots)]
+    return of_directory(first, sizes, volumes), found, behind
+
+
+def room_for_all(machines):
+    """Frames and slots in which every page of every user has room, so that no event is ever told that none is free."""
+    pages = sum(machines.users.values())
+    frames = min(4096, max(16, pages))
+    machines.before = ["--frames", str(frames), "--slots", str(max(0, pages - frames)), machines.before[-1]]
+
+
+def choose_user(machines, name):
+    """The user of this name, or the first where none is given."""
+    if name is None:
+        return next(iter(machines.users))
+    if name not in machines.users:
+        raise WrongUse(f"there is no user {name}")
+    return name
+
+
+def parts(transcript):
+    """The lines of the events, and those of the files for the operator."""
+    lines = transcript.decode(errors="surrogateescape").split("\n")[:-1]
+    for place, line in enumerate(lines):
+        if line.startswith("== "):
+            return lines[:place], lines[place:]
+    return lines, []
+
+
+USER_OPTION = {"--user": user_name}

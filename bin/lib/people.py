@@ -1,0 +1,198 @@
+"""What the commands in Python share: their words, how they end, and the programs that they run (docs/COMMAND_LINE.md)."""
+import os
+import re
+import sys
+import tempfile
+
+REFUSED, WRONG_USE, FILE_FAILED, NO_MEMORY = 1, 2, 3, 4
+
+STATUSES = """statuses:
+  0   it ended well
+  1   {refused} is refused; standard error says where
+  2   a wrong use, or a question for this text
+  3   a file failed
+  4   the host had no memory
+"""
+
+BUILDS = """ 70   the program was not built; standard error has the log
+ 71   the Rattle kit is not there (no rt in PATH), and the program is not built
+ 72   the program is not built, and its folder cannot be written
+"""
+
+
+class Failure(Exception):
+    """An end with a status, and what standard error tells."""
+
+    def __init__(self, status, *lines):
+        super().__init__(*lines)
+        self.status = status
+        self.lines = lines
+
+
+class WrongUse(Exception):
+    """Wrong words; the text says which, and is empty where help is asked for."""
+
+
+def name():
+    return os.path.basename(sys.argv[0])
+
+
+def say(text):
+    sys.stdout.flush()
+    print(f"{name()}: {text}", file=sys.stderr, flush=True)
+
+
+def run(command, usage):
+    """Runs a command on its words, and ends with its status."""
+    for stream in (sys.stdin, sys.stdout, sys.stderr):
+        stream.reconfigure(errors="surrogateescape")
+    try:
+        command(sys.argv[1:])
+        sys.stdout.flush()
+        status = 0
+    except WrongUse as it:
+        told = usage.format(command=sys.argv[0])
+        if str(it):
+            say(it)
+            told = told.partition("\n\n")[0] + f"\n{name()} --help tells more\n"
+        print(told, end="", file=sys.stderr)
+        status = WRONG_USE
+    except Failure as it:
+        for line in it.lines:
+            print(line if line.startswith("fault: ") else f"{name()}: {line}", file=sys.stderr)
+        status = it.status
+    except BrokenPipeError:
+        status = FILE_FAILED
+    except OSError as it:
+        say(f"{it.filename}: {it.strerror}" if it.filename else it.strerror)
+        status = FILE_FAILED
+    except MemoryError:
+        say("the host has no more memory")
+        status = NO_MEMORY
+    except KeyboardInterrupt:
+        status = 130
+    try:
+        sys.stdout.flush()
+    except OSError:
+        # nobody reads on, or there is no room: what is left of the output is given up
+        os.dup2(os.open(os.devnull, os.O_WRONLY), sys.stdout.fileno())
+        status = status or FILE_FAILED
+    sys.exit(status)
+
+
+def read_words(words, options, least, most):
+    """The options, each to a list of its values, and the other words; options maps a name to how its value is read, or to None
+    where it has none."""
+    found = {it: [] for it in options}
+    paths = []
+    words = list(words)
+    while words:
+        word = words.pop(0)
+        if word == "--":
+            paths += words
+            break
+        if not word.startswith("-") or word == "-":
+            paths.append(word)
+            continue
+        if word in ("--help", "-h"):
+            raise WrongUse
+        option, given, value = word.partition("=")
+        if option not in options:
+            raise WrongUse(f"no such option: {option}")
+        if given and options[option] is None:
+            raise WrongUse(f"{option} has no value: {word}")
+        if options[option] is None:
+            value = True
+        elif not given:
+            if not words:
+                raise WrongUse(f"nothing stands behind {option}")
+            value = words.pop(0)
+        found[option].append(value if options[option] is None else read_value(option, value, options[option]))
+    if len(paths) < least:
+        raise WrongUse("a word is missing" if paths else "")
+    if len(paths) > most:
+        raise WrongUse(f"one word too many: {paths[most]}")
+    return found, paths
+
+
+def read_value(option, value, read):
+    try:
+        return read(value)
+    except ValueError:
+        raise WrongUse(f"{value} is no value of {option}") from None
+
+
+def last(values, otherwise):
+    """The value of an option that is given at most once."""
+    if len(values) > 1:
+        raise WrongUse("an option is given twice")
+    return values[0] if values else otherwise
+
+
+def number(least, most):
+    """Reads a decimal number within these bounds."""
+
+    def read(text):
+        if not re.fullmatch("[0-9]{1,7}", text) or not least <= int(text) <= most:
+            raise ValueError
+        return int(text)
+
+    return read
+
+
+def user_name(text):
+    """A user's name, as a directory may state it."""
+    if not re.fullmatch("[A-Z][A-Z0-9]{0,7}", text):
+        raise ValueError
+    return text
+
+
+def serial(text):
+    """The serial number of a volume."""
+    if not re.fullmatch("[A-Z0-9]{1,6}", text):
+        raise ValueError
+    return text
+
+
+def device(text):
+    """The address of a device: three hexadecimal digits, 000 to 5FF."""
+    if not re.fullmatch("[0-5][0-9A-F]{2}", text):
+        raise ValueError
+    return text
+
+
+def address(text):
+    """An address of storage: one to six hexadecimal digits."""
+    if not re.fullmatch("[0-9A-F]{1,6}", text):
+        raise ValueError
+    return int(text, 16)
+
+
+def read_file(path):
+    with open(path, "rb") as file:
+        return file.read()
+
+
+def read_input(path):
+    """The bytes of a file, or of standard input where no path or - is given."""
+    return sys.stdin.buffer.read() if path in (None, "-") else read_file(path)
+
+
+def write_whole(path, data):
+    """Writes a file that is there whole or not at all; what is no plain file is written to as it is."""
+    if os.path.exists(path) and not os.path.isfile(path):
+        with open(path, "wb") as file:
+            file.write(data)
+        return
+    path = os.path.realpath(path)
+    handle, beside = tempfile.mkstemp(prefix=".new-", dir=os.path.dirname(path))
+    try:
+        with os.fdopen(handle, "wb") as file:
+            file.write(data)
+        mask = os.umask(0)
+        os.umask(mask)
+        os.chmod(beside, 0o666 & ~mask)
+        os.replace(beside, path)
+    except BaseException:
+        os.unlink(beside)
+        raise
