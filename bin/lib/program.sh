@@ -11,7 +11,7 @@ read_run_words() {
     more=$1
     shift
     read_words "frames: slots: save $more" "$@"
-    check_number --frames "${option_frames-64}" 16 4096
+    check_number --frames "${option_frames-64}" 0 4096
     check_number --slots "${option_slots-256}" 0 65536
     need_paths DIRECTORY SCRIPT '[..]'
     check_texts "$@"
