@@ -153,7 +153,10 @@ impl Talkers {
     fn count_delivered(&mut self) {
         match self.machines.delivered() {
             Some(delivered) => match delivered.what {
-                Delivery::Message(_) => self.counts.messages = self.counts.messages.saturating_add(1),
+                Delivery::Message(_) => self.counts.messages = self
+                    .counts
+                    .messages
+                    .saturating_add(1),
                 Delivery::Deck(_) => self.counts.decks = self.counts.decks.saturating_add(1),
             },
             None => {}
@@ -195,7 +198,9 @@ fn main(rt: HostRuntime) -> Result<()> {
             served,
         } = talkers.counts;
         let out = talkers.machines.out_of_frames();
-        println!(rt; "{frames} frames: {messages} messages, {decks} decks, {served} serves, {out} out of frames")?;
+        println!(rt;
+            "{frames} frames: {messages} messages, {decks} decks, {served} serves, {out} out of frames"
+        )?;
     }
     Ok(())
 }
