@@ -28,7 +28,13 @@ fn main(rt: HostRuntime) -> Result<()> {
     let mut storage = PlainStorage::new(alloc, 2048)?;
     let mut image = PlainStorage::new(alloc, 2048)?;
     let agreement = tally(&rt, &table, |line| {
-        try_line(alloc, &mut storage, &mut image, line.as_bytes(), &mut by_users)
+        try_line(
+            alloc,
+            &mut storage,
+            &mut image,
+            line.as_bytes(),
+            &mut by_users,
+        )
     })?;
     println!(rt;
         "{} of {}, {by_users} of them by users too",

@@ -174,11 +174,7 @@ fn run_program(alloc: Global, system: &mut System, caw: u32) -> Result<()> {
     type_line(system, &format!(in alloc; "#CP STORE 48 {caw:08X}")?)?;
     type_line(system, "#CP STORE PSW 00000000 00000100")?;
     run(system)?;
-    apply(
-        system,
-        Event::Serve(user(), DevAddr::new(DISK)),
-        Ended::Served(true),
-    )?;
+    serve(system)?;
     run(system)
 }
 
@@ -193,17 +189,28 @@ fn run(system: &mut System) -> Result<()> {
 
 /// Types a line of the user.
 fn type_line(system: &mut System, line: &str) -> Result<()> {
-    apply(system, Event::Line(user(), line.as_bytes()), Ended::Done)
-}
-
-/// Applies an event, which has to end so.
-fn apply(system: &mut System, event: Event<'_>, wanted: Ended) -> Result<()> {
     let _device = DevAddr::new(0);
-    match system.apply(event) {
-        Ok(reply) if reply.ended == wanted => Ok(()),
-        Ok(_) => bail!("an event ends otherwise"),
+    match system.apply(Event::Line(user(), line.as_bytes())) {
+        Ok(reply) => has_ended(reply.ended, Ended::Done),
         Err(error) => Err(error)?,
     }
+}
+
+/// Serves the disk, which has a program.
+fn serve(system: &mut System) -> Result<()> {
+    let _device = DevAddr::new(0);
+    match system.apply(Event::Serve(user(), DevAddr::new(DISK))) {
+        Ok(reply) => has_ended(reply.ended, Ended::Served(true)),
+        Err(error) => Err(error)?,
+    }
+}
+
+/// An error where an event has not ended so.
+fn has_ended(ended: Ended, wanted: Ended) -> Result<()> {
+    if ended != wanted {
+        bail!("an event has ended otherwise");
+    }
+    Ok(())
 }
 
 /// The status word.
