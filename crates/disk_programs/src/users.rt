@@ -105,7 +105,10 @@ fn write_neighbour(alloc: Global, volume: &mut Volume, cylinder: usize, head: us
 fn name_track(volume: &mut Volume, cylinder: usize, head: usize) -> Result<()> {
     let place = cylinder.wrapping_add(1);
     let track = volume.track_mut(place, head).context("no such track")?;
-    track.set_home([0, 0, cylinder as u8, 0, head as u8]);
+    let (Ok(cylinder), Ok(head)) = (u8::try_from(cylinder), u8::try_from(head)) else {
+        bail!("too many cylinders");
+    };
+    track.set_home([0, 0, cylinder, 0, head]);
     Ok(())
 }
 
@@ -232,7 +235,10 @@ fn has_bytes(system: &System, image: &mut PlainStorage, list: &[u8]) -> bool {
 
 /// Whether the storage of the user has so many bytes of an image from this address on.
 fn has_bytes_at(system: &System, image: &mut PlainStorage, at: u32, count: usize) -> bool {
-    for k in 0..count as u32 {
+    let Ok(count) = u32::try_from(count) else {
+        return false;
+    };
+    for k in 0..count {
         let at = at.wrapping_add(k);
         if system.storage(user(), at) != Some(byte_at(image, at)) {
             return false;
