@@ -91,7 +91,9 @@ impl SideBySide {
     pub fn boot(alloc: Global, directory: &[u8], sizes: Sizes) -> Result<SideBySide, SideError> {
         let directory = read_directory(alloc, directory)?;
         let machines = machines_of(alloc, directory.users())?;
-        let system = System::boot(alloc, directory, Vec::new(alloc), sizes)?;
+        let Ok(system) = System::boot(alloc, directory, Vec::new(alloc), sizes) else {
+            return Err(SideError::NotBooted);
+        };
         Ok(SideBySide {
             system,
             machines,

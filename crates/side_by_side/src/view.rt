@@ -1,5 +1,5 @@
 //! What is seen of a machine, and why two machines are not the same.
-use cp_core::{BootError, CpError};
+use cp_core::CpError;
 use cp_devices::AttachError;
 use cp_directory::DirError;
 use std::alloc::AllocError;
@@ -83,8 +83,8 @@ pub enum SideError {
     #[error("{0}")]
     Directory(#[from] DirError),
     /// The system is not booted.
-    #[error("{0}")]
-    Boot(#[from] BootError),
+    #[error("the system is not booted")]
+    NotBooted,
     /// The system refuses the event.
     #[error("{0}")]
     Event(#[from] CpError),
