@@ -128,16 +128,20 @@ MDISK 191 3330 0 10 PACK02 W
 MDISK 192 3330 5 6 PACK01 W
 ";
 
-/// Why no system of that directory is booted that has volumes of these serial numbers, with ten cylinders each.
-fn refusal(alloc: Global, serials: &[[u8; 6]], frames: u32) -> Result<Option<BootError>> {
+/// Whether no system of that directory is booted, for this reason, that has volumes of these serial numbers, with ten
+/// cylinders each.
+fn is_refused_with(
+    alloc: Global,
+    serials: &[[u8; 6]],
+    frames: u32,
+    reason: BootError,
+) -> Result<bool> {
     let mut volumes = Vec::new(alloc);
     for serial in serials {
         volumes.push(Volume::blank(alloc, *serial, 10)?)?;
     }
-    match boot_of(alloc, DISKS, volumes, frames)? {
-        Ok(_) => Ok(None),
-        Err(error) => Ok(Some(error)),
-    }
+    let booted = boot_of(alloc, DISKS, volumes, frames)?;
+    Ok(is_refused(booted, reason))
 }
 
 fn volumes_that_lack(alloc: Global) -> Result<()> {
@@ -150,14 +154,12 @@ fn volumes_that_lack(alloc: Global) -> Result<()> {
         ([*b"PACK03", *b"PACK03"], BootError::DuplicateVolume),
         ([*b"PACK02", *b"PACK01"], past),
     ] {
-        let told = refusal(alloc, &serials, FEWEST_FRAMES)?;
-        see(told == Some(reason), "each disk has its cylinders")?;
+        let refused = is_refused_with(alloc, &serials, FEWEST_FRAMES, reason)?;
+        see(refused, "each disk has its cylinders")?;
     }
-    let told = refusal(alloc, &[*b"PACK03", *b"PACK03"], FEWEST_FRAMES - 1)?;
-    see(
-        told == Some(BootError::TooFewFrames),
-        "frames are counted before volumes",
-    )
+    let twins = [*b"PACK03", *b"PACK03"];
+    let refused = is_refused_with(alloc, &twins, FEWEST_FRAMES - 1, BootError::TooFewFrames)?;
+    see(refused, "frames are counted before volumes")
 }
 
 fn machine_of_nobody(system: &mut System) -> Result<()> {
