@@ -1,0 +1,3 @@
+pub mod Areas
+pub mod Needs
+pub mod Laws
