@@ -49,7 +49,7 @@ slices_same xs ys (suc n) a long inside same =
 in_same : (m0 : Memory) (start : ℕ) (m : Memory) (a n : ℕ) → IsKept m0 start m → is_in m a n ≡ is_in m0 a n
 in_same m0 start m a n kept = rw (kept.size, kept.keys) refl
 
-in_fits : (m : Memory) (a n : ℕ) → 0 < n → is_in m a n ≡ true → a + n ≤ length m.bytes
+pub in_fits : (m : Memory) (a n : ℕ) → 0 < n → is_in m a n ≡ true → a + n ≤ length m.bytes
 in_fits m a n some e = fits (length m.bytes) m.keys 0 Fetch a n (none_is (fault_of m 0 (area Fetch a n)) e) some
   where
     none_is : {A : Type 0} (o : Option A) → is_none o ≡ true → o ≡ None

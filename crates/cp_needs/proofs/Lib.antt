@@ -1,2 +1,4 @@
 pub mod Keeping
 pub mod Walking
+pub mod Finding
+pub mod Blocks

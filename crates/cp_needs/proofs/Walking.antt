@@ -92,7 +92,7 @@ not_off false false true role e = cc
 not_off false false false role e = refl
 
 -- where a word leads, there the program can come
-leads_of : (m0 : Memory) (start at : ℕ) (w : Word) → IsReached m0 start at → guest_text m0 at ≡ Some w → Leads (IsReached m0 start) w
+pub leads_of : (m0 : Memory) (start at : ℕ) (w : Word) → IsReached m0 start at → guest_text m0 at ≡ Some w → Leads (IsReached m0 start) w
 leads_of m0 start at w (continues, reached) text =
     record {
       jump = λ is even. (continues, jumps at continues w reached text is even);

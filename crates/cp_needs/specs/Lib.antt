@@ -1,3 +1,4 @@
 pub mod Areas
 pub mod Needs
+pub mod Words
 pub mod Laws
