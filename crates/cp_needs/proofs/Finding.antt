@@ -31,14 +31,14 @@ marked seen i lt free =
 
 -- ---- What is found stays found
 
-among_more : (old rest : List ℕ) (a : ℕ) → IsAmong old a → IsAmong (old ++ rest) a
+pub among_more : (old rest : List ℕ) (a : ℕ) → IsAmong old a → IsAmong (old ++ rest) a
 among_more old rest a (i, lt, is) = (i, (let long = length-append old rest in omega (arith, lt, long)), get_or_append_left old rest 0 i lt ∙ is)
 
 among_on : (leads : Bool) (address a : ℕ) (old new : List ℕ) → IsFollowed leads address old new → IsAmong old a → IsAmong new a
 among_on leads address a old new (inl same) among = rw same among
 among_on leads address a old new (inr (leads_on, is)) among = rw is (among_more old (address ∷ []) a among)
 
-visited_more : (m : Memory) (present : ℕ → Bool) (most : ℕ) (old rest : List ℕ) (a : ℕ) → IsVisited m present most old a → IsVisited m present most (old ++ rest) a
+pub visited_more : (m : Memory) (present : ℕ → Bool) (most : ℕ) (old rest : List ℕ) (a : ℕ) → IsVisited m present most old a → IsVisited m present most (old ++ rest) a
 visited_more m present most old rest a v = record { held = v.held; closed = λ to step low. among_more old rest to (v.closed to step low) }
 
 -- ---- One word
@@ -135,7 +135,7 @@ steps_none m address words = record { rest = []; is = sym (append-nil words); st
 -- ---- A whole program
 
 -- a word may lead where the program can then come
-reached_on : (m : Memory) (start from to : ℕ) → IsReached m start from → IsStep m from to → IsReached m start to
+pub reached_on : (m : Memory) (start from to : ℕ) → IsReached m start from → IsStep m from to → IsReached m start to
 reached_on m start from to reached step = by_leads step.leads
   where
     leads : Leads (IsReached m start) step.word
@@ -156,108 +156,3 @@ reached_on m start from to reached step = by_leads step.leads
     by_leads : ((leads_next step.word ≡ true) × (to ≡ step.word.next)) ⊎ ((leads_skipped step.word ≡ true) × (to ≡ step.word.skipped)) → IsReached m start to
     by_leads (inl (on, is)) = rw is (by_jump (is_jump step.word) (step.word.address % 8 == 0) (chains_data step.word) (chains_command step.word) refl refl refl refl on)
     by_leads (inr (on, is)) = rw is (by_skip (is_jump step.word) (chains_data step.word) (chains_command step.word) refl refl on)
-
-abbrev pub AreReached : Memory → ℕ → List ℕ → Type 0
-AreReached m start words = (i : ℕ) → i < length words → IsReached m start (slice_index words i)
-
-abbrev pub AreVisited : Memory → (ℕ → Bool) → ℕ → List ℕ → ℕ → Type 0
-AreVisited m present most words done = (i : ℕ) → i < done → IsVisited m present most words (slice_index words i)
-
-before_or : (i n : ℕ) → (i < n) ⊎ (n ≤ i)
-before_or i n = grind arith
-
-before_last : (i n : ℕ) → i < n + 1 → (i < n) ⊎ (i ≡ n)
-before_last i n lt = grind arith
-
--- the start is the first that is found
-pub reached_first : (m : Memory) (start : ℕ) (old new : List ℕ) → old ≡ [] → IsFollowed true start old new → AreReached m start new
-reached_first m start old new none (inl e) = rw (e, none) (λ i lt. (let no : ⊥ = omega (arith, lt) in absurd no))
-reached_first m start old new none (inr (on, e)) = rw (e, none) (λ i lt. (let zero_is : i ≡ 0 = omega (arith, lt) in rw zero_is (false, starts)))
-
-pub reached_steps : (m : Memory) (start address : ℕ) (old new : List ℕ) → AreSteps m address old new → IsReached m start address → AreReached m start old → AreReached m start new
-reached_steps m start address old new s from reached = rw s.is (λ i lt. by_place i lt (before_or i (length old)))
-  where
-    by_place : (i : ℕ) → i < length (old ++ s.rest) → (i < length old) ⊎ (length old ≤ i) → IsReached m start (slice_index (old ++ s.rest) i)
-    by_place i lt (inl before) = rw (get_or_append_left old s.rest 0 i before) (reached i before)
-    by_place i lt (inr after) =
-        let long = length-append old s.rest in
-        rw (get_or-append_right old s.rest (length old) i 0 refl after) (reached_on m start address (slice_index s.rest (i - length old)) from (s.steps (i - length old) (omega (arith, lt, after, long))))
-
-pub visited_steps : (m : Memory) (present : ℕ → Bool) (most address done : ℕ) (old new : List ℕ) → AreSteps m address old new → done < length old → slice_index old done ≡ address → AreVisited m present most old done → IsVisited m present most new address
-    → AreVisited m present most new (done + 1)
-visited_steps m present most address done old new s lt at visited here = λ i low. by_place i (before_last i done low)
-  where
-    by_place : (i : ℕ) → (i < done) ⊎ (i ≡ done) → IsVisited m present most new (slice_index new i)
-    by_place i (inl before) =
-        let inside : i < length old = omega (arith, before, lt) in
-        let same : slice_index new i ≡ slice_index old i = ap (λ l. slice_index l i) s.is ∙ get_or_append_left old s.rest 0 i inside in
-        let still : IsVisited m present most new (slice_index old i) = rw s.is (visited_more m present most old s.rest (slice_index old i) (visited i before)) in
-        rw same still
-    by_place i (inr is) =
-        let same : slice_index new i ≡ address = ap (λ k. slice_index new k) is ∙ ap (λ l. slice_index l done) s.is ∙ get_or_append_left old s.rest 0 done lt ∙ at in
-        rw same here
-
-pub among_steps : (m : Memory) (address a : ℕ) (old new : List ℕ) → AreSteps m address old new → IsAmong old a → IsAmong new a
-among_steps m address a old new s among = rw s.is (among_more old s.rest a among)
-
--- a page of a word that the program can reach, which is away, is one that it needs
-pub needed_page : (m : Memory) (start address page : ℕ) (present : ℕ → Bool) → IsReached m start address → IsPageAt m address page → IsAway (length m.bytes) present page → IsProgramPage m start page
-needed_page m start address page present reached (a, needed, at) away = record { address = address; reached = reached; byte = a; needed = needed; at = at; inside = away.inside }
-
-word_fits : (m : Memory) (a : ℕ) (w : Word) → guest_text m a ≡ Some w → a + 8 ≤ length m.bytes
-word_fits m a w text = by_in (is_in m a 8) refl text
-  where
-    by_in : (b : Bool) → is_in m a 8 ≡ b → (if b then Some (word_at a (ccw_of (slice_range m.bytes a (a + 8)))) else None) ≡ Some w → a + 8 ≤ length m.bytes
-    by_in true is e = in_fits m a 8 (omega arith) is
-    by_in false is e = cc
-
-module _ (m : Memory) (start : ℕ) (present : ℕ → Bool) (most : ℕ) (words : List ℕ) (even : start % 8 ≡ 0) (room : most ≡ (length m.bytes + 4095) / 4096 * 512)
-    (visited : AreVisited m present most words (length words)) (first : start / 8 < most → IsAmong words start) where
-  within : (a : ℕ) → a / 4096 * 4096 < length m.bytes → a / 8 < most
-  within a low = omega (arith, low, room)
-
-  closed_at : (from to : ℕ) → IsAmong words from → IsStep m from to → to / 4096 * 4096 < length m.bytes → IsAmong words to
-  closed_at from to (i, lt, is) step low = (let v = visited i lt in v.closed to (rw is step) (within to low))
-
-  page_inside : (a : ℕ) (w : Word) → guest_text m a ≡ Some w → a / 4096 * 4096 < length m.bytes
-  page_inside a w text = (let fits = word_fits m a w text in omega (arith, fits))
-
-  all_among : (a : ℕ) (continues : Bool) → InProgram (guest_text m) start a continues → a / 4096 * 4096 < length m.bytes → IsAmong words a
-  all_among _ _ starts low = first (within start low)
-  all_among _ _ (jumps from role w reached text is on) low =
-      closed_at from w.next (all_among from role reached (page_inside from w text)) (record { word = w; text = text; leads = inl (rw is on, refl) }) low
-  all_among _ _ (continues_at from role w reached text is more) low =
-      closed_at from w.next (all_among from role reached (page_inside from w text)) (record { word = w; text = text; leads = inl (rw (is, more) refl, refl) }) low
-  all_among _ _ (commands_at from role w reached text is command more) low =
-      closed_at from w.next (all_among from role reached (page_inside from w text)) (record { word = w; text = text; leads = inl (rw (is, more) command, refl) }) low
-  all_among _ _ (skips_to from role w reached text is command more) low =
-      closed_at from w.skipped (all_among from role reached (page_inside from w text)) (record { word = w; text = text; leads = inr (rw (is, more, command) refl, refl) }) low
-
-  all_even : (a : ℕ) (continues : Bool) → InProgram (guest_text m) start a continues → a % 8 ≡ 0
-  all_even _ _ starts = even
-  all_even _ _ (jumps from role w reached text is on) = text_even m from w text (all_even from role reached) (rw is on)
-  all_even _ _ (continues_at from role w reached text is more) = text_even m from w text (all_even from role reached) (rw (is, more) refl)
-  all_even _ _ (commands_at from role w reached text is command more) = text_even m from w text (all_even from role reached) (rw (is, more) command)
-  all_even _ _ (skips_to from role w reached text is command more) = skipped_even m from w text (all_even from role reached)
-
-  pub words_all : AreReached m start words → AreWords m start words
-  words_all reached = record { reached = reached; all = λ address there low. all_among address there.0 there.1 low }
-
-  pub words_held : IsHeld m start present
-  words_held page p = at_word (all_among p.address p.reached.0 p.reached.1 (own_page p.needed))
-    where
-      own_page : IsTextByte m p.address p.byte ⊎ IsDataByte m p.address p.byte → p.address / 4096 * 4096 < length m.bytes
-      own_page (inl (inl (k, lt, is))) =
-          let whole = all_even p.address p.reached.0 p.reached.1 in
-          let at = p.at in
-          let inside = p.inside in
-          let same : page ≡ p.address / 4096 = omega (arith, at, is, lt, whole) in
-          rw same at inside
-      own_page (inl (inr (w, text, byte))) = page_inside p.address w text
-      own_page (inr (w, text, byte)) = page_inside p.address w text
-
-      at_word : IsAmong words p.address → present page ≡ true
-      at_word (i, lt, is) = (let v = visited i lt in v.held page (rw is (p.byte, p.needed, p.at)) p.inside)
-
-pub steps_length : (m : Memory) (address : ℕ) (old new : List ℕ) → AreSteps m address old new → length old ≤ length new
-steps_length m address old new s = (let long = length-append old s.rest in rw s.is (omega (arith, long)))

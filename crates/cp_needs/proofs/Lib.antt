@@ -2,3 +2,4 @@ pub mod Keeping
 pub mod Walking
 pub mod Finding
 pub mod Blocks
+pub mod Programs

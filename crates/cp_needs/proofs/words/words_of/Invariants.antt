@@ -1,7 +1,7 @@
 use Rattle.std.proofs.Common.{◌≡◌, ◌+◌, ◌-◌, ◌*◌, ◌/◌, ◌<◌, ◌≤◌, length, vec_len}
 use Rattle.s370_walk.specs.Hardware.{memory_of}
 use Rattle.cp_needs.specs.Words.{AreSeen, IsAmong, unseen}
-use Rattle.cp_needs.proofs.Finding.{AreReached, AreVisited}
+use Rattle.cp_needs.proofs.Programs.{AreReached, AreVisited}
 use Rattle.cp_needs.proofs.words.words_of.Given as goal
 
 abbrev pub invariant-words : goal.invariant-words
