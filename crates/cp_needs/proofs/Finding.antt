@@ -88,7 +88,7 @@ steps_of m address w None old mid new text first second = by_first first second
           steps = two w.next w.skipped (next_step leads) (skipped_step over);
         }
 
-word_same : (o : Option Word) (v w : Word) → o ≡ Some v → o ≡ Some w → v ≡ w
+pub word_same : (o : Option Word) (v w : Word) → o ≡ Some v → o ≡ Some w → v ≡ w
 word_same o v w e f = cc
 
 none_word : (o : Option Word) (w : Word) → o ≡ None → o ≡ Some w → ⊥

@@ -70,7 +70,7 @@ among_steps m address a old new s among = rw s.is (among_more old s.rest a among
 pub needed_page : (m : Memory) (start address page : ℕ) (present : ℕ → Bool) → IsReached m start address → IsPageAt m address page → IsAway (length m.bytes) present page → IsProgramPage m start page
 needed_page m start address page present reached (a, needed, at) away = record { address = address; reached = reached; byte = a; needed = needed; at = at; inside = away.inside }
 
-word_fits : (m : Memory) (a : ℕ) (w : Word) → guest_text m a ≡ Some w → a + 8 ≤ length m.bytes
+pub word_fits : (m : Memory) (a : ℕ) (w : Word) → guest_text m a ≡ Some w → a + 8 ≤ length m.bytes
 word_fits m a w text = by_in (is_in m a 8) refl text
   where
     by_in : (b : Bool) → is_in m a 8 ≡ b → (if b then Some (word_at a (ccw_of (slice_range m.bytes a (a + 8)))) else None) ≡ Some w → a + 8 ≤ length m.bytes
@@ -78,10 +78,18 @@ word_fits m a w text = by_in (is_in m a 8) refl text
     by_in false is e = cc
 
 -- the page of a byte of a doubleword is the doubleword's own
-own_low : (address k byte page size : ℕ) → address % 8 ≡ 0 → k < 8 → byte ≡ address + k → page ≡ byte / 4096 → page * 4096 < size → address / 4096 * 4096 < size
+pub own_low : (address k byte page size : ℕ) → address % 8 ≡ 0 → k < 8 → byte ≡ address + k → page ≡ byte / 4096 → page * 4096 < size → address / 4096 * 4096 < size
 own_low address k byte page size even lt is at low =
     let same : page ≡ address / 4096 = omega (arith, even, lt, is, at) in
     omega (arith, same, low)
+
+-- the program reaches doublewords alone
+pub reached_even : (m : Memory) (start : ℕ) → start % 8 ≡ 0 → (a : ℕ) (continues : Bool) → InProgram (guest_text m) start a continues → a % 8 ≡ 0
+reached_even m start even _ _ starts = even
+reached_even m start even _ _ (jumps from role w reached text is on) = text_even m from w text (reached_even m start even from role reached) (rw is on)
+reached_even m start even _ _ (continues_at from role w reached text is more) = text_even m from w text (reached_even m start even from role reached) (rw (is, more) refl)
+reached_even m start even _ _ (commands_at from role w reached text is command more) = text_even m from w text (reached_even m start even from role reached) (rw (is, more) command)
+reached_even m start even _ _ (skips_to from role w reached text is command more) = skipped_even m from w text (reached_even m start even from role reached)
 
 module _ (m : Memory) (start : ℕ) (present : ℕ → Bool) (most : ℕ) (words : List ℕ) (even : start % 8 ≡ 0) (room : most ≡ (length m.bytes + 4095) / 4096 * 512)
     (visited : AreVisited m present most words (length words)) (first : start / 8 < most → IsAmong words start) where
@@ -105,13 +113,6 @@ module _ (m : Memory) (start : ℕ) (present : ℕ → Bool) (most : ℕ) (words
   all_among _ _ (skips_to from role w reached text is command more) low =
       closed_at from w.skipped (all_among from role reached (page_inside from w text)) (record { word = w; text = text; leads = inr (rw (is, more, command) refl, refl) }) low
 
-  all_even : (a : ℕ) (continues : Bool) → InProgram (guest_text m) start a continues → a % 8 ≡ 0
-  all_even _ _ starts = even
-  all_even _ _ (jumps from role w reached text is on) = text_even m from w text (all_even from role reached) (rw is on)
-  all_even _ _ (continues_at from role w reached text is more) = text_even m from w text (all_even from role reached) (rw (is, more) refl)
-  all_even _ _ (commands_at from role w reached text is command more) = text_even m from w text (all_even from role reached) (rw (is, more) command)
-  all_even _ _ (skips_to from role w reached text is command more) = skipped_even m from w text (all_even from role reached)
-
   pub words_all : AreReached m start words → AreWords m start words
   words_all reached = record { reached = reached; all = λ address there low. all_among address there.0 there.1 low }
 
@@ -119,7 +120,7 @@ module _ (m : Memory) (start : ℕ) (present : ℕ → Bool) (most : ℕ) (words
   words_held page p = at_word (all_among p.address p.reached.0 p.reached.1 (own_page p.needed))
     where
       own_page : IsTextByte m p.address p.byte ⊎ IsDataByte m p.address p.byte → p.address / 4096 * 4096 < length m.bytes
-      own_page (inl (inl (k, lt, is))) = own_low p.address k p.byte page (length m.bytes) (all_even p.address p.reached.0 p.reached.1) lt is p.at p.inside
+      own_page (inl (inl (k, lt, is))) = own_low p.address k p.byte page (length m.bytes) (reached_even m start even p.address p.reached.0 p.reached.1) lt is p.at p.inside
       own_page (inl (inr (w, text, byte))) = page_inside p.address w text
       own_page (inr (w, text, byte)) = page_inside p.address w text
 

@@ -187,7 +187,7 @@ module _ {D : Type 0} (m0 : Memory) (start : ℕ) (h : Setting D) where
       let within = x.within in
       let inside : a + 1 ≤ length m.bytes = fits (length m.bytes) m.keys h.key Store a 1 fine (omega arith) in
       (kept_put m0 start m a (h.machine.gives d) kept (omega (arith, inside))
-      (λ other reached byte. fixed (record { address = p.at; reached = x.there; word = p.word; text = x.word; stores = stores; byte = a;
+      (λ other reached byte. fixed (record { address = p.at; reached = x.there; word = p.word; text = x.word; stores = stores; byte = a; inside = (let size = kept.size in omega (arith, inside, size));
         data_byte = record { byte = index_of p; has = x.has; counted = omega (arith, within, some); at = at }; other = other; other_reached = reached; text_byte = byte })),
       step_on p a x some at)
   given_at_on p a (Some Addressing) m d fine fixed kept x some stores at = tt

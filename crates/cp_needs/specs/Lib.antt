@@ -1,4 +1,5 @@
 pub mod Areas
 pub mod Needs
 pub mod Words
+pub mod Fixed
 pub mod Laws

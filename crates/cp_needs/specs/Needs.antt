@@ -32,7 +32,8 @@ pub record IsProgramPage (m : Memory) (start page : ℕ) : Type 0 where
 abbrev pub IsHeld : Memory → ℕ → (ℕ → Bool) → Type 0
 IsHeld m start present = (page : ℕ) → IsProgramPage m start page → present page ≡ true
 
--- A byte of a word or of a list that an input could store into: it lies in the area of a word, which does not skip, too.
+-- A byte of storage, of a word or of a list, that an input could store into: it lies in the area of a word, which does not
+-- skip, too.
 pub record IsClash (m : Memory) (start : ℕ) : Type 0 where
   pub address : ℕ
   pub reached : IsReached m start address
@@ -40,6 +41,7 @@ pub record IsClash (m : Memory) (start : ℕ) : Type 0 where
   pub text : guest_text m address ≡ Some word
   pub stores : skips word ≡ false
   pub byte : ℕ
+  pub inside : byte < length m.bytes
   pub data_byte : IsAreaByte m word byte
   pub other : ℕ
   pub other_reached : IsReached m start other

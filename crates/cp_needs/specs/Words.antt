@@ -3,7 +3,7 @@ use Rattle.std.specs.Prelude.{ℕ, ◌+◌, ◌*◌, ◌/◌, ◌%◌, ◌<◌, 
 use Rattle.std.specs.List.{sum_by}
 use Rattle.cp_graph.specs.Table.{leads_next, leads_skipped}
 use Rattle.cp_needs.specs.Areas.{IsAreaByte, IsListByte}
-use Rattle.cp_needs.specs.Needs.{IsDataByte, IsReached, IsTextByte}
+use Rattle.cp_needs.specs.Needs.{IsDataByte, IsFixed, IsHeld, IsProgramPage, IsReached, IsTextByte}
 use Rattle.s370_channel.specs.Guest.{guest_text}
 use Rattle.s370_walk.specs.declared.parts.Word.{Word}
 use Rattle.s370_walk.specs.Hardware.{Memory}
@@ -61,3 +61,11 @@ pub record IsVisited (m : Memory) (present : ℕ → Bool) (most : ℕ) (words :
 pub record AreWords (m : Memory) (start : ℕ) (words : List ℕ) : Type 0 where
   pub reached : (i : ℕ) → i < length words → IsReached m start (slice_index words i)
   pub all : (address : ℕ) → IsReached m start address → address / 4096 * 4096 < length m.bytes → IsAmong words address
+
+-- the page is one that the program needs, or all of those are present
+abbrev pub IsNeeded : Memory → (ℕ → Bool) → ℕ → ℕ → Type 0
+IsNeeded m present start page = IsProgramPage m start page ⊎ IsHeld m start present
+
+-- the pages of a program that is fixed are present, or all pages are
+abbrev pub IsEnough : Memory → (ℕ → Bool) → ℕ → Type 0
+IsEnough m present start = (IsFixed m start × IsHeld m start present) ⊎ ((page : ℕ) → IsHere (length m.bytes) present page)

@@ -1,4 +1,3 @@
-use Rattle.std.proofs.Common.{◌≡◌, ◌+◌, ◌*◌, ◌/◌, ◌<◌, ◌≤◌, arith}
 use Rattle.cp_graph.proofs.Tables.{zero_passes, in_storage, fault_verdict}
 use Rattle.cp_needs.proofs.pages.absent_at.Goals as goal
 

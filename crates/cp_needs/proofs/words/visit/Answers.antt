@@ -1,4 +1,4 @@
-use Rattle.std.proofs.Common.{◌≡◌, ◌∙◌, ap, sym, Some}
+use Rattle.std.proofs.Common.{◌≡◌, ◌∙◌, sym, Some}
 use Rattle.s370_channel.specs.Guest.{guest_text}
 use Rattle.s370_walk.specs.Hardware.{memory_of}
 use Rattle.cp_needs.proofs.Finding.{asked_at, steps_of, visited_word}

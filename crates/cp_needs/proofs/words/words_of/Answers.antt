@@ -1,7 +1,6 @@
 use Rattle.std.proofs.Common.{◌≡◌, ◌+◌, ◌*◌, ◌/◌, ◌<◌, ◌≤◌, ◌∙◌, ap, arith, length, refl, slice_index, sym}
 use Rattle.std.proofs.lemmas.List.{get_or_read}
 use Rattle.s370_walk.specs.Hardware.{memory_of}
-use Rattle.cp_needs.specs.Needs.{IsReached}
 use Rattle.cp_needs.specs.Words.{AreSteps}
 use Rattle.cp_needs.proofs.Programs.{first_size, needed_at, none_of, reached_at, reached_first, steps_length, visited_size, visited_steps, words_all, words_held}
 use Rattle.cp_needs.proofs.words.words_of.Goals as goal
