@@ -1,17 +1,17 @@
 -- The bytes of an area, block by block.
-use Rattle.std.specs.Prelude.{ℕ, zero, suc, ◌+◌, ◌-◌, ◌*◌, ◌/◌, ◌%◌, ◌^◌, ◌<◌, ◌≤◌, ◌≡◌, ◌≢◌, ◌==◌, ◌⊎◌, Bool, true, false, ◌&&◌, not, nat_lt, if◌then◌else◌, List, [], ◌∷◌, length, Option, None, Some, refl}
+use Rattle.std.specs.Prelude.{ℕ, zero, suc, ◌+◌, ◌-◌, ◌*◌, ◌/◌, ◌%◌, ◌^◌, ◌<◌, ◌≤◌, ◌≡◌, ◌==◌, ◌⊎◌, Bool, true, false, ◌&&◌, not, nat_lt, if◌then◌else◌, [], ◌∷◌, length, Option, None, Some, refl}
 use Rattle.std.proofs.Common.{ap, ◌∙◌, sym, subst, inl, inr, arith}
 use Rattle.std.proofs.lemmas.Bool.Decides.{nat_tests}
 use Rattle.std.proofs.lemmas.Bool.{lt-ltb}
 use Rattle.s370_store.specs.declared.Access.TheVariants.{Fetch}
 use Rattle.s370_store.specs.Access.{Touches}
-use Rattle.s370_channel.specs.Guest.{area_block, block_asks, later}
+use Rattle.s370_channel.specs.Guest.{area_block, later}
 use Rattle.s370_walk.specs.declared.parts.Word.{Word}
-use Rattle.s370_walk.specs.Blocks.{after, begins_block, block_number, served}
+use Rattle.s370_walk.specs.Blocks.{after, begins_block, block_number}
 use Rattle.s370_walk.specs.Hardware.{Memory, area}
 use Rattle.s370_walk.specs.Walk.{is_indirect, is_jump}
 use Rattle.cp_graph.specs.Closure.{IsEntryPage}
-use Rattle.cp_needs.specs.Areas.{IsBefore, IsBegun, byte_after, byte_place, has_area}
+use Rattle.cp_needs.specs.Areas.{IsBefore, IsBegun, byte_place, has_area}
 use Rattle.cp_needs.specs.Words.{IsAreaPage, IsHere}
 use Rattle.cp_needs.proofs.Walking.{place_first, place_next}
 
@@ -94,7 +94,7 @@ past_list list k i at begun = by_before begun.before begun.is begun.begins
         none_some b (byte_place list (k + i)) (none_on list k i at) (ap (byte_place list) (sym same) ∙ is)
 
 place_after : (k n : ℕ) → (k < n) ⊎ ((i : ℕ) × (k ≡ n + i))
-place_after k n = elim (low_or k n) [ | inl lt ↦ inl lt | inr le ↦ inr (k - n, omega (arith, le)) ]
+place_after k n = elim (low_or k n) [ inl lt ↦ inl lt | inr le ↦ inr (k - n, omega (arith, le)) ]
   where
     low_or : (k n : ℕ) → (k < n) ⊎ (n ≤ k)
     low_or k n = grind arith

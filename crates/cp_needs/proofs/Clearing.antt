@@ -1,15 +1,15 @@
 -- Programs that leave their own words as they are.
-use Rattle.std.specs.Prelude.{ℕ, zero, suc, ◌+◌, ◌-◌, ◌*◌, ◌/◌, ◌%◌, ◌^◌, ◌<◌, ◌≤◌, ◌≡◌, ◌==◌, ◌⊎◌, Bool, true, false, if◌then◌else◌, nat_lt, IfOk, List, length, Option, None, Some, Result, Ok, Err, slice_index, refl}
-use Rattle.std.proofs.Common.{sym, subst, ◌∙◌, ap, arith, inl, inr}
+use Rattle.std.specs.Prelude.{ℕ, zero, suc, ◌+◌, ◌*◌, ◌/◌, ◌%◌, ◌^◌, ◌<◌, ◌≤◌, ◌≡◌, ◌==◌, ◌⊎◌, Bool, true, false, if◌then◌else◌, nat_lt, IfOk, List, length, Option, None, Some, Result, Ok, Err, slice_index, refl}
+use Rattle.std.proofs.Common.{sym, subst, arith, inl, inr}
 use Rattle.std.proofs.lemmas.Bool.Decides.{nat_tests}
-use Rattle.s370_channel.specs.Guest.{area_block, guest_text, later, list_of}
+use Rattle.s370_channel.specs.Guest.{guest_text, later, list_of}
 use Rattle.s370_walk.specs.declared.parts.Word.{Word}
-use Rattle.s370_walk.specs.Blocks.{after, block_number, served, straight}
+use Rattle.s370_walk.specs.Blocks.{after, block_number, straight}
 use Rattle.s370_walk.specs.Hardware.{Memory}
-use Rattle.s370_walk.specs.Walk.{is_indirect, skips}
+use Rattle.s370_walk.specs.Walk.{is_indirect}
 use Rattle.cp_needs.specs.Areas.{IsAreaByte, IsListByte, byte_after, byte_place}
-use Rattle.cp_needs.specs.Needs.{IsClash, IsFixed, IsReached, IsTextByte}
-use Rattle.cp_needs.specs.Words.{AreWords, IsAmong, IsHere}
+use Rattle.cp_needs.specs.Needs.{IsFixed, IsTextByte}
+use Rattle.cp_needs.specs.Words.{AreWords, IsAmong}
 use Rattle.cp_needs.specs.Fixed.{AreApart, IsApart, StoresApart}
 use Rattle.cp_needs.proofs.Finding.{word_same}
 use Rattle.cp_needs.proofs.Programs.{own_low, reached_even, word_fits}

@@ -1,5 +1,5 @@
 -- Where a program has its pages, its run stops for want of memory alone.
-use Rattle.std.specs.Prelude.{ℕ, ◌*◌, ◌<◌, ◌≡◌, ◌⊎◌, Bool, true, length, refl}
+use Rattle.std.specs.Prelude.{ℕ, ◌≡◌, Bool, true, IfErr, Result, Ok, Err, length, refl}
 use Rattle.std.proofs.Common.{◌∙◌, sym, inl, inr, arith}
 use Rattle.std.proofs.lemmas.Bool.{true≢false}
 use Rattle.s370_channel.specs.declared.running.ChannelError.{ChannelError}
@@ -27,3 +27,8 @@ pub never_away : {D : Type 0} (h : Setting D) (needs : D → Order → Bool) (pr
     → MatchStuck guest_written h needs present (Fetching spot m d) error → error ≡ errors.Memory
 never_away h needs present spot m d errors.Memory enough s = refl
 never_away h needs present spot m d (errors.Absent page) enough s = absurd (not_stuck h present spot m d page.0 enough s)
+
+pub never_stops : {A D : Type 0} (r : Result A ChannelError) (h : Setting D) (needs : D → Order → Bool) (present : ℕ → Bool) (spot : Spot) (m : Memory) (d : D) → IsEnough m present spot.at
+    → IfErr r (MatchStuck guest_written h needs present (Fetching spot m d)) → IfErr r (λ error. error ≡ errors.Memory)
+never_stops (Ok ending) h needs present spot m d enough s = tt
+never_stops (Err error) h needs present spot m d enough s = never_away h needs present spot m d error enough s

@@ -1,25 +1,19 @@
 -- Lemmas of specs/Words.
-use Rattle.std.specs.Prelude.{ℕ, zero, suc, ◌+◌, ◌-◌, ◌*◌, ◌/◌, ◌%◌, ◌<◌, ◌≤◌, ◌≡◌, ◌⊎◌, Bool, true, false, ◌&&◌, ◌||◌, not, ◌==◌, IfNone, IfSome, List, [], ◌∷◌, ◌++◌, Option, None, Some, length, slice_index, slice_index_or, slice_set, refl, if◌then◌else◌}
+use Rattle.std.specs.Prelude.{ℕ, zero, suc, ◌+◌, ◌/◌, ◌%◌, ◌<◌, ◌≡◌, ◌⊎◌, Bool, true, false, ◌&&◌, ◌||◌, not, ◌==◌, IfNone, IfSome, List, [], ◌∷◌, ◌++◌, Option, None, Some, length, slice_index, slice_index_or, slice_set, refl, if◌then◌else◌}
 use Rattle.std.proofs.Common.{sym, subst, ◌∙◌, ap, arith, inl, inr, append_assoc, length-append}
-use Rattle.std.proofs.lemmas.List.{append-nil, get_or_append_left, get_or-append_right}
+use Rattle.std.proofs.lemmas.List.{append-nil, get_or_append_left}
 use Rattle.std.proofs.lemmas.List.Sums.{sum_by-set}
 use Rattle.s370_store.specs.declared.Page.{Page}
-use Rattle.std.specs.List.{slice_range}
-use Rattle.s370_store.specs.Access.{IsAway}
-use Rattle.s370_channel.specs.Words.{ccw_of}
-use Rattle.s370_channel.specs.Guest.{guest_text, word_at}
+use Rattle.s370_channel.specs.Guest.{guest_text}
 use Rattle.s370_walk.specs.declared.parts.Word.{Word}
-use Rattle.s370_walk.specs.Hardware.{Memory, is_in}
+use Rattle.s370_walk.specs.Hardware.{Memory}
 use Rattle.s370_walk.specs.Walk.{chains_command, chains_data, is_jump}
 use Rattle.channel_laws.specs.Renaming.{Leads}
-use Rattle.cp_graph.specs.Closure.{InProgram, starts, jumps, continues_at, commands_at, skips_to}
 use Rattle.cp_graph.specs.Table.{leads_next, leads_skipped}
-use Rattle.cp_graph.proofs.Tables.{skipped_even, text_even}
-use Rattle.cp_needs.specs.Needs.{IsDataByte, IsHeld, IsProgramPage, IsReached, IsTextByte}
-use Rattle.cp_needs.proofs.Keeping.{in_fits}
+use Rattle.cp_needs.specs.Needs.{IsReached}
 use Rattle.cp_needs.proofs.Walking.{leads_of}
 use Rattle.cp_needs.specs.Areas.{IsAreaByte, IsListByte}
-use Rattle.cp_needs.specs.Words.{AreSteps, AreWords, IsAmong, IsAreaPage, IsFollowed, IsHere, IsPageAt, IsStep, IsVisited, unseen, unseen_one}
+use Rattle.cp_needs.specs.Words.{AreSteps, IsAmong, IsAreaPage, IsFollowed, IsHere, IsPageAt, IsStep, IsVisited, unseen, unseen_one}
 
 -- one address more is found
 pub marked : (seen : List Bool) (i : ℕ) → i < length seen → slice_index_or seen i false ≡ false → unseen (slice_set seen i true) + 1 ≡ unseen seen

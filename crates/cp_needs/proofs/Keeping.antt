@@ -1,20 +1,19 @@
 -- What a storage keeps of the words of a program.
-use Rattle.std.specs.Prelude.{ℕ, zero, suc, ◌+◌, ◌-◌, ◌*◌, ◌%◌, ◌^◌, ◌<◌, ◌≤◌, ◌≡◌, ◌≢◌, ◌==◌, ◌⊎◌, Bool, true, false, if◌then◌else◌, List, [], ◌∷◌, length, slice_range, slice_index, take, drop, Option, None, Some, refl}
+use Rattle.std.specs.Prelude.{ℕ, zero, suc, ◌+◌, ◌-◌, ◌*◌, ◌<◌, ◌≤◌, ◌≡◌, Bool, true, false, if◌then◌else◌, List, [], ◌∷◌, length, slice_range, slice_index, take, drop, Option, None, Some, refl}
 use Rattle.std.specs.Int.{w32, from_be_bytes}
 use Rattle.std.proofs.Common.{ap, ◌∙◌, sym, subst, inl, inr, arith, is_none}
 use Rattle.std.proofs.Math.Seq.{drop-cons}
 use Rattle.s370_store.specs.declared.Access.TheVariants.{Fetch}
-use Rattle.s370_store.specs.Access.{put}
 use Rattle.s370_store.proofs.Puts.{length-put}
 use Rattle.s370_store.proofs.Verdicts.{fits}
 use Rattle.s370_channel.specs.Words.{ccw_of}
-use Rattle.s370_channel.specs.Guest.{guest_text, area_block, block_asks, later, list_of, list_word, said_by, word_at}
+use Rattle.s370_channel.specs.Guest.{guest_text, area_block, later, list_of, list_word, said_by, word_at}
 use Rattle.s370_walk.specs.declared.parts.Word.{Word}
 use Rattle.s370_walk.specs.Blocks.{block_number, straight}
 use Rattle.s370_walk.specs.Hardware.{Memory, area, byte_at, fault_of, is_in, put_byte}
 use Rattle.s370_walk.specs.Walk.{is_indirect}
 use Rattle.channel_laws.proofs.Mapping.{get_other}
-use Rattle.cp_needs.specs.Areas.{has_area, IsBegun, IsListByte}
+use Rattle.cp_needs.specs.Areas.{has_area, IsBegun}
 use Rattle.cp_needs.specs.Needs.{IsReached, IsTextByte}
 
 -- The words and lists of the program stand as they stood in m0.
@@ -77,7 +76,7 @@ kept_block m0 start m address w byte kept reached text has counted begun = by_li
     by_in : (b : Bool) → is_in m0 at 4 ≡ b → is_in m at 4 ≡ is_in m0 at 4 → is_indirect w ≡ true → list_word m at ≡ list_word m0 at
     by_in true is e listed =
         let bytes = slices_same m.bytes m0.bytes 4 at kept.size (in_fits m0 at 4 (omega arith) is)
-            (λ k lt. kept.text address (at + k) reached (inr (w, text, record { byte = byte; has = has; counted = counted; begun = begun; listed = listed; part = k; within = lt; at = refl }))) in
+        (λ k lt. kept.text address (at + k) reached (inr (w, text, record { byte = byte; has = has; counted = counted; begun = begun; listed = listed; part = k; within = lt; at = refl }))) in
         rw (e, is) (ap (λ l. Some (from_be_bytes w32 l)) bytes)
     by_in false is e listed = rw (e, is) refl
 

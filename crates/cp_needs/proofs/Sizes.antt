@@ -1,5 +1,5 @@
 -- A walk leaves as many bytes of storage.
-use Rattle.std.specs.Prelude.{ℕ, zero, suc, ◌+◌, ◌<◌, ◌≡◌, ◌==◌, ◌&&◌, Bool, true, false, not, if◌then◌else◌, [], ◌∷◌, length, Option, None, Some, refl}
+use Rattle.std.specs.Prelude.{ℕ, zero, suc, ◌+◌, ◌≡◌, ◌==◌, ◌&&◌, Bool, true, false, not, if◌then◌else◌, [], ◌∷◌, length, Option, None, Some, refl}
 use Rattle.std.proofs.Common.{◌∙◌, arith}
 use Rattle.s370_store.specs.declared.Access.TheVariants.{Fetch, Store}
 use Rattle.s370_store.specs.declared.Fault.{Fault}

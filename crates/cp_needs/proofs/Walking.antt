@@ -1,5 +1,5 @@
 -- The walk of a program that leaves its own words as they are.
-use Rattle.std.specs.Prelude.{ℕ, zero, suc, ◌+◌, ◌-◌, ◌*◌, ◌/◌, ◌%◌, ◌<◌, ◌≤◌, ◌≡◌, ◌==◌, ◌⊎◌, Bool, true, false, ◌&&◌, ◌||◌, not, nat_lt, if◌then◌else◌, [], ◌∷◌, length, Option, None, Some, refl}
+use Rattle.std.specs.Prelude.{ℕ, zero, suc, ◌+◌, ◌-◌, ◌*◌, ◌%◌, ◌<◌, ◌≤◌, ◌≡◌, ◌==◌, Bool, true, false, ◌&&◌, ◌||◌, not, nat_lt, if◌then◌else◌, [], ◌∷◌, length, Option, None, Some, refl}
 use Rattle.std.proofs.Common.{ap, ◌∙◌, sym, inl, inr, arith}
 use Rattle.std.proofs.lemmas.Bool.{true≢false}
 use Rattle.s370_store.specs.declared.Access.TheVariants.{Fetch, Store}
@@ -21,12 +21,12 @@ use Rattle.s370_walk.specs.Bits.{has_bits}
 use Rattle.s370_walk.specs.Blocks.{after, begins_block, block_number, served}
 use Rattle.s370_walk.specs.Hardware.{Machine, Memory, area, fault_of}
 use Rattle.s370_walk.specs.Stuck.{IsStuck, IsAsked, byte_asks, is_skipped, moves, size_in}
-use Rattle.s370_walk.specs.Walk.{Setting, State, Fetching, Moving, Over, Verdict, Bad, Jump, Good, next, walk, live, place_in, fetched, obeyed, entered, answered, judged, fails, closed, closes, state_of, may_chain, at_command, moved, counted_out, byte_moved, given_to, given_at, taken_from, taken_at, stepped, rest, moving, skips, tells_length, chains_data, chains_command, order_of, ending, index_of, is_bad_word, is_bad_in_role, is_indirect, is_jump, no_check, no_status}
+use Rattle.s370_walk.specs.Walk.{Setting, State, Fetching, Moving, Over, Bad, Jump, Good, next, walk, live, place_in, fetched, obeyed, entered, answered, judged, fails, closed, closes, state_of, at_command, moved, counted_out, byte_moved, given_to, given_at, taken_from, taken_at, stepped, rest, moving, skips, tells_length, chains_data, chains_command, order_of, ending, index_of, is_bad_word, is_bad_in_role, is_indirect, is_jump, no_check, no_status}
 use Rattle.s370_channel.specs.Guest.{area_block, block_asks, guest_text, guest_written, later}
 use Rattle.channel_laws.specs.Renaming.{Leads}
-use Rattle.cp_graph.specs.Closure.{InProgram, starts, jumps, continues_at, commands_at, skips_to}
+use Rattle.cp_graph.specs.Closure.{starts, jumps, continues_at, commands_at, skips_to}
 use Rattle.cp_graph.proofs.Tables.{text_plain}
-use Rattle.cp_needs.specs.Areas.{has_area, byte_place, byte_after, IsBefore, IsBegun}
+use Rattle.cp_needs.specs.Areas.{has_area, byte_place, IsBefore}
 use Rattle.cp_needs.specs.Needs.{IsFixed, IsHeld, IsProgramPage, IsReached}
 use Rattle.cp_needs.specs.Laws.{IsSteadyInWords}
 use Rattle.cp_needs.proofs.Keeping.{IsKept, kept_block, kept_first, kept_put, kept_word}
@@ -185,11 +185,23 @@ module _ {D : Type 0} (m0 : Memory) (start : ℕ) (h : Setting D) where
       → byte_place (area_block m0 p.word) (index_of p) ≡ Some a → IsOn (given_at h p a fault m d)
   given_at_on p a None m d fine fixed kept x some stores at =
       let within = x.within in
-      let inside : a + 1 ≤ length m.bytes = fits (length m.bytes) m.keys h.key Store a 1 fine (omega arith) in
-      (kept_put m0 start m a (h.machine.gives d) kept (omega (arith, inside))
-      (λ other reached byte. fixed (record { address = p.at; reached = x.there; word = p.word; text = x.word; stores = stores; byte = a; inside = (let size = kept.size in omega (arith, inside, size));
-        data_byte = record { byte = index_of p; has = x.has; counted = omega (arith, within, some); at = at }; other = other; other_reached = reached; text_byte = byte })),
-      step_on p a x some at)
+      let inside : a + 1 ≤ length m.bytes = fits (length m.bytes) m.keys h.key Store a 1 fine (omega arith) in (
+        kept_put m0 start m a (h.machine.gives d) kept (omega (arith, inside))
+            (λ other reached byte. fixed (record {
+              address = p.at;
+              reached = x.there;
+              word = p.word;
+              text = x.word;
+              stores = stores;
+              byte = a;
+              inside = (let size = kept.size in omega (arith, inside, size));
+              data_byte = record { byte = index_of p; has = x.has; counted = omega (arith, within, some); at = at };
+              other = other;
+              other_reached = reached;
+              text_byte = byte;
+            })),
+        step_on p a x some at,
+      )
   given_at_on p a (Some Addressing) m d fine fixed kept x some stores at = tt
   given_at_on p a (Some Protection) m d fine fixed kept x some stores at = tt
   given_at_on p a (Some (Absent page)) m d fine fixed kept x some stores at = tt
@@ -270,8 +282,11 @@ module _ {D : Type 0} (m0 : Memory) (start : ℕ) (h : Setting D) where
             reached = x.there;
             byte = later p.word.address (4 * block_number (index_of p)) + k;
             needed =
-                inl (inr (p.word, x.word,
-                  record { byte = index_of p; has = x.has; counted = omega (arith, within, some); begun = record { before = p.before; is = x.before plain; begins = begins }; listed = listed; part = k; within = lt; at = refl }));
+                inl (inr (
+                  p.word,
+                  x.word,
+                  record { byte = index_of p; has = x.has; counted = omega (arith, within, some); begun = record { before = p.before; is = x.before plain; begins = begins }; listed = listed; part = k; within = lt; at = refl },
+                ));
             at = at;
             inside = omega (arith, inside, size);
           }

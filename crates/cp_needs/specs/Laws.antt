@@ -1,5 +1,5 @@
 -- What is so of the walk of a program that leaves its own words as they are, for each device.
-use Rattle.std.specs.Prelude.{ℕ, ◌≡◌, Bool, true, Some}
+use Rattle.std.specs.Prelude.{ℕ, ◌≡◌, Bool, true}
 use Rattle.cp_needs.specs.Needs.{IsFixed, IsHeld}
 use Rattle.s370_channel.specs.Guest.{guest_text, guest_written}
 use Rattle.s370_walk.specs.declared.parts.Position.{Position}

@@ -1,4 +1,4 @@
-use Rattle.std.proofs.Common.{ℕ, ◌+◌, ◌-◌, ◌/◌, ◌<◌, ◌≤◌, ◌≡◌, length}
+use Rattle.std.proofs.Common.{ℕ, ◌+◌, ◌-◌, ◌/◌, ◌<◌, ◌≡◌, length}
 use Rattle.cp_needs.specs.Words.{IsHere}
 use Rattle.cp_needs.proofs.demand.first_absent.Given as goal
 

@@ -1,4 +1,4 @@
-use Rattle.std.proofs.Common.{ℕ, ◌<◌, arith, slice_index}
+use Rattle.std.proofs.Common.{arith, slice_index}
 use Rattle.s370_walk.specs.Hardware.{memory_of}
 use Rattle.cp_needs.specs.Fixed.{StoresApart}
 use Rattle.cp_needs.proofs.Clearing.{one_more}

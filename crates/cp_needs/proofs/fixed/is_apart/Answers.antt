@@ -1,4 +1,4 @@
-use Rattle.std.proofs.Common.{◌≡◌, ◌≤◌, ◌∙◌, sym, arith, Some}
+use Rattle.std.proofs.Common.{◌≡◌, ◌∙◌, sym, arith, Some}
 use Rattle.s370_channel.specs.Guest.{guest_text}
 use Rattle.s370_walk.specs.Hardware.{memory_of}
 use Rattle.cp_needs.proofs.Clearing.{apart_with_list}
