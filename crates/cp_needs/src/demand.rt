@@ -29,8 +29,8 @@ fn first_absent<S: Storage>(storage: &S) -> Option<Page>
 }
 
 /// A page that has to come before the program from an address on can run: one that it needs; where all of those are
-/// present, and an input of it could change one of its words or lists, the first of the storage that is not present. An
-/// error is memory.
+/// present, and it is not known that no input can change one of its words or lists, the first of the storage that is not
+/// present. An error is memory.
 pub fn needed<S: Storage>(
     alloc: Global,
     storage: &S,
@@ -40,7 +40,8 @@ pub fn needed<S: Storage>(
     ensures away { IfOk result
         (λ found. IfSome found (λ page. IsAway (length (S.bytes storage.now)) (S.present storage.now) page.0)) }
     ensures needed { IfOk result (λ found. IfSome found
-        (λ page. IsNeeded (memory_of (S.bytes storage.now) (S.keys storage.now)) (S.present storage.now) start page.0)) }
+        (λ page. IsNeeded
+        (memory_of (S.bytes storage.now) (S.keys storage.now)) (S.present storage.now) start page.0)) }
     ensures enough { IfOk result (λ found. IfNone found
         (IsEnough (memory_of (S.bytes storage.now) (S.keys storage.now)) (S.present storage.now) start)) }
 {

@@ -75,8 +75,8 @@ fn visit<S: Storage>(
     Ok(absent_in_area(storage, &word))
 }
 
-/// The addresses of the words that the program from an address on can reach, on pages of storage; or the first page that
-/// it needs and that is not present.
+/// The addresses of the words that the program from an address on can reach, on pages of storage; or the first page
+/// that it needs and that is not present.
 pub(crate) fn words_of<S: Storage>(
     alloc: Global,
     storage: &S,
