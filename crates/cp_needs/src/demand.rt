@@ -29,8 +29,8 @@ fn first_absent<S: Storage>(storage: &S) -> Option<Page>
 }
 
 /// A page that has to come before the program from an address on can run: one that it needs; where all of those are
-/// present, and it is not known that no input can change one of its words or lists, the first of the storage that is not
-/// present. An error is memory.
+/// present, and it is not known that no input can change one of its words or lists, the first of the storage that is
+/// not present. An error is memory.
 pub fn needed<S: Storage>(
     alloc: Global,
     storage: &S,
