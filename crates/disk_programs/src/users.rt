@@ -105,7 +105,10 @@ fn write_neighbour(alloc: Global, volume: &mut Volume, cylinder: usize, head: us
 fn name_track(volume: &mut Volume, cylinder: usize, head: usize) -> Result<()> {
     let place = cylinder.wrapping_add(1);
     let track = volume.track_mut(place, head).context("no such track")?;
-    track.set_home([0, 0, cylinder as u8, 0, head as u8]);
+    let (Ok(cylinder), Ok(head)) = (u8::try_from(cylinder), u8::try_from(head)) else {
+        bail!("too many cylinders");
+    };
+    track.set_home([0, 0, cylinder, 0, head]);
     Ok(())
 }
 
@@ -174,11 +177,7 @@ fn run_program(alloc: Global, system: &mut System, caw: u32) -> Result<()> {
     type_line(system, &format!(in alloc; "#CP STORE 48 {caw:08X}")?)?;
     type_line(system, "#CP STORE PSW 00000000 00000100")?;
     run(system)?;
-    apply(
-        system,
-        Event::Serve(user(), DevAddr::new(DISK)),
-        Ended::Served(true),
-    )?;
+    serve(system)?;
     run(system)
 }
 
@@ -193,17 +192,28 @@ fn run(system: &mut System) -> Result<()> {
 
 /// Types a line of the user.
 fn type_line(system: &mut System, line: &str) -> Result<()> {
-    apply(system, Event::Line(user(), line.as_bytes()), Ended::Done)
-}
-
-/// Applies an event, which has to end so.
-fn apply(system: &mut System, event: Event<'_>, wanted: Ended) -> Result<()> {
     let _device = DevAddr::new(0);
-    match system.apply(event) {
-        Ok(reply) if reply.ended == wanted => Ok(()),
-        Ok(_) => bail!("an event ends otherwise"),
+    match system.apply(Event::Line(user(), line.as_bytes())) {
+        Ok(reply) => has_ended(reply.ended, Ended::Done),
         Err(error) => Err(error)?,
     }
+}
+
+/// Serves the disk, which has a program.
+fn serve(system: &mut System) -> Result<()> {
+    let _device = DevAddr::new(0);
+    match system.apply(Event::Serve(user(), DevAddr::new(DISK))) {
+        Ok(reply) => has_ended(reply.ended, Ended::Served(true)),
+        Err(error) => Err(error)?,
+    }
+}
+
+/// An error where an event has not ended so.
+fn has_ended(ended: Ended, wanted: Ended) -> Result<()> {
+    if ended != wanted {
+        bail!("an event has ended otherwise");
+    }
+    Ok(())
 }
 
 /// The status word.
@@ -225,7 +235,10 @@ fn has_bytes(system: &System, image: &mut PlainStorage, list: &[u8]) -> bool {
 
 /// Whether the storage of the user has so many bytes of an image from this address on.
 fn has_bytes_at(system: &System, image: &mut PlainStorage, at: u32, count: usize) -> bool {
-    for k in 0..count as u32 {
+    let Ok(count) = u32::try_from(count) else {
+        return false;
+    };
+    for k in 0..count {
         let at = at.wrapping_add(k);
         if system.storage(user(), at) != Some(byte_at(image, at)) {
             return false;

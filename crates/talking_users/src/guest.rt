@@ -97,7 +97,7 @@ pub const TYPED: [&str; 56] = [
     "#CP STORE 42A 9E000@0C",
     "#CP STORE 42A 9F000@0C",
     "#CP STORE 42A 9D000@0C",
-    // a store key without access for key 0 has no place here; the printer's own word again
+    // the printer's own word again
     "#CP STORE 830 0900084020000018",
 ];
 

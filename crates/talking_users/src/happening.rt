@@ -75,7 +75,8 @@ pub fn next_happening(
 /// One of a user's devices.
 fn next_device(sequence: &mut Sequence, user: UserNo) -> DevAddr {
     let place = sequence.next_number() as usize % 4;
-    DevAddr::new(DEVICES[place] + channel_of(user) * 0x100)
+    let first = channel_of(user).wrapping_mul(0x100);
+    DevAddr::new(first.wrapping_add(DEVICES[place]))
 }
 
 /// One to three cards.
