@@ -1,6 +1,6 @@
 -- Pages that are present, and the programs of disks that have theirs.
-use Rattle.std.proofs.Common.{◌≡◌, ◌∙◌, ℕ, zero, suc, ◌==◌, Bool, true, false, [], ◌∷◌, length, Option, None, Some, refl, ap, sym, subst, arith}
-use Rattle.std.specs.Prelude.{◌+◌, ◌<◌, ◌&&◌, IfErr, Result, Ok, Err, is_some, not, if◌then◌else◌}
+use Rattle.std.proofs.Common.{◌≡◌, ◌∙◌, ℕ, zero, suc, ◌==◌, Bool, true, false, [], ◌∷◌, length, Option, None, Some, refl, ap, sym, subst, arith, inr}
+use Rattle.std.specs.Prelude.{◌+◌, ◌<◌, ◌&&◌, IfErr, IfNone, Result, Ok, Err, is_some, not, if◌then◌else◌}
 use Rattle.std.proofs.lemmas.Bool.{true≢false}
 use Rattle.std.proofs.lemmas.Bool.Decides.{nat_tests}
 use Rattle.s370_store.specs.declared.Fault.{Fault}
@@ -36,6 +36,7 @@ use Rattle.ckd_volume.specs.Unit.{disk_machine}
 use Rattle.cp_channels.specs.Channels.{StopsDisk}
 use Rattle.cp_channels.specs.Disks.{DiskAt}
 use Rattle.cp_needs.specs.Words.{IsEnough}
+use Rattle.cp_core.specs.Resident.{IsResident}
 use Rattle.cp_needs.proofs.Enough.{never_away}
 
 -- ---- the pages before this one are present, and so is this one
@@ -66,3 +67,9 @@ stops_never (Some disk) present start m (errors.Absent page) Q all s =
 pub never_stops : {A : Type 0} (r : Result A ChannelError) (disk : Option DiskAt) (present : ℕ → Bool) (start : Caw) (m : Memory) (Q : ChannelError → Type 0) → IsEnough m present start.address → IfErr r (StopsDisk present start m disk) → IfErr r Q
 never_stops (Ok ending) disk present start m Q all h = tt
 never_stops (Err error) disk present start m Q all h = stops_never disk present start m error Q all h
+
+-- ---- all pages are enough
+
+pub enough_where : (o : Option Page) (m : Memory) (present : ℕ → Bool) (start : ℕ) → IfNone o (IsResident (length m.bytes) present) → IfNone o (IsEnough m present start)
+enough_where None m present start all = inr all
+enough_where (Some page) m present start all = tt

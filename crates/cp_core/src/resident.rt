@@ -86,7 +86,8 @@ impl<'a> Channels<Dat<'a>> for Resident {
         start: Caw,
         device: &mut D,
     ) -> Result<Ending, ChannelError> {
-        match wanted_page(self.alloc, storage, start) {
+        let address = start.address.get();
+        match wanted_page(self.alloc, storage, address) {
             Ok(Some(page)) => Err(ChannelError::Absent(page)),
             Ok(None) => run_resident(storage, start, device),
             Err(_) => Err(ChannelError::Memory),
@@ -99,7 +100,8 @@ impl<'a> Channels<Dat<'a>> for Resident {
         start: Caw,
         index: usize,
     ) -> Result<Ending, ChannelError> {
-        match wanted_page(self.alloc, storage, start) {
+        let address = start.address.get();
+        match wanted_page(self.alloc, storage, address) {
             Ok(Some(page)) => Err(ChannelError::Absent(page)),
             Ok(None) => self.own.run_disk(storage, start, index),
             Err(_) => Err(ChannelError::Memory),
@@ -107,14 +109,13 @@ impl<'a> Channels<Dat<'a>> for Resident {
     }
 }
 
-/// A page that the program with this start needs and that stands in no frame.
-fn wanted_page(alloc: Global, storage: &Dat<'_>, start: Caw) -> Result<Option<Page>, AllocError>
+/// A page that the program at this address needs and that stands in no frame.
+fn wanted_page(alloc: Global, storage: &Dat<'_>, address: u32) -> Result<Option<Page>, AllocError>
     ensures away { IfOk result (λ found. IfSome found
         (λ page. IsAway (length (lent_bytes storage.now)) (is_lent_page storage.now) page.0)) }
     ensures enough { IfOk result (λ found. IfNone found
-        (IsEnough (memory_of (lent_bytes storage.now) (lent_keys storage.now)) (is_lent_page storage.now) start.address)) }
+        (IsEnough (memory_of (lent_bytes storage.now) (lent_keys storage.now)) (is_lent_page storage.now) address)) }
 {
-    let address = start.address.get();
     // No program is started elsewhere.
     if address % 8 != 0 {
         return Ok(absent_page(storage));
