@@ -1,6 +1,6 @@
--- A walk leaves as many bytes of storage, and so needs no page where all are present.
-use Rattle.std.proofs.Common.{◌≡◌, ◌∙◌, ℕ, zero, suc, ◌==◌, Bool, true, false, [], ◌∷◌, length, Option, None, Some, refl, ap, sym, subst, arith}
-use Rattle.std.specs.Prelude.{◌+◌, ◌<◌, ◌&&◌, IfErr, Result, Ok, Err, is_some, not, if◌then◌else◌}
+-- Pages that are present, and the programs of disks that have theirs.
+use Rattle.std.proofs.Common.{◌≡◌, ◌∙◌, ℕ, zero, suc, ◌==◌, Bool, true, false, [], ◌∷◌, length, Option, None, Some, refl, ap, sym, subst, arith, inr}
+use Rattle.std.specs.Prelude.{◌+◌, ◌<◌, ◌&&◌, IfErr, IfNone, Result, Ok, Err, is_some, not, if◌then◌else◌}
 use Rattle.std.proofs.lemmas.Bool.{true≢false}
 use Rattle.std.proofs.lemmas.Bool.Decides.{nat_tests}
 use Rattle.s370_store.specs.declared.Fault.{Fault}
@@ -20,7 +20,7 @@ use Rattle.s370_walk.specs.declared.parts.Progress.TheVariants.{At, Ended}
 use Rattle.s370_walk.specs.declared.parts.Word.{Word}
 use Rattle.s370_walk.specs.Hardware.{Memory, fault_of, area}
 use Rattle.s370_walk.specs.Stuck.{size_in}
-use Rattle.s370_walk.specs.Walk.{Form, Setting, State, Written, live, Fetching, Moving, Over, Verdict, Bad, Jump, Good, next, walk, Reaches, fetched, obeyed, entered, answered, judged, fails, closed, closes, state_of, moved, rest, tells_length, chains_data, order_of, no_status, given_at, given_to, taken_at, taken_from, byte_moved, stepped, skips}
+use Rattle.s370_walk.specs.Walk.{Form, Setting, State, Written, live, Fetching, Moving, Over, Verdict, Bad, Jump, Good, next, walk, Reaches, fetched, obeyed, entered, answered, judged, fails, closed, closes, state_of, moved, rest, start_spot, tells_length, chains_data, order_of, no_status, given_at, given_to, taken_at, taken_from, byte_moved, stepped, skips}
 use Rattle.s370_channel.specs.declared.running.ChannelError.{ChannelError}
 use Rattle.s370_channel.specs.declared.running.ChannelError.TheVariants as errors
 use Rattle.s370_channel.specs.Progress.{MatchStuck}
@@ -31,21 +31,13 @@ use Rattle.s370_store.specs.declared.Page.{Page}
 use Rattle.s370_walk.specs.Short.{nothing_needed}
 use Rattle.s370_channel.specs.declared.words.Caw.{Caw}
 use Rattle.s370_channel.specs.Guest.{guest_written}
-use Rattle.s370_channel.specs.Runs.{begun, limited}
+use Rattle.s370_channel.specs.Runs.{limited}
 use Rattle.ckd_volume.specs.Unit.{disk_machine}
 use Rattle.cp_channels.specs.Channels.{StopsDisk}
 use Rattle.cp_channels.specs.Disks.{DiskAt}
-use Rattle.cp_devices.proofs.Staying.{reach_size}
+use Rattle.cp_needs.specs.Words.{IsEnough}
 use Rattle.cp_core.specs.Resident.{IsResident}
-
--- where each page of storage is present, a run stops for want of memory alone
-pub never_away : {D : Type 0} (w : Written) (h : Setting D) (needs : D → Order → Bool) (present : ℕ → Bool) (from : State D) (error : ChannelError) → IsResident (size_in from) present → MatchStuck w h needs present from error → error ≡ errors.Memory
-never_away w h needs present from errors.Memory all s = refl
-never_away w h needs present from (errors.Absent page) all s =
-    let size : size_in s.state ≡ size_in from = reach_size h (size_in from) (live w) from s.state s.comes refl in
-    let inside = s.away.inside in
-    let there : present page.0 ≡ true = all page.0 (omega (arith, inside, size)) in
-    absurd (true≢false (sym there ∙ s.away.away))
+use Rattle.cp_needs.proofs.Enough.{never_away}
 
 -- ---- the pages before this one are present, and so is this one
 
@@ -62,16 +54,22 @@ some_there (Some frame) f e t = ap is_some (sym e)
 
 -- ---- a disk
 
-stops_never : (disk : Option DiskAt) (present : ℕ → Bool) (start : Caw) (m : Memory) (error : ChannelError) (Q : ChannelError → Type 0) → IsResident (length m.bytes) present → StopsDisk present start m disk error → Q error
+stops_never : (disk : Option DiskAt) (present : ℕ → Bool) (start : Caw) (m : Memory) (error : ChannelError) (Q : ChannelError → Type 0) → IsEnough m present start.address → StopsDisk present start m disk error → Q error
 stops_never None present start m error Q all s = absurd s
 stops_never (Some disk) present start m errors.Memory Q all s = absurd s
 stops_never (Some disk) present start m (errors.Absent page) Q all s =
-    absurd (no_memory page (never_away guest_written (limited disk_machine start) nothing_needed present (begun start m disk.unit) (errors.Absent page) all s))
+    absurd (no_memory page (never_away (limited disk_machine start) nothing_needed present (start_spot start.address) m disk.unit (errors.Absent page) all s))
   where
     no_memory : (page : Page) → errors.Absent page ≡ errors.Memory → ⊥
     no_memory page e = cc
 
--- the program of a disk over a storage that is all present comes to its end
-pub never_stops : {A : Type 0} (r : Result A ChannelError) (disk : Option DiskAt) (present : ℕ → Bool) (start : Caw) (m : Memory) (Q : ChannelError → Type 0) → IsResident (length m.bytes) present → IfErr r (StopsDisk present start m disk) → IfErr r Q
+-- the program of a disk over a storage that has its pages comes to its end
+pub never_stops : {A : Type 0} (r : Result A ChannelError) (disk : Option DiskAt) (present : ℕ → Bool) (start : Caw) (m : Memory) (Q : ChannelError → Type 0) → IsEnough m present start.address → IfErr r (StopsDisk present start m disk) → IfErr r Q
 never_stops (Ok ending) disk present start m Q all h = tt
 never_stops (Err error) disk present start m Q all h = stops_never disk present start m error Q all h
+
+-- ---- all pages are enough
+
+pub enough_where : (o : Option Page) (m : Memory) (present : ℕ → Bool) (start : ℕ) → IfNone o (IsResident (length m.bytes) present) → IfNone o (IsEnough m present start)
+enough_where None m present start all = inr all
+enough_where (Some page) m present start all = tt

@@ -1,35 +1,41 @@
-//! Channels of users, on which a program runs where all of its user's storage stands in frames.
+//! Channels of users, on which a program runs where the pages that it needs stand in frames.
 ghost use Rattle.std.specs.Prelude.{◌≡◌, IfErr, IfOk, IfNone, IfSome, length};
 ghost use Rattle.s370_channel.specs.Reading.{as_reached};
 ghost use Rattle.s370_channel.specs.Runs.{Walks};
 ghost use Rattle.s370_channel.specs.declared.running.ChannelError.TheVariants as errors;
 ghost use Rattle.s370_store.specs.Access.{IsAway};
 ghost use Rattle.s370_walk.specs.Hardware.{memory_of};
-ghost use Rattle.cp_dat.specs.Lent.{is_lent_page, lent_bytes};
+ghost use Rattle.cp_dat.specs.Lent.{is_lent_page, lent_bytes, lent_keys};
+ghost use Rattle.cp_needs.specs.Words.{IsEnough};
 ghost use Rattle.cp_core.specs.Resident.{IsResident};
 
 use cp_channels::{AttachedDisk, Channels, Disks, Own};
 use cp_dat::Dat;
-use s370_channel::{Caw, ChannelError, Guest, Limits, MOST_COMMANDS, run};
+use cp_needs::{needed, run_held};
+use s370_channel::{Caw, ChannelError, Limits, MOST_COMMANDS};
 use s370_store::{PAGE_SIZE, Page, Storage};
 use s370_walk::{Device, Ending};
+use std::alloc::{AllocError, Global};
 
-/// A program runs as on a machine of its own, each word read when it is reached, where each page of its user's storage
-/// stands in a frame. Else the first page that does not is told, and nothing has happened.
+/// A program runs as on a machine of its own, each word read when it is reached, where the pages that it needs stand in
+/// frames: those of its words, of their lists and of their areas, and each page of its user's storage where it is not
+/// known that it leaves its words as they are. Else the first page that does not is told, and nothing has happened.
 #[derive(Drop)]
 pub(crate) struct Resident {
     pub(crate) own: Own,
+    alloc: Global,
 }
 
 impl Resident {
     ghost use Rattle.cp_core.specs.Resident.{disks_on};
 
     /// The channels on which these disks hang, in this order.
-    pub(crate) fn new(disks: Vec<AttachedDisk>) -> Resident
+    pub(crate) fn new(alloc: Global, disks: Vec<AttachedDisk>) -> Resident
         ensures { disks_on result ≡ disks.items }
     {
         Resident {
             own: Own::new(disks),
+            alloc,
         }
     }
 
@@ -80,10 +86,12 @@ impl<'a> Channels<Dat<'a>> for Resident {
         start: Caw,
         device: &mut D,
     ) -> Result<Ending, ChannelError> {
-        if let Some(page) = absent_page(storage) {
-            return Err(ChannelError::Absent(page));
+        let address = start.address.get();
+        match wanted_page(self.alloc, storage, address) {
+            Ok(Some(page)) => Err(ChannelError::Absent(page)),
+            Ok(None) => run_resident(storage, start, device),
+            Err(_) => Err(ChannelError::Memory),
         }
-        run_resident(storage, start, device)
     }
 
     fn run_disk(
@@ -92,11 +100,27 @@ impl<'a> Channels<Dat<'a>> for Resident {
         start: Caw,
         index: usize,
     ) -> Result<Ending, ChannelError> {
-        if let Some(page) = absent_page(storage) {
-            return Err(ChannelError::Absent(page));
+        let address = start.address.get();
+        match wanted_page(self.alloc, storage, address) {
+            Ok(Some(page)) => Err(ChannelError::Absent(page)),
+            Ok(None) => self.own.run_disk(storage, start, index),
+            Err(_) => Err(ChannelError::Memory),
         }
-        self.own.run_disk(storage, start, index)
     }
+}
+
+/// A page that the program at this address needs and that stands in no frame.
+fn wanted_page(alloc: Global, storage: &Dat<'_>, address: u32) -> Result<Option<Page>, AllocError>
+    ensures away { IfOk result (λ found. IfSome found
+        (λ page. IsAway (length (lent_bytes storage.now)) (is_lent_page storage.now) page.0)) }
+    ensures enough { IfOk result (λ found. IfNone found
+        (IsEnough (memory_of (lent_bytes storage.now) (lent_keys storage.now)) (is_lent_page storage.now) address)) }
+{
+    // No program is started elsewhere.
+    if address % 8 != 0 {
+        return Ok(absent_page(storage));
+    }
+    needed(alloc, storage, address)
 }
 
 /// The first page of a storage that stands in no frame.
@@ -116,14 +140,13 @@ pub(crate) fn absent_page(storage: &Dat<'_>) -> Option<Page>
     None
 }
 
-/// Runs the program with this start over a storage all of which is present: it stops for want of memory alone.
-#[tactic(auto, using(crate::proofs::Staying::never_away))]
+/// Runs the program with this start over a storage that has the pages which it needs: it stops for want of memory alone.
 fn run_resident<S: Storage, D: Device>(
     storage: &mut S,
     start: Caw,
     device: &mut D,
 ) -> Result<Ending, ChannelError>
-    requires { IsResident (length (S.bytes storage.old)) (S.present storage.old) }
+    requires { IsEnough (memory_of (S.bytes storage.old) (S.keys storage.old)) (S.present storage.old) start.address }
     ensures walk { IfOk result
         (λ ending. Walks as_reached D.machine start
         (memory_of (S.bytes storage.old) (S.keys storage.old)) device.old ending
@@ -137,5 +160,5 @@ fn run_resident<S: Storage, D: Device>(
         commands: MOST_COMMANDS,
         prefix: 0,
     };
-    run(&Guest, storage, start.address.get(), &limits, device)
+    run_held(storage, start.address.get(), &limits, device)
 }

@@ -73,7 +73,7 @@ impl UserMachine {
             Ok(subchannels) => Ok(UserMachine {
                 machine: Machine::new(alloc, subchannels),
                 devices,
-                channels: Resident::new(disks),
+                channels: Resident::new(alloc, disks),
                 keys,
                 deliveries: Vec::new(alloc),
             }),

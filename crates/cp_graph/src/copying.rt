@@ -94,7 +94,7 @@ fn copy_word<S: Storage>(
 }
 
 /// Whether a word leads to the next one, or a transfer in channel to its address.
-fn leads_on(word: &Word) -> bool
+pub fn leads_on(word: &Word) -> bool
     ensures { result ≡ leads_next word.now }
 {
     if word.command.is_transfer_in_channel() {
@@ -105,7 +105,7 @@ fn leads_on(word: &Word) -> bool
 }
 
 /// Whether a word may lead to the one after the next.
-fn may_skip(word: &Word) -> bool
+pub fn may_skip(word: &Word) -> bool
     ensures { result ≡ leads_skipped word.now }
 {
     !word.command.is_transfer_in_channel()

@@ -1,0 +1,50 @@
+-- Where the bytes of a word's area lie, and which words of its list say so (GA22-7000, "Channel Indirect Data Addressing").
+use Rattle.std.specs.Prelude.{ℕ, zero, suc, ◌+◌, ◌*◌, ◌%◌, ◌<◌, ◌≡◌, ◌==◌, Bool, true, ◌&&◌, not, Option, None, Some}
+use Rattle.s370_channel.specs.Guest.{area_block, later}
+use Rattle.s370_walk.specs.declared.parts.Word.{Word}
+use Rattle.s370_walk.specs.Blocks.{begins_block, block_number, served}
+use Rattle.s370_walk.specs.Hardware.{Memory}
+use Rattle.s370_walk.specs.Walk.{is_indirect, is_jump}
+
+-- where byte k of an area lies, by where the byte before it lies
+abbrev pub byte_after : (ℕ → Option ℕ) → ℕ → Option ℕ → Option ℕ
+byte_after list k None = None
+byte_after list k (Some before) = served list k (Some before)
+
+-- where byte k of an area lies whose blocks begin where a list says: None from the first block on of which it says nothing
+abbrev pub byte_place : (ℕ → Option ℕ) → ℕ → Option ℕ
+byte_place list zero = list 0
+byte_place list (suc k) = byte_after list (suc k) (byte_place list k)
+
+-- the byte before byte k lies there; before the first there is none
+abbrev pub IsBefore : (ℕ → Option ℕ) → ℕ → Option ℕ → Type 0
+IsBefore list k None = k ≡ 0
+IsBefore list k (Some before) = (j : ℕ) × (k ≡ suc j) × (byte_place list j ≡ Some before)
+
+-- Byte k begins a block: the list says where it lies.
+pub record IsBegun (list : ℕ → Option ℕ) (k : ℕ) : Type 0 where
+  pub before : Option ℕ
+  pub is : IsBefore list k before
+  pub begins : begins_block before ≡ true
+
+-- a transfer in channel has no area, and a list off a word boundary has no words
+abbrev pub has_area : Word → Bool
+has_area w = not (is_jump w) && not (is_indirect w && not (w.address % 4 == 0))
+
+-- A byte of the area of a word.
+pub record IsAreaByte (m : Memory) (w : Word) (a : ℕ) : Type 0 where
+  pub byte : ℕ
+  pub has : has_area w ≡ true
+  pub counted : byte < w.count
+  pub at : byte_place (area_block m w) byte ≡ Some a
+
+-- A byte of the words of its list, up to the first that says no address.
+pub record IsListByte (m : Memory) (w : Word) (a : ℕ) : Type 0 where
+  pub byte : ℕ
+  pub has : has_area w ≡ true
+  pub counted : byte < w.count
+  pub begun : IsBegun (area_block m w) byte
+  pub listed : is_indirect w ≡ true
+  pub part : ℕ
+  pub within : part < 4
+  pub at : a ≡ later w.address (4 * block_number byte) + part

@@ -1,0 +1,20 @@
+-- Ranges of storage in which no byte of a word or a list lies.
+use Rattle.std.specs.Prelude.{ℕ, ◌+◌, ◌<◌, ◌≤◌, ◌≡◌, false, List, length, slice_index, Some}
+use Rattle.cp_needs.specs.Areas.{IsAreaByte}
+use Rattle.cp_needs.specs.Needs.{IsTextByte}
+use Rattle.s370_channel.specs.Guest.{guest_text}
+use Rattle.s370_walk.specs.declared.parts.Word.{Word}
+use Rattle.s370_walk.specs.Hardware.{Memory}
+use Rattle.s370_walk.specs.Walk.{skips}
+
+-- no byte of the word at an address, or of its list, is one of so many from a start on
+abbrev pub IsApart : Memory → ℕ → ℕ → ℕ → Type 0
+IsApart m address start count = (a : ℕ) → IsTextByte m address a → start ≤ a → a < start + count → ⊥
+
+abbrev pub AreApart : Memory → List ℕ → ℕ → ℕ → Type 0
+AreApart m words start count = (i : ℕ) → i < length words → IsApart m (slice_index words i) start count
+
+-- no byte of these words, or of their lists, is one that the word at an address could store
+abbrev pub StoresApart : Memory → List ℕ → ℕ → Type 0
+StoresApart m words address =
+    (w : Word) (a : ℕ) → guest_text m address ≡ Some w → skips w ≡ false → IsAreaByte m w a → (i : ℕ) → i < length words → IsTextByte m (slice_index words i) a → ⊥

@@ -1,0 +1,5 @@
+pub mod Areas
+pub mod Needs
+pub mod Words
+pub mod Fixed
+pub mod Laws

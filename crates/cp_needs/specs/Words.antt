@@ -1,0 +1,71 @@
+-- The words of a program as they are found, one after the other.
+use Rattle.std.specs.Prelude.{ℕ, ◌*◌, ◌/◌, ◌%◌, ◌<◌, ◌≡◌, ◌⊎◌, Bool, true, false, List, [], ◌∷◌, ◌++◌, if◌then◌else◌, length, slice_index, slice_index_or, Some}
+use Rattle.std.specs.List.{sum_by}
+use Rattle.cp_graph.specs.Table.{leads_next, leads_skipped}
+use Rattle.cp_needs.specs.Areas.{IsAreaByte, IsListByte}
+use Rattle.cp_needs.specs.Needs.{IsDataByte, IsFixed, IsHeld, IsProgramPage, IsReached, IsTextByte}
+use Rattle.s370_channel.specs.Guest.{guest_text}
+use Rattle.s370_walk.specs.declared.parts.Word.{Word}
+use Rattle.s370_walk.specs.Hardware.{Memory}
+
+-- if the page is one of a storage of this size, it is present
+abbrev pub IsHere : ℕ → (ℕ → Bool) → ℕ → Type 0
+IsHere size present page = page * 4096 < size → present page ≡ true
+
+-- a page with a byte of a word's list or area
+abbrev pub IsAreaPage : Memory → Word → ℕ → Type 0
+IsAreaPage m w page = (a : ℕ) × (IsListByte m w a ⊎ IsAreaByte m w a) × (page ≡ a / 4096)
+
+-- a page with a byte of the word at an address, or of its list or area
+abbrev pub IsPageAt : Memory → ℕ → ℕ → Type 0
+IsPageAt m address page = (a : ℕ) × (IsTextByte m address a ⊎ IsDataByte m address a) × (page ≡ a / 4096)
+
+-- a word may lead from one address to another
+pub record IsStep (m : Memory) (from to : ℕ) : Type 0 where
+  pub word : Word
+  pub text : guest_text m from ≡ Some word
+  pub leads : ((leads_next word ≡ true) × (to ≡ word.next)) ⊎ ((leads_skipped word ≡ true) × (to ≡ word.skipped))
+
+-- an address is among those that are found
+abbrev pub IsAmong : List ℕ → ℕ → Type 0
+IsAmong words a = (i : ℕ) × (i < length words) × (slice_index words i ≡ a)
+
+-- an address is added, if at all, only where a word leads there
+abbrev pub IsFollowed : Bool → ℕ → List ℕ → List ℕ → Type 0
+IsFollowed leads address old new = (new ≡ old) ⊎ ((leads ≡ true) × (new ≡ old ++ address ∷ []))
+
+abbrev pub unseen_one : Bool → ℕ
+unseen_one seen = if seen then 0 else 1
+
+-- how many addresses may still be found
+unfoldable pub unseen : List Bool → ℕ
+unseen seen = sum_by unseen_one seen
+
+-- The addresses that are found are those of doublewords, and those that are marked are among them.
+pub record AreSeen (words : List ℕ) (seen : List Bool) : Type 0 where
+  pub even : (i : ℕ) → i < length words → slice_index words i % 8 ≡ 0
+  pub marked : (slot : ℕ) → slice_index_or seen slot false ≡ true → IsAmong words (slot * 8)
+
+-- Addresses are added that the word at an address may lead to.
+pub record AreSteps (m : Memory) (address : ℕ) (old new : List ℕ) : Type 0 where
+  pub rest : List ℕ
+  pub is : new ≡ old ++ rest
+  pub steps : (i : ℕ) → i < length rest → IsStep m address (slice_index rest i)
+
+-- The pages of the word at an address are present, and each doubleword below this number to which it leads is found.
+pub record IsVisited (m : Memory) (present : ℕ → Bool) (most : ℕ) (words : List ℕ) (address : ℕ) : Type 0 where
+  pub held : (page : ℕ) → IsPageAt m address page → IsHere (length m.bytes) present page
+  pub closed : (to : ℕ) → IsStep m address to → to / 8 < most → IsAmong words to
+
+-- The addresses of the words of a program that lie on pages of storage.
+pub record AreWords (m : Memory) (start : ℕ) (words : List ℕ) : Type 0 where
+  pub reached : (i : ℕ) → i < length words → IsReached m start (slice_index words i)
+  pub all : (address : ℕ) → IsReached m start address → address / 4096 * 4096 < length m.bytes → IsAmong words address
+
+-- the page is one that the program needs, or all of those are present
+abbrev pub IsNeeded : Memory → (ℕ → Bool) → ℕ → ℕ → Type 0
+IsNeeded m present start page = IsProgramPage m start page ⊎ IsHeld m start present
+
+-- the pages of a program that is fixed are present, or all pages are
+abbrev pub IsEnough : Memory → (ℕ → Bool) → ℕ → Type 0
+IsEnough m present start = (IsFixed m start × IsHeld m start present) ⊎ ((page : ℕ) → IsHere (length m.bytes) present page)

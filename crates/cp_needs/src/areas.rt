@@ -1,0 +1,93 @@
+//! The pages of a word's list and area (GA22-7000, "Channel Indirect Data Addressing").
+ghost use Rattle.std.specs.Prelude.{◌≡◌, ◌≤◌, ◌<◌, ◌+◌, ◌*◌, ◌/◌, ◌%◌, ◌^◌, IfErr, IfNone, IfOk, IfSome, length, true, ℕ};
+ghost use Rattle.cp_graph.specs.Closure.{IsEntryPage};
+ghost use Rattle.cp_needs.specs.Areas as specs;
+ghost use Rattle.cp_needs.specs.Words.{IsAreaPage, IsHere};
+ghost use Rattle.s370_channel.specs.Guest.{area_block, later};
+ghost use Rattle.s370_store.specs.Access.{IsAway};
+ghost use Rattle.s370_walk.specs.Hardware.{memory_of};
+ghost use Rattle.s370_walk.specs.Walk.{is_indirect};
+
+use crate::pages::absent_at;
+use s370_channel::fetch_block;
+use s370_store::{Page, Storage};
+use s370_walk::{Flags, Word};
+
+/// Whether a word has an area: a transfer in channel has none, and a list off a word boundary has no words.
+pub(crate) fn has_area(word: &Word) -> bool
+    ensures { result ≡ specs.has_area word.now }
+{
+    !word.command.is_transfer_in_channel()
+        && !(word.flags.has(Flags::INDIRECT) && word.address % 4 != 0)
+}
+
+/// Where a word of a word's list stands.
+pub(crate) fn list_address(word: &Word, number: u32) -> u32
+    ensures { result ≡ later word.now.address (4 * number) }
+{
+    ((u64::from(word.address) + 4 * u64::from(number)) % 0x100_0000) as u32
+}
+
+/// How many of so many bytes lie in the block of the first of them.
+pub(crate) fn bytes_in_block(start: u32, left: u32) -> u32
+    requires { 0 < left }
+    ensures some { 0 < result }
+    ensures within { result ≤ left }
+    ensures block { start % 2048 + result ≤ 2048 }
+    ensures whole { result < left → start % 2048 + result ≡ 2048 }
+{
+    let room = 2048 - start % 2048;
+    if room < left { room } else { left }
+}
+
+/// Where a block of a word's area begins, or None where its list does not say; an error is a page that is not present.
+fn block_here<S: Storage>(storage: &S, word: &Word, number: u32) -> Result<Option<u32>, Page>
+    requires { number ≤ 64 }
+    ensures said { IfOk result
+        (λ said. said ≡ area_block (memory_of (S.bytes storage.now) (S.keys storage.now)) word.now number) }
+    ensures listed { IfOk result (λ _. is_indirect word.now ≡ true
+        → IsHere (length (S.bytes storage.now)) (S.present storage.now) (later word.now.address (4 * number) / 4096)) }
+    ensures here { IfOk result
+        (λ said. IfSome said (λ start. IsHere (length (S.bytes storage.now)) (S.present storage.now) (start / 4096))) }
+    ensures low { IfOk result (λ said. IfSome said (λ start. start < 2 ^ 32)) }
+    ensures away { IfErr result (λ page. IsAway (length (S.bytes storage.now)) (S.present storage.now) page.0) }
+    ensures asked { IfErr result
+        (λ page. IsEntryPage (memory_of (S.bytes storage.now) (S.keys storage.now)) word.now number page.0) }
+{
+    if word.flags.has(Flags::INDIRECT) {
+        if let Some(page) = absent_at(storage, list_address(word, number)) {
+            return Err(page);
+        }
+    }
+    let Some(start) = fetch_block(storage, word, number)? else {
+        return Ok(None);
+    };
+    match absent_at(storage, start) {
+        Some(page) => Err(page),
+        None => Ok(Some(start)),
+    }
+}
+
+/// The first page that is not present of those of a word's list and area, block by block.
+pub(crate) fn absent_in_area<S: Storage>(storage: &S, word: &Word) -> Option<Page>
+    ensures away { IfSome result (λ page. IsAway (length (S.bytes storage.now)) (S.present storage.now) page.0) }
+    ensures asked { IfSome result
+        (λ page. IsAreaPage (memory_of (S.bytes storage.now) (S.keys storage.now)) word.now page.0) }
+    ensures here { IfNone result
+        ((page : ℕ) → IsAreaPage (memory_of (S.bytes storage.now) (S.keys storage.now)) word.now page
+        → IsHere (length (S.bytes storage.now)) (S.present storage.now) page) }
+{
+    if !has_area(word) {
+        return None;
+    }
+    let count = u32::from(word.count);
+    let mut byte = 0u32;
+    'blocks: while byte < count {
+        match block_here(storage, word, (byte + 2047) / 2048) {
+            Err(page) => return Some(page),
+            Ok(None) => return None,
+            Ok(Some(start)) => byte += bytes_in_block(start, count - byte),
+        }
+    }
+    None
+}

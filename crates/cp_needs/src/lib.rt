@@ -1,0 +1,30 @@
+//! Which pages a channel program needs.
+//!
+//! Given a storage and the address of a command word, [`missing`] tells the first page that is not present of those
+//! with a byte of a word that the program can reach, of the list of its area, or of the area, and none where all of
+//! them are. A program whose inputs could change one of its own words may come to words that nobody could see before.
+//! Its one theorem ([`fixed_programs_need_their_pages`]): where no area that an input may fill has a byte of a word or
+//! a list, whatever the device answers, the program walks by the words with which it began, and needs no page but
+//! those. So [`needed`] tells a page of the program, or, of a program of which that is not known, of the whole storage;
+//! and where it tells none, [`run_held`] never stops for want of a page.
+//!
+//! ```
+//! match needed(alloc, &storage, start)? {
+//!     Some(page) => return Err(ChannelError::Absent(page)),
+//!     None => run_held(&mut storage, start, &limits, &mut device),
+//! }
+//! ```
+#![tactic(auto)]
+
+mod areas;
+mod demand;
+mod fixed;
+mod laws;
+mod pages;
+mod running;
+mod words;
+
+pub use demand::needed;
+pub use laws::fixed_programs_need_their_pages;
+pub use running::run_held;
+pub use words::missing;

@@ -1,0 +1,28 @@
+//! Pages that are not present.
+ghost use Rattle.std.specs.Prelude.{◌≡◌, ◌/◌, IfNone, IfSome, length};
+ghost use Rattle.cp_needs.specs.Words.{IsHere};
+ghost use Rattle.s370_store.specs.Access.{IsAway};
+
+use s370_num::AccessKey;
+use s370_store::{Access, Fault, PAGE_SIZE, Page, Range, Storage};
+
+/// The page of an address, where the storage has it and it is not present.
+pub(crate) fn absent_at<S: Storage>(storage: &S, address: u32) -> Option<Page>
+    ensures page { IfSome result (λ page. page.0 ≡ address / 4096) }
+    ensures away { IfSome result (λ page. IsAway (length (S.bytes storage.now)) (S.present storage.now) page.0) }
+    ensures here { IfNone result (IsHere (length (S.bytes storage.now)) (S.present storage.now) (address / 4096)) }
+{
+    match storage.check(
+        Range {
+            start: address / PAGE_SIZE * PAGE_SIZE,
+            count: 1,
+        },
+        Access::Fetch,
+        AccessKey::ZERO,
+    ) {
+        Err(Fault::Absent(page)) => Some(page),
+        Err(Fault::Addressing) => None,
+        Err(Fault::Protection) => None,
+        Ok(()) => None,
+    }
+}

@@ -1,0 +1,35 @@
+//! The run of a program over a storage that has its pages.
+ghost use Rattle.std.specs.Prelude.{◌≡◌, IfErr, IfOk};
+ghost use Rattle.cp_needs.specs.Words.{IsEnough};
+ghost use Rattle.s370_channel.specs.Guest.{guest_written};
+ghost use Rattle.s370_channel.specs.Progress.{MatchStuck, setting};
+ghost use Rattle.s370_channel.specs.declared.running.ChannelError.TheVariants as errors;
+ghost use Rattle.s370_walk.specs.Hardware.{memory_of};
+ghost use Rattle.s370_walk.specs.Walk.{Fetching, Over, Reaches, live, start_spot};
+
+use s370_channel::{ChannelError, Guest, Limits, run};
+use s370_store::Storage;
+use s370_walk::{Device, Ending};
+
+/// Runs the program from an address on, each word read when it is reached, over a storage that has the pages which it
+/// needs, as it is where [`needed`](crate::needed) answers None: it stops for want of memory alone.
+pub fn run_held<S: Storage, D: Device>(
+    storage: &mut S,
+    start: u32,
+    limits: &Limits,
+    device: &mut D,
+) -> Result<Ending, ChannelError>
+    requires enough { IsEnough (memory_of (S.bytes storage.old) (S.keys storage.old)) (S.present storage.old) start }
+    ensures reaches { IfOk result
+        (λ ending. Reaches (live guest_written) (setting D.machine limits.now)
+        (Fetching (start_spot start) (memory_of (S.bytes storage.old) (S.keys storage.old)) device.old)
+        (Over ending (memory_of (S.bytes storage.new) (S.keys storage.new)) device.new)) }
+    ensures memory { IfErr result (λ error. error ≡ errors.Memory) }
+    ensures short { IfErr result
+        (MatchStuck guest_written (setting D.machine limits.now) D.needs_memory (S.present storage.old)
+        (Fetching (start_spot start) (memory_of (S.bytes storage.old) (S.keys storage.old)) device.old)) }
+    ensures keys { S.keys storage.new ≡ S.keys storage.old }
+    ensures rest { S.Keeps storage.old storage.new }
+{
+    run(&Guest, storage, start, limits, device)
+}

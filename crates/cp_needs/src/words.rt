@@ -1,0 +1,128 @@
+//! The words of a program, and the first of its pages that is not present.
+ghost use Rattle.std.specs.Prelude.{◌≡◌, ◌+◌, ◌*◌, ◌/◌, ◌%◌, ◌<◌, ◌≤◌, IfErr, IfNone, IfOk, IfSome, OnOk, length, true, vec_len, ℕ};
+ghost use Rattle.cp_needs.specs.Needs.{IsHeld, IsProgramPage};
+ghost use Rattle.cp_needs.specs.Words.{AreSeen, AreSteps, AreWords, IsAmong, IsFollowed, IsPageAt, IsVisited, unseen};
+ghost use Rattle.s370_store.specs.Access.{IsAway};
+ghost use Rattle.s370_walk.specs.Hardware.{memory_of};
+
+use crate::areas::absent_in_area;
+use crate::pages::absent_at;
+use cp_graph::{leads_on, may_skip};
+use s370_channel::fetch_word;
+use s370_store::{Page, Storage};
+use std::alloc::{AllocError, Global};
+
+/// Adds an address to those that are found, where a word leads there, a page of storage has it and it is new.
+fn follow(
+    words: &mut Vec<u32>,
+    seen: &mut Vec<bool>,
+    leads: bool,
+    address: u32,
+) -> Result<(), AllocError>
+    requires even { leads ≡ true → address % 8 ≡ 0 }
+    requires known { AreSeen words.old.items seen.old.items }
+    ensures words { OnOk result (IsFollowed leads address words.old.items words.new.items) }
+    ensures found { OnOk result (leads ≡ true → address / 8 < vec_len seen.new → IsAmong words.new.items address) }
+    ensures known { OnOk result (AreSeen words.new.items seen.new.items) }
+    ensures count { OnOk result
+        (vec_len words.new + unseen seen.new.items ≡ vec_len words.old + unseen seen.old.items) }
+    ensures size { vec_len seen.new ≡ vec_len seen.old }
+{
+    let slot = address as usize / 8;
+    if !leads || slot >= seen.len() || seen[slot] {
+        return Ok(());
+    }
+    words.push(address)?;
+    seen[slot] = true;
+    Ok(())
+}
+
+/// Looks at the word at an address: adds where it leads, and finds the first of its pages that is not present.
+fn visit<S: Storage>(
+    storage: &S,
+    words: &mut Vec<u32>,
+    seen: &mut Vec<bool>,
+    address: u32,
+) -> Result<Option<Page>, AllocError>
+    requires even { address % 8 ≡ 0 }
+    requires known { AreSeen words.old.items seen.old.items }
+    ensures away { IfOk result
+        (λ found. IfSome found (λ page. IsAway (length (S.bytes storage.now)) (S.present storage.now) page.0)) }
+    ensures asked { IfOk result (λ found. IfSome found
+        (λ page. IsPageAt (memory_of (S.bytes storage.now) (S.keys storage.now)) address page.0)) }
+    ensures steps { IfOk result (λ found. IfNone found
+        (AreSteps (memory_of (S.bytes storage.now) (S.keys storage.now)) address words.old.items words.new.items)) }
+    ensures visited { IfOk result (λ found. IfNone found
+        (IsVisited (memory_of (S.bytes storage.now) (S.keys storage.now)) (S.present storage.now) (vec_len seen.new)
+        words.new.items address)) }
+    ensures known { IfOk result (λ found. IfNone found (AreSeen words.new.items seen.new.items)) }
+    ensures count { IfOk result (λ found. IfNone found
+        (vec_len words.new + unseen seen.new.items ≡ vec_len words.old + unseen seen.old.items)) }
+    ensures size { vec_len seen.new ≡ vec_len seen.old }
+{
+    if let Some(page) = absent_at(storage, address) {
+        return Ok(Some(page));
+    }
+    let found = match fetch_word(storage, address) {
+        Ok(found) => found,
+        Err(page) => return Ok(Some(page)),
+    };
+    let Some(word) = found else {
+        return Ok(None);
+    };
+    follow(words, seen, leads_on(&word), word.next)?;
+    follow(words, seen, may_skip(&word), word.skipped)?;
+    Ok(absent_in_area(storage, &word))
+}
+
+/// The addresses of the words that the program from an address on can reach, on pages of storage; or the first page
+/// that it needs and that is not present.
+pub(crate) fn words_of<S: Storage>(
+    alloc: Global,
+    storage: &S,
+    start: u32,
+) -> Result<Result<Vec<u32>, Page>, AllocError>
+    requires even { start % 8 ≡ 0 }
+    ensures words { IfOk result (λ found. IfOk found
+        (λ words. AreWords (memory_of (S.bytes storage.now) (S.keys storage.now)) start words.items)) }
+    ensures held { IfOk result (λ found. IfOk found
+        (λ words. IsHeld (memory_of (S.bytes storage.now) (S.keys storage.now)) start (S.present storage.now))) }
+    ensures away { IfOk result (λ found. IfErr found
+        (λ page. IsAway (length (S.bytes storage.now)) (S.present storage.now) page.0)) }
+    ensures needed { IfOk result (λ found. IfErr found
+        (λ page. IsProgramPage (memory_of (S.bytes storage.now) (S.keys storage.now)) start page.0)) }
+{
+    let mut seen = vec![in alloc; false; (storage.size() as usize + 4095) / 4096 * 512]?;
+    let mut words = Vec::new(alloc);
+    follow(&mut words, &mut seen, true, start)?;
+    let mut done = 0usize;
+    'words: while done < words.len() {
+        let address = words[done];
+        if let Some(page) = visit(storage, &mut words, &mut seen, address)? {
+            return Ok(Err(page));
+        }
+        done += 1;
+    }
+    Ok(Ok(words))
+}
+
+/// A page that the program from an address on needs and that is not present, or None where all of them are: breadth
+/// first from there, of each word its own page first and then those of its area upwards. An error is memory.
+pub fn missing<S: Storage>(
+    alloc: Global,
+    storage: &S,
+    start: u32,
+) -> Result<Option<Page>, AllocError>
+    requires even { start % 8 ≡ 0 }
+    ensures away { IfOk result
+        (λ found. IfSome found (λ page. IsAway (length (S.bytes storage.now)) (S.present storage.now) page.0)) }
+    ensures needed { IfOk result (λ found. IfSome found
+        (λ page. IsProgramPage (memory_of (S.bytes storage.now) (S.keys storage.now)) start page.0)) }
+    ensures held { IfOk result (λ found. IfNone found
+        (IsHeld (memory_of (S.bytes storage.now) (S.keys storage.now)) start (S.present storage.now))) }
+{
+    match words_of(alloc, storage, start)? {
+        Ok(_) => Ok(None),
+        Err(page) => Ok(Some(page)),
+    }
+}
