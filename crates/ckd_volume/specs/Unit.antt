@@ -1,5 +1,5 @@
 -- A disk unit: a volume, the cylinder of its arm, and the front of the unit.
-use Rattle.std.specs.Prelude.{ℕ, ◌+◌, ◌==◌, Bool, true, false, nat_lt, ◌&&◌, if◌then◌else◌, List, [], ◌∷◌, ◌++◌, length, slice_index, slice_index_or, slice_set, Option, None, Some}
+use Rattle.std.specs.Prelude.{ℕ, ◌+◌, ◌==◌, Bool, true, false, nat_lt, nat_le, ◌&&◌, if◌then◌else◌, List, [], ◌∷◌, ◌++◌, length, slice_index, slice_index_or, slice_set, Option, None, Some}
 use Rattle.s370_walk.specs.declared.bits.UnitStatus.{UnitStatus}
 use Rattle.s370_walk.specs.declared.parts.Order.{Order}
 use Rattle.s370_walk.specs.Hardware.{Machine}
@@ -95,6 +95,20 @@ is_seeking (jobs.SearchKey i) = false
 is_seeking (jobs.WriteData i) = false
 is_seeking (jobs.WriteBoth i) = false
 is_seeking (jobs.WriteRecord i) = false
+
+-- The six bytes of a seek's argument, when they are there.
+abbrev pub six_of : List ℕ → List ℕ
+six_of bytes =
+    slice_index bytes 0
+    ∷ slice_index bytes 1
+    ∷ slice_index bytes 2
+    ∷ slice_index bytes 3
+    ∷ slice_index bytes 4
+    ∷ slice_index bytes 5
+    ∷ []
+
+abbrev pub argument_held : Front → Option (List ℕ)
+argument_held f = if is_seeking f.job && nat_le 6 (length f.bytes) then Some (six_of f.bytes) else None
 
 -- A byte further, given or taken.
 abbrev pub gave : Front → Front

@@ -95,6 +95,25 @@ impl Panel {
         }
     }
 
+    /// The argument of a seek, when its bytes are there.
+    pub(crate) fn argument(&self) -> Option<[u8; 6]>
+        ensures { result ≡ unit.argument_held self.now }
+    {
+        let bytes = &self.bytes;
+        if self.is_seeking() && bytes.len() >= 6 {
+            return Some([bytes[0], bytes[1], bytes[2], bytes[3], bytes[4], bytes[5]]);
+        }
+        None
+    }
+
+    /// These bytes are held in place of the others.
+    pub(crate) fn set_argument(&mut self, argument: [u8; 6])
+        ensures { self.new ≡ record (self.old) { bytes = argument } }
+    {
+        self.bytes.clear();
+        self.hold(&argument);
+    }
+
     /// A seek ends at the index of the track under this head.
     pub(crate) fn end_seek(&mut self, head: usize) -> UnitStatus
         requires { head < 19 }

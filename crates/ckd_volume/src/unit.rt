@@ -56,7 +56,7 @@ impl Model for Unit {
 }
 
 impl Unit {
-    ghost use Rattle.ckd_volume.specs.Unit.{idle, begins, aimed, started, ending, after, finished, status, seek_of, seek_status, moved, keeps, disk_machine, volume_of, disk_reset, disk_cleared, rested};
+    ghost use Rattle.ckd_volume.specs.Unit.{idle, begins, aimed, started, ending, after, finished, status, seek_of, seek_status, moved, keeps, argument_held, disk_machine, volume_of, disk_reset, disk_cleared, rested};
 
     /// A unit whose arm stands over a volume; it has room for the longest command.
     pub fn new(alloc: Global, volume: Volume, arm: Arm) -> Result<Unit, AllocError>
@@ -146,6 +146,21 @@ impl Unit {
         ensures { self.new ≡ rested self.old }
     {
         self.panel.start(true);
+    }
+
+    /// The argument of a seek that has all its bytes and has not ended; None in every other command.
+    pub fn argument(&self) -> Option<[u8; 6]>
+        ensures { result ≡ argument_held self.now.front }
+    {
+        self.panel.argument()
+    }
+
+    /// Gives the command that is under way these bytes in place of those that it has taken: so the argument of a seek
+    /// is replaced before it ends. It takes no memory.
+    pub fn set_argument(&mut self, argument: [u8; 6])
+        ensures { self.new ≡ keeps self.old (record (self.old.front) { bytes = argument }) }
+    {
+        self.panel.set_argument(argument);
     }
 
     /// Read IPL moves the arm to the first track before all else.

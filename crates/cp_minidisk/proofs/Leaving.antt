@@ -22,7 +22,7 @@ use Rattle.cp_minidisk.proofs.Slicing.{has_slice}
 use Rattle.cp_minidisk.proofs.Serving.{before_size}
 
 module _ (extent : ExtentValue) (below above : List Cylinder) (d : Disk) (starts : length below ≡ extent.start) (fits : Fits extent d) where
-  part : slice_of (below ++ (d.cylinders ++ above)) extent.start extent.count ≡ d.cylinders
+  pub part : slice_of (below ++ (d.cylinders ++ above)) extent.start extent.count ≡ d.cylinders
   part =
       ap (λ n. slice_of (below ++ (d.cylinders ++ above)) n extent.count) (sym starts)
       ∙ ap (λ n. slice_of (below ++ (d.cylinders ++ above)) (length below) n) (sym fits.1)

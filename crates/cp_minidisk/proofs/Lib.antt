@@ -16,3 +16,6 @@ pub mod Prefixed
 pub mod Served
 pub mod Guests
 pub mod Leaving
+pub mod Mounting
+pub mod Walked
+pub mod Parting

@@ -1,5 +1,6 @@
 -- No command changes the home of a disk, or whether it may be written.
-use Rattle.std.specs.Prelude.{ℕ, ◌+◌, ◌==◌, ◌≡◌, ◌||◌, ◌&&◌, Bool, true, false, not, nat_lt, nat_le, if◌then◌else◌, List, [], ◌∷◌, ◌++◌, length, drop, bit_and, Option, None, Some}
+use Rattle.std.specs.Prelude.{ℕ, ◌+◌, ◌==◌, ◌≡◌, refl, ◌||◌, ◌&&◌, Bool, true, false, not, nat_lt, nat_le, if◌then◌else◌, List, [], ◌∷◌, ◌++◌, length, drop, bit_and, Option, None, Some}
+use Rattle.std.proofs.Common.{◌∙◌}
 use Rattle.s370_walk.specs.declared.bits.UnitStatus.{UnitStatus}
 use Rattle.s370_walk.specs.declared.parts.Order.{Order}
 use Rattle.s370_walk.specs.declared.parts.Answer.TheVariants.{Refused}
@@ -158,47 +159,68 @@ module _ (w : Bool) where
 
   -- ---- Each step of the disk.
 
-  aimed_own : (d : Disk) (ipl : Bool) → IsOwn w d → IsOwn w (aimed d ipl)
-  aimed_own d true own = record { home = own.home; mode = own.mode }
-  aimed_own d false own = own
+  aimed_mode : (d : Disk) (ipl : Bool) → d.front.writable ≡ w → (aimed d ipl).front.writable ≡ w
+  aimed_mode d true e = e
+  aimed_mode d false e = e
 
-  begins_own : (d : Disk) (order : Order) → IsOwn w d → IsOwn w (keeps d (begins d order).front)
-  begins_own d order own =
+  begins_mode : (d : Disk) (order : Order) → d.front.writable ≡ w → (begins d order).front.writable ≡ w
+  begins_mode d order e = begun_mode (starting d.front order.first) (right_found d.front order.first) (under d) order (starting_mode d.front order.first e)
+
+  gave_mode : (d : Disk) → d.front.writable ≡ w → (disk_machine.gave d).front.writable ≡ w
+  gave_mode d e = by_place (nat_lt d.front.given (length d.front.bytes))
+    where
+      by_place : (b : Bool) → (if b then record (d.front) { given = d.front.given + 1 } else d.front).writable ≡ w
+      by_place true = e
+      by_place false = e
+
+  took_mode : (d : Disk) (byte : ℕ) → d.front.writable ≡ w → (disk_machine.took d byte).front.writable ≡ w
+  took_mode d byte e = by_room (nat_lt (length d.front.bytes) longest)
+    where
+      by_room : (b : Bool) → (if b then record (d.front) { bytes = d.front.bytes ++ byte ∷ [] } else d.front).writable ≡ w
+      by_room true = e
+      by_room false = e
+
+  moved_mode : (d : Disk) (s : Option Seek) → d.front.writable ≡ w → (moved d s).front.writable ≡ w
+  moved_mode d None e = e
+  moved_mode d (Some s) e = e
+
+  finished_mode : (d : Disk) → d.front.writable ≡ w → (disk_machine.finished d).front.writable ≡ w
+  finished_mode d e = by_job (is_seeking d.front.job)
+    where
+      by_job : (b : Bool) → (if b then moved d (seek_of d) else after d (ending d)).front.writable ≡ w
+      by_job true = moved_mode d (seek_of d) e
+      by_job false = ended_mode d.front (under d) d.front.job e
+
+  -- whether the disk may be written stays
+  pub disk_mode : Keeps disk_machine (λ d. d.front.writable ≡ w)
+  disk_mode =
       record {
-        home = own.home;
-        mode = begun_mode (starting d.front order.first) (right_found d.front order.first) (under d) order (starting_mode d.front order.first own.mode);
+        started = λ d order e. begins_mode (aimed d (is_ipl order)) order (aimed_mode d (is_ipl order) e);
+        gave = gave_mode;
+        took = took_mode;
+        finished = finished_mode;
       }
 
-  gave_own : (d : Disk) → IsOwn w d → IsOwn w (disk_machine.gave d)
-  gave_own d own = by_place (nat_lt d.front.given (length d.front.bytes))
-    where
-      by_place : (b : Bool) → IsOwn w (keeps d (if b then record (d.front) { given = d.front.given + 1 } else d.front))
-      by_place true = record { home = own.home; mode = own.mode }
-      by_place false = record { home = own.home; mode = own.mode }
+  aimed_home : (d : Disk) (ipl : Bool) → (aimed d ipl).home ≡ d.home
+  aimed_home d true = refl
+  aimed_home d false = refl
 
-  took_own : (d : Disk) (byte : ℕ) → IsOwn w d → IsOwn w (disk_machine.took d byte)
-  took_own d byte own = by_room (nat_lt (length d.front.bytes) longest)
-    where
-      by_room : (b : Bool) → IsOwn w (keeps d (if b then record (d.front) { bytes = d.front.bytes ++ byte ∷ [] } else d.front))
-      by_room true = record { home = own.home; mode = own.mode }
-      by_room false = record { home = own.home; mode = own.mode }
+  moved_home : (d : Disk) (s : Option Seek) → (moved d s).home ≡ d.home
+  moved_home d None = refl
+  moved_home d (Some s) = refl
 
-  moved_own : (d : Disk) (s : Option Seek) → IsOwn w d → IsOwn w (moved d s)
-  moved_own d None own = record { home = own.home; mode = own.mode }
-  moved_own d (Some s) own = record { home = own.home; mode = own.mode }
-
-  finished_own : (d : Disk) → IsOwn w d → IsOwn w (disk_machine.finished d)
-  finished_own d own = by_job (is_seeking d.front.job)
+  finished_home : (d : Disk) → (disk_machine.finished d).home ≡ d.home
+  finished_home d = by_job (is_seeking d.front.job)
     where
-      by_job : (b : Bool) → IsOwn w (if b then moved d (seek_of d) else after d (ending d))
-      by_job true = moved_own d (seek_of d) own
-      by_job false = record { home = own.home; mode = ended_mode d.front (under d) d.front.job own.mode }
+      by_job : (b : Bool) → (if b then moved d (seek_of d) else after d (ending d)).home ≡ d.home
+      by_job true = moved_home d (seek_of d)
+      by_job false = refl
 
   pub disk_own : Keeps disk_machine (IsOwn w)
   disk_own =
       record {
-        started = λ d order own. begins_own (aimed d (is_ipl order)) order (aimed_own d (is_ipl order) own);
-        gave = gave_own;
-        took = took_own;
-        finished = finished_own;
+        started = λ d order own. record { home = aimed_home d (is_ipl order) ∙ own.home; mode = disk_mode.started d order own.mode };
+        gave = λ d own. record { home = own.home; mode = disk_mode.gave d own.mode };
+        took = λ d byte own. record { home = own.home; mode = disk_mode.took d byte own.mode };
+        finished = λ d own. record { home = finished_home d ∙ own.home; mode = disk_mode.finished d own.mode };
       }

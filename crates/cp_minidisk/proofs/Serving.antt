@@ -27,7 +27,7 @@ walks_on_its_volume real c key limit prefix seeks extent below above at started 
 pub before_size : (v : VolumeFormat) (e : ExtentValue) → HasExtent v.cylinders e → length (before v e) ≡ e.start
 before_size v e inside = length-take-le e.start v.cylinders (omega (arith, inside))
 
-slice_size : (v : VolumeFormat) (e : ExtentValue) → HasExtent v.cylinders e → length (slice v e).cylinders ≡ e.count
+pub slice_size : (v : VolumeFormat) (e : ExtentValue) → HasExtent v.cylinders e → length (slice v e).cylinders ≡ e.count
 slice_size v e inside =
     let rest : length (drop e.start v.cylinders) ≡ length v.cylinders - e.start = length-drop e.start v.cylinders in
     length-take-le e.count (drop e.start v.cylinders) (omega (arith, inside, rest))

@@ -4,3 +4,6 @@ pub mod Minidisk
 pub mod Kept
 pub mod Seeks
 pub mod Laws
+pub mod Part
+pub mod Projected
+pub mod PartLaws

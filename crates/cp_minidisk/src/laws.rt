@@ -2,6 +2,7 @@
 ghost use Rattle.ckd_volume.specs.Unit.{disk_machine};
 ghost use Rattle.cp_minidisk.specs.Kept.{Keeps};
 ghost use Rattle.cp_minidisk.specs.Laws as laws;
+ghost use Rattle.cp_minidisk.specs.PartLaws as parts;
 ghost use Rattle.cp_minidisk.specs.Placed.{IsOnDisk};
 
 /// A minidisk on a volume obeys each command but a seek as it does alone, and no other cylinder of the volume changes.
@@ -69,4 +70,17 @@ pub fn a_users_program_is_served()
 /// The copy of a steady program with the arguments of its seeks walks as the guest's own program.
 pub fn a_copy_with_arguments_is_the_guests()
     ensures { laws.CopysAreTheGuests }
+{}
+
+/// A minidisk as a device of its own walks each program as the disk that its user sees, and the other cylinders of its
+/// volume stay.
+pub fn a_part_walks_as_its_disk()
+    ensures walks { parts.WalksAsItsDisk }
+    ensures neighbours { parts.LeavesItsNeighbours }
+{}
+
+/// Its extent stays, whatever program runs; and if it is only read, so do all cylinders of the volume.
+pub fn a_part_keeps_its_extent()
+    ensures extent { parts.KeepsItsExtent }
+    ensures read_only { parts.NeverWrites }
 {}

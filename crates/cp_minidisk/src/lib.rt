@@ -10,6 +10,9 @@
 //! seek with [`Minidisk::arm_argument`] before the program moves the arm to its place, and [`Minidisk::dismount`] takes
 //! arm and sense back. None of this takes memory or copies a cylinder.
 //!
+//! A [`Mounted`] minidisk is a device of its own, which relocates each seek at its end: a user's program runs on it as
+//! it stands, and walks as on the disk that its user sees ([`a_part_walks_as_its_disk`]).
+//!
 //! ```
 //! let extent = Extent::new(100, 5, true)?;
 //! let mut minidisk = Minidisk::new(extent);
@@ -22,11 +25,14 @@
 mod extent;
 mod laws;
 mod minidisk;
+mod mounted;
 
 pub use extent::Extent;
 pub use laws::{
-    a_copy_with_arguments_is_the_guests, a_minidisk_works_alike, a_program_walks_on_its_volume,
-    a_read_only_disk_never_changes, a_relocated_seek_works_alike, a_seek_before_arms,
-    a_slice_is_a_part, a_users_program_is_served, an_arm_stays_on_its_disk,
+    a_copy_with_arguments_is_the_guests, a_minidisk_works_alike, a_part_keeps_its_extent,
+    a_part_walks_as_its_disk, a_program_walks_on_its_volume, a_read_only_disk_never_changes,
+    a_relocated_seek_works_alike, a_seek_before_arms, a_slice_is_a_part, a_users_program_is_served,
+    an_arm_stays_on_its_disk,
 };
 pub use minidisk::Minidisk;
+pub use mounted::Mounted;
