@@ -108,11 +108,12 @@ run_program() {
     trap 'rm -f -- "$errors"' EXIT
     # what runs beside a shell has no standard input, unless it is given it
     exec 4<&0
-    "$program" "$@" <&4 2> "$errors" &
-    running=$!
+    running=
     trap 'stop_program 129' HUP
     trap 'stop_program 130' INT
     trap 'stop_program 143' TERM
+    "$program" "$@" <&4 2> "$errors" &
+    running=$!
     ended=0
     wait "$running" || ended=$?
     cat -- "$errors" >&2
@@ -122,7 +123,7 @@ run_program() {
 
 # stop_program STATUS: ends the program that runs
 stop_program() {
-    kill "$running" 2> /dev/null || true
+    [ -z "$running" ] || kill "$running" 2> /dev/null || true
     exit "$1"
 }
 
