@@ -1,7 +1,7 @@
 //! The outer layer of the programs: from a script's bytes to exactly its transcript's bytes.
 //!
 //! What a session writes is what the control program answered to the events that the script names and to the
-//! slices that its turns deal, and each reply is what a bare machine tells ([`session::session`]). After any
+//! slices and serves that its turns deal, and each reply is what a bare machine tells ([`session::session`]). After any
 //! failure it is a beginning of that.
 //!
 //! A script's bytes name events exactly where they are a text of the grammar of docs/FORMATS.md, and
