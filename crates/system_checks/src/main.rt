@@ -457,23 +457,23 @@ fn events_without_memory<R: AllocGlobal + Print>(rt: &R) -> Result<()> {
     let stopped = units_of(system.apply(Event::Run(b(), 5)));
     println!(rt; "grant")?;
     see(tick.is_ok(), "a tick takes no memory")?;
-    see(
-        [first, second, stop, stopped] == [Some(10), Some(10), Some(0), Some(0)],
-        "a run takes no memory",
-    )?;
-    see(
-        system.page_ins() == 2,
-        "both pages of A have come, and none of B",
-    )?;
-    let timer = [0x50, 0x51, 0x52, 0x53].map(|address| system.storage(a(), address));
-    see(
-        timer == [Some(0xFF), Some(0xFF), Some(0xFF), Some(0)],
-        "the timer has stepped",
-    )?;
-    see(
-        system.storage(a(), 0x1B) == Some(0x80),
-        "the timer has interrupted",
-    )?;
+    for (units, wanted) in [(first, 10), (second, 10), (stop, 0), (stopped, 0)] {
+        see(units == Some(wanted), "a run takes no memory")?;
+    }
+    see(system.page_ins() == 2, "both pages of A have come")?;
+    // the timer, which was zero, and the code of the interruption
+    for (address, byte) in [
+        (0x50, 0xFF),
+        (0x51, 0xFF),
+        (0x52, 0xFF),
+        (0x53, 0),
+        (0x1B, 0x80),
+    ] {
+        see(
+            system.storage(a(), address) == Some(byte),
+            "the timer has stepped and interrupted",
+        )?;
+    }
     see(
         system.console_output(b(), 1) == Some(Response::StoppedDisabledWait),
         "the notice of the stop is kept",
