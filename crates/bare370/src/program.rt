@@ -11,7 +11,7 @@ use s370_num::host::Counted;
 use std::io;
 use std::rt::{Env, Files};
 use vm370::faults::Failure;
-use vm370::images::{read_volumes, save_volume};
+use vm370::images::{owned, read_volumes, save_volume};
 use vm370::program::{Ended, finish, open, words, wrong_use};
 
 /// The program's name, as it tells it.
@@ -86,7 +86,8 @@ fn save_disks<R: AllocGlobal + Files>(
     machine: &Bare,
     paths: &[&str],
 ) -> Result<(), Failure> {
-    for (disk, path) in machine.disks().iter().zip(paths.iter()) {
+    let paths = owned(rt.alloc(), paths)?;
+    for (disk, path) in machine.disks().iter().zip(paths) {
         save_volume(rt, disk.unit().volume(), path)?;
     }
     Ok(())

@@ -9,6 +9,9 @@ use std::process::{ExitCode, Termination};
 use std::rt::{Env, Files};
 use std::{env, fs, io};
 
+/// What is told where there is no memory for the line of a failure: that of [`Failure::Memory`].
+const NO_MEMORY: &str = "fault: memory Memory";
+
 /// How a program ended. Only a program of this crate makes one, so that a `main` which returns it has no other exit
 /// status to give.
 #[derive(Drop)]
@@ -24,16 +27,31 @@ impl Termination for Ended {
     }
 }
 
-/// The end of a program, whose failure is told on standard error. A wrong use has been told by a longer text.
+/// The end of a program, whose failure is told on standard error. One that there is no memory to tell is want of memory.
 pub(crate) fn ended_of<R: AllocGlobal + Eprint>(rt: &R, ended: Result<(), Failure>) -> Ended {
-    if let Err(failure) = &ended {
-        if *failure != Failure::Usage {
-            if let Ok(line) = fault_line(rt.alloc(), failure) {
-                let _ = rt.eprintln(&line);
-            }
+    match ended {
+        Ok(()) => Ended { ended: Ok(()) },
+        Err(failure) => Ended {
+            ended: Err(tell(rt, failure)),
+        },
+    }
+}
+
+/// Prints the line of a failure, and gives what was told. A wrong use has been told by a longer text.
+fn tell<R: AllocGlobal + Eprint>(rt: &R, failure: Failure) -> Failure {
+    if failure == Failure::Usage {
+        return failure;
+    }
+    match fault_line(rt.alloc(), &failure) {
+        Ok(line) => {
+            let _ = rt.eprintln(&line);
+            failure
+        }
+        Err(_) => {
+            let _ = rt.eprintln(NO_MEMORY);
+            Failure::Memory
         }
     }
-    Ended { ended }
 }
 
 /// Tells a wrong use by these texts.

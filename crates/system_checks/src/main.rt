@@ -1,5 +1,6 @@
 //! What no script shows of a system, beside the transcripts of `vm370_examples`: too few frames, volumes that lack, the
-//! machine of nobody, what a console keeps, a frame that is lent, how many pages have come, and where they stand.
+//! machine of nobody, what a console keeps, a frame that is lent, how many pages have come, and where they stand, and
+//! what takes no memory.
 //!
 //! It fails at the first thing that is otherwise, and tells it.
 #![tactic(auto)]
@@ -8,7 +9,7 @@ use anyhow::{Context, Result, bail};
 use ckd_volume::Volume;
 use cp_console::console_line::ConsoleLine;
 use cp_console::responses::Response;
-use cp_core::{BootError, CpError, Ended, Event, FrameNo, Sizes, System};
+use cp_core::{BootError, CpError, Ended, Event, FrameNo, Reply, Sizes, System};
 use cp_directory::{Volser, read_directory};
 use cp_users::UserNo;
 use s370_num::DevAddr;
@@ -417,6 +418,68 @@ fn an_overflow_of_seven_pages(system: &mut System) -> Result<()> {
     see(code == Some(8), "the interruption is that of an overflow")
 }
 
+/// How many units a run has done; none where the answer is another.
+fn units_of(answer: Result<Reply, CpError>) -> Option<u32> {
+    let _device = DevAddr::new(0);
+    let Ok(reply) = answer else {
+        return None;
+    };
+    match reply.ended {
+        Ended::Ran(ran) => Some(ran.units),
+        _ => None,
+    }
+}
+
+/// Once machines run, neither runs with their pages and interruptions nor ticks nor the notice of a stop take memory:
+/// between the two lines that are printed here, `.ci/test-refusals` has none granted to this program.
+fn events_without_memory<R: AllocGlobal + Print>(rt: &R) -> Result<()> {
+    let mut system = booted(rt.alloc(), FEWEST_FRAMES)??;
+    let loop_of_a = [
+        "LOGON",
+        // L 1,4094 across a page end, and back to it
+        "STORE 100 58100FFE47F00100",
+        // the new PSW for external interruptions, and the external mask of the PSW
+        "STORE 58 0000000000000100",
+        "STORE PSW 01000000 00000100",
+        "BEGIN",
+    ];
+    type_lines(&mut system, a(), &loop_of_a)?;
+    type_lines(
+        &mut system,
+        b(),
+        &["LOGON", "STORE PSW 00020000 00000000", "BEGIN"],
+    )?;
+    println!(rt; "refuse")?;
+    let first = units_of(system.apply(Event::Run(a(), 10)));
+    let tick = system.apply(Event::Tick(a()));
+    let second = units_of(system.apply(Event::Run(a(), 10)));
+    let stop = units_of(system.apply(Event::Run(b(), 5)));
+    let stopped = units_of(system.apply(Event::Run(b(), 5)));
+    println!(rt; "grant")?;
+    see(tick.is_ok(), "a tick takes no memory")?;
+    for (units, wanted) in [(first, 10), (second, 10), (stop, 0), (stopped, 0)] {
+        see(units == Some(wanted), "a run takes no memory")?;
+    }
+    see(system.page_ins() == 2, "both pages of A have come")?;
+    // the timer, which was zero, and the code of the interruption
+    for (address, byte) in [
+        (0x50, 0xFF),
+        (0x51, 0xFF),
+        (0x52, 0xFF),
+        (0x53, 0),
+        (0x1B, 0x80),
+    ] {
+        see(
+            system.storage(a(), address) == Some(byte),
+            "the timer has stepped and interrupted",
+        )?;
+    }
+    see(
+        system.console_output(b(), 1) == Some(Response::StoppedDisabledWait),
+        "the notice of the stop is kept",
+    )
+}
+
 fn main(rt: HostRuntime) -> Result<()> {
     let alloc = rt.alloc();
     too_few_frames(alloc)?;
@@ -428,6 +491,9 @@ fn main(rt: HostRuntime) -> Result<()> {
     pages_that_came(&mut booted(alloc, FEWEST_FRAMES)??)?;
     a_move_of_eight_pages(&mut crowded(alloc)?)?;
     an_overflow_of_seven_pages(&mut crowded(alloc)?)?;
-    println!(rt; "frames, nobody, lines, a lent frame and pages are as they have to be")?;
+    events_without_memory(&rt)?;
+    println!(rt;
+        "frames, nobody, lines, a lent frame, pages and events without memory are as they have to be"
+    )?;
     Ok(())
 }

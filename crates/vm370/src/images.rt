@@ -4,6 +4,7 @@ use crate::program::open;
 use ckd_image::{ImageError, read_image, write_image};
 use ckd_volume::Volume;
 use s370_num::host::Counted;
+use std::alloc::{AllocError, Global};
 use std::fs::{File, OpenFile, OpenOptions};
 use std::rt::Files;
 use std::{fs, io};
@@ -28,6 +29,16 @@ pub fn read_volumes<R: AllocGlobal + Files>(
     Ok(volumes)
 }
 
+/// These paths as texts of their own. They are made before an image is written, so that one that is not saved for want
+/// of memory can be told.
+pub fn owned(alloc: Global, paths: &[&str]) -> Result<Vec<String>, AllocError> {
+    let mut owned = Vec::new(alloc);
+    for path in paths {
+        owned.push(String::from_str(alloc, path)?)?;
+    }
+    Ok(owned)
+}
+
 /// Writes the image of a volume to a path, in place of the file that stands there.
 ///
 /// It is written to a new file beside that one, which is renamed when it is whole. So whatever fails, either image is
@@ -36,14 +47,11 @@ pub fn read_volumes<R: AllocGlobal + Files>(
 pub fn save_volume<R: AllocGlobal + Files>(
     rt: &R,
     volume: &Volume,
-    path: &str,
+    path: String,
 ) -> Result<(), Failure> {
-    match put(rt, volume, path) {
+    match put(rt, volume, &path) {
         Ok(()) => Ok(()),
-        Err(error) => {
-            let path = String::from_str(rt.alloc(), path)?;
-            Err(Failure::Unsaved(error, path))
-        }
+        Err(error) => Err(Failure::Unsaved(error, path)),
     }
 }
 

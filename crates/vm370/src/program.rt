@@ -10,7 +10,7 @@ ghost use Rattle.vm370.specs.Faults.{outcome_of};
 use crate::arguments::{Options, UsageError, arguments};
 use crate::boot_faults::{boot_failure, names_of};
 use crate::faults::{Failure, fault_line, outcome};
-use crate::images::{read_volumes, save_volume};
+use crate::images::{owned, read_volumes, save_volume};
 use crate::session::session;
 use cp_core::System;
 use cp_directory::read_directory;
@@ -21,6 +21,9 @@ use std::{env, fs, io};
 
 /// The program's name, as it tells it.
 const PROGRAM: &str = "vm370";
+
+/// What is told where there is no memory for the line of a failure: that of [`Failure::Memory`].
+const NO_MEMORY: &str = "fault: memory Memory";
 
 /// What is told after a usage text: an example, and the exit statuses.
 const USAGE_NOTE: &str = "
@@ -57,24 +60,33 @@ pub fn program<R: AllocGlobal + Files + Env + Print + Eprint>(rt: &R) -> Ended {
     finish(rt, run(rt))
 }
 
-/// The end of a program: a failure is told on standard error, and gives the exit status.
+/// The end of a program: a failure is told on standard error, and gives the exit status. One that there is no memory to
+/// tell is want of memory.
 pub fn finish<R: AllocGlobal + Eprint>(rt: &R, ended: Result<(), Failure>) -> Ended {
-    if let Err(failure) = &ended {
-        tell(rt, failure);
+    match ended {
+        Ok(()) => Ended { ended: Ok(()) },
+        Err(failure) => Ended {
+            ended: Err(tell(rt, failure)),
+        },
     }
-    Ended { ended }
 }
 
-/// Prints the line of a failure. A wrong use has been told by a longer text.
-fn tell<R: AllocGlobal + Eprint>(rt: &R, failure: &Failure) {
-    if *failure == Failure::Usage {
-        return;
+/// Prints the line of a failure, and gives what was told. A wrong use has been told by a longer text.
+fn tell<R: AllocGlobal + Eprint>(rt: &R, failure: Failure) -> Failure {
+    if failure == Failure::Usage {
+        return failure;
     }
-    if let Ok(line) = fault_line(rt.alloc(), failure) {
-        let _ = rt.eprintln(&line);
-    }
-    if let Failure::Unsaved(_, path) = failure {
+    let line = fault_line(rt.alloc(), &failure);
+    let _ = match &line {
+        Ok(line) => rt.eprintln(line),
+        Err(_) => rt.eprintln(NO_MEMORY),
+    };
+    if let Failure::Unsaved(_, path) = &failure {
         let _ = eprintln!(rt; "not saved: {path}");
+    }
+    match line {
+        Ok(_) => failure,
+        Err(_) => Failure::Memory,
     }
 }
 
@@ -169,8 +181,9 @@ pub fn save<R: AllocGlobal + Files>(
     if !options.save {
         return Ok(());
     }
+    let paths = owned(rt.alloc(), options.volumes.as_slice())?;
     let volumes = system.into_volumes();
-    for (volume, path) in volumes.iter().zip(options.volumes.iter()) {
+    for (volume, path) in volumes.iter().zip(paths) {
         save_volume(rt, volume, path)?;
     }
     Ok(())
