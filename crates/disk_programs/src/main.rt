@@ -19,7 +19,7 @@ use cp_text::words::words_of;
 use s370_store::PlainStorage;
 use std::alloc::Global;
 use step_table::{table, tally};
-use storage_lists::{clear_bytes, clear_keys, is_clear};
+use step_table::lists::{clear_bytes, clear_keys, is_clear};
 
 fn main(rt: HostRuntime) -> Result<()> {
     let alloc = rt.alloc();

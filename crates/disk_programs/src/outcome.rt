@@ -6,7 +6,7 @@ use ckd_volume::{Arm, HEADS, Sense, Unit, Volume};
 use s370_channel::{Csw, Guest, Limits, MOST_COMMANDS, check_start, run};
 use s370_store::PlainStorage;
 use std::alloc::Global;
-use storage_lists::{byte_of, is_same_in, set_bytes, set_keys};
+use step_table::lists::{byte_of, is_same_in, set_bytes, set_keys};
 
 /// A volume with the tracks of a list.
 fn volume_of(alloc: Global, case: &Case<'_>) -> Result<Volume> {

@@ -4,7 +4,7 @@ use ckd_track::Track;
 use ckd_volume::{HEADS, Volume};
 use cp_text::numbers::decimal_of;
 use std::alloc::Global;
-use storage_lists::cut_item;
+use step_table::lists::cut_item;
 
 /// Two decimal numbers with a mark between them.
 pub fn pair_of(mark: u8, word: &[u8]) -> Option<(usize, usize)> {

@@ -10,7 +10,7 @@ use cp_users::UserNo;
 use s370_num::DevAddr;
 use s370_store::PlainStorage;
 use std::alloc::Global;
-use storage_lists::{addressed, byte_at};
+use step_table::lists::{addressed, byte_at};
 
 /// The frames: a user's program runs where all of the user's storage, which is a megabyte, stands in frames.
 const FRAMES: u32 = 272;
