@@ -5,7 +5,7 @@
 //! sign; their first lines tell the steps.
 //!
 //! - `processor.txt`: which operation codes there are, what is asked of devices, and keys of a page that is not there.
-//!   What instructions leave is shown by `s370_vectors` and `edge_cases`.
+//!   What instructions leave is shown by `s370_vectors` and `promise_checks`.
 //! - `storage.txt`: accesses by their keys, absent pages, blocks that are found; and a lender, as an example of how to
 //!   meet the trait.
 //! - `devices.txt`: a processor, its channels, its devices and images of volumes.
