@@ -1,5 +1,5 @@
-//! How fast channel programs move bytes and how fast the image of a volume is read. Each is done five times; the best time
-//! is told.
+//! How fast channel programs move bytes and how fast the image of a volume is read. Each is done five times; the best
+//! time is told.
 use crate::exchange::{EXCHANGES, Exchange, disk_with, repeat, source_of, storage_with};
 use crate::images::full_image;
 use anyhow::{Result, bail};
@@ -116,8 +116,8 @@ fn measure_image(
     Ok(())
 }
 
-/// Runs each program as often as the words of the command line say, 40 times where they say nothing, and reads an image of
-/// so many cylinders, two where they say nothing.
+/// Runs each program as often as the words of the command line say, 40 times where they say nothing, and reads an image
+/// of so many cylinders, two where they say nothing.
 pub fn measure_channels<R: AllocGlobal + CpuClock + Env + Print + Eprint>(rt: &R) -> Result<()> {
     let mut words = env::args(rt)?.skip(2);
     let programs = number_of(words.next(), 40)?;

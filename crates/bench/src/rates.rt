@@ -1,6 +1,6 @@
 //! How many units a second machines do that run a guest loop: on a bare machine, as one user of the control program, as
-//! eight users in turns of 100 units, and on eight bare machines in such turns. Each is done five times; the best rate is
-//! told.
+//! eight users in turns of 100 units, and on eight bare machines in such turns. Each is done five times; the best rate
+//! is told.
 use crate::guests::{Guests, PLACES, Place};
 use crate::loops::{LOOPS, Loop};
 use anyhow::{Result, bail};
@@ -98,8 +98,8 @@ fn measure(
     Ok(())
 }
 
-/// Measures the loops and the places that the words of the command line ask for; 8,000 units each time where they tell no
-/// number.
+/// Measures the loops and the places that the words of the command line ask for; 8,000 units each time where they tell
+/// no number.
 pub fn measure_loops<R: AllocGlobal + CpuClock + Env + Print + Eprint>(rt: &R) -> Result<()> {
     let asked = words_of(rt)?;
     for guest in &LOOPS {

@@ -145,8 +145,8 @@ fn try_line(alloc: Global, line: &str) -> Result<Option<String>> {
     }
 }
 
-/// Runs the programs of a table, and prints those that do not agree, by their line, their name and what differs, and how
-/// many do.
+/// Runs the programs of a table, and prints those that do not agree, by their line, their name and what differs, and
+/// how many do.
 pub fn run_all<R: AllocGlobal + Print>(rt: &R, table: &str) -> Result<()> {
     let alloc = rt.alloc();
     let agreement = tally(rt, table, |line| try_line(alloc, line))?;

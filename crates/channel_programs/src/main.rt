@@ -1,9 +1,9 @@
 //! Runs channel programs, and compares what they leave with what tables say.
 //!
-//! The words of the program are the tables. `cases.txt` has programs that were worked out by hand, on a device that does
-//! what its command codes ask for; `units.txt` those of readers, punches and printers that an independent System/370
-//! ran. Each has one program a line; its first lines tell the fields and where they come from. A line that does not
-//! agree is told by its number and what differs.
+//! The words of the program are the tables. `cases.txt` has programs that were worked out by hand, on a device that
+//! does what its command codes ask for; `units.txt` those of readers, punches and printers that an independent
+//! System/370 ran. Each has one program a line; its first lines tell the fields and where they come from. A line that
+//! does not agree is told by its number and what differs.
 #![tactic(auto)]
 
 mod bed;

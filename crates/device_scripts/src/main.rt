@@ -1,9 +1,10 @@
-//! Runs scripts of machines with devices that an independent System/370 ran, and prints with how many it agrees; and one
-//! machine that was worked out by hand.
+//! Runs scripts of machines with devices that an independent System/370 ran, and prints with how many it agrees; and
+//! one machine that was worked out by hand.
 //!
-//! The words of the program are texts, and `by-hand`. `states.txt` has what SIO, TIO, HIO and TCH are answered in each state of four
-//! disks, and what interrupts; `loadings.txt` has initial program loadings of a disk or a reader. Their first lines
-//! tell the fields and where they come from. A line that does not agree is told by its number and what differs.
+//! The words of the program are texts, and `by-hand`. `states.txt` has what SIO, TIO, HIO and TCH are answered in each
+//! state of four disks, and what interrupts; `loadings.txt` has initial program loadings of a disk or a reader. Their
+//! first lines tell the fields and where they come from. A line that does not agree is told by its number and what
+//! differs.
 #![tactic(auto)]
 
 mod beginning;

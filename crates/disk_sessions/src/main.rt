@@ -2,12 +2,12 @@
 //!
 //! The words of the program are the tables; their first lines tell how they are written.
 //!
-//! - `sessions.txt`: sessions of users who have disks. Each script gives the transcript that stands behind it, and leaves
-//!   the volumes as the table says; or its directory is refused as is told there. It has its scripts in blocks. What is
-//!   not as a block says is told by the line in which the block ends.
-//! - `programs.txt`: channel programs that an independent System/370 executed, one a line, with the disk, the storage and
-//!   the keys that each finds, and all that it leaves: status word, storage, sense, arm and tracks. A line that does not
-//!   agree is told by its number and what differs.
+//! - `sessions.txt`: sessions of users who have disks. Each script gives the transcript that stands behind it, and
+//!   leaves the volumes as the table says; or its directory is refused as is told there. It has its scripts in blocks.
+//!   What is not as a block says is told by the line in which the block ends.
+//! - `programs.txt`: channel programs that an independent System/370 executed, one a line, with the disk, the storage
+//!   and the keys that each finds, and all that it leaves: status word, storage, sense, arm and tracks. A line that
+//!   does not agree is told by its number and what differs.
 #![tactic(auto)]
 
 mod block;

@@ -1,5 +1,5 @@
-//! Channel programs of a disk that an independent System/370 executed. Each is run on a unit of its own, and some of them
-//! are run once more by a user whose disk lies in the middle of a volume.
+//! Channel programs of a disk that an independent System/370 executed. Each is run on a unit of its own, and some of
+//! them are run once more by a user whose disk lies in the middle of a volume.
 use crate::case::{Case, case_of};
 use crate::outcome::difference;
 use crate::users::{difference_of_user, is_of_user};

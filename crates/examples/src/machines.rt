@@ -1,9 +1,9 @@
 //! Examples of one machine of its own: a script has to give the transcript that is stored beside it.
 //!
-//! Such an example has the files `script` and `transcript`; it may have `storage`, with the size of the machine's storage,
-//! the text of a volume for each of its disks, `190` and so on, and the text of what such a disk has at the end,
-//! `190-saved`, whose image has to be the disk's, byte for byte. `hello` and `compute` are whole guests, loaded from
-//! cards, and an independent System/370 printed the same lines.
+//! Such an example has the files `script` and `transcript`; it may have `storage`, with the size of the machine's
+//! storage, the text of a volume for each of its disks, `190` and so on, and the text of what such a disk has at the
+//! end, `190-saved`, whose image has to be the disk's, byte for byte. `hello` and `compute` are whole guests, loaded
+//! from cards, and an independent System/370 printed the same lines.
 //!
 //! A script that uses no disk and loads nothing has to give the same transcript for a user of the control program whose
 //! name is that of the machine's own, on as many frames as `vm370` has, and on the fewest.

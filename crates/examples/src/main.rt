@@ -1,7 +1,8 @@
 //! Runs the examples: each script has to give the transcript that is stored beside it.
 //!
-//! The words of the program are the folders of the examples. One that has the file `directory` is of users of the control
-//! program, any other one of a machine of its own. The transcripts go to standard output, in the order of the words.
+//! The words of the program are the folders of the examples. One that has the file `directory` is of users of the
+//! control program, any other one of a machine of its own. The transcripts go to standard output, in the order of the
+//! words.
 #![tactic(auto)]
 
 mod files;

@@ -1,10 +1,10 @@
-//! Examples of users: a script over its directory has to give the transcript that is stored beside it, on as many frames as
-//! the program `vm370` has, and on the fewest that a system may have.
+//! Examples of users: a script over its directory has to give the transcript that is stored beside it, on as many
+//! frames as the program `vm370` has, and on the fewest that a system may have.
 //!
 //! Such an example has the files `directory`, `script` and `transcript`. One that is about want of frames has the file
-//! `sizes` too, with numbers of frames and slots, as `16 0`: it gives its transcript on these alone. One whose users have
-//! disks has the file `volumes`, with the names of the volumes, one a line: each is stated by the text `NAME.volume`, and
-//! where the script changes it `NAME.after` states what it has to be at the end.
+//! `sizes` too, with numbers of frames and slots, as `16 0`: it gives its transcript on these alone. One whose users
+//! have disks has the file `volumes`, with the names of the volumes, one a line: each is stated by the text
+//! `NAME.volume`, and where the script changes it `NAME.after` states what it has to be at the end.
 use crate::files::{contents, have_one_image, open, volume};
 use anyhow::{Context, Result, bail};
 use ckd_volume::Volume;

@@ -1,5 +1,5 @@
-//! Instructions at the edges of the table are carried out on a bare machine and by a user of the control program, and what
-//! they leave is compared with what was worked out by hand.
+//! Instructions at the edges of the table are carried out on a bare machine and by a user of the control program, and
+//! what they leave is compared with what was worked out by hand.
 use crate::case::{Case, Item, Place, case_of, item_of};
 use crate::image::Image;
 use anyhow::{Context, Result, bail};

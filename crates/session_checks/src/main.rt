@@ -7,8 +7,8 @@
 //! - `sessions.txt`: each script has the transcript that stands behind it, or is refused at the line that is told there
 //!   with nothing done; and where a call of the host fails, that is told, after a beginning of the transcript. It has
 //!   its scripts in blocks. The program fails at the first block that is otherwise, and tells where that ends.
-//! - `systems`: too few frames, nobody's machine, what a console keeps, a frame that is lent, pages that come. The program
-//!   fails at the first thing that is otherwise, and tells it.
+//! - `systems`: too few frames, nobody's machine, what a console keeps, a frame that is lent, pages that come. The
+//!   program fails at the first thing that is otherwise, and tells it.
 #![tactic(auto)]
 
 mod bare;
