@@ -1,120 +1,35 @@
-//! Measures how many units a second machines do that run a guest loop, and claims nothing.
+//! Measures, and claims nothing: how many units a second machines do that run a guest loop, how fast channel programs
+//! move bytes and the image of a volume is read, and what an installation costs.
 //!
-//! `bench` runs each loop on a bare machine, as one user of the control program, as eight users in turns of 100 units,
-//! and on eight bare machines in such turns: 8,000 units each time. `bench 20000` does 20 million units each time,
-//! `bench 20000 mvc` does one loop, and `bench 20000 mvc one` one of them in one place. Each is done five times. What
-//! was done goes to standard output, and the best rate, by processor time, to standard error.
+//! `bench` does a little of all. `bench 20000` does 20 million units of each loop in each place, `bench 20000 mvc` of
+//! one loop, and `bench 20000 mvc one` of one of them in one place. `bench channels 10000 808` runs each channel
+//! program 10,000 times, and reads an image of 808 cylinders. `bench installation 64 4096 1024` boots 64 users of 4 MiB
+//! each on 4096 frames and 1024 slots. What was done goes to standard output, and the rates and times, by processor
+//! time, to standard error.
 #![tactic(auto)]
 
+mod channels;
+mod exchange;
 mod guests;
+mod images;
+mod installation;
 mod loops;
+mod rates;
+mod source;
+mod users;
 
-use anyhow::{Result, bail};
-use cp_text::numbers::decimal_of;
-use guests::{Guests, PLACES, Place};
-use loops::{LOOPS, Loop};
+use anyhow::Result;
 use std::env;
-use std::process::ExitCode;
-use std::rt::Env;
-use std::time::{CpuClock, Duration};
 
-/// How often each run is timed.
-const TIMES: u32 = 5;
-
-/// What the command line asks for.
-#[derive(Drop)]
-struct Asked {
-    /// Thousands of units.
-    thousands: u32,
-    /// The loop that is named, or all of them.
-    guest: Option<String>,
-    /// The place that is named, or all of them.
-    place: Option<String>,
-}
-
-impl Asked {
-    /// Whether a loop is asked for.
-    fn has_loop(&self, guest: Loop) -> bool {
-        match &self.guest {
-            Some(name) => name.as_str() == guest.name(),
-            None => true,
-        }
-    }
-
-    /// Whether a place is asked for.
-    fn has_place(&self, place: Place) -> bool {
-        match &self.place {
-            Some(name) => name.as_str() == place.name(),
-            None => true,
-        }
-    }
-}
-
-/// The words of the command line: thousands of units, a loop and a place, each of which may be missing.
-fn words_of(rt: &(impl Env + AllocGlobal)) -> Result<Asked> {
-    let mut words = env::args(rt)?.skip(1);
-    let thousands = match words.next() {
-        Some(word) => match decimal_of(6, word.as_bytes()) {
-            Some(thousands) => thousands,
-            None => bail!("usage: bench [THOUSANDS [LOOP [PLACE]]]"),
-        },
-        None => 8,
+fn main(rt: HostRuntime) -> Result<()> {
+    let Some(word) = env::args(&rt)?.nth(1) else {
+        rates::measure_loops(&rt)?;
+        channels::measure_channels(&rt)?;
+        return installation::measure_installation(&rt);
     };
-    Ok(Asked {
-        thousands,
-        guest: words.next(),
-        place: words.next(),
-    })
-}
-
-/// The fastest of some runs of so many units, and how many units all of them did.
-fn best_of(rt: &impl CpuClock, guests: &mut Guests, units: u32) -> Result<(Duration, u64)> {
-    let mut best = Duration::MAX;
-    let mut done = 0u64;
-    for _ in 0..TIMES {
-        let start = rt.process_cpu_time()?;
-        done = done.wrapping_add(guests.run(units)?);
-        let end = rt.process_cpu_time()?;
-        best = best.min(end.checked_sub(start).unwrap_or(Duration::MAX));
+    match word.as_str() {
+        "channels" => channels::measure_channels(&rt),
+        "installation" => installation::measure_installation(&rt),
+        _ => rates::measure_loops(&rt),
     }
-    Ok((best, done))
-}
-
-/// Times one loop in one place.
-fn measure(
-    rt: &(impl AllocGlobal + CpuClock + Print + Eprint),
-    guest: Loop,
-    place: Place,
-    thousands: u32,
-) -> Result<()> {
-    let mut guests = Guests::new(rt.alloc(), place, guest)?;
-    let units = thousands.wrapping_mul(1000);
-    let (time, done) = best_of(rt, &mut guests, units)?;
-    let (name, place) = (guest.name(), place.name());
-    println!(rt; "{name} {place}: {done} units")?;
-    let micros = time.as_micros().max(1);
-    let rate = u128::from(units) * 10 / micros;
-    let (whole, tenth) = (rate / 10, rate % 10);
-    match guest.bytes_moved(u64::from(units)) {
-        Some(bytes) => {
-            let moved = bytes / micros;
-            eprintln!(rt;
-                "{name} {place} {whole}.{tenth} million units a second, {moved} MB a second"
-            )?;
-        }
-        None => eprintln!(rt; "{name} {place} {whole}.{tenth} million units a second")?,
-    }
-    Ok(())
-}
-
-fn main(rt: HostRuntime) -> Result<ExitCode> {
-    let asked = words_of(&rt)?;
-    for guest in &LOOPS {
-        for place in &PLACES {
-            if asked.has_loop(*guest) && asked.has_place(*place) {
-                measure(&rt, *guest, *place, asked.thousands)?;
-            }
-        }
-    }
-    Ok(ExitCode::SUCCESS)
 }

@@ -1,4 +1,4 @@
-//! A line of the file: what a machine finds, and what a channel program leaves.
+//! A line of the cases by hand: what a machine finds, and what a channel program leaves.
 use cp_text::numbers::hexadecimal_of;
 
 /// A line of the file, with its lists of items, which blanks separate.

@@ -1,22 +1,45 @@
-//! Sessions of users who have disks: each script of a table gives the transcript that stands behind it, and leaves the
-//! volumes as the table says; or its directory is refused as is told there.
+//! Disks, as users have them and as channel programs find them, compared with what tables say.
 //!
-//! The word of the program is the table. `sessions.txt` has its scripts in blocks; its first lines tell how they are
-//! written. What is not as a block says is told by the line in which the block ends.
+//! The words of the program are the tables; their first lines tell how they are written.
+//!
+//! - `sessions.txt`: sessions of users who have disks. Each script gives the transcript that stands behind it, and
+//!   leaves the volumes as the table says; or its directory is refused as is told there. It has its scripts in blocks.
+//!   What is not as a block says is told by the line in which the block ends.
+//! - `programs.txt`: channel programs that an independent System/370 executed, one a line, with the disk, the storage
+//!   and the keys that each finds, and all that it leaves: status word, storage, sense, arm and tracks. A line that
+//!   does not agree is told by its number and what differs.
 #![tactic(auto)]
 
 mod block;
+mod case;
+mod outcome;
 mod playing;
+mod programs;
+mod tracks;
+mod users;
 
 use crate::block::Block;
 use crate::playing::difference;
-use anyhow::Result;
+use anyhow::{Result, bail};
 use cp_text::lines::numbered_lines;
-use step_table::table;
+use std::rt::Files;
+use std::{env, fs};
 
 fn main(rt: HostRuntime) -> Result<()> {
+    for path in env::args(&rt)?.skip(1) {
+        let table = fs::read_to_string(&rt, &path)?;
+        match path.as_str() {
+            "sessions.txt" => play_all(&rt, &table)?,
+            "programs.txt" => programs::run_all(&rt, &table)?,
+            _ => bail!("{path} is no table"),
+        }
+    }
+    Ok(())
+}
+
+/// Plays the sessions of a table, and prints those that are otherwise and how many are as it says.
+fn play_all<R: AllocGlobal + Files + Print>(rt: &R, table: &str) -> Result<()> {
     let alloc = rt.alloc();
-    let table = table(&rt)?;
     let mut block = Block::new(alloc);
     let mut blocks = 0u64;
     let mut agreed = 0u64;
@@ -26,7 +49,7 @@ fn main(rt: HostRuntime) -> Result<()> {
             continue;
         }
         blocks = blocks.wrapping_add(1);
-        match difference(&rt, &block)? {
+        match difference(rt, &block)? {
             Some(what) => println!(rt; "line {}: {what}", line.number)?,
             None => agreed = agreed.wrapping_add(1),
         }

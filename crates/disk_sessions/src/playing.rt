@@ -1,19 +1,18 @@
 //! A session is played, and compared with its block.
 use crate::block::Block;
 use anyhow::{Context, Result, bail};
+use ckd_image::image;
+use ckd_text::make_volume;
 use ckd_volume::Volume;
 use cp_core::{Sizes, System};
 use cp_directory::{Directory, read_directory};
 use cp_text::lines::numbered_lines;
-use example_files::{have_one_image, volume};
-use s370_num::host::Bytes;
+use s370_num::host::{Bytes, Counted, read_all};
 use std::alloc::Global;
+use std::fs;
 use std::rt::Files;
 use vm370::faults::{Failure, fault_line};
 use vm370::session::session;
-
-/// The folder of the volumes.
-const FOLDER: &str = ".";
 
 /// How many frames the machine of the program `vm370` has.
 const FRAMES: u32 = 64;
@@ -108,7 +107,9 @@ fn read(alloc: Global, block: &Block) -> Result<Directory> {
 
 /// The volume that a file states.
 fn stated<R: AllocGlobal + Files>(rt: &R, name: &str) -> Result<Volume> {
-    volume(rt, FOLDER, name)?.context("there is no such volume")
+    let mut file = Counted::new(fs::open(rt, name)?);
+    let text = read_all(rt.alloc(), &mut file)?;
+    Ok(make_volume(rt.alloc(), &text)?)
 }
 
 /// The first line of a transcript that is not that of another one; where the other has more, the empty one.
@@ -135,7 +136,7 @@ fn other_volume<'a, R: AllocGlobal + Files>(
     for (index, volume) in ended.iter().enumerate() {
         let stating = block.ended.get(index).or(block.volumes.get(index));
         let name = stating.context("there are more volumes than before")?;
-        if !have_one_image(rt.alloc(), volume, &stated(rt, name)?)? {
+        if image(rt.alloc(), volume)? != image(rt.alloc(), &stated(rt, name)?)? {
             return Ok(Some(name.as_str()));
         }
     }

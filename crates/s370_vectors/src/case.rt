@@ -1,6 +1,6 @@
 //! A line of the file: what an instruction finds and what it leaves.
 use cp_text::numbers::{decimal_of, hexadecimal_of};
-use storage_lists::{cut_item, doubleword_of};
+use step_table::lists::{cut_item, doubleword_of};
 
 /// The fields of a line but for the second, whose bytes stand in storage too. A list has its items between commas; `-`
 /// is an empty one.

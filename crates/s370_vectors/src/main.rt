@@ -18,8 +18,8 @@ use cp_text::words::words_of;
 use s370_store::{PagedStorage, PlainStorage};
 use s370_subchannels::Subchannels;
 use std::alloc::Global;
+use step_table::lists::{Bed, is_clear};
 use step_table::{table, tally};
-use storage_lists::{Bed, is_clear};
 
 /// Runs each line over a storage, and prints those that do not agree and how many do.
 fn run_all<R: AllocGlobal + Print, S: Bed>(

@@ -6,7 +6,7 @@ use s370_psw::{Ilc, Psw};
 use s370_rows::Cpu;
 use s370_store::{LEAST_STORAGE, PlainStorage};
 use s370_subchannels::Subchannels;
-use storage_lists::{Bed, doubleword_at, has_same_keys, is_same_in};
+use step_table::lists::{Bed, doubleword_at, has_same_keys, is_same_in};
 
 /// How many times an instruction is carried out at most, whose parts or whose pages follow one another.
 const MOST: u32 = 200_000;

@@ -1,7 +1,7 @@
 //! What a line lists of storage and keys, set in a storage and made zero again.
 use crate::case::Case;
 use s370_store::PlainStorage;
-use storage_lists::{Bed, clear_bytes, clear_keys, set_bytes, set_doubleword, set_keys};
+use step_table::lists::{Bed, clear_bytes, clear_keys, set_bytes, set_doubleword, set_keys};
 
 /// The program status word that a program interruption loads: it waits, at an address that no line has.
 pub const PROGRAM_PSW: u64 = 0x0002_0000_00FF_FF68;

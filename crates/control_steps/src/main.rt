@@ -1,0 +1,63 @@
+//! Does the steps of tables over what the control program stands on, and compares what each tells with what its table
+//! says: values and texts, frames, and minidisks.
+//!
+//! The words of the program are the tables, each of which has one step a line; their first lines tell the steps.
+//!
+//! - `values.txt`: numbers, status words, words and lines, commands and responses, scripts, directories, turns, and
+//!   files that fail.
+//! - `frames.txt`: pages that come, leave and are pinned, keys, and the bytes of the tables.
+//! - `minidisks.txt`: seeks that are relocated, cylinders that are cut out and put back, and two minidisks that take
+//!   turns at the unit of their volume.
+#![tactic(auto)]
+
+mod commands;
+mod directories;
+mod extents;
+mod files;
+mod frames;
+mod minidisks;
+mod mounts;
+mod numbers;
+mod operands;
+mod responses;
+mod scripts;
+mod status;
+mod step;
+mod telling;
+mod texts;
+mod turns;
+mod values;
+
+use crate::frames::Work;
+use anyhow::{Result, bail};
+use std::{env, fs};
+use step_table::compare;
+
+fn main(rt: HostRuntime) -> Result<()> {
+    let alloc = rt.alloc();
+    let mut work = Work::new(alloc)?;
+    for path in env::args(&rt)?.skip(1) {
+        let table = fs::read_to_string(&rt, &path)?;
+        match path.as_str() {
+            "values.txt" => compare(
+                &rt,
+                "values",
+                &table,
+                " |",
+                |step| values::told(alloc, step),
+            )?,
+            "frames.txt" => compare(&rt, "frames", &table, " =", |step| work.take(alloc, step))?,
+            "minidisks.txt" => {
+                compare(
+                    &rt,
+                    "minidisks",
+                    &table,
+                    " |",
+                    |step| minidisks::told(alloc, step),
+                )?
+            }
+            _ => bail!("{path} is no table"),
+        }
+    }
+    Ok(())
+}

@@ -1,0 +1,17 @@
+//! The program `framemap [--frames N] [--slots N] [--save] DIRECTORY SCRIPT [VOLUME]...`, which tells who has which
+//! frame and which slot: the map of a system's places, for people (docs/FORMATS.md, "Frame maps").
+//!
+//! It runs a script as `vm370` does, and then prints the map in place of the transcript.
+#![tactic(auto)]
+
+mod map;
+mod nowhere;
+mod places;
+mod program;
+
+use crate::program::program;
+use vm370::program::Ended;
+
+fn main(rt: HostRuntime) -> Ended {
+    program(&rt)
+}

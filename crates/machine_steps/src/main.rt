@@ -1,0 +1,57 @@
+//! Does the steps of tables over the parts of a machine, and compares what comes of each with what its table says: a
+//! processor's single instructions, small storages, and a machine with its devices and images of volumes.
+//!
+//! The words of the program are the tables, each of which has one step a line, with what comes of it behind an equals
+//! sign; their first lines tell the steps.
+//!
+//! - `processor.txt`: which operation codes there are, what is asked of devices, and keys of a page that is not there.
+//!   What instructions leave is shown by `s370_vectors` and `promise_checks`.
+//! - `storage.txt`: accesses by their keys, absent pages, blocks that are found; and a lender, as an example of how to
+//!   meet the trait.
+//! - `devices.txt`: a processor, its channels, its devices and images of volumes.
+#![tactic(auto)]
+
+mod devices;
+mod disk;
+mod instruction;
+mod lender;
+mod machine;
+mod processor;
+mod spelling;
+mod storage;
+mod unit;
+mod units;
+
+use crate::devices::Work;
+use anyhow::{Result, bail};
+use std::{env, fs};
+use step_table::compare;
+
+fn main(rt: HostRuntime) -> Result<()> {
+    let alloc = rt.alloc();
+    let mut work = Work::new(alloc)?;
+    for path in env::args(&rt)?.skip(1) {
+        let table = fs::read_to_string(&rt, &path)?;
+        match path.as_str() {
+            "processor.txt" => {
+                compare(
+                    &rt,
+                    "processor",
+                    &table,
+                    " =",
+                    |step| processor::told(alloc, step),
+                )?
+            }
+            "storage.txt" => compare(
+                &rt,
+                "storage",
+                &table,
+                " =",
+                |step| storage::told(alloc, step),
+            )?,
+            "devices.txt" => compare(&rt, "devices", &table, " =", |step| work.take(alloc, step))?,
+            _ => bail!("{path} is no table"),
+        }
+    }
+    Ok(())
+}
