@@ -126,6 +126,6 @@ loading_lacks w machine needs present m d page s =
 
 -- and so is the page that the program of a disk lacks, which needs no memory
 pub disk_lacks : (present : ℕ → Bool) (m : Memory) (disk : Disk) (error : ChannelError) → MatchLoading guest_written disk_machine nothing_needed present m disk error → LacksPage (length m.bytes) present error
-disk_lacks present m disk errors.Memory (inl h) = absurd h
-disk_lacks present m disk errors.Memory (inr s) = absurd s.needed
+disk_lacks present m disk errors.Memory (inl h) = let no : false ≡ true = h in cc
+disk_lacks present m disk errors.Memory (inr s) = let no : false ≡ true = s.needed in cc
 disk_lacks present m disk (errors.Absent page) s = loading_lacks guest_written disk_machine nothing_needed present m disk page s

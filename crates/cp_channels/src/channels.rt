@@ -103,8 +103,8 @@ pub trait Channels<S: Storage>: Disks {
         requires inside { index < length (Self.disks self.old) }
         requires there { is_whole ≡ true → IsAllThere (length (S.bytes storage.old)) (S.present storage.old) }
         ensures walk { IfOk result
-            (λ ending. LoadsDisk (memory_of (S.bytes storage.old) (S.keys storage.old)) (Self.disks self.old) index ending
-            (memory_of (S.bytes storage.new) (S.keys storage.new)) (Self.disks self.new)) }
+            (λ ending. LoadsDisk (memory_of (S.bytes storage.old) (S.keys storage.old)) (Self.disks self.old) index
+            ending (memory_of (S.bytes storage.new) (S.keys storage.new)) (Self.disks self.new)) }
         ensures lacks { IfErr result (LacksPage (length (S.bytes storage.old)) (S.present storage.old)) }
         ensures others { Self.KeepsOthers self.old self.new }
         ensures keys { S.keys storage.new ≡ S.keys storage.old }
