@@ -9,66 +9,74 @@ ghost use Rattle.cp_dat.specs.Lent.{is_lent_page, lent_bytes, lent_keys};
 ghost use Rattle.cp_needs.specs.Words.{IsEnough};
 ghost use Rattle.cp_core.specs.Resident.{IsResident};
 
-use cp_channels::{AttachedDisk, Channels, Disks, Own};
+use cp_channels::{Channels, Disks};
 use cp_dat::Dat;
 use cp_needs::{needed, run_held};
+use cp_volumes::{SharedDisk, UserDisks, Volumes};
 use s370_channel::{Caw, ChannelError, Limits, MOST_COMMANDS};
 use s370_store::{PAGE_SIZE, Page, Storage};
 use s370_walk::{Device, Ending};
 use std::alloc::{AllocError, Global};
+use std::mem::replace;
 
 /// A program runs as on a machine of its own, each word read when it is reached, where the pages that it needs stand in
 /// frames: those of its words, of their lists and of their areas, and each page of its user's storage where it is not
 /// known that it leaves its words as they are. Else the first page that does not is told, and nothing has happened.
 #[derive(Drop)]
 pub(crate) struct Resident {
-    pub(crate) own: Own,
+    disks: UserDisks,
     alloc: Global,
 }
 
 impl Resident {
-    ghost use Rattle.cp_core.specs.Resident.{disks_on};
+    ghost use Rattle.cp_core.specs.Resident.{hung_on};
+    ghost use Rattle.cp_volumes.specs.Shared.{IsUsers, stands_of};
 
-    /// The channels on which these disks hang, in this order.
-    pub(crate) fn new(alloc: Global, disks: Vec<AttachedDisk>) -> Resident
-        ensures { disks_on result ≡ disks.items }
+    /// The channels on which a user's minidisks hang, with the volumes on which these stand. It takes no memory.
+    pub(crate) fn take(
+        alloc: Global,
+        volumes: &mut Volumes,
+        minidisks: &mut Vec<SharedDisk>,
+    ) -> Resident
+        requires { IsUsers volumes.old (stands_of minidisks.old.items) }
+        ensures { hung_on result ≡ record { volumes = volumes.old; minidisks = minidisks.old.items } }
     {
+        let taken = replace(volumes, Volumes::none(alloc));
+        let disks = replace(minidisks, Vec::new(alloc));
         Resident {
-            own: Own::new(disks),
+            disks: UserDisks::new(taken, disks),
             alloc,
         }
     }
 
-    /// The disks, of which the channels are taken off.
-    pub(crate) fn into_disks(self) -> Vec<AttachedDisk>
-        ensures { result.items ≡ disks_on self }
+    /// Gives minidisks and volumes back. It takes no memory.
+    pub(crate) fn give(self, volumes: &mut Volumes, minidisks: &mut Vec<SharedDisk>)
+        ensures volumes { volumes.new ≡ (hung_on self).volumes }
+        ensures minidisks { minidisks.new.items ≡ (hung_on self).minidisks }
     {
-        self.own.into_disks()
-    }
-
-    /// The disks, in the order in which they were attached.
-    pub(crate) fn disks(&self) -> &[AttachedDisk]
-        ensures { result.now ≡ disks_on self.now }
-    {
-        self.own.disks()
+        let (taken, disks) = self.disks.into_parts();
+        *volumes = taken;
+        *minidisks = disks;
     }
 }
 
 impl Disks for Resident {
-    ghost use Rattle.cp_core.specs.Resident.{disks_on};
+    ghost use Rattle.cp_core.specs.Resident.{KeepsHung, disks_on};
 
     ghost disks = { disks_on };
 
+    ghost KeepsOthers = { KeepsHung };
+
     fn disk_at(&self, device: u16) -> Option<usize> {
-        self.own.disk_at(device)
+        self.disks.disk_at(device)
     }
 
     fn reset_disks(&mut self) {
-        self.own.reset();
+        self.disks.reset();
     }
 
     fn clear_disks(&mut self) {
-        self.own.clear();
+        self.disks.clear();
     }
 }
 
@@ -103,9 +111,17 @@ impl<'a> Channels<Dat<'a>> for Resident {
         let address = start.address.get();
         match wanted_page(self.alloc, storage, address) {
             Ok(Some(page)) => Err(ChannelError::Absent(page)),
-            Ok(None) => self.own.run_disk(storage, start, index),
+            Ok(None) => Ok(self.disks.run_disk(storage, start, index)),
             Err(_) => Err(ChannelError::Memory),
         }
+    }
+
+    fn load_disk(
+        &mut self,
+        storage: &mut Dat<'a>,
+        index: usize,
+    ) -> Result<Ending, ChannelError> {
+        Ok(self.disks.load_disk(storage, index))
     }
 }
 
