@@ -9,4 +9,3 @@ pub mod Staying
 pub mod Steps
 pub mod Histories
 pub mod Loans
-pub mod Found

@@ -1,6 +1,6 @@
 -- The users of a system, of whom one's machine and storage change.
 use Rattle.std.specs.Prelude.{OnErr, OnOk, slice_get, Some}
-use Rattle.std.proofs.Common.{Result, Ok, Err, ◌≡◌, ℕ, ◌<◌, Bool, List, [], ◌∷◌, ◌++◌, length, map, get_or, set, zero, suc, refl, sym, subst, ◌∙◌, ap, arith, get_or-set_same}
+use Rattle.std.proofs.Common.{Result, Ok, Err, ◌≡◌, ℕ, ◌<◌, Bool, List, [], ◌∷◌, ◌++◌, length, map, get_or, set, zero, suc, refl, sym, subst, ◌∙◌, ap, arith, get_or-set_same, length-set}
 use Rattle.std.proofs.lemmas.List.{get_or_default}
 use Rattle.ckd_volume.specs.Volume.{VolumeFormat}
 use Rattle.cp_directory.specs.Users.{DirectoryUser}
@@ -176,6 +176,26 @@ seat_fits seats storages directory user seat whole h same =
     let inside : user < length seats = omega (arith, whole.seated) in
     let s : seat ≡ get_or seats user no_user = same ∙ get_or_default seats user seat no_user inside in
     rw s (whole.fits user h)
+
+-- a user's seat and storage change, and still fit
+fits_each : (seats : List UserParts) (storages : List (List ℕ)) (user : ℕ) (seat' : UserParts) (b : List ℕ) (n k : ℕ) → ((j : ℕ) → j < n → Fits (get_or seats j no_user) (get_or storages j [])) → Fits seat' b → length seats ≡ n → length storages ≡ n → k < n → Fits (get_or (set seats user seat') k no_user) (get_or (set storages user b) k [])
+fits_each [] storages user seat' b n k all new e f l = absurd (omega arith)
+fits_each (s ∷ ss) [] user seat' b n k all new e f l = absurd (omega arith)
+fits_each (s ∷ ss) (x ∷ xs) zero seat' b n zero all new e f l = new
+fits_each (s ∷ ss) (x ∷ xs) zero seat' b n (suc k) all new e f l = all (suc k) l
+fits_each (s ∷ ss) (x ∷ xs) (suc user) seat' b n zero all new e f l = all 0 l
+fits_each (s ∷ ss) (x ∷ xs) (suc user) seat' b n (suc k) all new e f l =
+    fits_each ss xs user seat' b (length ss) k (λ j less. all (suc j) (omega arith)) new refl (omega arith) (omega arith)
+
+pub whole_on : (seats : List UserParts) (storages storages' : List (List ℕ)) (directory : List DirectoryUser) (user : ℕ) (seat' : UserParts) → IsWhole seats storages directory → storages' ≡ set storages user (get_or storages' user []) → Fits seat' (get_or storages' user []) → IsWhole (set seats user seat') storages' directory
+whole_on seats storages storages' directory user seat' whole others fits =
+    subst (λ (xs : List (List ℕ)). IsWhole (set seats user seat') xs directory) (sym others)
+    (record {
+      seated = length-set seats user seat' ∙ whole.seated;
+      stored = length-set storages user (get_or storages' user []) ∙ whole.stored;
+      few = whole.few;
+      fits = λ k less. fits_each seats storages user seat' (get_or storages' user []) (length directory) k whole.fits fits whole.seated whole.stored less;
+    })
 
 -- a user who has a machine is a user of the directory
 pub is_user : (seats : List UserParts) (volumes : List VolumeFormat) (storages : List (List ℕ)) (directory : List DirectoryUser) (us : List Equipped) (user : ℕ) → IsWhole seats storages directory → users_of seats volumes storages ≡ us → user < length us → user < length directory

@@ -9,6 +9,7 @@ use Rattle.cp_panel.specs.declared.machine.Mode.TheVariants.{Off}
 use Rattle.cp_devices.specs.Devices.{devices_new, no_places}
 use Rattle.cp_core.specs.UserMachines.{UserParts, Fits, user_with}
 use Rattle.cp_volumes.specs.Shared.{AllLeaveBe, IsUsers, Stand, stands_of}
+use Rattle.cp_seating.specs.Seating.{seats_of}
 use Rattle.cp_core.specs.Boot.{IsNewUser}
 
 -- the machine of nobody, but for its storage
@@ -43,6 +44,7 @@ pub record IsSystem (users : List UserParts) (volumes : List VolumeFormat) (pool
 -- a user's machine at boot; a storage has 8K at least
 pub record IsNew (volumes : List VolumeFormat) (seat : UserParts) (user : DirectoryUser) : Type 0 where
   pub off : IsNewUser volumes user (user_with seat volumes (replicate (user.pages * 4096) 0))
+  pub seated : seat.minidisks ≡ seats_of volumes user.minidisks
   pub none : seat.deliveries ≡ []
   pub sized : 2 ≤ user.pages
 

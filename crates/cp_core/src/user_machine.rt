@@ -1,5 +1,5 @@
 //! A user's machine with its devices, of which the storage stands in frames.
-ghost use Rattle.std.specs.Prelude.{◌≡◌, ◌<◌, ◌≤◌, ◌*◌, ◌++◌, ◌∷◌, [], ℕ, List, IfOk, OnErr, OnOk, length, replicate, slice_set};
+ghost use Rattle.std.specs.Prelude.{◌≡◌, ◌<◌, ◌≤◌, ◌*◌, ◌++◌, ◌∷◌, [], ℕ, List, IfOk, OnErr, OnOk, length, map, replicate, slice_set};
 ghost use Rattle.s370_channel.specs.Reading.{as_reached};
 ghost use Rattle.cp_frames.specs.Layout.{bytes_of};
 ghost use Rattle.cp_dat.specs.Supplied.{IsBetweenUnits};
@@ -21,7 +21,7 @@ use cp_frames::Frames;
 use cp_panel::Machine;
 use cp_users::UserNo;
 use cp_volumes::{SharedDisk, Volumes};
-use s370_num::StorageKey;
+use s370_num::{DevAddr, StorageKey};
 use std::alloc::{AllocError, Global};
 use std::marker::Model;
 
@@ -71,7 +71,10 @@ impl UserMachine {
             return Err(AttachError::Memory);
         };
         let devices = Devices::new(alloc, places);
-        match devices.subchannels(alloc, &minidisks) {
+        let Ok(addresses) = addresses_of(alloc, &minidisks) else {
+            return Err(AttachError::Memory);
+        };
+        match devices.subchannels_at(alloc, &addresses) {
             Ok(subchannels) => Ok(UserMachine {
                 machine: Machine::new(alloc, subchannels),
                 devices,
@@ -140,6 +143,17 @@ impl UserMachine {
             }
         }
     }
+}
+
+/// The address of each of these minidisks.
+fn addresses_of(alloc: Global, minidisks: &[SharedDisk]) -> Result<Vec<DevAddr>, AllocError>
+    ensures { IfOk result (λ made. made.items ≡ map (λ disk. disk.address) minidisks.now) }
+{
+    let mut made = Vec::with_capacity(alloc, minidisks.len())?;
+    for disk in minidisks {
+        made.push(disk.address())?;
+    }
+    Ok(made)
 }
 
 /// Does a work with a machine, whose storage is lent from frames, with these keys.

@@ -9,10 +9,12 @@
 #![tactic(auto)]
 
 mod running;
+mod seen;
 mod shared_disk;
 mod user_disks;
 mod volumes;
 
+pub use seen::SeenDisk;
 pub use shared_disk::SharedDisk;
 pub use user_disks::UserDisks;
 pub use volumes::Volumes;

@@ -1,5 +1,5 @@
 //! The volumes of a system, each once and on a unit of its own.
-ghost use Rattle.std.specs.Prelude.{◌≡◌, ◌<◌, [], ◌∷◌, IfOk, IfSome, length, slice_get, slice_set, Some};
+ghost use Rattle.std.specs.Prelude.{◌≡◌, ◌<◌, [], ◌∷◌, IfNone, IfOk, IfSome, length, slice_get, slice_set, Some};
 ghost use Rattle.s370_channel.specs.Reading.{as_reached};
 ghost use Rattle.s370_walk.specs.Hardware.{memory_of};
 ghost use Rattle.ckd_volume.specs.Unit.{rested, volume_of};
@@ -79,7 +79,8 @@ impl Volumes {
 
     /// The volume of this index, which stands here unless a program runs on it.
     pub fn volume(&self, index: usize) -> Option<&Volume>
-        ensures { IfSome result (λ volume. slice_get self.now index ≡ Some volume.now) }
+        ensures volume { IfSome result (λ volume. slice_get self.now index ≡ Some volume.now) }
+        ensures none { IfNone result ((volume_at self.now index).cylinders ≡ []) }
     {
         match self.units.get(index) {
             Some(Some(unit)) => Some(unit.volume()),

@@ -1,0 +1,7 @@
+-- A minidisk as its user sees it.
+use Rattle.ckd_volume.specs.Unit.{Disk}
+use Rattle.cp_minidisk.specs.Minidisk.{users_disk}
+use Rattle.cp_volumes.specs.declared.seen.SeenDisk.{SeenDisk}
+
+abbrev pub seen_disk : SeenDisk → Disk
+seen_disk s = users_disk s.volume.now s.minidisk
