@@ -3,6 +3,7 @@ use Rattle.std.proofs.Common.{◌≡◌, ℕ, ◌*◌, ◌<◌, ◌≤◌, List,
 use Rattle.std.specs.Prelude.{reverse, slice_get}
 use Rattle.std.specs.List.{range_with_len}
 use Rattle.std.proofs.lemmas.List.{length-replicate}
+use Rattle.std.proofs.lemmas.List.Elements.{All-nil}
 use Rattle.ckd_volume.specs.Volume.{VolumeFormat}
 use Rattle.cp_channels.specs.Disks.{DiskAt}
 use Rattle.cp_directory.specs.Users.{DirectoryUser}
@@ -14,9 +15,9 @@ use Rattle.cp_devices.specs.Devices.{DevicesValue, devices_new}
 use Rattle.cp_devices.specs.Equipped.{Equipped}
 use Rattle.cp_core.specs.UserMachines.{Fits, IsUnused, UserParts, user_with}
 use Rattle.cp_core.specs.Boot.{AreNewUsers, IsNewUser, free_supply, places_in}
-use Rattle.cp_core.specs.System.{SystemView, deliveries_of, users_of}
+use Rattle.cp_core.specs.System.{SystemView, deliveries_of, stands_among, users_of}
 use Rattle.cp_volumes.specs.Shared.{AllLeaveBe, IsUsers, SharedMinidisk, Stand, disks_on, stands_of}
-use Rattle.cp_seating.specs.Seating.{AreDisks, AreLawful, minidisks_at, seats_of, user_is_past, user_lacks}
+use Rattle.cp_seating.specs.Seating.{AreDisks, AreLawful, IsLawful, minidisks_at, seats_of, user_is_past, user_lacks}
 use Rattle.cp_seating.proofs.Seated.{are_disks, is_users, users_apart}
 use Rattle.cp_directory.specs.Users.{AreApart}
 use Rattle.std.specs.List.{find, position}
@@ -106,6 +107,10 @@ boot_seen us directory volumes ss supply supply' ds ds' b c = rw (b, c) refl
 
 -- ---- where minidisks stand
 
+pub disk_addresses : (volumes : List VolumeFormat) (ds : List SharedMinidisk) → map (λ (d : SharedMinidisk). d.address) ds ≡ map (λ (disk : DiskAt). disk.address) (disks_on volumes ds)
+disk_addresses volumes [] = refl
+disk_addresses volumes (d ∷ ds) = ap (λ (xs : List ℕ). d.address ∷ xs) (disk_addresses volumes ds)
+
 pub seat_new : (volumes : List VolumeFormat) (seats : List UserParts) (users : List DirectoryUser) → AreNew volumes seats users → (k : ℕ) → (get_or seats k no_user).minidisks ≡ seats_of volumes (minidisks_at users k)
 seat_new volumes [] [] h k = refl
 seat_new volumes [] (u ∷ us) h k = absurd h
@@ -113,10 +118,24 @@ seat_new volumes (s ∷ ss) [] h k = absurd h
 seat_new volumes (s ∷ ss) (u ∷ us) h zero = h.0.seated
 seat_new volumes (s ∷ ss) (u ∷ us) h (suc k) = seat_new volumes ss us h.1 k
 
+pub stands_new : (volumes : List VolumeFormat) (seats : List UserParts) (users : List DirectoryUser) → AreNew volumes seats users → (k : ℕ) → get_or (stands_among seats) k [] ≡ stands_of (seats_of volumes (minidisks_at users k))
+stands_new volumes [] [] h k = refl
+stands_new volumes [] (u ∷ us) h k = absurd h
+stands_new volumes (s ∷ ss) [] h k = absurd h
+stands_new volumes (s ∷ ss) (u ∷ us) h zero = ap (λ (m : List SharedMinidisk). stands_of m) h.0.seated
+stands_new volumes (s ∷ ss) (u ∷ us) h (suc k) = stands_new volumes ss us h.1 k
+
+-- those of one user more are lawful
+pub lawful_on : (users : List DirectoryUser) (user : DirectoryUser) → ((k : ℕ) → AreLawful (minidisks_at users k)) → AreLawful user.minidisks → (k : ℕ) → AreLawful (minidisks_at (users ++ user ∷ []) k)
+lawful_on [] user h is zero = is
+lawful_on [] user h is (suc k) = All-nil IsLawful
+lawful_on (u ∷ us) user h is zero = h zero
+lawful_on (u ∷ us) user h is (suc k) = lawful_on us user (λ j. h (suc j)) is k
+
 pub seated_new : (volumes : List VolumeFormat) (seats : List UserParts) (users : List DirectoryUser) → AreNew volumes seats users → AreApart users → ((j : ℕ) → AreLawful (minidisks_at users j)) → find (user_lacks volumes) users ≡ None → position (user_is_past volumes) users ≡ None → AreSeated seats volumes
 seated_new volumes seats users h apart lawful there inside =
     let same : (k : ℕ) → stands_of (get_or seats k no_user).minidisks ≡ stands_of (seats_of volumes (minidisks_at users k)) = λ k. ap (λ (m : List SharedMinidisk). stands_of m) (seat_new volumes seats users h k) in
     record {
       seated = λ k. (subst (λ (s : List Stand). IsUsers volumes s) (sym (same k)) (is_users volumes users k apart lawful there inside));
-      apart = λ j k i t differs at. (subst (λ (s : List Stand). AllLeaveBe s t) (sym (same j)) (users_apart volumes users apart lawful there inside j k i t differs (ap (λ (s : List Stand). slice_get s i) (sym (same k)) ∙ at)));
+      apart = λ j k i t differs at. (subst (λ (s : List Stand). AllLeaveBe s t) (sym (same j)) (users_apart volumes users apart lawful there j k i t differs (ap (λ (s : List Stand). slice_get s i) (sym (same k)) ∙ at)));
     }

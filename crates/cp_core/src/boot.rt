@@ -2,7 +2,7 @@
 ghost use Rattle.std.specs.Prelude.{◌≡◌, ◌<◌, ◌≤◌, ◌↔◌, ℕ, All, Err, IfOk, IfSome, IsOk, IsSome, List, None, Some, true, length, map};
 ghost use Rattle.std.specs.List.{find, position};
 ghost use Rattle.cp_core.specs.Boot.{IsBooted, boot_error, places_in};
-ghost use Rattle.cp_seating.specs.Seating.{IsFirstPast, first_lacking, has_twins, user_is_past, user_lacks};
+ghost use Rattle.cp_seating.specs.Seating.{AreLawful, IsFirstPast, first_lacking, has_twins, minidisks_at, user_is_past, user_lacks};
 ghost use Rattle.cp_core.specs.Whole.{AreNew};
 
 use crate::events::BootError;

@@ -61,7 +61,7 @@ impl Resident {
 }
 
 impl Disks for Resident {
-    ghost use Rattle.cp_core.specs.Resident.{KeepsHung, disks_on};
+    ghost use Rattle.cp_core.specs.Resident.{KeepsHung, disks_on, hung_further, hung_same};
 
     ghost disks = { disks_on };
 
@@ -78,6 +78,10 @@ impl Disks for Resident {
     fn clear_disks(&mut self) {
         self.disks.clear();
     }
+
+    ghost others_same = { hung_same };
+
+    ghost others_on = { hung_further };
 }
 
 impl<'a> Channels<Dat<'a>> for Resident {

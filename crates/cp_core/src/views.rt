@@ -1,12 +1,11 @@
 //! What is seen of a user's machine with its devices. No view takes memory; where there is no such user the answer is
 //! `None`.
-ghost use Rattle.std.specs.Prelude.{◌≡◌, ◌<◌, ◌↔◌, IfSome, IsSome, Some, length, slice_get};
+ghost use Rattle.std.specs.Prelude.{◌≡◌, ◌<◌, ◌↔◌, IfSome, IsSome, length, slice_get};
 ghost use Rattle.std.specs.List.{find};
 ghost use Rattle.std.specs.Option.{option_map};
 ghost use Rattle.cp_console.specs.Responses.{text_of};
 ghost use Rattle.cp_channels.specs.Disks.{is_disk_at};
 ghost use Rattle.cp_volumes.specs.Seen.{seen_disk};
-ghost use Rattle.cp_volumes.specs.Shared.{IsSeated, IsUsers, disk_on, stand_of, stands_of};
 ghost use Rattle.cp_core.specs.UserMachines.{user_with};
 ghost use Rattle.cp_core.specs.System.{deliveries_at, machine_at, user_at};
 
@@ -17,7 +16,7 @@ use cp_console::responses::Response;
 use cp_devices::Devices;
 use cp_panel::Mode;
 use cp_users::UserNo;
-use cp_volumes::{SeenDisk, SharedDisk};
+use cp_volumes::SeenDisk;
 use s370_intr::Pending;
 use s370_num::{DevAddr, StorageKey};
 use s370_psw::Psw;
@@ -30,7 +29,6 @@ impl System {
         ensures user { IfSome result
             (λ found. user_at self.now user
             ≡ user_with found.now self.now.volumes (machine_at self.now user).core.processor.bytes) }
-        ensures seated { IfSome result (λ found. IsUsers self.now.volumes (stands_of found.now.minidisks)) }
         ensures deliveries { IfSome result (λ found. deliveries_at self.now user ≡ found.now.deliveries) }
     {
         let place = user.index();
@@ -163,30 +161,11 @@ impl System {
 
     /// The disk at this address: its cylinders, its arm and its sense; `None` where the user has none there.
     pub fn minidisk(&self, user: UserNo, device: DevAddr) -> Option<SeenDisk<'_>>
-        ensures some { IsSome result ↔ IsSome (find (is_disk_at device) (user_at self.now user).disks) }
-        ensures disk { IfSome result
-            (λ seen. option_map (λ disk. disk.unit) (find (is_disk_at device) (user_at self.now user).disks)
-            ≡ Some (seen_disk seen)) }
-    {
-        let disk = self.shared_disk(user, device)?;
-        match self.volumes.volume(disk.volume()) {
-            Some(volume) => Some(SeenDisk::new(volume, *disk.minidisk())),
-            // Each minidisk stands on its volume.
-            None => unreachable!(),
-        }
-    }
-
-    /// The minidisk at this address but for its cylinders.
-    fn shared_disk(&self, user: UserNo, device: DevAddr) -> Option<SharedDisk>
-        ensures disk { option_map (disk_on self.now.volumes) result
-            ≡ find (is_disk_at device) (user_at self.now user).disks }
-        ensures seated { IfSome result (λ disk. IsSeated self.now.volumes (stand_of disk)) }
+        ensures { option_map seen_disk result
+            ≡ option_map (λ disk. disk.unit) (find (is_disk_at device) (user_at self.now user).disks) }
     {
         let user = self.user(user)?;
-        user.minidisks
-            .iter()
-            .find(|disk| disk.address() == device)
-            .copied()
+        self.volumes.seen(&user.minidisks, device)
     }
 
     /// What replies told as delivered to the user since boot, in order.

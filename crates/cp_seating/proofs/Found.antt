@@ -1,7 +1,8 @@
 -- What is found where one of a list is.
-use Rattle.std.proofs.Common.{◌≡◌, Bool, true, false, List, [], ◌∷◌, length, Option, Some, None, refl, subst, ◌∙◌, ℕ, ◌<◌, ◌≤◌, nat_lt, arith, zero, suc, get_or}
+use Rattle.std.proofs.Common.{◌≡◌, Bool, true, false, List, [], ◌∷◌, length, Some, None, refl, subst, ◌∙◌, ℕ, ◌<◌, ◌≤◌, nat_lt, arith, zero, suc, get_or}
 use Rattle.std.specs.Prelude.{◌||◌, if◌then◌else◌}
 use Rattle.std.specs.List.{find, list_any, position, position_or_len}
+use Rattle.std.proofs.lemmas.Grind.{common_steps}
 use Rattle.std.proofs.lemmas.List.Quantifiers.{position-Some}
 use Rattle.std.proofs.lemmas.List.Folds.{find_at}
 use Rattle.std.proofs.lemmas.Option.{slice_get_past}
@@ -66,3 +67,7 @@ unplaced p xs none =
 -- and none is such
 pub unplaced_at : {A : Type 0} (p : A → Bool) (xs : List A) (i : ℕ) (d : A) → position p xs ≡ None → i < length xs → p (get_or xs i d) ≡ false
 unplaced_at p xs i d none inside = unfound_at p xs i d (unplaced p xs none) inside
+
+-- the place that is found is the first at which it passes
+pub placed : {A : Type 0} (p : A → Bool) (xs : List A) (i : ℕ) → position p xs ≡ Some i → position_or_len p xs ≡ i
+placed p xs i e = grind (arith, common_steps)

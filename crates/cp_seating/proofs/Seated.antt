@@ -1,14 +1,13 @@
 -- The minidisks of a directory's users, seated on their volumes: each has the cylinders of its extent, and none writes
 -- on another.
 use Rattle.std.specs.Prelude.{refl, ◌≡◌, ◌⊎◌, slice_get}
-use Rattle.std.proofs.Common.{ℕ, zero, suc, ◌+◌, ◌<◌, ◌≤◌, inl, inr, ◌&&◌, ◌||◌, Bool, true, false, not, max, All, AllPairs, List, [], ◌∷◌, ◌++◌, length, map, get_or, replicate, Option, Some, None, is_some, nat_lt, nat_le, if◌then◌else◌, ap, sym, ◌∙◌, subst, arith}
+use Rattle.std.proofs.Common.{ℕ, zero, suc, ◌+◌, ◌-◌, ◌<◌, ◌≤◌, inl, inr, ◌&&◌, ◌||◌, Bool, true, false, not, max, AllPairs, List, [], ◌∷◌, ◌++◌, length, get_or, replicate, Option, Some, None, is_some, nat_lt, nat_le, if◌then◌else◌, ap, sym, ◌∙◌, subst, arith}
 use Rattle.std.specs.List.{find, list_all, list_any, position}
-use Rattle.std.specs.Str.{bytes_eq}
 use Rattle.std.proofs.lemmas.Bool.Decides.{nat_tests}
+use Rattle.std.proofs.lemmas.List.Elements.{All-nil}
 use Rattle.std.proofs.lemmas.List.Folds.{find_at}
 use Rattle.std.proofs.lemmas.Slice.Eq.{bytes_eq-Decides}
 use Rattle.ckd_volume.specs.Volume.{VolumeFormat}
-use Rattle.cp_channels.specs.Disks.{DiskAt}
 use Rattle.cp_directory.specs.Extents.{Extent, conflicts, is_read_only, is_volser, padded}
 use Rattle.cp_directory.specs.Grammar.{Conflicts}
 use Rattle.cp_directory.specs.Names.{is_letter_or_digit}
@@ -17,7 +16,7 @@ use Rattle.cp_directory.specs.Users.{AreApart as AreUsersApart}
 use Rattle.cp_directory.specs.declared.extent.DiskMode.{DiskMode}
 use Rattle.cp_directory.specs.declared.extent.DiskMode.TheVariants.{ReadOnly, Writable}
 use Rattle.cp_directory.specs.declared.minidisk.Minidisk.{Minidisk}
-use Rattle.cp_directory.proofs.Conflicts.{all_three, conflict_again, conflict_found, conflict_turned, taken}
+use Rattle.cp_directory.proofs.Conflicts.{all_three, conflict_again, conflict_turned}
 use Rattle.cp_minidisk.specs.Minidisk.{minidisk_new, users_disk}
 use Rattle.cp_volumes.specs.Shared.{AllLeaveBe, AreApart, IsSeated, IsUsers, LeavesBe, Stand, disk_on, disks_on, no_volume, stand_of, stands_of, volume_at}
 use Rattle.cp_seating.specs.Seating.{AreDisks, AreLawful, IsDiskOn, IsLawful, ends_past, extent_in, has_volser, index_of, is_past, lacks_volume, minidisks_at, seat_of, seats_of, user_is_past, user_lacks, volume_named}
@@ -49,8 +48,10 @@ module _ {A : Type 0} where
   of_first (z ∷ xs) ys (suc i) x e = of_first xs ys i x e
 
   of_second : (xs ys : List A) (i : ℕ) → slice_get (xs ++ ys) (length xs + i) ≡ slice_get ys i
-  of_second [] ys i = refl
-  of_second (z ∷ xs) ys i = of_second xs ys i
+  of_second [] ys i = let same : 0 + i ≡ i = omega arith in ap (slice_get ys) same
+  of_second (z ∷ xs) ys i =
+      let same : suc (length xs) + i ≡ suc (length xs + i) = omega arith in
+      ap (slice_get (z ∷ (xs ++ ys))) same ∙ of_second xs ys i
 
   fails_at : (p : A → Bool) (xs : List A) (i : ℕ) (x : A) → list_any p xs ≡ false → slice_get xs i ≡ Some x → p x ≡ false
   fails_at p [] i x none e = cc
@@ -178,16 +179,16 @@ written Writable h = refl
 written ReadOnly h = cc
 
 unconflicted : (e f : Extent) → conflicts e f ≡ false → Conflicts e f → ⊥
-unconflicted e f no h = let yes = conflict_again e f h in cc
+unconflicted e f free h = let yes = conflict_again e f h in cc
 
 apart_where : (s c t d : ℕ) (a b : Bool) → nat_le (s + c) t ≡ a → nat_le (t + d) s ≡ b → ((t < s + c) → (s < t + d) → ⊥) → (s + c ≤ t) ⊎ (t + d ≤ s)
-apart_where s c t d true b p q no = inl (grind (arith, nat_tests))
-apart_where s c t d false true p q no = inr (grind (arith, nat_tests))
-apart_where s c t d false false p q no = absurd (no (grind (arith, nat_tests)) (grind (arith, nat_tests)))
+apart_where s c t d true b p q free = inl (grind (arith, nat_tests))
+apart_where s c t d false true p q free = inr (grind (arith, nat_tests))
+apart_where s c t d false false p q free = absurd (free (grind (arith, nat_tests)) (grind (arith, nat_tests)))
 
 extents_apart : (e f : Extent) → e.volser ≡ f.volser → e.mode ≡ Writable → 0 < e.count → 0 < f.count → (Conflicts e f → ⊥) → AreApart (extent_in e) (extent_in f)
-extents_apart e f same mode p q no =
-    apart_where e.start e.count f.start f.count (nat_le (e.start + e.count) f.start) (nat_le (f.start + f.count) e.start) refl refl (λ less more. no (record {
+extents_apart e f same mode p q free =
+    apart_where e.start e.count f.start f.count (nat_le (e.start + e.count) f.start) (nat_le (f.start + f.count) e.start) refl refl (λ less more. free (record {
       same = same;
       cylinder = max e.start f.start;
       in_one = (omega arith, omega arith);
@@ -214,19 +215,45 @@ seated_on volumes m f h =
     subst (λ (v : VolumeFormat). m.extent.start + m.extent.count ≤ length v.cylinders) (sym f.at) (grind (arith, nat_tests))
 
 be_where : (volumes : List VolumeFormat) (m n : Minidisk) → IsFound volumes m → IsFound volumes n → IsLawful m → IsLawful n → (Conflicts m.extent n.extent → ⊥) → LeavesBe (stand_of (seat_of volumes m)) (stand_of (seat_of volumes n))
-be_where volumes m n f g p q no same mode = extents_apart m.extent n.extent (one_name volumes m n f g p q same) (written m.extent.mode mode) p.some q.some no
+be_where volumes m n f g p q free same mode = extents_apart m.extent n.extent (one_name volumes m n f g p q same) (written m.extent.mode mode) p.some q.some free
 
 -- ---- the users of a directory
 
 -- what none of the users has, none of his minidisks has
+none_on : (q : Minidisk → Bool) (u : DirectoryUser) (us : List DirectoryUser) (b : Bool) → list_any q u.minidisks ≡ b → ((k : ℕ) → find (λ (v : DirectoryUser). list_any q v.minidisks) us ≡ None → list_any q (minidisks_at us k) ≡ false) → (k : ℕ)
+    → (if b then Some u else find (λ (v : DirectoryUser). list_any q v.minidisks) us) ≡ None → list_any q (minidisks_at (u ∷ us) k) ≡ false
+none_on q u us true is rest k h = cc
+none_on q u us false is rest zero h = is
+none_on q u us false is rest (suc k) h = rest k h
+
 none_of_one : (q : Minidisk → Bool) (users : List DirectoryUser) (k : ℕ) → find (λ (u : DirectoryUser). list_any q u.minidisks) users ≡ None → list_any q (minidisks_at users k) ≡ false
 none_of_one q [] k h = refl
-none_of_one q (u ∷ us) k h = on (list_any q u.minidisks) refl k h
+none_of_one q (u ∷ us) k h = none_on q u us (list_any q u.minidisks) refl (λ j. none_of_one q us j) k h
+
+-- each minidisk of each user has its volume
+pub none_lacks : (volumes : List VolumeFormat) (users : List DirectoryUser) (k : ℕ) → find (user_lacks volumes) users ≡ None → list_any (lacks_volume volumes) (minidisks_at users k) ≡ false
+none_lacks volumes users k there = none_of_one (lacks_volume volumes) users k there
+
+pub minidisks_here : (users : List DirectoryUser) (k : ℕ) (d : DirectoryUser) → k < length users → minidisks_at users k ≡ (get_or users k d).minidisks
+minidisks_here [] k d h = absurd (omega arith)
+minidisks_here (u ∷ us) zero d h = refl
+minidisks_here (u ∷ us) (suc k) d h = minidisks_here us k d (omega arith)
+
+-- those of one user more are lawful
+pub lawful_more : (users : List DirectoryUser) (n : ℕ) (d : DirectoryUser) → ((k : ℕ) → k < n → AreLawful (minidisks_at users k)) → n < length users → AreLawful (get_or users n d).minidisks → (k : ℕ) → k < n + 1 → AreLawful (minidisks_at users k)
+lawful_more users n d h inside is k less = by (nat_lt k n) refl
   where
-    on : (b : Bool) → list_any q u.minidisks ≡ b → (k : ℕ) → (if b then Some u else find (λ (u : DirectoryUser). list_any q u.minidisks) us) ≡ None → list_any q (minidisks_at (u ∷ us) k) ≡ false
-    on true is k h = cc
-    on false is zero h = is
-    on false is (suc k) h = none_of_one q us k h
+    by : (b : Bool) → nat_lt k n ≡ b → AreLawful (minidisks_at users k)
+    by true e = h k (grind (arith, nat_tests))
+    by false e =
+        let last : n ≡ k = grind (arith, nat_tests) in
+        subst (λ (j : ℕ). AreLawful (minidisks_at users j)) last (subst AreLawful (sym (minidisks_here users n d inside)) is)
+
+-- where those of every user are, none is past the last
+pub all_lawful : (users : List DirectoryUser) → ((k : ℕ) → k < length users → AreLawful (minidisks_at users k)) → (k : ℕ) → AreLawful (minidisks_at users k)
+all_lawful [] h k = All-nil IsLawful
+all_lawful (u ∷ us) h zero = h zero (omega arith)
+all_lawful (u ∷ us) h (suc k) = all_lawful us (λ j less. h (suc j) (omega arith)) k
 
 lawful_at : (ms : List Minidisk) (i : ℕ) (m : Minidisk) → AreLawful ms → slice_get ms i ≡ Some m → IsLawful m
 lawful_at ms i m h at = subst IsLawful (at_place ms i m m at) (h i m (within ms i m at))
@@ -247,12 +274,12 @@ are_disks volumes (m ∷ ms) h =
 
 -- one of two different numbers is the less
 differ : (i j : ℕ) → (i ≡ j → ⊥) → (i < j) ⊎ (j < i)
-differ i j no = by (nat_lt i j) (nat_lt j i) refl refl
+differ i j free = by (nat_lt i j) (nat_lt j i) refl refl
   where
     by : (a b : Bool) → nat_lt i j ≡ a → nat_lt j i ≡ b → (i < j) ⊎ (j < i)
     by true b p q = inl (grind (arith, nat_tests))
     by false true p q = inr (grind (arith, nat_tests))
-    by false false p q = absurd (no (grind (arith, nat_tests)))
+    by false false p q = absurd (free (grind (arith, nat_tests)))
 
 module _ (volumes : List VolumeFormat) (users : List DirectoryUser) (apart : AreUsersApart users) (lawful : (j : ℕ) → AreLawful (minidisks_at users j)) (there : find (user_lacks volumes) users ≡ None) where
   found_in : (k i : ℕ) (m : Minidisk) → slice_get (minidisks_at users k) i ≡ Some m → IsFound volumes m
@@ -273,10 +300,10 @@ module _ (volumes : List VolumeFormat) (users : List DirectoryUser) (apart : Are
   free_of_two j k i l m n a b (inr less) h = unconflicted n.extent m.extent (pairs_of_two Free users k j l i n m pairs less b a) (conflict_turned m.extent n.extent h)
 
   leaves_be : (j k i l : ℕ) (s t : Stand) (a : IsStandOf volumes (minidisks_at users j) i s) (b : IsStandOf volumes (minidisks_at users k) l t) → (Conflicts a.minidisk.extent b.minidisk.extent → ⊥) → LeavesBe s t
-  leaves_be j k i l s t a b no =
+  leaves_be j k i l s t a b free =
       let m = a.minidisk in
       let n = b.minidisk in
-      let be : LeavesBe (stand_of (seat_of volumes m)) (stand_of (seat_of volumes n)) = be_where volumes m n (found_in j i m a.at) (found_in k l n b.at) (lawful_at (minidisks_at users j) i m (lawful j) a.at) (lawful_at (minidisks_at users k) l n (lawful k) b.at) no in
+      let be : LeavesBe (stand_of (seat_of volumes m)) (stand_of (seat_of volumes n)) = be_where volumes m n (found_in j i m a.at) (found_in k l n b.at) (lawful_at (minidisks_at users j) i m (lawful j) a.at) (lawful_at (minidisks_at users k) l n (lawful k) b.at) free in
       subst (λ (x : Stand). LeavesBe x t) a.is (subst (λ (x : Stand). LeavesBe (stand_of (seat_of volumes m)) x) b.is be)
 
 -- the minidisks of one user are seated, and none writes on another
@@ -288,16 +315,16 @@ is_users volumes users k apart lawful there inside = record {
       let m = a.minidisk in
       let none : list_any (is_past volumes) (minidisks_at users k) ≡ false = none_of_one (is_past volumes) users k (unplaced (user_is_past volumes) users inside) in
       subst (IsSeated volumes) a.is (seated_on volumes m (found_in volumes users apart lawful there k i m a.at) (fails_at (is_past volumes) (minidisks_at users k) i m none a.at)));
-  apart = λ i j s t p q no.
+  apart = λ i j s t p q free.
       (let a = stand_of_one volumes (minidisks_at users k) i s p in
       let b = stand_of_one volumes (minidisks_at users k) j t q in
-      leaves_be volumes users apart lawful there k k i j s t a b (free_where volumes users apart lawful there k i j a.minidisk b.minidisk a.at b.at (differ i j no)));
+      leaves_be volumes users apart lawful there k k i j s t a b (free_where volumes users apart lawful there k i j a.minidisk b.minidisk a.at b.at (differ i j free)));
 }
 
 -- no minidisk of another user is written on by this one's
 pub users_apart : (volumes : List VolumeFormat) (users : List DirectoryUser) → AreUsersApart users → ((j : ℕ) → AreLawful (minidisks_at users j)) → find (user_lacks volumes) users ≡ None
     → (j k i : ℕ) (t : Stand) → (j ≡ k → ⊥) → slice_get (stands_of (seats_of volumes (minidisks_at users k))) i ≡ Some t → AllLeaveBe (stands_of (seats_of volumes (minidisks_at users j))) t
-users_apart volumes users apart lawful there j k i t no at l s is =
+users_apart volumes users apart lawful there j k i t free at l s is =
     let a = stand_of_one volumes (minidisks_at users j) l s is in
     let b = stand_of_one volumes (minidisks_at users k) i t at in
-    leaves_be volumes users apart lawful there j k l i s t a b (free_of_two volumes users apart lawful there j k l i a.minidisk b.minidisk a.at b.at (differ j k no))
+    leaves_be volumes users apart lawful there j k l i s t a b (free_of_two volumes users apart lawful there j k l i a.minidisk b.minidisk a.at b.at (differ j k free))

@@ -3,7 +3,8 @@ ghost use Rattle.std.specs.Prelude.{◌≡◌, ◌<◌, ◌≤◌, IfSome, None,
 ghost use Rattle.std.specs.List.{find, list_any, position};
 ghost use Rattle.std.specs.Option.{option_copied};
 ghost use Rattle.std.specs.Str.{bytes_eq};
-ghost use Rattle.cp_seating.specs.Seating.{IsFirstPast, first_lacking, first_past, has_twins, is_past, lacks_volume, user_is_past, user_lacks, volume_named};
+ghost use Rattle.cp_seating.specs.Seating.{IsFirstPast, first_lacking, first_past, has_twins, is_past, lacks_volume};
+ghost use Rattle.cp_seating.specs.Seating.{user_is_past, user_lacks, volume_named};
 
 use ckd_volume::Volume;
 use cp_directory::{Minidisk, User, Volser};

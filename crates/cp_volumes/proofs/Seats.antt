@@ -1,6 +1,6 @@
 -- The minidisks of a user: what each is, and how one changes with its volume.
 use Rattle.std.specs.Prelude.{ℕ, zero, suc, ◌≡◌, ◌==◌, ◌<◌, refl, Bool, true, false, if◌then◌else◌, List, [], ◌∷◌, length, map, slice_get, Option, Some, None}
-use Rattle.std.specs.List.{position, position_or_len}
+use Rattle.std.specs.List.{find, position, position_or_len}
 use Rattle.std.specs.Option.{option_map}
 use Rattle.std.proofs.Common.{sym, ◌∙◌, ap, subst, set, get_or, arith}
 use Rattle.std.proofs.lemmas.List.{map-set, length-map}
@@ -16,6 +16,7 @@ use Rattle.cp_channels.specs.Disks.{DiskAt, cleared_disk, is_disk_at, reset_disk
 use Rattle.cp_minidisk.specs.Minidisk.{slice}
 use Rattle.ckd_volume.specs.Unit.{idle}
 use Rattle.cp_minidisk.specs.Minidisk.{own_arm}
+use Rattle.cp_volumes.specs.Keeping.{confined_same}
 use Rattle.cp_volumes.specs.Shared.{AllLeaveBe, DisksValue, IsConfined, IsSeated, IsUsers, KeepsNeighbours, LeavesBe, SharedMinidisk, Stand, cleared_minidisk, disk_on, disks_on, reset_minidisk, seen, stand_of, stands_of, volume_at}
 
 -- ---- found by its address
@@ -29,6 +30,18 @@ found device volumes ds = rw (place-map device volumes ds, length-map ds (disk_o
 
 pub found_at : (device : ℕ) (d : DisksValue) → position (λ (m : SharedMinidisk). m.address == device) d.minidisks ≡ position (is_disk_at device) (seen d)
 found_at device d = found device d.volumes d.minidisks
+
+-- the same, as one disk
+found_where : (device : ℕ) (volumes : List VolumeFormat) (d : SharedMinidisk) (ds : List SharedMinidisk) (b : Bool)
+  → option_map (λ (x : DiskAt). x.unit) (find (is_disk_at device) (disks_on volumes ds)) ≡ option_map (λ (m : SharedMinidisk). (disk_on volumes m).unit) (find (λ (m : SharedMinidisk). m.address == device) ds)
+  → option_map (λ (x : DiskAt). x.unit) (if b then Some (disk_on volumes d) else find (is_disk_at device) (disks_on volumes ds)) ≡ option_map (λ (m : SharedMinidisk). (disk_on volumes m).unit) (if b then Some d else find (λ (m : SharedMinidisk). m.address == device) ds)
+found_where device volumes d ds true rest = refl
+found_where device volumes d ds false rest = rest
+
+pub unit_found : (device : ℕ) (volumes : List VolumeFormat) (ds : List SharedMinidisk)
+  → option_map (λ (x : DiskAt). x.unit) (find (is_disk_at device) (disks_on volumes ds)) ≡ option_map (λ (m : SharedMinidisk). (disk_on volumes m).unit) (find (λ (m : SharedMinidisk). m.address == device) ds)
+unit_found device volumes [] = refl
+unit_found device volumes (d ∷ ds) = found_where device volumes d ds (d.address == device) (unit_found device volumes ds)
 
 pub as_many : (d : DisksValue) → length (seen d) ≡ length d.minidisks
 as_many d = length-map d.minidisks (disk_on d.volumes)
@@ -50,27 +63,6 @@ reset_stands (d ∷ ds) = ap (λ (xs : List Stand). stand_of d ∷ xs) (reset_st
 pub cleared_stands : (ds : List SharedMinidisk) → stands_of (map cleared_minidisk ds) ≡ stands_of ds
 cleared_stands [] = refl
 cleared_stands (d ∷ ds) = ap (λ (xs : List Stand). stand_of d ∷ xs) (cleared_stands ds)
-
-pub confined_same : (stands : List Stand) (volumes : List VolumeFormat) → IsConfined stands volumes volumes
-confined_same stands volumes = record { count = refl; sizes = λ index. refl; volsers = λ index. refl; others = λ t be. refl }
-
-pub confined_on : (stands : List Stand) (a b c : List VolumeFormat) → IsConfined stands a b → IsConfined stands b c → IsConfined stands a c
-confined_on stands a b c h g = record {
-  count = g.count ∙ h.count;
-  sizes = λ index. g.sizes index ∙ h.sizes index;
-  volsers = λ index. g.volsers index ∙ h.volsers index;
-  others = λ t be. g.others t be ∙ h.others t be;
-}
-
--- they are kept, and kept on
-pub neighbours_same : (d : DisksValue) → KeepsNeighbours d d
-neighbours_same d = record { stands = refl; confined = confined_same (stands_of d.minidisks) d.volumes }
-
-pub neighbours_on : (a b c : DisksValue) → KeepsNeighbours a b → KeepsNeighbours b c → KeepsNeighbours a c
-neighbours_on a b c h g = record {
-  stands = g.stands ∙ h.stands;
-  confined = confined_on (stands_of a.minidisks) a.volumes b.volumes c.volumes h.confined (subst (λ (s : List Stand). IsConfined s b.volumes c.volumes) h.stands g.confined);
-}
 
 pub neighbours_still : (volumes : List VolumeFormat) (ds es : List SharedMinidisk) → stands_of es ≡ stands_of ds → KeepsNeighbours (record { volumes = volumes; minidisks = ds }) (record { volumes = volumes; minidisks = es })
 neighbours_still volumes ds es same = record { stands = same; confined = confined_same (stands_of ds) volumes }

@@ -12,6 +12,10 @@ use Rattle.cp_minidisk.specs.Minidisk.{MinidiskValue, HasExtent, minidisk_new, m
 abbrev pub no_volume : VolumeFormat
 no_volume = record { volser = []; cylinders = [] }
 
+abbrev pub volume_or_none : Option VolumeFormat → VolumeFormat
+volume_or_none None = no_volume
+volume_or_none (Some v) = v
+
 -- what stands on a unit, which is away while a program runs on it
 abbrev pub volume_in : Option Disk → VolumeFormat
 volume_in None = no_volume

@@ -1,5 +1,5 @@
 //! The volumes of a system, each once and on a unit of its own.
-ghost use Rattle.std.specs.Prelude.{◌≡◌, ◌<◌, [], ◌∷◌, IfNone, IfOk, IfSome, length, slice_get, slice_set, Some};
+ghost use Rattle.std.specs.Prelude.{◌≡◌, ◌<◌, [], ◌∷◌, IfOk, IfSome, length, slice_get, slice_set, Some, option_copied};
 ghost use Rattle.s370_channel.specs.Reading.{as_reached};
 ghost use Rattle.s370_walk.specs.Hardware.{memory_of};
 ghost use Rattle.ckd_volume.specs.Unit.{rested, volume_of};
@@ -7,7 +7,7 @@ ghost use Rattle.cp_channels.specs.Channels.{IsAllThere, RestsAfter, RestsLoaded
 ghost use Rattle.cp_minidisk.specs.Minidisk.{users_disk};
 ghost use Rattle.cp_minidisk.specs.Part.{minidisk_of, part_on, unit_of};
 ghost use Rattle.cp_needs.specs.Words.{IsEnough};
-ghost use Rattle.cp_volumes.specs.Shared.{IsConfined, IsSeated, disk_on, no_volume, stand_of, volume_at};
+ghost use Rattle.cp_volumes.specs.Shared.{IsConfined, IsSeated, disk_on, no_volume, stand_of, volume_at, volume_or_none};
 
 use crate::running::{load_mounted, run_mounted};
 use crate::shared_disk::SharedDisk;
@@ -80,7 +80,7 @@ impl Volumes {
     /// The volume of this index, which stands here unless a program runs on it.
     pub fn volume(&self, index: usize) -> Option<&Volume>
         ensures volume { IfSome result (λ volume. slice_get self.now index ≡ Some volume.now) }
-        ensures none { IfNone result ((volume_at self.now index).cylinders ≡ []) }
+        ensures at { volume_at self.now index ≡ volume_or_none (option_copied result) }
     {
         match self.units.get(index) {
             Some(Some(unit)) => Some(unit.volume()),

@@ -1,4 +1,4 @@
-use Rattle.std.proofs.Common.{◌≡◌, ◌∙◌, ◌*◌, ◌+◌, ◌++◌, [], ◌∷◌, ℕ, ap, sym, arith, take, replicate, subst, false}
+use Rattle.std.proofs.Common.{◌≡◌, ◌∙◌, ◌*◌, ◌+◌, ◌++◌, [], ◌∷◌, List, ℕ, ap, sym, arith, take, replicate, subst, false}
 use Rattle.std.proofs.lemmas.List.{take_more}
 use Rattle.cp_directory.specs.Users.{DirectoryUser}
 use Rattle.cp_directory.specs.declared.minidisk.Minidisk.{Minidisk}
@@ -7,13 +7,13 @@ use Rattle.cp_devices.specs.Devices.{devices_new}
 use Rattle.cp_devices.specs.declared.places.Places.{Places}
 use Rattle.cp_core.specs.Boot.{places_in}
 use Rattle.cp_core.specs.UserMachines.{IsUnused}
-use Rattle.cp_seating.specs.Seating.{AreDisks, seats_of}
+use Rattle.cp_seating.specs.Seating.{AreDisks, AreLawful, seats_of}
 use Rattle.cp_seating.proofs.Seated.{are_disks}
 use Rattle.cp_volumes.specs.Shared.{SharedMinidisk, disks_on}
 use Rattle.cp_core.specs.Whole.{IsNew}
 use Rattle.cp_seating.specs.Seating.{lacks_volume, user_is_past, user_lacks}
 use Rattle.std.specs.List.{list_any}
-use Rattle.cp_core.proofs.Boots.{new_more, off_new}
+use Rattle.cp_core.proofs.Boots.{lawful_on, new_more, off_new}
 use Rattle.cp_seating.proofs.Found.{unfound_at, unplaced_at}
 use Rattle.cp_core.proofs.boot.machines_of.Goals as goal
 
@@ -39,12 +39,13 @@ loop-user-preserved c =
       none = c.in_ok-machine.ensures.deliveries;
       sized = omega (arith, pages, c.pages.ensures.least);
     } in
-    let more = new_more volumes c.loop-user.machines.items (take i users) machine user c.loop-user.invariant new in
+    let more = new_more volumes c.loop-user.machines.items (take i users) machine user c.loop-user.invariant.new new in
     let taken : take (i + 1) users ≡ take i users ++ user ∷ [] = take_more users i user c.loop-user-test.true ∙ ap (λ (u : DirectoryUser). take i users ++ u ∷ []) (sym c.user-item.is) in
-    rw (c.in-Ok-push.ensures.items, taken) more
+    let is : AreLawful user.minidisks = subst AreLawful c.minidisks.ensures c.in-Ok.ensures.lawful in
+    rw (c.in-Ok-push.ensures.items, taken) (record { new = more; lawful = lawful_on (take i users) user c.loop-user.invariant.lawful is })
 
 pub seats_of-requires : goal.seats_of-requires
 seats_of-requires c =
     let volumes = c.args.volumes.now in
     let user = c.user-item.result in
-    rw c.minidisks.ensures (subst (λ (u : DirectoryUser). user_lacks volumes u ≡ false) (sym c.user-item.is) (unfound_at (user_lacks volumes) c.args.users.now c.loop-user.user-index user c.requires.there c.loop-user-test.true))
+    rw c.minidisks.ensures (record { there = subst (λ (u : DirectoryUser). user_lacks volumes u ≡ false) (sym c.user-item.is) (unfound_at (user_lacks volumes) c.args.users.now c.loop-user.user-index user c.requires.there c.loop-user-test.true) })

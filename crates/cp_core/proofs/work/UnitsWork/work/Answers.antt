@@ -1,5 +1,5 @@
 use Rattle.cp_volumes.specs.Shared.{DisksValue}
-use Rattle.cp_volumes.proofs.Seats.{neighbours_same}
+use Rattle.cp_volumes.specs.Keeping.{neighbours_same}
 use Rattle.cp_core.proofs.work.UnitsWork.work.Goals as goal
 
 pub returns-clause-neighbours : goal.returns-clause-neighbours
