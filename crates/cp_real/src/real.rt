@@ -12,31 +12,21 @@ use s370_store::{Access, Block, Fault, Keyed, Keyring, Page, Range, Storage, put
 /// A user's pages at the addresses of the frames in which they stand, and an area of the control program behind the
 /// frames. Addresses are counted in bytes; frame `f` begins at `4096 * f`.
 #[derive(Drop)]
-pub struct Real<'a, 'b> {
-    dat: &'b mut Dat<'a>,
-    frames: u32,
-    area: &'b mut [u8],
+pub struct Real<'a, 'b, 'c> {
+    /// Whose pages are seen.
+    pub dat: &'b mut Dat<'a>,
+    /// The number of all frames.
+    pub frames: u32,
+    /// The area.
+    pub area: &'c mut [u8],
     ghost counted: { frames ≡ length (lent_pool dat.now).supply.owners },
     ghost few: { frames ≤ 4096 },
     ghost small: { length area.now ≤ 2147483648 },
     ghost short: { length (lent_bytes dat.now) ≤ 4294967295 },
 }
 
-impl<'a, 'b> Real<'a, 'b> {
+impl<'a, 'b, 'c> Real<'a, 'b, 'c> {
     ghost use Rattle.cp_real.specs.Shown.{real_bytes_of, real_keys_of, is_real_page_of, KeepsReal};
-
-    /// Lends the frames and the area to one user's program.
-    pub fn new(dat: &'b mut Dat<'a>, area: &'b mut [u8]) -> Real<'a, 'b>
-        requires small { length area.old ≤ 2147483648 }
-        ensures dat { result.dat.now ≡ dat.old }
-        ensures same_dat { result.dat.ghost_name ≡ dat.entry.ghost_name }
-        ensures area { result.area.now ≡ area.old }
-        ensures same_area { result.area.ghost_name ≡ area.entry.ghost_name }
-    {
-        let frames = dat.frame_count();
-        let _bytes = dat.size();
-        Real { dat, frames, area }
-    }
 
     /// The user's page in a frame.
     fn page_at(&self, frame: u32) -> Option<u32>
@@ -146,11 +136,11 @@ impl<'a, 'b> Real<'a, 'b> {
 
 /// The keys of real storage.
 #[derive(Clone, Copy)]
-struct RealKeys<'a, 'b, 'c> {
-    real: &'c Real<'a, 'b>,
+struct RealKeys<'a, 'b, 'c, 'd> {
+    real: &'d Real<'a, 'b, 'c>,
 }
 
-impl<'a, 'b, 'c> Keyring for RealKeys<'a, 'b, 'c> {
+impl<'a, 'b, 'c, 'd> Keyring for RealKeys<'a, 'b, 'c, 'd> {
     ghost use Rattle.cp_real.specs.Shown.{real_keys_of};
 
     ghost of_blocks = { λ k. real_keys_of k.real.now };
@@ -167,7 +157,7 @@ impl<'a, 'b, 'c> Keyring for RealKeys<'a, 'b, 'c> {
     }
 }
 
-impl<'a, 'b> Storage for Real<'a, 'b> {
+impl<'a, 'b, 'c> Storage for Real<'a, 'b, 'c> {
     ghost use Rattle.cp_real.specs.Shown.{real_bytes_of, real_keys_of, is_real_page_of, KeepsReal, keeps_real_same, keeps_real_size, keeps_real_present, keeps_real_on, IsInArea, in_area_kept};
 
     ghost bytes = { real_bytes_of };
