@@ -122,7 +122,7 @@ pub fn run_fixed<D: Device>(
     match translate(alloc, storage, start) {
         Ok(table) => run_lent(&table, storage, limits, device),
         Err(CopyError::Memory) => Err(ChannelError::Memory),
-        // A page of a word that the program cannot reach: it needs no copy.
+        // Of the page that is told it is not promised that the program needs it.
         Err(CopyError::Absent(_)) => run_held(storage, start, limits, device),
     }
 }
