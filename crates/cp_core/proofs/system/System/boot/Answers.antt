@@ -17,8 +17,12 @@ invariant_of-result c =
     let new : AreNew volumes seats users = subst (λ (vs : List VolumeFormat). AreNew vs seats users) c.deref-4.ensures.value (subst (AreNew c.deref-4.result.now seats) c.users-3.ensures.users c.in-Ok.ensures.new) in
     let lawful : (k : ℕ) → AreLawful (minidisks_at users k) = subst (λ (us : List DirectoryUser). (k : ℕ) → AreLawful (minidisks_at us k)) c.users-3.ensures.users c.in-Ok.ensures.lawful in
     let apart : AreApart users = c.users-3.ensures.apart in
-    let there : find (user_lacks volumes) users ≡ None = ? in
-    let inside : position (user_is_past volumes) users ≡ None = ? in
+    let there : find (user_lacks volumes) users ≡ None =
+    subst (λ (vs : List VolumeFormat). find (user_lacks vs) users ≡ None) c.deref-2.ensures.value
+    (subst (λ (us : List DirectoryUser). find (user_lacks c.deref-2.result.now) us ≡ None) c.users.ensures.users (c.lacking_volume.ensures.none c.in_default.is)) in
+    let inside : position (user_is_past volumes) users ≡ None =
+    subst (λ (vs : List VolumeFormat). position (user_is_past vs) users ≡ None) c.deref-3.ensures.value
+    (subst (λ (us : List DirectoryUser). position (user_is_past c.deref-3.result.now) us ≡ None) c.users-2.ensures.users (c.past_end.ensures.none c.in_default-past_end.is)) in
     let pages = c.in-Ok-pages_of.ensures.pages ∙ ap (λ (us : List DirectoryUser). map (λ (user : DirectoryUser). user.pages) us) c.users-4.ensures.users in
     let stored : c.in-Ok-new-2.frames.storages ≡ blank users = c.in-Ok-new-2.ensures.storages ∙ ap (λ (ps : List ℕ). map (λ pages. replicate (pages * 4096) 0) ps) pages in
     record {
