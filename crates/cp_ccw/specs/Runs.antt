@@ -14,7 +14,7 @@ use Rattle.cp_real.specs.declared.real.Real.{Real}
 
 -- the frames, and whose pages are seen in them
 abbrev pub dat_of : Real → Dat
-dat_of r = r.dat
+dat_of r = r.dat.now
 
 -- one user's storage
 abbrev pub lent_memory : Dat → Memory

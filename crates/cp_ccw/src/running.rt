@@ -1,21 +1,23 @@
 //! The run of a guest's program that was given real addresses.
-ghost use Rattle.std.specs.Prelude.{◌≡◌, ℕ, ◌%◌, ◌≤◌, ◌<◌, ◌^◌, length, IfOk, IfErr};
-ghost use Rattle.cp_dat.specs.Lent.{lent_bytes};
+ghost use Rattle.std.specs.Prelude.{◌≡◌, ℕ, ◌%◌, ◌<◌, ◌^◌, IfOk, IfErr};
+ghost use Rattle.cp_dat.specs.Lent.{KeepsRest, is_lent_page, lent_keys};
 ghost use Rattle.s370_walk.specs.Hardware.{Memory};
-ghost use Rattle.s370_channel.specs.Guest.{guest_text};
+ghost use Rattle.s370_walk.specs.Walk.{live};
+ghost use Rattle.s370_channel.specs.Guest.{guest_text, guest_written};
 ghost use Rattle.s370_channel.specs.declared.running.ChannelError.TheVariants as errors;
 ghost use Rattle.channel_laws.specs.Copy.{guest_of, IsPlace};
-ghost use Rattle.cp_graph.specs.Closure.{IfAbsent, IsSomeWordPage};
-ghost use Rattle.s370_store.specs.Access.{IsAway};
-ghost use Rattle.cp_dat.specs.Lent.{is_lent_page};
+ghost use Rattle.cp_needs.specs.Needs.{IsFixed, IsHeld};
 ghost use Rattle.cp_real.specs.Shown.{KeepsReal};
 ghost use Rattle.cp_ccw.specs.Translated.{IsTranslatedFor};
-ghost use Rattle.cp_ccw.specs.Runs.{dat_of, lent_memory, IsGuestsRun};
+ghost use Rattle.cp_ccw.specs.Runs.{dat_of, lent_memory, IsGuestsRun, IsRunOf};
 
 use crate::table::{Table, translate};
+use cp_dat::Dat;
 use cp_graph::CopyError;
+use cp_needs::run_held;
 use cp_real::Real;
 use s370_channel::{ChannelError, Limits, run};
+use s370_store::Storage;
 use s370_walk::{Device, Ending};
 use std::alloc::Global;
 
@@ -36,9 +38,9 @@ fn guest_address(table: &Table, at: u32) -> u32
 /// words stay as they stood when they were copied. The address of the ending is the guest's.
 ///
 /// No page is ever absent; an error is told only where the device is refused memory.
-pub fn run_translated<D: Device>(
+pub fn run_translated<'a, 'b, 'c, D: Device>(
     table: &Table,
-    real: &mut Real,
+    real: &mut Real<'a, 'b, 'c>,
     limits: &Limits,
     device: &mut D,
 ) -> Result<Ending, ChannelError>
@@ -67,34 +69,60 @@ pub fn run_translated<D: Device>(
     })
 }
 
-/// Translates and runs the program that stands at an address of a guest's storage.
-///
-/// Where a page that it needs stands in no frame nothing has happened: the caller brings that page, and tries again.
-pub fn run_guest<D: Device>(
+/// Runs a translated program over the frames of a user's storage, as [`run_translated`] does over real storage.
+fn run_lent<'a, D: Device>(
+    table: &Table,
+    storage: &mut Dat<'a>,
+    limits: &Limits,
+    device: &mut D,
+) -> Result<Ending, ChannelError>
+    ensures runs { IfOk result (λ ending. (m0 : Memory)
+        → IsTranslatedFor storage.old table.now.places.items table.now.nodes.items m0
+        → IsPlace table.now.places.items (guest_text m0) table.now.start
+        → IsGuestsRun D.machine limits.now m0 (guest_of table.now.places.items table.now.start)
+        storage.old device.old ending storage.new device.new) }
+    ensures never_absent { IfErr result (λ error. (m0 : Memory)
+        → IsTranslatedFor storage.old table.now.places.items table.now.nodes.items m0
+        → error ≡ errors.Memory) }
+    ensures keys { lent_keys storage.new ≡ lent_keys storage.old }
+    ensures rest { KeepsRest storage.old storage.new }
+{
+    let mut own = [0u8; 0];
+    let frames = storage.frame_count();
+    let _bytes = storage.size();
+    let mut real = Real {
+        dat: storage,
+        frames,
+        area: &mut own,
+    };
+    run_translated(table, &mut real, limits, device)
+}
+
+/// Runs the program that stands at an address of a user's storage, where no input of it can change its words and the
+/// pages that it needs stand in frames: a copy of it with real addresses runs over the frames, and it ends as the
+/// program does whose words are read as they are reached. It stops for want of memory alone.
+pub fn run_fixed<D: Device>(
     alloc: Global,
-    real: &mut Real,
+    storage: &mut Dat<'_>,
     start: u32,
     limits: &Limits,
     device: &mut D,
-) -> Result<Ending, CopyError>
+) -> Result<Ending, ChannelError>
     requires even { start % 8 ≡ 0 }
     requires low { start < 2 ^ 24 }
-    ensures runs { IfOk result
-        (λ ending. IsGuestsRun D.machine limits.now (lent_memory (dat_of real.old)) start
-        (dat_of real.old) device.old ending (dat_of real.new) device.new) }
-    ensures away { IfErr result
-        (IfAbsent (λ page. IsAway (length (lent_bytes (dat_of real.old))) (is_lent_page (dat_of real.old)) page
-        × IsSomeWordPage (lent_memory (dat_of real.old)) page)) }
-    ensures untouched { IfErr result (IfAbsent (λ page. real.new ≡ real.old)) }
-    ensures unstarted { IfErr result (IfAbsent (λ page. device.new ≡ device.old)) }
-    ensures rest { KeepsReal real.old real.new }
+    requires fixed { IsFixed (lent_memory storage.old) start }
+    requires held { IsHeld (lent_memory storage.old) start (is_lent_page storage.old) }
+    ensures reaches { IfOk result
+        (λ ending. IsRunOf (live guest_written) D.machine limits.now start storage.old device.old ending
+        storage.new device.new) }
+    ensures memory { IfErr result (λ error. error ≡ errors.Memory) }
+    ensures keys { lent_keys storage.new ≡ lent_keys storage.old }
+    ensures rest { KeepsRest storage.old storage.new }
 {
-    let table = match translate(alloc, real.dat(), start) {
-        Ok(table) => table,
-        Err(error) => return Err(error),
-    };
-    match run_translated(&table, real, limits, device) {
-        Ok(ending) => Ok(ending),
-        Err(_) => Err(CopyError::Memory),
+    match translate(alloc, storage, start) {
+        Ok(table) => run_lent(&table, storage, limits, device),
+        Err(CopyError::Memory) => Err(ChannelError::Memory),
+        // Of the page that is told it is not promised that the program needs it.
+        Err(CopyError::Absent(_)) => run_held(storage, start, limits, device),
     }
 }

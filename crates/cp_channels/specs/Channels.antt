@@ -1,5 +1,5 @@
 -- The channels of a machine: the programs of its devices run on them, and its disks hang on them.
-use Rattle.std.specs.Prelude.{ℕ, ◌≡◌, Bool, List, set, slice_get, Option, Some, None}
+use Rattle.std.specs.Prelude.{ℕ, ◌≡◌, ◌*◌, ◌<◌, Bool, true, List, set, slice_get, Option, Some, None}
 use Rattle.s370_store.specs.Access.{IsAway}
 use Rattle.s370_walk.specs.declared.parts.Ending.{Ending}
 use Rattle.s370_walk.specs.Hardware.{Machine, Memory}
@@ -9,7 +9,7 @@ use Rattle.s370_channel.specs.declared.running.ChannelError.{ChannelError}
 use Rattle.s370_channel.specs.declared.running.ChannelError.TheVariants as errors
 use Rattle.s370_channel.specs.declared.words.Caw.{Caw}
 use Rattle.s370_channel.specs.Guest.{guest_written}
-use Rattle.s370_channel.specs.Loading.{MatchLoading, loading, loading_limits}
+use Rattle.s370_channel.specs.Loading.{loading, loading_limits}
 use Rattle.s370_channel.specs.Progress.{setting}
 use Rattle.s370_channel.specs.Reading.{Reading}
 use Rattle.s370_channel.specs.Runs.{IsStopped, Walks}
@@ -78,6 +78,13 @@ abbrev pub StopsDisk : (ℕ → Bool) → Caw → Memory → Option DiskAt → C
 StopsDisk present start m (Some disk) error = StopsForPage disk_machine present start m disk.unit error
 StopsDisk present start m None error = ⊥
 
-abbrev pub StopsLoadingDisk : (ℕ → Bool) → Memory → Option DiskAt → ChannelError → Type 0
-StopsLoadingDisk present m (Some disk) error = MatchLoading guest_written disk_machine nothing_needed present m disk.unit error
-StopsLoadingDisk present m None error = ⊥
+-- ---- the pages of a storage
+
+-- each page of a storage of this size is present
+abbrev pub IsAllThere : ℕ → (ℕ → Bool) → Type 0
+IsAllThere size present = (page : ℕ) → page * 4096 < size → present page ≡ true
+
+-- for want of a page of the storage, which is not present, and of nothing else
+abbrev pub LacksPage : ℕ → (ℕ → Bool) → ChannelError → Type 0
+LacksPage size present errors.Memory = ⊥
+LacksPage size present (errors.Absent page) = IsAway size present page.0

@@ -4,7 +4,7 @@ ghost use Rattle.std.specs.List.{position};
 ghost use Rattle.s370_walk.specs.Hardware.{memory_of};
 ghost use Rattle.s370_channel.specs.Reading.{Reading};
 ghost use Rattle.s370_channel.specs.Runs.{IsStopped, TellsAway, Walks};
-ghost use Rattle.cp_channels.specs.Channels.{StopsDisk, WalksDisk, WhereAbsent};
+ghost use Rattle.cp_channels.specs.Channels.{IsAllThere, LacksPage, LoadsDisk, StopsDisk, WalksDisk, WhereAbsent};
 ghost use Rattle.cp_channels.specs.Disks.{DiskAt, cleared_disk, is_disk_at, reset_disk};
 
 use s370_channel::{Caw, ChannelError};
@@ -16,6 +16,9 @@ pub trait Disks {
     /// The disks.
     ghost disks: { Self → List DiskAt };
 
+    /// What stands beside the disks stays: the other cylinders of the volumes on which they are.
+    ghost KeepsOthers: { Self → Self → Type 0 };
+
     /// The index of the first disk with this address.
     fn disk_at(&self, device: u16) -> Option<usize>
         ensures index { result ≡ position (is_disk_at device) (disks self.now) }
@@ -23,11 +26,19 @@ pub trait Disks {
 
     /// A system reset of the disks: the arms stay.
     fn reset_disks(&mut self)
-        ensures { disks self.new ≡ map reset_disk (disks self.old) };
+        ensures reset { disks self.new ≡ map reset_disk (disks self.old) }
+        ensures others { KeepsOthers self.old self.new };
 
     /// As for a LOGON: the arms stand over cylinder 0, with head 0 chosen.
     fn clear_disks(&mut self)
-        ensures { disks self.new ≡ map cleared_disk (disks self.old) };
+        ensures cleared { disks self.new ≡ map cleared_disk (disks self.old) }
+        ensures others { KeepsOthers self.old self.new };
+
+    /// All stays where nothing changes.
+    ghost others_same: { (d : Self) → KeepsOthers d d };
+
+    /// What stays twice stays.
+    ghost others_on: { (d e f : Self) → KeepsOthers d e → KeepsOthers e f → KeepsOthers d f };
 }
 
 /// The channels of a machine with this storage, which have its disks.
@@ -60,6 +71,7 @@ pub trait Channels<S: Storage>: Disks {
             → IfErr result (WhereAbsent (length (S.bytes storage.old)) (S.present storage.old)
             ((S.bytes storage.new ≡ S.bytes storage.old) × (device.new ≡ device.old)
             × (Self.disks self.new ≡ Self.disks self.old))) }
+        ensures others { Self.KeepsOthers self.old self.new }
         ensures keys { S.keys storage.new ≡ S.keys storage.old }
         ensures rest { S.Keeps storage.old storage.new };
 
@@ -81,6 +93,20 @@ pub trait Channels<S: Storage>: Disks {
         ensures whole { is_whole ≡ true
             → IfErr result (WhereAbsent (length (S.bytes storage.old)) (S.present storage.old)
             ((S.bytes storage.new ≡ S.bytes storage.old) × (Self.disks self.new ≡ Self.disks self.old))) }
+        ensures others { Self.KeepsOthers self.old self.new }
+        ensures keys { S.keys storage.new ≡ S.keys storage.old }
+        ensures rest { S.Keeps storage.old storage.new };
+
+    /// The program of an initial program loading runs on the disk of this index, which is at rest after it. Channels
+    /// that run programs as a whole are asked only where each page of the storage is present.
+    fn load_disk(&mut self, storage: &mut S, index: usize) -> Result<Ending, ChannelError>
+        requires inside { index < length (Self.disks self.old) }
+        requires there { is_whole ≡ true → IsAllThere (length (S.bytes storage.old)) (S.present storage.old) }
+        ensures walk { IfOk result
+            (λ ending. LoadsDisk (memory_of (S.bytes storage.old) (S.keys storage.old)) (Self.disks self.old) index
+            ending (memory_of (S.bytes storage.new) (S.keys storage.new)) (Self.disks self.new)) }
+        ensures lacks { IfErr result (LacksPage (length (S.bytes storage.old)) (S.present storage.old)) }
+        ensures others { Self.KeepsOthers self.old self.new }
         ensures keys { S.keys storage.new ≡ S.keys storage.old }
         ensures rest { S.Keeps storage.old storage.new };
 }

@@ -1,9 +1,9 @@
 //! The disks of a machine, each at its address.
-ghost use Rattle.std.specs.Prelude.{◌≡◌, IfErr, IfOk, Some, length, map};
+ghost use Rattle.std.specs.Prelude.{◌≡◌, IfErr, IfOk, length, map};
 ghost use Rattle.s370_walk.specs.Hardware.{memory_of};
 ghost use Rattle.s370_channel.specs.Reading.{as_reached};
 ghost use Rattle.s370_channel.specs.Runs.{TellsAway};
-ghost use Rattle.cp_channels.specs.Channels.{RestsAfter, StopsForPage, StopsLoadingDisk, RestsLoaded};
+ghost use Rattle.cp_channels.specs.Channels.{LacksPage, RestsAfter, RestsLoaded, StopsForPage};
 ghost use Rattle.cp_channels.specs.Disks.{cleared_disk, reset_disk};
 ghost use Rattle.ckd_volume.specs.Unit.{disk_machine};
 
@@ -83,13 +83,12 @@ impl AttachedDisk {
 
     /// The program of an initial program loading runs on the unit, which is then at rest. It has gone well where its
     /// ending says so.
+    #[tactic(auto, using(crate::proofs::Staying::disk_lacks))]
     pub(crate) fn load<S: Storage>(&mut self, storage: &mut S) -> Result<Ending, ChannelError>
         ensures walk { IfOk result
             (λ ending. RestsLoaded (memory_of (S.bytes storage.old) (S.keys storage.old)) self.old ending
             (memory_of (S.bytes storage.new) (S.keys storage.new)) self.new) }
-        ensures stopped { IfErr result
-            (StopsLoadingDisk (S.present storage.old) (memory_of (S.bytes storage.old) (S.keys storage.old))
-            (Some self.old)) }
+        ensures lacks { IfErr result (LacksPage (length (S.bytes storage.old)) (S.present storage.old)) }
         ensures keys { S.keys storage.new ≡ S.keys storage.old }
         ensures rest { S.Keeps storage.old storage.new }
     {

@@ -1,7 +1,8 @@
 //! The channels of a machine: who runs the programs of its devices, and has its disks.
 //!
-//! Its one theorem: whoever runs a program, what it leaves is the walk of that program, read as [`Channels`] says; and
-//! so for [`Own`], in which each word is read when it is reached.
+//! Its one theorem: whoever runs a program, what it leaves is the walk of that program, read as [`Channels`] says, and
+//! what stands beside the disks stays; and so for [`Own`], in which each word is read when it is reached, and beside
+//! whose disks nothing stands.
 #![tactic(auto)]
 
 mod channels;

@@ -11,6 +11,12 @@ impl Disks for NoDisks {
 
     ghost disks = { λ _. [] };
 
+    ghost KeepsOthers = { λ _ _. Unit {0} };
+
+    ghost others_same = { λ _. tt };
+
+    ghost others_on = { λ _ _ _ _ _. tt };
+
     fn disk_at(&self, _device: u16) -> Option<usize> {
         None
     }

@@ -1,7 +1,5 @@
 //! The channels of a machine of its own, with disk units of its own.
-ghost use Rattle.std.specs.Prelude.{◌≡◌, ◌<◌, IfErr, IfOk, length, map, slice_get};
-ghost use Rattle.s370_walk.specs.Hardware.{memory_of};
-ghost use Rattle.cp_channels.specs.Channels.{LoadsDisk, StopsLoadingDisk};
+ghost use Rattle.std.specs.Prelude.{◌≡◌, map};
 ghost use Rattle.cp_channels.specs.Disks.{cleared_disk, reset_disk};
 ghost use Rattle.cp_channels.specs.Own.{disks_of};
 
@@ -40,25 +38,6 @@ impl Own {
         self.disks
     }
 
-    /// The program of an initial program loading runs on the disk of this index, which is at rest after it.
-    pub fn load_disk<S: Storage>(
-        &mut self,
-        storage: &mut S,
-        index: usize,
-    ) -> Result<Ending, ChannelError>
-        requires { index < length (disks_of self.old) }
-        ensures walk { IfOk result
-            (λ ending. LoadsDisk (memory_of (S.bytes storage.old) (S.keys storage.old)) (disks_of self.old) index ending
-            (memory_of (S.bytes storage.new) (S.keys storage.new)) (disks_of self.new)) }
-        ensures stopped { IfErr result
-            (StopsLoadingDisk (S.present storage.old) (memory_of (S.bytes storage.old) (S.keys storage.old))
-            (slice_get (disks_of self.old) index)) }
-        ensures keys { S.keys storage.new ≡ S.keys storage.old }
-        ensures rest { S.Keeps storage.old storage.new }
-    {
-        self.disks[index].load(storage)
-    }
-
     /// A system reset of the disks: the arms stay.
     pub fn reset(&mut self)
         ensures { disks_of self.new ≡ map reset_disk (disks_of self.old) }
@@ -78,6 +57,12 @@ impl Disks for Own {
     ghost use Rattle.cp_channels.specs.Own.{disks_of};
 
     ghost disks = { disks_of };
+
+    ghost KeepsOthers = { λ _ _. Unit {0} };
+
+    ghost others_same = { λ _. tt };
+
+    ghost others_on = { λ _ _ _ _ _. tt };
 
     fn disk_at(&self, device: u16) -> Option<usize> {
         self.disks
@@ -118,5 +103,9 @@ impl<S: Storage> Channels<S> for Own {
         index: usize,
     ) -> Result<Ending, ChannelError> {
         self.disks[index].run(storage, start)
+    }
+
+    fn load_disk(&mut self, storage: &mut S, index: usize) -> Result<Ending, ChannelError> {
+        self.disks[index].load(storage)
     }
 }

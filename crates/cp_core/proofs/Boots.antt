@@ -1,8 +1,9 @@
 -- The parts of a system at boot.
 use Rattle.std.proofs.Common.{◌≡◌, ℕ, ◌*◌, ◌<◌, ◌≤◌, List, [], ◌∷◌, ◌++◌, length, map, get_or, zero, suc, refl, sym, ◌∙◌, ap, arith, replicate, subst, Bool, false, Option, None}
-use Rattle.std.specs.Prelude.{reverse}
+use Rattle.std.specs.Prelude.{reverse, slice_get}
 use Rattle.std.specs.List.{range_with_len}
 use Rattle.std.proofs.lemmas.List.{length-replicate}
+use Rattle.std.proofs.lemmas.List.Elements.{All-nil}
 use Rattle.ckd_volume.specs.Volume.{VolumeFormat}
 use Rattle.cp_channels.specs.Disks.{DiskAt}
 use Rattle.cp_directory.specs.Users.{DirectoryUser}
@@ -14,10 +15,13 @@ use Rattle.cp_devices.specs.Devices.{DevicesValue, devices_new}
 use Rattle.cp_devices.specs.Equipped.{Equipped}
 use Rattle.cp_core.specs.UserMachines.{Fits, IsUnused, UserParts, user_with}
 use Rattle.cp_core.specs.Boot.{AreNewUsers, IsNewUser, free_supply, places_in}
-use Rattle.cp_core.specs.System.{SystemView, deliveries_of, users_of}
-use Rattle.cp_directory.specs.declared.minidisk.Minidisk.{Minidisk}
-use Rattle.cp_core.specs.Volumes.{AreDisks, IsDiskOn, volume_named}
-use Rattle.cp_core.specs.Whole.{AreNew, IsNew, IsWhole, no_user}
+use Rattle.cp_core.specs.System.{SystemView, deliveries_of, stands_among, users_of}
+use Rattle.cp_volumes.specs.Shared.{AllLeaveBe, IsUsers, SharedMinidisk, Stand, disks_on, stands_of}
+use Rattle.cp_seating.specs.Seating.{AreDisks, AreLawful, IsLawful, minidisks_at, seats_of, user_is_past, user_lacks}
+use Rattle.cp_seating.proofs.Seated.{are_disks, is_users, users_apart}
+use Rattle.cp_directory.specs.Users.{AreApart}
+use Rattle.std.specs.List.{find, position}
+use Rattle.cp_core.specs.Whole.{AreNew, AreSeated, IsNew, IsWhole, no_user}
 use Rattle.cp_core.specs.declared.delivery.Delivery.{Delivery}
 
 -- one seat more
@@ -31,7 +35,7 @@ new_more volumes (s ∷ ss) (u ∷ us) seat user h n = (h.0, new_more volumes ss
 abbrev pub blank : List DirectoryUser → List (List ℕ)
 blank users = map (λ pages. replicate (pages * 4096) 0) (map (λ (user : DirectoryUser). user.pages) users)
 
-pub new_users : (volumes : List VolumeFormat) (seats : List UserParts) (users : List DirectoryUser) → AreNew volumes seats users → AreNewUsers volumes users (users_of seats (blank users))
+pub new_users : (volumes : List VolumeFormat) (seats : List UserParts) (users : List DirectoryUser) → AreNew volumes seats users → AreNewUsers volumes users (users_of seats volumes (blank users))
 new_users volumes [] [] h = tt
 new_users volumes [] (u ∷ us) h = absurd h
 new_users volumes (s ∷ ss) [] h = absurd h
@@ -86,7 +90,7 @@ as_seen : (m m' : Machine) (d d' : DevicesValue) (disks : List DiskAt) → m ≡
 as_seen m m' d d' disks a b = rw (a, b) refl
 
 -- a user's machine at boot, by what it is with any storage of zeros
-pub off_new : (volumes : List VolumeFormat) (u : UserParts) (user : DirectoryUser) → u.keys ≡ replicate (user.pages * 2) 0 → AreDisks volumes user.minidisks u.disks → IsUnused u.parts (devices_new (places_in user.devices)) u.disks → u.devices ≡ devices_new (places_in user.devices) → IsNewUser volumes user (user_with u (replicate (user.pages * 4096) 0))
+pub off_new : (volumes : List VolumeFormat) (u : UserParts) (user : DirectoryUser) → u.keys ≡ replicate (user.pages * 2) 0 → AreDisks volumes user.minidisks (disks_on volumes u.minidisks) → IsUnused u.parts (devices_new (places_in user.devices)) (disks_on volumes u.minidisks) → u.devices ≡ devices_new (places_in user.devices) → IsNewUser volumes user (user_with u volumes (replicate (user.pages * 4096) 0))
 off_new volumes u user k disks h d =
     let bytes : List ℕ = replicate (user.pages * 4096) 0 in
     let keys : List ℕ = replicate (user.pages * 2) 0 in
@@ -94,16 +98,44 @@ off_new volumes u user k disks h d =
     let e : replicate (length keys) 0 ≡ u.keys = ap (λ (n : ℕ). replicate n 0) (length-replicate {A = ℕ} (user.pages * 2) 0) ∙ sym k in
     let m : machine_of u.parts bytes u.keys ≡ unused bytes keys h.subchannels =
     sym (ap (λ (xs : List ℕ). machine_of u.parts xs (replicate (length keys) 0)) b ∙ ap (λ (xs : List ℕ). machine_of u.parts bytes xs) e) ∙ h.off bytes keys in
-    record { subchannels = h.subchannels; disks = disks; attached = h.attached; new = as_seen _ _ _ _ u.disks m d }
+    record { subchannels = h.subchannels; disks = disks; attached = h.attached; new = as_seen _ _ _ _ (disks_on volumes u.minidisks) m d }
 
 -- the system at boot, by its parts
-pub boot_seen : (us : List Equipped) (directory : List DirectoryUser) (volumes : List VolumeFormat) (supply supply' : FrameSupply) (ds ds' : List (List Delivery)) → supply ≡ supply' → ds ≡ ds'
-    → (let s : SystemView = record { users = us; directory = directory; supply = supply; files = []; deliveries = ds; volumes = volumes; is_spent = false } in s ≡ record { users = us; directory = directory; supply = supply'; files = []; deliveries = ds'; volumes = volumes; is_spent = false })
-boot_seen us directory volumes supply supply' ds ds' b c = rw (b, c) refl
+pub boot_seen : (us : List Equipped) (directory : List DirectoryUser) (volumes : List VolumeFormat) (ss : List (List Stand)) (supply supply' : FrameSupply) (ds ds' : List (List Delivery)) → supply ≡ supply' → ds ≡ ds'
+    → (let s : SystemView = record { users = us; directory = directory; supply = supply; files = []; deliveries = ds; volumes = volumes; stands = ss; is_spent = false } in s ≡ record { users = us; directory = directory; supply = supply'; files = []; deliveries = ds'; volumes = volumes; stands = ss; is_spent = false })
+boot_seen us directory volumes ss supply supply' ds ds' b c = rw (b, c) refl
 
--- one disk more
-pub disks_more : (volumes : List VolumeFormat) (ms : List Minidisk) (ds : List DiskAt) (m : Minidisk) (d : DiskAt) → AreDisks volumes ms ds → IsDiskOn (volume_named volumes m.extent.volser) m d → AreDisks volumes (ms ++ m ∷ []) (ds ++ d ∷ [])
-disks_more volumes [] [] m d h n = (n, tt)
-disks_more volumes [] (e ∷ ds) m d h n = absurd h
-disks_more volumes (k ∷ ms) [] m d h n = absurd h
-disks_more volumes (k ∷ ms) (e ∷ ds) m d h n = (h.0, disks_more volumes ms ds m d h.1 n)
+-- ---- where minidisks stand
+
+pub disk_addresses : (volumes : List VolumeFormat) (ds : List SharedMinidisk) → map (λ (d : SharedMinidisk). d.address) ds ≡ map (λ (disk : DiskAt). disk.address) (disks_on volumes ds)
+disk_addresses volumes [] = refl
+disk_addresses volumes (d ∷ ds) = ap (λ (xs : List ℕ). d.address ∷ xs) (disk_addresses volumes ds)
+
+pub seat_new : (volumes : List VolumeFormat) (seats : List UserParts) (users : List DirectoryUser) → AreNew volumes seats users → (k : ℕ) → (get_or seats k no_user).minidisks ≡ seats_of volumes (minidisks_at users k)
+seat_new volumes [] [] h k = refl
+seat_new volumes [] (u ∷ us) h k = absurd h
+seat_new volumes (s ∷ ss) [] h k = absurd h
+seat_new volumes (s ∷ ss) (u ∷ us) h zero = h.0.seated
+seat_new volumes (s ∷ ss) (u ∷ us) h (suc k) = seat_new volumes ss us h.1 k
+
+pub stands_new : (volumes : List VolumeFormat) (seats : List UserParts) (users : List DirectoryUser) → AreNew volumes seats users → (k : ℕ) → get_or (stands_among seats) k [] ≡ stands_of (seats_of volumes (minidisks_at users k))
+stands_new volumes [] [] h k = refl
+stands_new volumes [] (u ∷ us) h k = absurd h
+stands_new volumes (s ∷ ss) [] h k = absurd h
+stands_new volumes (s ∷ ss) (u ∷ us) h zero = ap (λ (m : List SharedMinidisk). stands_of m) h.0.seated
+stands_new volumes (s ∷ ss) (u ∷ us) h (suc k) = stands_new volumes ss us h.1 k
+
+-- those of one user more are lawful
+pub lawful_on : (users : List DirectoryUser) (user : DirectoryUser) → ((k : ℕ) → AreLawful (minidisks_at users k)) → AreLawful user.minidisks → (k : ℕ) → AreLawful (minidisks_at (users ++ user ∷ []) k)
+lawful_on [] user h is zero = is
+lawful_on [] user h is (suc k) = All-nil IsLawful
+lawful_on (u ∷ us) user h is zero = h zero
+lawful_on (u ∷ us) user h is (suc k) = lawful_on us user (λ j. h (suc j)) is k
+
+pub seated_new : (volumes : List VolumeFormat) (seats : List UserParts) (users : List DirectoryUser) → AreNew volumes seats users → AreApart users → ((j : ℕ) → AreLawful (minidisks_at users j)) → find (user_lacks volumes) users ≡ None → position (user_is_past volumes) users ≡ None → AreSeated seats volumes
+seated_new volumes seats users h apart lawful there inside =
+    let same : (k : ℕ) → stands_of (get_or seats k no_user).minidisks ≡ stands_of (seats_of volumes (minidisks_at users k)) = λ k. ap (λ (m : List SharedMinidisk). stands_of m) (seat_new volumes seats users h k) in
+    record {
+      seated = λ k. (subst (λ (s : List Stand). IsUsers volumes s) (sym (same k)) (is_users volumes users k apart lawful there inside));
+      apart = λ j k i t differs at. (subst (λ (s : List Stand). AllLeaveBe s t) (sym (same j)) (users_apart volumes users apart lawful there j k i t differs (ap (λ (s : List Stand). slice_get s i) (sym (same k)) ∙ at)));
+    }

@@ -57,29 +57,30 @@ whole_written : (seats : List UserParts) (pool : Pool) (users : List DirectoryUs
 whole_written seats pool users frame written whole = whole_page seats pool users (get_or pool.supply.owners frame None) written whole
 
 -- and between events nothing of the frames but bytes has changed
-pub system_written : (seats : List UserParts) (pool : Pool) (users : List DirectoryUser) (frame : ℕ) (written : List ℕ) → IsSystem seats pool users → IsSystem seats (pool_frame pool frame written) users
-system_written seats pool users frame written system = record {
+pub system_written : (seats : List UserParts) (volumes : List VolumeFormat) (pool : Pool) (users : List DirectoryUser) (frame : ℕ) (written : List ℕ) → IsSystem seats volumes pool users → IsSystem seats volumes (pool_frame pool frame written) users
+system_written seats volumes pool users frame written system = record {
   whole = whole_written seats pool users frame written system.whole;
+  disks = system.disks;
   between = between_page pool (get_or pool.supply.owners frame None) written system.between;
 }
 
-set_written : (seats : List UserParts) (storages : List (List ℕ)) (user page : ℕ) (written : List ℕ)
-    → users_of seats (set storages user (put_page (get_or storages user []) page written)) ≡ set (users_of seats storages) user (with_page (get_or (users_of seats storages) user nobody) page written)
-set_written [] storages user page written = refl
-set_written (seat ∷ seats) [] zero page written = refl
-set_written (seat ∷ seats) [] (suc user) page written = refl
-set_written (seat ∷ seats) (bytes ∷ storages) zero page written = refl
-set_written (seat ∷ seats) (bytes ∷ storages) (suc user) page written = ap (λ (ms : List Equipped). user_with seat bytes ∷ ms) (set_written seats storages user page written)
+set_written : (seats : List UserParts) (volumes : List VolumeFormat) (storages : List (List ℕ)) (user page : ℕ) (written : List ℕ)
+    → users_of seats volumes (set storages user (put_page (get_or storages user []) page written)) ≡ set (users_of seats volumes storages) user (with_page (get_or (users_of seats volumes storages) user nobody) page written)
+set_written [] volumes storages user page written = refl
+set_written (seat ∷ seats) volumes [] zero page written = refl
+set_written (seat ∷ seats) volumes [] (suc user) page written = refl
+set_written (seat ∷ seats) volumes (bytes ∷ storages) zero page written = refl
+set_written (seat ∷ seats) volumes (bytes ∷ storages) (suc user) page written = ap (λ (ms : List Equipped). user_with seat volumes bytes ∷ ms) (set_written seats volumes storages user page written)
 
 -- a system as it is seen, by its frames
 abbrev pub seen_with : List UserParts → List DirectoryUser → List FileNote → List VolumeFormat → Bool → Pool → SystemView
-seen_with seats directory files volumes is_spent pool = seen seats pool.storages directory pool.supply files volumes is_spent
+seen_with seats directory files volumes is_spent pool = seen seats volumes pool.storages directory pool.supply files is_spent
 
 seen_page : (seats : List UserParts) (directory : List DirectoryUser) (files : List FileNote) (volumes : List VolumeFormat) (is_spent : Bool) (pool : Pool) (o : Option UserPage) (written : List ℕ)
     → seen_with seats directory files volumes is_spent (pool_page pool o written) ≡ written_page (seen_with seats directory files volumes is_spent pool) o written
 seen_page seats directory files volumes is_spent pool None written = refl
 seen_page seats directory files volumes is_spent pool (Some there) written =
-    ap (λ (us : List Equipped). record (seen_with seats directory files volumes is_spent pool) { users = us }) (set_written seats pool.storages there.user there.page.0 written)
+    ap (λ (us : List Equipped). record (seen_with seats directory files volumes is_spent pool) { users = us }) (set_written seats volumes pool.storages there.user there.page.0 written)
 
 -- what is written to a frame of the pool is written to that frame of the system
 pub seen_written : (seats : List UserParts) (directory : List DirectoryUser) (files : List FileNote) (volumes : List VolumeFormat) (is_spent : Bool) (pool : Pool) (frame : ℕ) (written : List ℕ)

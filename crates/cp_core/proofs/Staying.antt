@@ -52,22 +52,6 @@ pub some_there : (o : Option FrameNo) (f : Option ℕ) → number_of o ≡ f →
 some_there None f e t = cc
 some_there (Some frame) f e t = ap is_some (sym e)
 
--- ---- a disk
-
-stops_never : (disk : Option DiskAt) (present : ℕ → Bool) (start : Caw) (m : Memory) (error : ChannelError) (Q : ChannelError → Type 0) → IsEnough m present start.address → StopsDisk present start m disk error → Q error
-stops_never None present start m error Q all s = absurd s
-stops_never (Some disk) present start m errors.Memory Q all s = absurd s
-stops_never (Some disk) present start m (errors.Absent page) Q all s =
-    absurd (no_memory page (never_away (limited disk_machine start) nothing_needed present (start_spot start.address) m disk.unit (errors.Absent page) all s))
-  where
-    no_memory : (page : Page) → errors.Absent page ≡ errors.Memory → ⊥
-    no_memory page e = cc
-
--- the program of a disk over a storage that has its pages comes to its end
-pub never_stops : {A : Type 0} (r : Result A ChannelError) (disk : Option DiskAt) (present : ℕ → Bool) (start : Caw) (m : Memory) (Q : ChannelError → Type 0) → IsEnough m present start.address → IfErr r (StopsDisk present start m disk) → IfErr r Q
-never_stops (Ok ending) disk present start m Q all h = tt
-never_stops (Err error) disk present start m Q all h = stops_never disk present start m error Q all h
-
 -- ---- all pages are enough
 
 pub enough_where : (o : Option Page) (m : Memory) (present : ℕ → Bool) (start : ℕ) → IfNone o (IsResident (length m.bytes) present) → IfNone o (IsEnough m present start)

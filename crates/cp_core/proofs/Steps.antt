@@ -56,12 +56,12 @@ use Rattle.cp_core.proofs.Switches.{switch_wants_none}
 
 -- a work on one user's machine changes him and the frames alone
 abbrev pub IsLent : SystemView → ℕ → SystemView → Type 0
-IsLent old user new = new ≡ record old { users = set old.users user (user_at new user); supply = new.supply }
+IsLent old user new = new ≡ record old { users = set old.users user (user_at new user); supply = new.supply; volumes = new.volumes }
 
 -- where nothing happened to him, nothing but the frames has changed
-unchanged : (old new : SystemView) (user : ℕ) → IsLent old user new → user_at new user ≡ user_at old user → new ≡ record old { supply = new.supply }
+unchanged : (old new : SystemView) (user : ℕ) → IsLent old user new → user_at new user ≡ user_at old user → new ≡ record old { supply = new.supply; volumes = new.volumes }
 unchanged old new user lent same =
-    lent ∙ ap (λ (us : List Equipped). record old { users = us; supply = new.supply }) (ap (set old.users user) same ∙ sym (set_own old.users user nobody))
+    lent ∙ ap (λ (us : List Equipped). record old { users = us; supply = new.supply; volumes = new.volumes }) (ap (set old.users user) same ∙ sym (set_own old.users user nobody))
 
 same_lines : (a b : Equipped) → a.machine.output ≡ b.machine.output → 0 ≡ length a.machine.output - length b.machine.output
 same_lines a b same = omega (arith, ap (λ (lines : List (List ℕ)). length lines) same)

@@ -14,8 +14,9 @@ use Rattle.cp_devices.specs.declared.attaching.AttachError.TheVariants as attach
 use Rattle.cp_core.specs.declared.events.BootError.{BootError}
 use Rattle.cp_core.specs.declared.events.BootError.TheVariants as errors
 use Rattle.ckd_volume.specs.Volume.{VolumeFormat}
-use Rattle.cp_core.specs.System.{SystemView}
-use Rattle.cp_core.specs.Volumes.{AreDisks}
+use Rattle.cp_volumes.specs.Shared.{stands_of}
+use Rattle.cp_core.specs.System.{SystemView, stands_at}
+use Rattle.cp_seating.specs.Seating.{AreDisks, minidisks_at, seats_of}
 
 -- ---- a user
 
@@ -52,9 +53,10 @@ free_supply frames slots = record {
   page_ins = 0;
 }
 
--- no file has a number, and nothing was delivered
+-- each user's minidisks stand where the directory says, no file has a number, and nothing was delivered
 pub record IsBooted (directory : List DirectoryUser) (volumes : List VolumeFormat) (frames slots : ℕ) (s : SystemView) : Type 0 where
   pub users : AreNewUsers volumes directory s.users
+  pub stands : (k : ℕ) → stands_at s k ≡ stands_of (seats_of volumes (minidisks_at directory k))
   pub rest : s ≡ record {
     users = s.users;
     directory = directory;
@@ -62,6 +64,7 @@ pub record IsBooted (directory : List DirectoryUser) (volumes : List VolumeForma
     files = [];
     deliveries = map (λ (user : DirectoryUser). []) directory;
     volumes = volumes;
+    stands = s.stands;
     is_spent = false;
   }
 

@@ -1,7 +1,6 @@
 pub mod Events
 pub mod Files
 pub mod UserMachines
-pub mod Volumes
 pub mod System
 pub mod Stated
 pub mod Among

@@ -8,13 +8,14 @@ use Rattle.cp_panel.specs.Machine.{Machine, unused}
 use Rattle.cp_devices.specs.Devices.{devices_new, no_places}
 use Rattle.cp_devices.specs.Equipped.{Equipped}
 use Rattle.cp_devices.specs.World.{World, is_logged_on}
+use Rattle.cp_volumes.specs.Shared.{Stand, stands_of}
 use Rattle.cp_core.specs.UserMachines.{UserParts, user_with}
 use Rattle.cp_core.specs.declared.delivery.Delivery.{Delivery}
 use Rattle.cp_core.specs.declared.files.FileNote.{FileNote}
 
 -- each user's machine with its devices, the users of the directory, where pages stand and how many have come, what each file
--- was when it got its number and whose it is, what was delivered to each user, the volumes as they were at boot, and whether want
--- of memory has ended the system
+-- was when it got its number and whose it is, what was delivered to each user, the volumes as they are now, where each user's
+-- minidisks stand on them, and whether want of memory has ended the system
 pub record SystemView : Type 0 where
   pub users : List Equipped
   pub directory : List DirectoryUser
@@ -22,16 +23,20 @@ pub record SystemView : Type 0 where
   pub files : List FileNote
   pub deliveries : List (List Delivery)
   pub volumes : List VolumeFormat
+  pub stands : List (List Stand)
   pub is_spent : Bool
 
--- the users that these are with these storages
-abbrev pub users_of : List UserParts → List (List ℕ) → List Equipped
-users_of [] storages = []
-users_of (u ∷ us) [] = []
-users_of (u ∷ us) (bytes ∷ storages) = user_with u bytes ∷ users_of us storages
+-- the users that these are with these volumes and storages
+abbrev pub users_of : List UserParts → List VolumeFormat → List (List ℕ) → List Equipped
+users_of [] volumes storages = []
+users_of (u ∷ us) volumes [] = []
+users_of (u ∷ us) volumes (bytes ∷ storages) = user_with u volumes bytes ∷ users_of us volumes storages
 
 abbrev pub deliveries_of : List UserParts → List (List Delivery)
 deliveries_of users = map (λ (u : UserParts). u.deliveries) users
+
+abbrev pub stands_among : List UserParts → List (List Stand)
+stands_among users = map (λ (u : UserParts). stands_of u.minidisks) users
 
 -- the machine of nobody
 abbrev pub nobody : Equipped
@@ -48,6 +53,10 @@ machine_at s user = (user_at s user).machine
 -- what was delivered to a user
 abbrev pub deliveries_at : SystemView → ℕ → List Delivery
 deliveries_at s user = slice_index_or s.deliveries user []
+
+-- where his minidisks stand
+abbrev pub stands_at : SystemView → ℕ → List Stand
+stands_at s user = slice_index_or s.stands user []
 
 -- ---- what is known beside the machine of a user
 

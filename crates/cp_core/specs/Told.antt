@@ -33,11 +33,12 @@ use Rattle.cp_core.specs.declared.files.FileNote.{FileNote}
 
 -- ---- out of frames
 
--- nothing is said, and nothing has happened but that pages came: the event needs one for which there is no room
+-- nothing is said, and nothing has happened but that pages came: the event needs one for which there is no room. (The volumes are as
+-- they were: each minidisk of this user by `users`, and the rest as the event is confined.)
 pub record IsOut (needs : ℕ → Type 0) (size : ℕ) (old : SystemView) (reply : Reply) (new : SystemView) (is_short : ℕ → Type 0) : Type 0 where
   pub silent : reply.said ≡ Silent
   pub none : reply.delivered ≡ None
-  pub same : new ≡ record old { supply = new.supply }
+  pub same : new ≡ record old { supply = new.supply; volumes = new.volumes }
   pub lacking : IsLacking needs size is_short
 
 -- ---- a run and a tick

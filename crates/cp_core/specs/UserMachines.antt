@@ -4,20 +4,23 @@ use Rattle.s370_subchannels.specs.declared.subchannel.Subchannel.{Subchannel}
 use Rattle.cp_panel.specs.Machine.{Parts, machine_of, unused}
 use Rattle.cp_devices.specs.Devices.{AreAttached, DevicesValue}
 use Rattle.cp_channels.specs.Disks.{DiskAt}
+use Rattle.ckd_volume.specs.Volume.{VolumeFormat}
+use Rattle.cp_volumes.specs.Shared.{SharedMinidisk, disks_on}
 use Rattle.cp_devices.specs.Equipped.{Equipped, equipped}
 use Rattle.cp_core.specs.declared.delivery.Delivery.{Delivery}
 
--- a machine with its devices but for the bytes of its storage, and what was delivered to its user
+-- a machine with its devices but for the bytes of its storage and the cylinders of its minidisks, and what was delivered to its
+-- user
 pub record UserParts : Type 0 where
   pub parts : Parts
   pub devices : DevicesValue
-  pub disks : List DiskAt
+  pub minidisks : List SharedMinidisk
   pub keys : List ℕ
   pub deliveries : List Delivery
 
--- the machine with its devices that it is with this storage
-abbrev pub user_with : UserParts → List ℕ → Equipped
-user_with u bytes = equipped u.parts u.devices u.disks bytes u.keys
+-- the machine with its devices that it is with these volumes and this storage
+abbrev pub user_with : UserParts → List VolumeFormat → List ℕ → Equipped
+user_with u volumes bytes = equipped u.parts u.devices (disks_on volumes u.minidisks) bytes u.keys
 
 -- a storage that such a machine can have: of 8K at least, with a key for each block
 pub record Fits (u : UserParts) (bytes : List ℕ) : Type 0 where

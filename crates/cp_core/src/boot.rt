@@ -2,17 +2,18 @@
 ghost use Rattle.std.specs.Prelude.{◌≡◌, ◌<◌, ◌≤◌, ◌↔◌, ℕ, All, Err, IfOk, IfSome, IsOk, IsSome, List, None, Some, true, length, map};
 ghost use Rattle.std.specs.List.{find, position};
 ghost use Rattle.cp_core.specs.Boot.{IsBooted, boot_error, places_in};
-ghost use Rattle.cp_core.specs.Volumes.{IsFirstPast, first_lacking, has_twins, user_is_past, user_lacks};
+ghost use Rattle.cp_seating.specs.Seating.{AreLawful, IsFirstPast, first_lacking, has_twins, minidisks_at, user_is_past, user_lacks};
 ghost use Rattle.cp_core.specs.Whole.{AreNew};
 
 use crate::events::BootError;
 use crate::system::System;
 use crate::user_machine::UserMachine;
-use crate::volumes::{disks_of, has_twins, lacking_volume, past_end};
 use ckd_volume::Volume;
 use cp_devices::{AttachError, Places};
 use cp_directory::{Directory, User, UserDevices};
 use cp_frames::Frames;
+use cp_seating::{has_twins, lacking_volume, past_end, seats_of};
+use cp_volumes::Volumes;
 use std::alloc::{AllocError, Global};
 use std::marker::Model;
 
@@ -73,7 +74,7 @@ impl Sizes {
 
 impl System {
     /// The system that a directory states, on these volumes, and on so many frames and slots: every user is off, and
-    /// storage is zero; each minidisk has the cylinders of its extent.
+    /// storage is zero; each minidisk stands on the cylinders of its extent.
     pub fn boot(
         alloc: Global,
         directory: Directory,
@@ -110,6 +111,10 @@ impl System {
         };
         let pages = match pages_of(alloc, directory.users()) {
             Ok(pages) => pages,
+            Err(_) => return Err(BootError::Memory),
+        };
+        let volumes = match Volumes::new(alloc, volumes) {
+            Ok(volumes) => volumes,
             Err(_) => return Err(BootError::Memory),
         };
         match Frames::new(alloc, sizes.frames(), sizes.slots(), pages) {
@@ -157,15 +162,16 @@ fn machines_of(
 ) -> Result<Vec<UserMachine>, AttachError>
     requires there { find (user_lacks volumes.now) users.now ≡ None }
     requires inside { position (user_is_past volumes.now) users.now ≡ None }
-    ensures { IfOk result (λ machines. AreNew volumes.now machines.items users.now) }
+    ensures new { IfOk result (λ machines. AreNew volumes.now machines.items users.now) }
+    ensures lawful { IfOk result (λ machines. (k : ℕ) → AreLawful (minidisks_at users.now k)) }
 {
     let mut machines = Vec::new(alloc);
     for user in users {
-        let Ok(disks) = disks_of(alloc, volumes, user.minidisks()) else {
+        let Ok(minidisks) = seats_of(alloc, volumes, user.minidisks()) else {
             return Err(AttachError::Memory);
         };
         let places = places_in(user.devices());
-        let machine = UserMachine::new(alloc, user.storage().pages(), places, disks)?;
+        let machine = UserMachine::new(alloc, user.storage().pages(), places, minidisks)?;
         match machines.push(machine) {
             Ok(()) => {}
             Err(_) => return Err(AttachError::Memory),

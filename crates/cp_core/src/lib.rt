@@ -29,13 +29,13 @@ mod serving;
 mod system;
 mod user_machine;
 mod views;
-mod volumes;
 mod work;
 mod world;
 
 pub use boot::Sizes;
 pub use cp_frames::{FRAME_SIZE, FrameNo};
 pub use delivery::{Delivered, Delivery};
+pub use cp_volumes::SeenDisk;
 pub use events::{BootError, CpError, Ended, Event, Reply};
 pub use files::FileNote;
 pub use system::{System, each_is_bare};

@@ -8,7 +8,8 @@ ghost use Rattle.cp_core.specs.Files.{closed_since, next_file};
 ghost use Rattle.cp_core.specs.Histories.{IsStep};
 ghost use Rattle.cp_core.specs.Memory.{IsCutShort};
 ghost use Rattle.cp_core.specs.Parcels.{contents, note_of};
-ghost use Rattle.cp_core.specs.System.{SystemView, logged_on_of, user_at, world_of};
+ghost use Rattle.cp_volumes.specs.Shared.{IsConfined};
+ghost use Rattle.cp_core.specs.System.{SystemView, logged_on_of, stands_at, user_at, world_of};
 ghost use Rattle.cp_core.specs.Told.{delivered_by, delivery_to, punched, said_to_line, with_delivered};
 ghost use Rattle.cp_core.specs.Work.{HasTyped};
 
@@ -63,6 +64,8 @@ impl System {
             (λ reply. IsStep self.old
             (record { event = happening.Line user typed.entry; reply = reply; seen = self.new })) }
         ensures cut { OnErr result (IsCutShort self.old (happening.Line user typed.entry) self.new) }
+        ensures confined { IsConfined (stands_at self.old user) self.old.volumes self.new.volumes }
+        ensures stands { self.new.stands ≡ self.old.stands }
         ensures directory { self.new.directory ≡ self.old.directory }
         ensures spent { self.new.is_spent ≡ self.old.is_spent }
     {
@@ -112,7 +115,9 @@ impl System {
         ensures rest { self.new ≡ record self.old {
           users = slice_set self.old.users user (user_at self.new user);
           supply = self.new.supply;
+          volumes = self.new.volumes;
         } }
+        ensures confined { IsConfined (stands_at self.old user) self.old.volumes self.new.volumes }
         ensures between_before { IsBetweenUnits self.old.supply }
         ensures between { IsBetweenUnits self.new.supply }
     {
@@ -147,6 +152,8 @@ impl System {
         ensures err { OnErr result (self.new.users ≡ self.old.users) }
         ensures memory { OnErr result (NeedsMemory closed.punched closed.printed told.now (user_at self.old user)) }
         ensures supply { self.new.supply ≡ self.old.supply }
+        ensures volumes { self.new.volumes ≡ self.old.volumes }
+        ensures stands { self.new.stands ≡ self.old.stands }
         ensures directory { self.new.directory ≡ self.old.directory }
         ensures spent { self.new.is_spent ≡ self.old.is_spent }
     {
@@ -244,6 +251,8 @@ impl System {
             (λ reply. IsStep self.old
             (record { event = happening.Deck user cards.entry; reply = reply; seen = self.new })) }
         ensures cut { OnErr result (IsCutShort self.old (happening.Deck user cards.entry) self.new) }
+        ensures volumes { self.new.volumes ≡ self.old.volumes }
+        ensures stands { self.new.stands ≡ self.old.stands }
         ensures directory { self.new.directory ≡ self.old.directory }
         ensures spent { self.new.is_spent ≡ self.old.is_spent }
     {

@@ -9,7 +9,7 @@ ghost use Rattle.cp_frames.specs.Paging.{IsRefused};
 ghost use Rattle.cp_dat.specs.Lent.{is_lent_page, lent_bytes, lent_keys, lent_pool, user_of};
 ghost use Rattle.cp_dat.specs.Supplied.{Supplied};
 ghost use Rattle.cp_devices.specs.Lines.{IsIpl, IsWholeLine, requested};
-ghost use Rattle.cp_core.specs.Resident.{IsResident, disks_on};
+ghost use Rattle.cp_core.specs.Resident.{IsResident, KeepsHung, disks_on};
 ghost use Rattle.cp_core.specs.Typed.{IsLineLent};
 ghost use Rattle.cp_core.specs.Wants.{LineMay, ProgramNeeds, is_ipl};
 
@@ -48,6 +48,7 @@ pub(crate) fn serve_supplied<S: Supply, C: Channels<S>>(
     ensures memory { result ≡ Err errors.Memory → IsSome (program_of device machine.old.subchannels) }
     ensures supply { (pages : List ℕ) × S.Brought storage.old pages storage.new × AllNeeded ProgramNeeds pages }
     ensures size { length (S.Storage.bytes storage.new) ≡ length (S.Storage.bytes storage.old) }
+    ensures others { C.Disks.KeepsOthers channels.old channels.new }
 {
     if machine.program(device).is_none() {
         return Ok(false);
@@ -97,6 +98,7 @@ pub(crate) fn type_supplied<W: World>(
         (lent_keys storage.old) in
         IsLineLent typed.now before storage.old storage.new result }
     ensures size { length (lent_bytes storage.new) ≡ length (lent_bytes storage.old) }
+    ensures others { KeepsHung channels.old channels.new }
 {
     match devices.line(alloc, machine, storage, channels, world, typed) {
         Ok(first) => match first.loads_from() {
@@ -132,6 +134,7 @@ fn load_supplied(
         (λ page. IsRefused (lent_pool storage.new).supply (user_of storage.new) page) }
     ensures supply { (pages : List ℕ) × Supplied storage.old pages storage.new × AllNeeded ProgramNeeds pages }
     ensures size { length (lent_bytes storage.new) ≡ length (lent_bytes storage.old) }
+    ensures others { KeepsHung channels.old channels.new }
 {
     match devices.kind_at(channels, device.get()) {
         Some(Kind::Reader) => {}
@@ -142,7 +145,7 @@ fn load_supplied(
         Ok(()) => {}
         Err(FramesOut) => return Err(LineError::FramesOut),
     }
-    match devices.ipl(machine, storage, &mut channels.own, device) {
+    match devices.ipl(machine, storage, channels, device) {
         Ok(told) => Ok(told),
         Err(LineError::Memory) => Err(LineError::Memory),
         // Every page of the storage is present.

@@ -1,5 +1,5 @@
 //! The system: its users, their machines with their devices, and the frames that they share.
-ghost use Rattle.std.specs.Prelude.{◌≡◌, ◌<◌, ◌≤◌, ◌↔◌, ℕ, [], ◌∷◌, ◌++◌, Err, true, false, IsOk, IfOk, OnErr, OnOk, length, slice_get, slice_set};
+ghost use Rattle.std.specs.Prelude.{◌≡◌, ◌<◌, ◌≤◌, ◌↔◌, ℕ, [], ◌∷◌, ◌++◌, Err, Some, true, false, IfSome, IsOk, IfOk, OnErr, OnOk, length, slice_get, slice_set};
 ghost use Rattle.s370_channel.specs.Reading.{as_reached};
 ghost use Rattle.cp_dat.specs.Supplied.{IsBetweenUnits};
 ghost use Rattle.cp_devices.specs.Life.{Leaves};
@@ -12,14 +12,14 @@ ghost use Rattle.cp_core.specs.Memory.{IsCutShort, MayTakeMemory, is_cut_short};
 ghost use Rattle.cp_core.specs.Parcels.{contents, note_of};
 ghost use Rattle.cp_core.specs.Stated.{LacksDevice, states_device};
 ghost use Rattle.cp_core.specs.Supply.{IsSupplied, IsSuppliedInPart};
-ghost use Rattle.cp_core.specs.System.{SystemView, deliveries_at, machine_at, user_at};
+ghost use Rattle.cp_volumes.specs.Shared.{IsConfined};
+ghost use Rattle.cp_core.specs.System.{SystemView, deliveries_at, machine_at, stands_at, user_at};
 ghost use Rattle.cp_core.specs.Told.{IsTold};
 
 use crate::delivery::Parcel;
 use crate::events::{CpError, Ended, Event, Reply};
 use crate::files::FileNote;
 use crate::user_machine::UserMachine;
-use crate::volumes::put_back_disks;
 use crate::work::{Service, Tick, Units, Work};
 use ckd_volume::Volume;
 use cp_devices::{Devices, FileKind, Told};
@@ -27,6 +27,7 @@ use cp_directory::Directory;
 use cp_frames::Frames;
 use cp_panel::{LineError, notice_of};
 use cp_users::UserNo;
+use cp_volumes::Volumes;
 use s370_num::DevAddr;
 use std::alloc::{AllocError, Global};
 use std::marker::Model;
@@ -39,27 +40,28 @@ pub struct System {
     pub(crate) users: Vec<UserMachine>,
     pub(crate) frames: Frames,
     pub(crate) files: Vec<FileNote>,
-    pub(crate) volumes: Vec<Volume>,
+    pub(crate) volumes: Volumes,
     pub(crate) is_spent: bool,
 }
 
 impl Model for System {
-    ghost use Rattle.cp_core.specs.System.{SystemView, deliveries_of, users_of};
+    ghost use Rattle.cp_core.specs.System.{SystemView, deliveries_of, stands_among, users_of};
     ghost use Rattle.cp_core.specs.Whole.{IsSystem};
 
     ghost Value = { SystemView };
 
     ghost view = { λ s. record {
-      users = users_of s.users.items s.frames.storages;
+      users = users_of s.users.items s.volumes s.frames.storages;
       directory = s.directory;
       supply = s.frames.supply;
       files = s.files.items;
       deliveries = deliveries_of s.users.items;
-      volumes = s.volumes.items;
+      volumes = s.volumes;
+      stands = stands_among s.users.items;
       is_spent = s.is_spent;
     } };
 
-    ghost invariant = { λ s. IsSystem s.users.items s.frames s.directory };
+    ghost invariant = { λ s. IsSystem s.users.items s.volumes s.frames s.directory };
 }
 
 impl System {
@@ -111,19 +113,18 @@ impl System {
         &self.files
     }
 
-    /// The volumes with which the system was booted, in their order, each with what users have written to their minidisks
-    /// on it. It takes no memory.
-    pub fn into_volumes(self) -> Vec<Volume> {
-        let System {
-            directory,
-            users,
-            mut volumes,
-            ..
-        } = self;
-        for (stated, user) in directory.users().iter().zip(users) {
-            put_back_disks(&mut volumes, stated.minidisks(), user.channels.into_disks());
-        }
-        volumes
+    /// How many volumes the system was booted with.
+    pub fn volumes(&self) -> usize
+        ensures { result ≡ length self.now.volumes }
+    {
+        self.volumes.count()
+    }
+
+    /// The volume of this index, in the order of the boot, as users have written to their minidisks on it.
+    pub fn volume(&self, index: usize) -> Option<&Volume>
+        ensures { IfSome result (λ volume. slice_get self.now.volumes index ≡ Some volume.now) }
+    {
+        self.volumes.volume(index)
     }
 
     /// The number of the next file.
@@ -210,13 +211,21 @@ impl System {
         ensures rest { self.new ≡ record self.old {
           users = slice_set self.old.users user (user_at self.new user);
           supply = self.new.supply;
+          volumes = self.new.volumes;
         } }
+        ensures confined { IsConfined (stands_at self.old user) self.old.volumes self.new.volumes }
         ensures between_before { IsBetweenUnits self.old.supply }
         ensures between { IsBetweenUnits self.new.supply }
     {
         let number = self.number_of(user);
         let machine = &mut self.users[user];
-        machine.lend(&mut self.frames, number, &self.directory, work)
+        machine.lend(
+            &mut self.frames,
+            &mut self.volumes,
+            number,
+            &self.directory,
+            work,
+        )
     }
 
     /// A parcel comes to a user. Where memory is refused, each user's machine stays.
@@ -256,6 +265,8 @@ impl System {
         ensures supplied_without_memory { result ≡ Err CpError.Memory → IsSuppliedInPart self.old event.entry self.new }
         ensures user { IsOk result → user_of event.entry < length self.old.users }
         ensures directory { self.new.directory ≡ self.old.directory }
+        ensures confined { IsConfined (stands_at self.old (user_of event.entry)) self.old.volumes self.new.volumes }
+        ensures stands { self.new.stands ≡ self.old.stands }
         ensures alive { IsOk result → self.new.is_spent ≡ false }
         ensures spent { (result ≡ Err CpError.Spent) ↔ (self.old.is_spent ≡ true) }
         ensures unchanged_if_spent { result ≡ Err CpError.Spent → self.new ≡ self.old }
@@ -292,6 +303,8 @@ impl System {
         ensures supplied_without_memory { result ≡ Err CpError.Memory → IsSuppliedInPart self.old event.entry self.new }
         ensures user { IsOk result → user_of event.entry < length self.old.users }
         ensures directory { self.new.directory ≡ self.old.directory }
+        ensures confined { IsConfined (stands_at self.old (user_of event.entry)) self.old.volumes self.new.volumes }
+        ensures stands { self.new.stands ≡ self.old.stands }
         ensures alive { IsOk result → self.new.is_spent ≡ false }
         ensures spent { (result ≡ Err CpError.Spent) ↔ (self.old.is_spent ≡ true) }
         ensures unchanged_if_spent { result ≡ Err CpError.Spent → self.new ≡ self.old }
@@ -346,6 +359,8 @@ impl System {
         requires { user < length self.old.users }
         ensures step { IsStep self.old (record { event = Event.Run user units; reply = result; seen = self.new }) }
         ensures directory { self.new.directory ≡ self.old.directory }
+        ensures confined { IsConfined (stands_at self.old user) self.old.volumes self.new.volumes }
+        ensures stands { self.new.stands ≡ self.old.stands }
         ensures spent { self.new.is_spent ≡ self.old.is_spent }
     {
         let before = self.printed_by(user);
@@ -363,6 +378,8 @@ impl System {
         requires { user < length self.old.users }
         ensures step { IsStep self.old (record { event = Event.Tick user; reply = result; seen = self.new }) }
         ensures directory { self.new.directory ≡ self.old.directory }
+        ensures confined { IsConfined (stands_at self.old user) self.old.volumes self.new.volumes }
+        ensures stands { self.new.stands ≡ self.old.stands }
         ensures spent { self.new.is_spent ≡ self.old.is_spent }
     {
         match self.lend(user, &Tick) {
@@ -379,10 +396,16 @@ impl System {
             (record { event = Event.Serve user device; reply = reply; seen = self.new })) }
         ensures cut { OnErr result (IsCutShort self.old (Event.Serve user device) self.new) }
         ensures directory { self.new.directory ≡ self.old.directory }
+        ensures confined { IsConfined (stands_at self.old user) self.old.volumes self.new.volumes }
+        ensures stands { self.new.stands ≡ self.old.stands }
         ensures spent { self.new.is_spent ≡ self.old.is_spent }
     {
         let before = self.printed_by(user);
-        match self.lend(user, &Service { device }) {
+        let service = Service {
+            alloc: self.alloc,
+            device,
+        };
+        match self.lend(user, &service) {
             Ok(done) => Ok(Reply {
                 ended: Ended::Served(done),
                 said: Told::Silent,

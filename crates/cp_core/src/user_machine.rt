@@ -1,5 +1,5 @@
 //! A user's machine with its devices, of which the storage stands in frames.
-ghost use Rattle.std.specs.Prelude.{◌≡◌, ◌<◌, ◌≤◌, ◌*◌, ◌++◌, ◌∷◌, [], ℕ, List, IfOk, OnErr, OnOk, length, replicate, slice_set};
+ghost use Rattle.std.specs.Prelude.{◌≡◌, ◌<◌, ◌≤◌, ◌*◌, ◌++◌, ◌∷◌, [], ℕ, List, IfOk, OnErr, OnOk, length, map, replicate, slice_set};
 ghost use Rattle.s370_channel.specs.Reading.{as_reached};
 ghost use Rattle.cp_frames.specs.Layout.{bytes_of};
 ghost use Rattle.cp_dat.specs.Supplied.{IsBetweenUnits};
@@ -7,13 +7,12 @@ ghost use Rattle.cp_devices.specs.Devices.{devices_new};
 ghost use Rattle.cp_devices.specs.Equipped.{equipped};
 ghost use Rattle.cp_devices.specs.Life.{Leaves};
 ghost use Rattle.cp_core.specs.Parcels.{contents, note_of};
-ghost use Rattle.cp_core.specs.Resident.{disks_on};
 ghost use Rattle.cp_core.specs.UserMachines.{Fits, IsUnused, user_with};
+ghost use Rattle.ckd_volume.specs.Volume.{VolumeFormat};
+ghost use Rattle.cp_volumes.specs.Shared.{IsUsers, KeepsNeighbours, disks_on, stands_of};
 
 use crate::delivery::{Delivery, Parcel};
-use crate::resident::Resident;
 use crate::work::Work;
-use cp_channels::AttachedDisk;
 use cp_console::responses::Response;
 use cp_dat::Dat;
 use cp_devices::{AttachError, Devices, Places};
@@ -21,22 +20,23 @@ use cp_directory::Directory;
 use cp_frames::Frames;
 use cp_panel::Machine;
 use cp_users::UserNo;
-use s370_num::StorageKey;
+use cp_volumes::{SharedDisk, Volumes};
+use s370_num::{DevAddr, StorageKey};
 use std::alloc::{AllocError, Global};
 use std::marker::Model;
 
-/// A user's machine with its devices but for the bytes of its storage, and what was delivered to him.
+/// A user's machine with its devices but for the bytes of its storage and the cylinders of its minidisks, and what was
+/// delivered to him.
 #[derive(Drop)]
 pub(crate) struct UserMachine {
     pub(crate) machine: Machine,
     pub(crate) devices: Devices,
-    pub(crate) channels: Resident,
+    pub(crate) minidisks: Vec<SharedDisk>,
     pub(crate) keys: Vec<StorageKey>,
     pub(crate) deliveries: Vec<Delivery>,
 }
 
 impl Model for UserMachine {
-    ghost use Rattle.cp_core.specs.Resident.{disks_on};
     ghost use Rattle.cp_core.specs.UserMachines.{UserParts};
 
     ghost Value = { UserParts };
@@ -44,36 +44,41 @@ impl Model for UserMachine {
     ghost view = { λ u. record {
       parts = u.machine;
       devices = u.devices;
-      disks = disks_on u.channels;
+      minidisks = u.minidisks.items;
       keys = u.keys.items;
       deliveries = u.deliveries.items;
     } };
 }
 
 impl UserMachine {
-    /// A machine that is off, with zero keys for this many pages of 4096 bytes, devices at these places, and these disks.
+    /// A machine that is off, with zero keys for this many pages of 4096 bytes, devices at these places, and these
+    /// minidisks.
     pub(crate) fn new(
         alloc: Global,
         pages: u32,
         places: Places,
-        disks: Vec<AttachedDisk>,
+        minidisks: Vec<SharedDisk>,
     ) -> Result<UserMachine, AttachError>
         requires { pages ≤ 1024 }
         ensures keys { IfOk result (λ user. user.keys ≡ replicate (pages * 2) 0) }
-        ensures parts { IfOk result (λ user. IsUnused user.parts (devices_new places) disks.items) }
+        ensures parts { (volumes : List VolumeFormat)
+            → IfOk result (λ user. IsUnused user.parts (devices_new places) (disks_on volumes minidisks.items)) }
         ensures devices { IfOk result (λ user. user.devices ≡ devices_new places) }
-        ensures disks { IfOk result (λ user. user.disks ≡ disks.items) }
+        ensures minidisks { IfOk result (λ user. user.minidisks ≡ minidisks.items) }
         ensures deliveries { IfOk result (λ user. user.deliveries ≡ []) }
     {
         let Ok(keys) = vec![in alloc; StorageKey::ZERO; pages as usize * 2] else {
             return Err(AttachError::Memory);
         };
         let devices = Devices::new(alloc, places);
-        match devices.subchannels(alloc, &disks) {
+        let Ok(addresses) = addresses_of(alloc, &minidisks) else {
+            return Err(AttachError::Memory);
+        };
+        match devices.subchannels_at(alloc, &addresses) {
             Ok(subchannels) => Ok(UserMachine {
                 machine: Machine::new(alloc, subchannels),
                 devices,
-                channels: Resident::new(alloc, disks),
+                minidisks,
                 keys,
                 deliveries: Vec::new(alloc),
             }),
@@ -86,24 +91,29 @@ impl UserMachine {
     pub(crate) fn lend<W: Work>(
         &mut self,
         frames: &mut Frames,
+        volumes: &mut Volumes,
         user: UserNo,
         directory: &Directory,
         work: &W,
     ) -> W::Answer
         requires fits { Fits self.old (bytes_of frames.old user) }
         requires between { IsBetweenUnits frames.old.supply }
-        ensures does { let before = user_with self.old (bytes_of frames.old user) in
-            let after = user_with self.new (bytes_of frames.new user) in
+        requires users { IsUsers volumes.old (stands_of self.old.minidisks) }
+        ensures does { let before = user_with self.old volumes.old (bytes_of frames.old user) in
+            let after = user_with self.new volumes.new (bytes_of frames.new user) in
             W.Does work.now directory.now user before frames.old.supply result after frames.new.supply }
         ensures others { frames.new.storages ≡ slice_set frames.old.storages user (bytes_of frames.new user) }
         ensures fits { Fits self.new (bytes_of frames.new user) }
         ensures between { IsBetweenUnits frames.new.supply }
         ensures deliveries { self.new.deliveries ≡ self.old.deliveries }
+        ensures neighbours { KeepsNeighbours (record { volumes = volumes.old; minidisks = self.old.minidisks })
+            (record { volumes = volumes.new; minidisks = self.new.minidisks }) }
     {
         lend_over(
             &mut self.machine,
             &mut self.devices,
-            &mut self.channels,
+            volumes,
+            &mut self.minidisks,
             frames,
             &mut self.keys,
             user,
@@ -114,9 +124,12 @@ impl UserMachine {
 
     /// A parcel comes to the user. Where memory is refused, his machine stays.
     pub(crate) fn receive(&mut self, parcel: Parcel) -> Result<(), AllocError>
-        ensures ok { (bytes : List ℕ)
-            → OnOk result (Leaves as_reached (contents parcel) (user_with self.old bytes) (user_with self.new bytes)) }
-        ensures err { (bytes : List ℕ) → OnErr result (user_with self.new bytes ≡ user_with self.old bytes) }
+        ensures ok { (volumes : List VolumeFormat) (bytes : List ℕ)
+            → OnOk result (Leaves as_reached (contents parcel) (user_with self.old volumes bytes)
+            (user_with self.new volumes bytes)) }
+        ensures err { (volumes : List VolumeFormat) (bytes : List ℕ)
+            → OnErr result (user_with self.new volumes bytes ≡ user_with self.old volumes bytes) }
+        ensures minidisks { self.new.minidisks ≡ self.old.minidisks }
         ensures noted { OnOk result (self.new.deliveries ≡ self.old.deliveries ++ note_of parcel ∷ []) }
         ensures keys { self.new.keys ≡ self.old.keys }
     {
@@ -132,12 +145,24 @@ impl UserMachine {
     }
 }
 
+/// The address of each of these minidisks.
+fn addresses_of(alloc: Global, minidisks: &[SharedDisk]) -> Result<Vec<DevAddr>, AllocError>
+    ensures { IfOk result (λ made. made.items ≡ map (λ disk. disk.address) minidisks.now) }
+{
+    let mut made = Vec::with_capacity(alloc, minidisks.len())?;
+    for disk in minidisks {
+        made.push(disk.address())?;
+    }
+    Ok(made)
+}
+
 /// Does a work with a machine, whose storage is lent from frames, with these keys.
 #[inline(always)]
 fn lend_over<W: Work>(
     machine: &mut Machine,
     devices: &mut Devices,
-    channels: &mut Resident,
+    volumes: &mut Volumes,
+    minidisks: &mut Vec<SharedDisk>,
     frames: &mut Frames,
     keys: &mut [StorageKey],
     user: UserNo,
@@ -147,13 +172,25 @@ fn lend_over<W: Work>(
     requires large { 8192 ≤ length (bytes_of frames.old user) }
     requires keyed { length (bytes_of frames.old user) ≤ 2048 * length keys.old }
     requires between { IsBetweenUnits frames.old.supply }
-    ensures does { let before = equipped machine.old devices.old (disks_on channels.old) (bytes_of frames.old user) keys.old in
-        let after = equipped machine.new devices.new (disks_on channels.new) (bytes_of frames.new user) keys.new in
+    requires users { IsUsers volumes.old (stands_of minidisks.old.items) }
+    ensures does { let before = equipped machine.old devices.old (disks_on volumes.old minidisks.old.items)
+        (bytes_of frames.old user) keys.old in
+        let after = equipped machine.new devices.new (disks_on volumes.new minidisks.new.items)
+        (bytes_of frames.new user) keys.new in
         W.Does work.now directory.now user before frames.old.supply result after frames.new.supply }
     ensures others { frames.new.storages ≡ slice_set frames.old.storages user (bytes_of frames.new user) }
     ensures size { length (bytes_of frames.new user) ≡ length (bytes_of frames.old user) }
     ensures between { IsBetweenUnits frames.new.supply }
+    ensures neighbours { KeepsNeighbours (record { volumes = volumes.old; minidisks = minidisks.old.items })
+        (record { volumes = volumes.new; minidisks = minidisks.new.items }) }
 {
     let mut storage = Dat::new(frames, keys, user);
-    work.work(directory, machine, devices, channels, &mut storage)
+    work.work(
+        directory,
+        machine,
+        devices,
+        volumes,
+        minidisks,
+        &mut storage,
+    )
 }

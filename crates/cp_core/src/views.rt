@@ -2,20 +2,21 @@
 //! `None`.
 ghost use Rattle.std.specs.Prelude.{◌≡◌, ◌<◌, ◌↔◌, IfSome, IsSome, length, slice_get};
 ghost use Rattle.std.specs.List.{find};
-ghost use Rattle.std.specs.Option.{option_copied, option_map};
+ghost use Rattle.std.specs.Option.{option_map};
 ghost use Rattle.cp_console.specs.Responses.{text_of};
 ghost use Rattle.cp_channels.specs.Disks.{is_disk_at};
+ghost use Rattle.cp_volumes.specs.Seen.{seen_disk};
 ghost use Rattle.cp_core.specs.UserMachines.{user_with};
 ghost use Rattle.cp_core.specs.System.{deliveries_at, machine_at, user_at};
 
 use crate::delivery::Delivery;
 use crate::system::System;
 use crate::user_machine::UserMachine;
-use ckd_volume::Unit;
 use cp_console::responses::Response;
 use cp_devices::Devices;
 use cp_panel::Mode;
 use cp_users::UserNo;
+use cp_volumes::SeenDisk;
 use s370_intr::Pending;
 use s370_num::{DevAddr, StorageKey};
 use s370_psw::Psw;
@@ -26,7 +27,8 @@ impl System {
     pub(crate) fn user(&self, user: UserNo) -> Option<&UserMachine>
         ensures some { IsSome result ↔ (user < length self.now.users) }
         ensures user { IfSome result
-            (λ found. user_at self.now user ≡ user_with found.now (machine_at self.now user).core.processor.bytes) }
+            (λ found. user_at self.now user
+            ≡ user_with found.now self.now.volumes (machine_at self.now user).core.processor.bytes) }
         ensures deliveries { IfSome result (λ found. deliveries_at self.now user ≡ found.now.deliveries) }
     {
         let place = user.index();
@@ -157,18 +159,13 @@ impl System {
         }
     }
 
-    /// The disk at this address: its tracks, its arm and its sense; `None` where the user has none there.
-    pub fn minidisk(&self, user: UserNo, device: DevAddr) -> Option<&Unit>
-        ensures { option_copied result
+    /// The disk at this address: its cylinders, its arm and its sense; `None` where the user has none there.
+    pub fn minidisk(&self, user: UserNo, device: DevAddr) -> Option<SeenDisk<'_>>
+        ensures { option_map seen_disk result
             ≡ option_map (λ disk. disk.unit) (find (is_disk_at device) (user_at self.now user).disks) }
     {
         let user = self.user(user)?;
-        let disk = user
-            .channels
-            .disks()
-            .iter()
-            .find(|disk| disk.address() == device)?;
-        Some(disk.unit())
+        self.volumes.seen(&user.minidisks, device)
     }
 
     /// What replies told as delivered to the user since boot, in order.

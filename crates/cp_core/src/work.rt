@@ -6,7 +6,7 @@ ghost use Rattle.cp_frames.specs.Layout.{FrameSupply};
 ghost use Rattle.cp_dat.specs.Lent.{KeepsFrames, lent_bytes, lent_keys, lent_pool, user_of};
 ghost use Rattle.cp_dat.specs.Supplied.{IsBetweenUnits};
 ghost use Rattle.cp_devices.specs.Equipped.{Equipped, equipped};
-ghost use Rattle.cp_core.specs.Resident.{disks_on};
+ghost use Rattle.cp_volumes.specs.Shared.{IsUsers, KeepsNeighbours, disks_on, stands_of};
 
 use crate::resident::Resident;
 use crate::serving::{serve_supplied, type_supplied};
@@ -18,6 +18,7 @@ use cp_directory::Directory;
 use cp_panel::{LineError, Machine};
 use cp_trap::VirtualCpu;
 use cp_users::UserNo;
+use cp_volumes::{SharedDisk, Volumes};
 use s370_intr::Ran;
 use s370_num::DevAddr;
 use s370_store::{FramesOut, UnitSupply};
@@ -32,25 +33,29 @@ pub(crate) trait Work {
     ghost Does: { Self → List DirectoryUser → ℕ → Equipped → FrameSupply → Self.Answer → Equipped → FrameSupply
         → Type 0 };
 
-    /// Does it, with the disks that hang on these channels. No frame is pinned before and after.
+    /// Does it, with these minidisks on volumes that others share. No frame is pinned before and after.
     fn work(
         &self,
         directory: &Directory,
         machine: &mut Machine,
         devices: &mut Devices,
-        channels: &mut Resident,
+        volumes: &mut Volumes,
+        minidisks: &mut Vec<SharedDisk>,
         storage: &mut Dat<'_>,
     ) -> Self::Answer
         requires large { 8192 ≤ length (lent_bytes storage.old) }
         requires between { IsBetweenUnits (lent_pool storage.old).supply }
-        ensures does { let before = equipped machine.old devices.old (disks_on channels.old)
+        requires users { IsUsers volumes.old (stands_of minidisks.old.items) }
+        ensures does { let before = equipped machine.old devices.old (disks_on volumes.old minidisks.old.items)
             (lent_bytes storage.old) (lent_keys storage.old) in
-            let after = equipped machine.new devices.new (disks_on channels.new)
+            let after = equipped machine.new devices.new (disks_on volumes.new minidisks.new.items)
             (lent_bytes storage.new) (lent_keys storage.new) in
             Does self.now directory.now (user_of storage.old) before (lent_pool storage.old).supply result after (lent_pool storage.new).supply }
         ensures kept { KeepsFrames storage.old storage.new }
         ensures size { length (lent_bytes storage.new) ≡ length (lent_bytes storage.old) }
-        ensures between { IsBetweenUnits (lent_pool storage.new).supply };
+        ensures between { IsBetweenUnits (lent_pool storage.new).supply }
+        ensures neighbours { KeepsNeighbours (record { volumes = volumes.old; minidisks = minidisks.old.items })
+            (record { volumes = volumes.new; minidisks = minidisks.new.items }) };
 }
 
 /// The machine is let run for at most so many units. This takes no memory.
@@ -70,7 +75,8 @@ impl Work for Units {
         _directory: &Directory,
         machine: &mut Machine,
         _devices: &mut Devices,
-        _channels: &mut Resident,
+        _volumes: &mut Volumes,
+        _minidisks: &mut Vec<SharedDisk>,
         storage: &mut Dat<'_>,
     ) -> Ran {
         machine.run::<VirtualCpu, Dat<'_>>(storage, self.0)
@@ -93,7 +99,8 @@ impl Work for Tick {
         _directory: &Directory,
         machine: &mut Machine,
         _devices: &mut Devices,
-        _channels: &mut Resident,
+        _volumes: &mut Volumes,
+        _minidisks: &mut Vec<SharedDisk>,
         storage: &mut Dat<'_>,
     ) -> Result<(), FramesOut> {
         machine.tick(storage)
@@ -124,7 +131,8 @@ impl<'a> Work for Line<'a> {
         directory: &Directory,
         machine: &mut Machine,
         devices: &mut Devices,
-        channels: &mut Resident,
+        volumes: &mut Volumes,
+        minidisks: &mut Vec<SharedDisk>,
         storage: &mut Dat<'_>,
     ) -> Result<Told, LineError> {
         let world = Among {
@@ -132,9 +140,17 @@ impl<'a> Work for Line<'a> {
             own: self.user,
             on: self.on.as_slice(),
         };
+        let mut channels = Resident::take(self.alloc, volumes, minidisks);
         let told = type_supplied(
-            self.alloc, devices, machine, storage, channels, &world, self.typed,
+            self.alloc,
+            devices,
+            machine,
+            storage,
+            &mut channels,
+            &world,
+            self.typed,
         );
+        channels.give(volumes, minidisks);
         storage.let_go();
         told
     }
@@ -143,6 +159,7 @@ impl<'a> Work for Line<'a> {
 /// A device is served. It holds what it brings until it ends.
 #[derive(Clone, Copy)]
 pub(crate) struct Service {
+    pub(crate) alloc: Global,
     pub(crate) device: DevAddr,
 }
 
@@ -158,10 +175,13 @@ impl Work for Service {
         _directory: &Directory,
         machine: &mut Machine,
         devices: &mut Devices,
-        channels: &mut Resident,
+        volumes: &mut Volumes,
+        minidisks: &mut Vec<SharedDisk>,
         storage: &mut Dat<'_>,
     ) -> Result<bool, LineError> {
-        let served = serve_supplied(devices, machine, storage, channels, self.device);
+        let mut channels = Resident::take(self.alloc, volumes, minidisks);
+        let served = serve_supplied(devices, machine, storage, &mut channels, self.device);
+        channels.give(volumes, minidisks);
         storage.let_go();
         served
     }

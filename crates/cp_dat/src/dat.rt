@@ -50,6 +50,14 @@ impl<'a> Dat<'a> {
         }
     }
 
+    /// How many frames there are, whoever's pages stand in them.
+    pub fn frame_count(&self) -> u32
+        ensures count { result ≡ length (lent_pool self.now).supply.owners }
+        ensures few { result ≤ 4096 }
+    {
+        self.frames.count()
+    }
+
     /// The frame in which a page stands. A page that stands in none, and in no slot, is all zero.
     pub fn frame_of(&self, page: Page) -> Option<FrameNo>
         requires { page.0 * 4096 < length (lent_bytes self.now) }

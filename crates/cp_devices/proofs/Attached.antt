@@ -1,10 +1,12 @@
 -- A subchannel for each device, address by address.
-use Rattle.std.proofs.Common.{◌≡◌, ℕ, ◌+◌, Bool, true, false, List, [], ◌∷◌, ◌++◌, Option, Some, None, refl, sym, ap, subst, ◌∙◌, arith}
+use Rattle.std.proofs.Common.{◌≡◌, ℕ, ◌+◌, Bool, true, false, List, [], ◌∷◌, ◌++◌, Option, Some, None, refl, sym, ap, subst, ◌∙◌, arith, map, ◌<◌}
 use Rattle.std.proofs.lemmas.Bool.Decides.{nat_tests}
 use Rattle.std.specs.Prelude.{if◌then◌else◌, ◌==◌, ◌&&◌, ◌||◌, is_some, nat_lt}
 use Rattle.s370_subchannels.specs.declared.subchannel.Subchannel.{Subchannel}
 use Rattle.s370_subchannels.specs.Subchannels.{found, new_device}
-use Rattle.cp_devices.specs.Devices.{attached}
+use Rattle.std.specs.List.{list_any}
+use Rattle.cp_channels.specs.Disks.{DiskAt, is_disk_at}
+use Rattle.cp_devices.specs.Devices.{DevicesValue, attached, has_at, has_device, part_at}
 
 -- ---- one device more is found
 
@@ -58,3 +60,23 @@ passed address list has gone h device =
 pub on : (address : ℕ) (list : List Subchannel) (has : ℕ → Bool) (b : Bool) → b ≡ has address → ((device : ℕ) → is_some (found device list) ≡ (nat_lt device address && has device)) → (device : ℕ) → is_some (found device (attached b address list)) ≡ (nat_lt device (address + 1) && has device)
 on address list has true is h = added address list has (sym is) h
 on address list has false is h = passed address list has (sym is) h
+
+-- ---- by the disks' addresses
+
+any_at : (disks : List DiskAt) (device : ℕ) → list_any (λ (address : ℕ). address == device) (map (λ (d : DiskAt). d.address) disks) ≡ list_any (is_disk_at device) disks
+any_at [] device = refl
+any_at (d ∷ ds) device = rw (any_at ds device) refl
+
+has_same : (d : DevicesValue) (addresses : List ℕ) (disks : List DiskAt) (device : ℕ) → addresses ≡ map (λ (disk : DiskAt). disk.address) disks → has_at d addresses device ≡ has_device d disks device
+has_same d addresses disks device same =
+    ap (λ (b : Bool). is_some (part_at d device) || b) (ap (list_any (λ (address : ℕ). address == device)) same ∙ any_at disks device)
+
+under : (b has : Bool) → b ≡ true → (b && has) ≡ has
+under true has e = refl
+under false has e = cc
+
+pub attached_at : (d : DevicesValue) (addresses : List ℕ) (disks : List DiskAt) → addresses ≡ map (λ (disk : DiskAt). disk.address) disks → (device end : ℕ) (list : List Subchannel) → device < end
+    → ((device : ℕ) → is_some (found device list) ≡ (nat_lt device end && has_at d addresses device)) → is_some (found device list) ≡ has_device d disks device
+attached_at d addresses disks same device end list below h =
+    let inside : nat_lt device end ≡ true = grind (arith, nat_tests) in
+    h device ∙ under (nat_lt device end) (has_at d addresses device) inside ∙ has_same d addresses disks device same

@@ -77,6 +77,10 @@ IsAttached disks kinds.Printer = Unit {0}
 abbrev pub has_device : DevicesValue → List DiskAt → ℕ → Bool
 has_device d disks device = is_some (part_at d device) || list_any (is_disk_at device) disks
 
+-- the same of disks at these addresses
+abbrev pub has_at : DevicesValue → List ℕ → ℕ → Bool
+has_at d addresses device = is_some (part_at d device) || list_any (λ (address : ℕ). address == device) addresses
+
 -- a device more, above all others, if it is there
 abbrev pub attached : Bool → ℕ → List Subchannel → List Subchannel
 attached is_there device list = if is_there then list ++ new_device device ∷ [] else list

@@ -1,14 +1,14 @@
 //! The subchannels of the devices of one machine.
-ghost use Rattle.std.specs.Prelude.{◌≡◌, IfOk};
 ghost use Rattle.std.specs.List.{list_any};
-ghost use Rattle.cp_channels.specs.Disks.{is_disk_at};
-ghost use Rattle.cp_devices.specs.Devices.{AreAttached, attached, has_device};
+ghost use Rattle.std.specs.Prelude.{◌≡◌, ◌==◌, IfOk, List, map};
+ghost use Rattle.cp_channels.specs.Disks.{DiskAt};
+ghost use Rattle.cp_devices.specs.Devices.{AreAttached, attached, has_at};
 
 use crate::devices::Devices;
 use cp_channels::AttachedDisk;
 use s370_num::DevAddr;
 use s370_subchannels::Subchannels;
-use std::alloc::Global;
+use std::alloc::{AllocError, Global};
 use thiserror::Error;
 
 /// The address above that of every device.
@@ -33,33 +33,59 @@ impl Devices {
     ) -> Result<Subchannels, AttachError>
         ensures { IfOk result (AreAttached self.now disks.now) }
     {
+        match addresses_of(alloc, disks) {
+            Ok(addresses) => self.subchannels_at(alloc, &addresses),
+            Err(_) => Err(AttachError::Memory),
+        }
+    }
+
+    /// The same of disks at these addresses.
+    pub fn subchannels_at(
+        &self,
+        alloc: Global,
+        addresses: &[DevAddr],
+    ) -> Result<Subchannels, AttachError>
+        ensures { (disks : List DiskAt) → addresses.now ≡ map (λ disk. disk.address) disks
+            → IfOk result (AreAttached self.now disks) }
+    {
         let mut subchannels = Subchannels::new(alloc);
         for address in 0..PAST_DEVICES {
-            let is_there = self.has_device(disks, address);
+            let is_there = self.has_device(addresses, address);
             attach_if(&mut subchannels, DevAddr::new(address), is_there)?;
         }
-        if subchannels.list().len() != self.places().count() + disks.len() {
+        if subchannels.list().len() != self.places().count() + addresses.len() {
             return Err(AttachError::Address);
         }
         Ok(subchannels)
     }
 
-    /// Whether one of these devices and disks has this address.
-    fn has_device(&self, disks: &[AttachedDisk], device: u16) -> bool
-        ensures { result ≡ has_device self.now disks.now device }
+    /// Whether one of these devices, or of disks at these addresses, has this one.
+    fn has_device(&self, addresses: &[DevAddr], device: u16) -> bool
+        ensures { result ≡ has_at self.now addresses.now device }
     {
         match self.part_at(device) {
             Some(_) => true,
-            None => has_disk(disks, device),
+            None => is_among(addresses, device),
         }
     }
 }
 
-/// Whether one of these disks has this address.
-fn has_disk(disks: &[AttachedDisk], device: u16) -> bool
-    ensures { result ≡ list_any (is_disk_at device) disks.now }
+/// Whether this is one of these addresses.
+fn is_among(addresses: &[DevAddr], device: u16) -> bool
+    ensures { result ≡ list_any (λ address. address == device) addresses.now }
 {
-    disks.iter().any(|disk| disk.address().get() == device)
+    addresses.iter().any(|address| address.get() == device)
+}
+
+/// The address of each of these disks.
+fn addresses_of(alloc: Global, disks: &[AttachedDisk]) -> Result<Vec<DevAddr>, AllocError>
+    ensures { IfOk result (λ made. made.items ≡ map (λ disk. disk.address) disks.now) }
+{
+    let mut made = Vec::with_capacity(alloc, disks.len())?;
+    for disk in disks {
+        made.push(disk.address())?;
+    }
+    Ok(made)
 }
 
 /// Adds an idle device, above all others, if it is there.

@@ -1,8 +1,8 @@
-//! IPL, which the owner of a machine with disks of its own does for it.
-ghost use Rattle.std.specs.Prelude.{◌≡◌, ◌<◌, ◌≤◌, ℕ, Err, IfOk, length, map, slice_get};
+//! IPL, which the owner of a machine does for it.
+ghost use Rattle.std.specs.Prelude.{◌≡◌, ◌<◌, ◌≤◌, ℕ, true, Err, IfOk, length, map, slice_get};
 ghost use Rattle.s370_store.specs.Access.{IsAway};
+ghost use Rattle.cp_channels.specs.Channels.{IsAllThere};
 ghost use Rattle.cp_channels.specs.Disks.{reset_disk};
-ghost use Rattle.cp_channels.specs.Own.{disks_of};
 ghost use Rattle.cp_devices.specs.Equipped.{equipped};
 ghost use Rattle.cp_devices.specs.Lines.{IsIpl, LoadsDisk, LoadsReader, ipl_told};
 
@@ -10,7 +10,7 @@ use crate::devices::Devices;
 use crate::line::Told;
 use crate::loading::{load, start_loaded};
 use crate::places::Kind;
-use cp_channels::Own;
+use cp_channels::Channels;
 use cp_console::responses::Response;
 use cp_panel::{LineError, Machine};
 use s370_channel::ChannelError;
@@ -31,21 +31,23 @@ fn loaded(well: bool) -> Told
 impl Devices {
     /// The machine is loaded from the device of this address, a reader or a disk. Where it is not obeyed, nothing is
     /// said of the machine.
-    pub fn ipl<S: Storage>(
+    pub fn ipl<S: Storage, C: Channels<S>>(
         &mut self,
         machine: &mut Machine,
         storage: &mut S,
-        channels: &mut Own,
+        channels: &mut C,
         device: DevAddr,
     ) -> Result<Told, LineError>
         requires size { 8192 ≤ length (S.bytes storage.old) }
-        ensures ok { let before = equipped machine.old self.old (disks_of channels.old) (S.bytes storage.old)
+        requires there { C.is_whole ≡ true → IsAllThere (length (S.bytes storage.old)) (S.present storage.old) }
+        ensures ok { let before = equipped machine.old self.old (C.disks channels.old) (S.bytes storage.old)
             (S.keys storage.old) in
-            let after = equipped machine.new self.new (disks_of channels.new) (S.bytes storage.new)
+            let after = equipped machine.new self.new (C.disks channels.new) (S.bytes storage.new)
             (S.keys storage.new) in
             IfOk result (λ told. IsIpl device before told after) }
         ensures frames { result ≡ Err LineError.FramesOut
             → ((page : ℕ) × IsAway (length (S.bytes storage.old)) (S.present storage.old) page) }
+        ensures others { C.KeepsOthers channels.old channels.new }
         ensures rest { S.Keeps storage.old storage.new }
     {
         match self.kind_at(channels, device.get()) {
@@ -56,21 +58,22 @@ impl Devices {
     }
 
     /// The machine is loaded from the reader.
-    fn load_reader<S: Storage>(
+    fn load_reader<S: Storage, C: Channels<S>>(
         &mut self,
         machine: &mut Machine,
         storage: &mut S,
-        channels: &mut Own,
+        channels: &mut C,
         device: DevAddr,
     ) -> Result<Told, LineError>
         requires size { 8192 ≤ length (S.bytes storage.old) }
-        ensures ok { let before = equipped machine.old self.old (disks_of channels.old) (S.bytes storage.old)
+        ensures ok { let before = equipped machine.old self.old (C.disks channels.old) (S.bytes storage.old)
             (S.keys storage.old) in
-            let after = equipped machine.new self.new (disks_of channels.new) (S.bytes storage.new)
+            let after = equipped machine.new self.new (C.disks channels.new) (S.bytes storage.new)
             (S.keys storage.new) in
             IfOk result (λ told. LoadsReader device before told after) }
         ensures frames { result ≡ Err LineError.FramesOut
             → ((page : ℕ) × IsAway (length (S.bytes storage.old)) (S.present storage.old) page) }
+        ensures others { C.KeepsOthers channels.old channels.new }
         ensures rest { S.Keeps storage.old storage.new }
     {
         match machine.make_room(1) {
@@ -78,7 +81,7 @@ impl Devices {
             Err(_) => return Err(LineError::Memory),
         }
         self.reset();
-        channels.reset();
+        channels.reset_disks();
         match load(machine, storage, device, &mut self.reader) {
             Ok(well) => Ok(loaded(well)),
             // A command of a reader is never refused memory.
@@ -88,23 +91,25 @@ impl Devices {
     }
 
     /// The machine is loaded from the disk of this index.
-    fn load_disk<S: Storage>(
+    fn load_disk<S: Storage, C: Channels<S>>(
         &mut self,
         machine: &mut Machine,
         storage: &mut S,
-        channels: &mut Own,
+        channels: &mut C,
         device: DevAddr,
         index: usize,
     ) -> Result<Told, LineError>
         requires size { 8192 ≤ length (S.bytes storage.old) }
-        requires inside { index < length (disks_of channels.old) }
-        ensures ok { let before = equipped machine.old self.old (disks_of channels.old) (S.bytes storage.old)
+        requires there { C.is_whole ≡ true → IsAllThere (length (S.bytes storage.old)) (S.present storage.old) }
+        requires inside { index < length (C.disks channels.old) }
+        ensures ok { let before = equipped machine.old self.old (C.disks channels.old) (S.bytes storage.old)
             (S.keys storage.old) in
-            let after = equipped machine.new self.new (disks_of channels.new) (S.bytes storage.new)
+            let after = equipped machine.new self.new (C.disks channels.new) (S.bytes storage.new)
             (S.keys storage.new) in
-            IfOk result (λ told. LoadsDisk index (slice_get (map reset_disk (disks_of channels.old)) index) device before told after) }
+            IfOk result (λ told. LoadsDisk index (slice_get (map reset_disk (C.disks channels.old)) index) device before told after) }
         ensures frames { result ≡ Err LineError.FramesOut
             → ((page : ℕ) × IsAway (length (S.bytes storage.old)) (S.present storage.old) page) }
+        ensures others { C.KeepsOthers channels.old channels.new }
         ensures rest { S.Keeps storage.old storage.new }
     {
         match machine.make_room(1) {
@@ -112,7 +117,7 @@ impl Devices {
             Err(_) => return Err(LineError::Memory),
         }
         self.reset();
-        channels.reset();
+        channels.reset_disks();
         machine.reset();
         let ending = match channels.load_disk(storage, index) {
             Ok(ending) => ending,

@@ -102,6 +102,7 @@ impl Devices {
             switches typed.now before.machine ≡ false
             → ((pages : List ℕ) × S.Brought storage.old pages storage.new
             × AllNeeded (Touches (line_needs typed.now before.machine)) pages) }
+        ensures others { D.KeepsOthers disks.old disks.new }
         ensures size { length (S.Storage.bytes storage.new) ≡ length (S.Storage.bytes storage.old) }
     {
         let text = ConsoleText::new(typed);
@@ -145,6 +146,7 @@ impl Devices {
         ensures memory { result ≡ Err LineError.FramesOut → ⊥ }
         ensures cleared { OnOk result (S.Cleared storage.old storage.new) }
         ensures not_cleared { OnErr result (S.Brought storage.old [] storage.new) }
+        ensures others { D.KeepsOthers disks.old disks.new }
         ensures size { length (S.Storage.bytes storage.new) ≡ length (S.Storage.bytes storage.old) }
     {
         match self.log_off(alloc) {
@@ -170,6 +172,7 @@ impl Devices {
             → OnErr result (equipped machine.new self.new (D.disks disks.new) bytes keys
             ≡ equipped machine.old self.old (D.disks disks.old) bytes keys) }
         ensures memory { result ≡ Err LineError.FramesOut → ⊥ }
+        ensures others { D.KeepsOthers disks.old disks.new }
     {
         match machine.system_reset() {
             Ok(()) => {}

@@ -46,6 +46,7 @@ impl Devices {
             (S.keys storage.old) in
             C.is_whole ≡ false → IfErr result (StopsAt C.reads (S.present storage.old) device before) }
         ensures away { IfErr result (TellsAway (S.present storage.old)) }
+        ensures others { C.KeepsOthers channels.old channels.new }
         ensures keys { S.keys storage.new ≡ S.keys storage.old }
         ensures rest { S.Keeps storage.old storage.new }
     {
@@ -87,6 +88,7 @@ impl Devices {
             (S.keys storage.old) in
             C.is_whole ≡ false → IfErr result (StopsKind C.reads (S.present storage.old) kind start before) }
         ensures away { IfErr result (TellsAway (S.present storage.old)) }
+        ensures others { C.KeepsOthers channels.old channels.new }
         ensures keys { S.keys storage.new ≡ S.keys storage.old }
         ensures rest { S.Keeps storage.old storage.new }
     {
@@ -131,6 +133,7 @@ impl Devices {
             (S.keys storage.old) in
             C.is_whole ≡ false → IfErr result (StopsConsole C.reads (S.present storage.old) start before) }
         ensures away { IfErr result (TellsAway (S.present storage.old)) }
+        ensures others { C.KeepsOthers channels.old channels.new }
         ensures keys { S.keys storage.new ≡ S.keys storage.old }
         ensures rest { S.Keeps storage.old storage.new }
     {

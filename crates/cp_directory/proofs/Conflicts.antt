@@ -73,7 +73,7 @@ conflict_turned one other h = record {
 free : (one other : Extent) → conflicts one other ≡ false → Conflicts one other → ⊥
 free one other e h = let found = conflict_again one other h in cc
 
-taken : (one other : Extent) → (Conflicts one other → ⊥) → (b : Bool) → conflicts one other ≡ b → b ≡ false
+pub taken : (one other : Extent) → (Conflicts one other → ⊥) → (b : Bool) → conflicts one other ≡ b → b ≡ false
 taken one other h true e = absurd (h (conflict_found one other e))
 taken one other h false e = refl
 
@@ -122,7 +122,7 @@ none_on : (extent : Extent) (disk : Minidisk) (disks : List Minidisk) (b : Bool)
 none_on extent disk disks true e hyp h = cc
 none_on extent disk disks false e hyp h = All-cons (λ (d : Minidisk). Conflicts extent d.extent → ⊥) disk disks (free extent disk.extent e) (hyp h)
 
-none_found : (extent : Extent) (disks : List Minidisk) → first_conflict extent disks ≡ None → All (λ (d : Minidisk). Conflicts extent d.extent → ⊥) disks
+pub none_found : (extent : Extent) (disks : List Minidisk) → first_conflict extent disks ≡ None → All (λ (d : Minidisk). Conflicts extent d.extent → ⊥) disks
 none_found extent [] h = All-nil (λ (d : Minidisk). Conflicts extent d.extent → ⊥)
 none_found extent (disk ∷ disks) h = none_on extent disk disks (conflicts extent disk.extent) refl (none_found extent disks) h
 

@@ -6,3 +6,4 @@ pub mod Places
 pub mod Grammars
 pub mod Attached
 pub mod Laws
+pub mod Apart

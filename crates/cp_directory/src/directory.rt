@@ -1,9 +1,9 @@
 //! A directory that was read, and its users.
-ghost use Rattle.std.specs.Prelude.{◌≡◌, ◌==◌, ◌<◌, ◌≤◌, ◌++◌, ◌∷◌, [], length, IfOk, IfSome, MatchOption, OnErr};
+ghost use Rattle.std.specs.Prelude.{◌≡◌, ◌==◌, ◌<◌, ◌≤◌, ◌++◌, ◌∷◌, [], length, None, IfOk, IfSome, MatchOption, OnErr};
 ghost use Rattle.std.specs.List.{list_any};
 ghost use Rattle.cp_directory.specs.Statements.{has_name};
-ghost use Rattle.cp_directory.specs.Users.{first_conflict, has_device, is_full, last_user, minidisks_of, new_user};
-ghost use Rattle.cp_directory.specs.Users.{with_device, with_last, with_minidisk};
+ghost use Rattle.cp_directory.specs.Users.{AreApart, first_conflict, has_device, is_full, last_user, minidisks_of};
+ghost use Rattle.cp_directory.specs.Users.{new_user, with_device, with_last, with_minidisk};
 
 use crate::devices::{DeviceKind, UserDevices};
 use crate::extent::DiskExtent;
@@ -139,7 +139,7 @@ impl Named for User {
     }
 }
 
-/// The users of a directory, in the order of their lines: at most [`MOST_USERS`].
+/// The users of a directory, in the order of their lines: at most [`MOST_USERS`], no two of whose minidisks conflict.
 #[derive(Debug, Drop)]
 pub struct Directory {
     users: Vec<User>,
@@ -147,13 +147,13 @@ pub struct Directory {
 
 impl Model for Directory {
     ghost use Rattle.std.specs.Prelude.{◌≤◌, List, length};
-    ghost use Rattle.cp_directory.specs.Users.{DirectoryUser};
+    ghost use Rattle.cp_directory.specs.Users.{AreApart, DirectoryUser};
 
     ghost Value = { List DirectoryUser };
 
     ghost view = { λ directory. directory.users.items };
 
-    ghost invariant = { λ directory. length directory.users.items ≤ 64 };
+    ghost invariant = { λ directory. (length directory.users.items ≤ 64) × AreApart directory.users.items };
 }
 
 impl Directory {
@@ -166,9 +166,10 @@ impl Directory {
         }
     }
 
-    /// Adds a user after the others. Where the growth is refused, nothing is added.
+    /// Adds a user without minidisks after the others. Where the growth is refused, nothing is added.
     pub fn push(&mut self, user: User) -> Result<(), AllocError>
-        requires { length self.old < MOST_USERS }
+        requires room { length self.old < MOST_USERS }
+        requires none { user.minidisks ≡ [] }
         ensures ok { IfOk result (λ _. self.new ≡ self.old ++ user ∷ []) }
         ensures err { OnErr result (self.new ≡ self.old) }
     {
@@ -180,6 +181,7 @@ impl Directory {
     pub fn users(&self) -> &[User]
         ensures users { result.now ≡ self.now }
         ensures few { length result.now ≤ MOST_USERS }
+        ensures apart { AreApart self.now }
     {
         // All its fields: what is added to them is seen here.
         let Directory { users } = self;
@@ -217,9 +219,11 @@ impl Directory {
         self.users[last].put(kind, address);
     }
 
-    /// Gives the last user one minidisk more. Where the growth is refused, nothing is added.
+    /// Gives the last user one minidisk more, which conflicts with no other. Where the growth is refused, nothing is
+    /// added.
     pub(crate) fn add_minidisk(&mut self, disk: Minidisk) -> Result<(), AllocError>
-        requires { 0 < length self.old }
+        requires some { 0 < length self.old }
+        requires free { first_conflict disk.extent (minidisks_of self.old) ≡ None }
         ensures ok { IfOk result (λ _. self.new ≡ with_last (with_minidisk disk) self.old) }
     {
         let last = self.users.len() - 1;

@@ -130,6 +130,14 @@ impl Frames {
         }
     }
 
+    /// How many frames there are.
+    pub fn count(&self) -> u32
+        ensures count { result ≡ length self.now.supply.owners }
+        ensures few { result ≤ 4096 }
+    {
+        self.owners.len() as u32
+    }
+
     /// Pages that have come into a frame so far.
     pub fn page_ins(&self) -> u64
         ensures { result ≡ self.now.supply.page_ins }

@@ -36,7 +36,7 @@ module _ {D : Type 0} (h : Setting D) (holds : D → Type 0) (keeps : Keeps h.ma
   of_answer spot w (answers.Output n) m d i = i
   of_answer spot w (answers.OutputUpTo n) m d i = i
 
-  of_entry : (spot : Spot) (w : Word) (role : Option Transfer) (m : Memory) (d : D) → holds d → holds (device_in (entered h spot w role m d))
+  pub of_entry : (spot : Spot) (w : Word) (role : Option Transfer) (m : Memory) (d : D) → holds d → holds (device_in (entered h spot w role m d))
   of_entry spot w None m d i = of_answer spot w (h.machine.answer d (order_of h.prefix spot w)) m (h.machine.started d (order_of h.prefix spot w)) (keeps.started d (order_of h.prefix spot w) i)
   of_entry spot w (Some t) m d i = i
 

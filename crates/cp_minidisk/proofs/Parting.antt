@@ -18,7 +18,7 @@ use Rattle.cp_minidisk.proofs.ReadOnly.{disk_read_only}
 use Rattle.cp_minidisk.proofs.SeekStarts.{started_size, finished_size}
 use Rattle.cp_minidisk.proofs.Walked.{reaches_seen}
 
-follows : IsPartOf (λ p. p.disk) part_machine disk_machine
+pub follows : IsPartOf (λ p. p.disk) part_machine disk_machine
 follows =
     record {
       answer = λ p order. refl;
@@ -31,14 +31,14 @@ follows =
       finished = λ p. refl;
     }
 
-follows_for : (machine : Machine Part) → machine ≡ part_machine → IsPartOf (λ p. p.disk) machine disk_machine
+pub follows_for : (machine : Machine Part) → machine ≡ part_machine → IsPartOf (λ p. p.disk) machine disk_machine
 follows_for machine e = rw e follows
 
 pub walks_as_its_disk : (form : Form) (h : Setting Part) (s t : State Part) → h.machine ≡ part_machine
     → Reaches form h s t → Reaches form (on_device h disk_machine) (seen (λ p. p.disk) s) (seen (λ p. p.disk) t)
 walks_as_its_disk form h s t e to = reaches_seen (λ p. p.disk) h disk_machine (follows_for h.machine e) form s t to
 
-keeps_for : (holds : Part → Type 0) (machine : Machine Part) → machine ≡ part_machine → Keeps part_machine holds → Keeps machine holds
+pub keeps_for : (holds : Part → Type 0) (machine : Machine Part) → machine ≡ part_machine → Keeps part_machine holds → Keeps machine holds
 keeps_for holds machine e keeps = rw e keeps
 
 along : (holds : Part → Type 0) → Keeps part_machine holds → (form : Form) (h : Setting Part) (s t : State Part) → h.machine ≡ part_machine
@@ -60,7 +60,7 @@ finished_volser d = by_job (is_seeking d.front.job)
     by_job true = moved_volser d (seek_of d)
     by_job false = refl
 
-neighbours_kept : (q : Part) → Keeps part_machine (HasSameNeighbours q)
+pub neighbours_kept : (q : Part) → Keeps part_machine (HasSameNeighbours q)
 neighbours_kept q =
     record {
       started = λ p order i. record { volser = started_volser p.disk (is_ipl order) ∙ i.volser; below = i.below; above = i.above };
@@ -75,12 +75,12 @@ leaves_its_neighbours form h s t e to =
     along (HasSameNeighbours (device_in s)) (neighbours_kept (device_in s)) form h s t e to (record { volser = refl; below = refl; above = refl })
 
 -- of what an extent is made of
-record HasExtentOf (x : ExtentValue) (p : Part) : Type 0 where
-  start : length p.below ≡ x.start
-  count : length p.disk.cylinders ≡ x.count
-  mode : p.disk.front.writable ≡ x.writable
+pub record HasExtentOf (x : ExtentValue) (p : Part) : Type 0 where
+  pub start : length p.below ≡ x.start
+  pub count : length p.disk.cylinders ≡ x.count
+  pub mode : p.disk.front.writable ≡ x.writable
 
-extent_kept : (x : ExtentValue) → Keeps part_machine (HasExtentOf x)
+pub extent_kept : (x : ExtentValue) → Keeps part_machine (HasExtentOf x)
 extent_kept x =
     record {
       started = λ p order i. record { start = i.start; count = started_size p.disk order ∙ i.count; mode = (disk_mode x.writable).started p.disk order i.mode };
@@ -89,7 +89,7 @@ extent_kept x =
       finished = λ p i. record { start = i.start; count = finished_size p.disk ∙ i.count; mode = (disk_mode x.writable).finished p.disk i.mode };
     }
 
-extent_same : (x : ExtentValue) (p : Part) → HasExtentOf x p → extent_of p ≡ x
+pub extent_same : (x : ExtentValue) (p : Part) → HasExtentOf x p → extent_of p ≡ x
 extent_same x p i = rw (i.start, i.count, i.mode) refl
 
 pub keeps_its_extent : (form : Form) (h : Setting Part) (s t : State Part) → h.machine ≡ part_machine
@@ -98,7 +98,7 @@ keeps_its_extent form h s t e to =
     let x : ExtentValue = extent_of (device_in s) in
     extent_same x (device_in t) (along (HasExtentOf x) (extent_kept x) form h s t e to (record { start = refl; count = refl; mode = refl }))
 
-read_only_kept : (cylinders : List Cylinder) → Keeps part_machine (λ p. IsReadOnly cylinders p.disk)
+pub read_only_kept : (cylinders : List Cylinder) → Keeps part_machine (λ p. IsReadOnly cylinders p.disk)
 read_only_kept cylinders =
     record {
       started = λ p order i. (disk_read_only cylinders).started p.disk order i;

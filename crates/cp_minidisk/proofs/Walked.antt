@@ -44,7 +44,7 @@ module _ {D E : Type 0} (part : D → E) (h : Setting D) (inner : Machine E) (is
   of_answer spot w (answers.Output n) m d = refl
   of_answer spot w (answers.OutputUpTo n) m d = refl
 
-  of_entry : (spot : Spot) (w : Word) (role : Option Transfer) (m : Memory) (d : D) → seen part (entered h spot w role m d) ≡ entered (on_device h inner) spot w role m (part d)
+  pub of_entry : (spot : Spot) (w : Word) (role : Option Transfer) (m : Memory) (d : D) → seen part (entered h spot w role m d) ≡ entered (on_device h inner) spot w role m (part d)
   of_entry spot w None m d =
       let o : Order = order_of h.prefix spot w in
       rw (← is.answer d o, ← is.started d o) (of_answer spot w (h.machine.answer d o) m (h.machine.started d o))

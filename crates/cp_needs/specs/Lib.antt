@@ -3,3 +3,4 @@ pub mod Needs
 pub mod Words
 pub mod Fixed
 pub mod Laws
+pub mod Told

@@ -1,7 +1,8 @@
 //! The first page that has to come before a program can run.
-ghost use Rattle.std.specs.Prelude.{◌≡◌, ◌*◌, ◌<◌, ◌⊎◌, Bool, IfErr, IfNone, IfOk, IfSome, length, true, ℕ, ◌%◌};
-ghost use Rattle.cp_needs.specs.Needs.{IsFixed, IsHeld, IsProgramPage};
-ghost use Rattle.cp_needs.specs.Words.{IsHere, IsNeeded, IsEnough};
+ghost use Rattle.std.specs.Prelude.{◌≡◌, ◌%◌, IfNone, IfOk, IfSome, length, ℕ};
+ghost use Rattle.cp_needs.specs.Needs.{IsFixed, IsHeld};
+ghost use Rattle.cp_needs.specs.Told.{IfFixed, IfPage, IfWhole};
+ghost use Rattle.cp_needs.specs.Words.{IsHere, IsNeeded};
 ghost use Rattle.s370_store.specs.Access.{IsAway};
 ghost use Rattle.s370_walk.specs.Hardware.{memory_of};
 
@@ -28,29 +29,42 @@ fn first_absent<S: Storage>(storage: &S) -> Option<Page>
     None
 }
 
-/// A page that has to come before the program from an address on can run: one that it needs; where all of those are
-/// present, and it is not known that no input can change one of its words or lists, the first of the storage that is
-/// not present. An error is memory.
-pub fn needed<S: Storage>(
-    alloc: Global,
-    storage: &S,
-    start: u32,
-) -> Result<Option<Page>, AllocError>
+/// What has to be so before a program can run.
+#[derive(Clone, Copy, Debug, PartialEq, Eq)]
+pub enum Wanted {
+    /// A page is not present that it needs; or it is not known that no input can change its words, and a page of the
+    /// storage is not present.
+    Page(Page),
+    /// Nothing: the pages that it needs are present, and no input can change one of its words or lists.
+    Fixed,
+    /// Nothing: each page of the storage is present.
+    Whole,
+}
+
+/// What has to be so before the program from an address on can run. An error is memory.
+pub fn needed<S: Storage>(alloc: Global, storage: &S, start: u32) -> Result<Wanted, AllocError>
     requires even { start % 8 ≡ 0 }
     ensures away { IfOk result
-        (λ found. IfSome found (λ page. IsAway (length (S.bytes storage.now)) (S.present storage.now) page.0)) }
-    ensures needed { IfOk result (λ found. IfSome found
-        (λ page. IsNeeded
-        (memory_of (S.bytes storage.now) (S.keys storage.now)) (S.present storage.now) start page.0)) }
-    ensures enough { IfOk result (λ found. IfNone found
-        (IsEnough (memory_of (S.bytes storage.now) (S.keys storage.now)) (S.present storage.now) start)) }
+        (λ told. IfPage told (IsAway (length (S.bytes storage.now)) (S.present storage.now))) }
+    ensures needed { IfOk result
+        (λ told. IfPage told
+        (IsNeeded (memory_of (S.bytes storage.now) (S.keys storage.now)) (S.present storage.now) start)) }
+    ensures fixed { IfOk result
+        (λ told. IfFixed told (IsFixed (memory_of (S.bytes storage.now) (S.keys storage.now)) start
+        × IsHeld (memory_of (S.bytes storage.now) (S.keys storage.now)) start (S.present storage.now))) }
+    ensures whole { IfOk result
+        (λ told. IfWhole told
+        ((page : ℕ) → IsHere (length (S.bytes storage.now)) (S.present storage.now) page)) }
 {
     let words = match words_of(alloc, storage, start)? {
         Ok(words) => words,
-        Err(page) => return Ok(Some(page)),
+        Err(page) => return Ok(Wanted::Page(page)),
     };
     if are_fixed(storage, &words) {
-        return Ok(None);
+        return Ok(Wanted::Fixed);
     }
-    Ok(first_absent(storage))
+    match first_absent(storage) {
+        Some(page) => Ok(Wanted::Page(page)),
+        None => Ok(Wanted::Whole),
+    }
 }

@@ -6,12 +6,12 @@
 //! Its one theorem ([`fixed_programs_need_their_pages`]): where no area that an input may fill has a byte of a word or
 //! a list, whatever the device answers, the program walks by the words with which it began, and needs no page but
 //! those. So [`needed`] tells a page of the program, or, of a program of which that is not known, of the whole storage;
-//! and where it tells none, [`run_held`] never stops for want of a page.
+//! and where it tells none, it says which of both it is, and [`run_held`] never stops for want of a page.
 //!
 //! ```
 //! match needed(alloc, &storage, start)? {
-//!     Some(page) => return Err(ChannelError::Absent(page)),
-//!     None => run_held(&mut storage, start, &limits, &mut device),
+//!     Wanted::Page(page) => return Err(ChannelError::Absent(page)),
+//!     Wanted::Fixed | Wanted::Whole => run_held(&mut storage, start, &limits, &mut device),
 //! }
 //! ```
 #![tactic(auto)]
@@ -24,7 +24,7 @@ mod pages;
 mod running;
 mod words;
 
-pub use demand::needed;
+pub use demand::{Wanted, needed};
 pub use laws::fixed_programs_need_their_pages;
 pub use running::run_held;
 pub use words::missing;

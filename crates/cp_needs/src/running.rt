@@ -12,7 +12,7 @@ use s370_store::Storage;
 use s370_walk::{Device, Ending};
 
 /// Runs the program from an address on, each word read when it is reached, over a storage that has the pages which it
-/// needs, as it is where [`needed`](crate::needed) answers None: it stops for want of memory alone.
+/// needs, as it is where [`needed`](crate::needed) tells no page: it stops for want of memory alone.
 pub fn run_held<S: Storage, D: Device>(
     storage: &mut S,
     start: u32,

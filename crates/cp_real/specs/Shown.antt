@@ -9,25 +9,26 @@ use Rattle.cp_real.specs.declared.real.Real.{Real}
 use Rattle.cp_real.specs.Layout.{real_bytes, real_keys, is_page_shown, is_real_page, length-real, real_of, real_in}
 
 abbrev pub real_bytes_of : Real → List ℕ
-real_bytes_of r = real_bytes (lent_bytes r.dat) (lent_pool r.dat).supply.owners (user_of r.dat) r.area.now
+real_bytes_of r = real_bytes (lent_bytes r.dat.now) (lent_pool r.dat.now).supply.owners (user_of r.dat.now) r.area.now
 
 abbrev pub real_keys_of : Real → List ℕ
-real_keys_of r = real_keys (lent_bytes r.dat) (lent_keys r.dat) (lent_pool r.dat).supply.owners (user_of r.dat) (length r.area.now)
+real_keys_of r = real_keys (lent_bytes r.dat.now) (lent_keys r.dat.now) (lent_pool r.dat.now).supply.owners (user_of r.dat.now) (length r.area.now)
 
 abbrev pub is_real_page_of : Real → ℕ → Bool
-is_real_page_of r = is_real_page (lent_bytes r.dat) (lent_pool r.dat).supply.owners (user_of r.dat)
+is_real_page_of r = is_real_page (lent_bytes r.dat.now) (lent_pool r.dat.now).supply.owners (user_of r.dat.now)
 
 -- what a change leaves: the user's pages stand where they stood, his bytes on other pages and every other user's are as they
--- were, and the area is lent on
+-- were, and frames and area are lent on
 pub record KeepsReal (old new : Real) : Type 0 where
-  pub lent : KeepsRest old.dat new.dat
-  pub keys : lent_keys new.dat ≡ lent_keys old.dat
-  pub away : (a : ℕ) → real_in old.dat a ≡ None → slice_index (lent_bytes new.dat) a ≡ slice_index (lent_bytes old.dat) a
+  pub lent : KeepsRest old.dat.now new.dat.now
+  pub keys : lent_keys new.dat.now ≡ lent_keys old.dat.now
+  pub away : (a : ℕ) → real_in old.dat.now a ≡ None → slice_index (lent_bytes new.dat.now) a ≡ slice_index (lent_bytes old.dat.now) a
+  pub same_dat : new.dat.ghost_name ≡ old.dat.ghost_name
   pub same_area : new.area.ghost_name ≡ old.area.ghost_name
   pub area : length new.area.now ≡ length old.area.now
 
 pub keeps_real_same : (r : Real) → KeepsReal r r
-keeps_real_same r = record { lent = keeps_rest_same r.dat; keys = refl; away = λ a none. refl; same_area = refl; area = refl }
+keeps_real_same r = record { lent = keeps_rest_same r.dat.now; keys = refl; away = λ a none. refl; same_dat = refl; same_area = refl; area = refl }
 
 -- the real addresses stay the same
 pub same_real : (old new : Dat) → KeepsRest old new → (a : ℕ) → real_in new a ≡ real_in old a
@@ -38,30 +39,31 @@ same_real old new kept a =
 
 pub keeps_real_on : (r s t : Real) → KeepsReal r s → KeepsReal s t → KeepsReal r t
 keeps_real_on r s t a b = record {
-  lent = keeps_rest_on r.dat s.dat t.dat a.lent b.lent;
+  lent = keeps_rest_on r.dat.now s.dat.now t.dat.now a.lent b.lent;
   keys = b.keys ∙ a.keys;
-  away = λ at none. b.away at (same_real r.dat s.dat a.lent at ∙ none) ∙ a.away at none;
+  away = λ at none. b.away at (same_real r.dat.now s.dat.now a.lent at ∙ none) ∙ a.away at none;
+  same_dat = b.same_dat ∙ a.same_dat;
   same_area = b.same_area ∙ a.same_area;
   area = b.area ∙ a.area;
 }
 
 pub keeps_real_size : (r s : Real) → KeepsReal r s → length (real_bytes_of s) ≡ length (real_bytes_of r)
 keeps_real_size r s k =
-    length-real (lent_bytes s.dat) (lent_pool s.dat).supply.owners (user_of s.dat) s.area.now
+    length-real (lent_bytes s.dat.now) (lent_pool s.dat.now).supply.owners (user_of s.dat.now) s.area.now
     ∙ ap (λ (o : FrameSupply). 4096 * length o.owners + length s.area.now) k.lent.same_supply
-    ∙ ap (λ n. 4096 * length (lent_pool r.dat).supply.owners + n) k.area
-    ∙ sym (length-real (lent_bytes r.dat) (lent_pool r.dat).supply.owners (user_of r.dat) r.area.now)
+    ∙ ap (λ n. 4096 * length (lent_pool r.dat.now).supply.owners + n) k.area
+    ∙ sym (length-real (lent_bytes r.dat.now) (lent_pool r.dat.now).supply.owners (user_of r.dat.now) r.area.now)
 
 pub keeps_real_present : (r s : Real) → KeepsReal r s → is_real_page_of s ≡ is_real_page_of r
 keeps_real_present r s k =
-    ap (λ (o : FrameSupply). is_page_shown o.owners (user_of s.dat) (length (lent_bytes s.dat))) k.lent.same_supply
-    ∙ ap (λ u. is_page_shown (lent_pool r.dat).supply.owners u (length (lent_bytes s.dat))) k.lent.same_user
-    ∙ ap (λ n. is_page_shown (lent_pool r.dat).supply.owners (user_of r.dat) n) k.lent.same_size
+    ap (λ (o : FrameSupply). is_page_shown o.owners (user_of s.dat.now) (length (lent_bytes s.dat.now))) k.lent.same_supply
+    ∙ ap (λ u. is_page_shown (lent_pool r.dat.now).supply.owners u (length (lent_bytes s.dat.now))) k.lent.same_user
+    ∙ ap (λ n. is_page_shown (lent_pool r.dat.now).supply.owners (user_of r.dat.now) n) k.lent.same_size
 
 -- a block of the area
 pub record IsInArea (r : Real) (block : Block) : Type 0 where
-  pub begins : 4096 * length (lent_pool r.dat).supply.owners ≤ block.first
-  pub ends : block.first + 2048 ≤ 4096 * length (lent_pool r.dat).supply.owners + length r.area.now
+  pub begins : 4096 * length (lent_pool r.dat.now).supply.owners ≤ block.first
+  pub ends : block.first + 2048 ≤ 4096 * length (lent_pool r.dat.now).supply.owners + length r.area.now
 
 -- it stays there
 pub in_area_kept : (r s : Real) (block : Block) → KeepsReal r s → IsInArea r block → IsInArea s block

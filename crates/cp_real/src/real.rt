@@ -1,5 +1,5 @@
 //! The storage of a channel program that was given real addresses.
-ghost use Rattle.std.specs.Prelude.{◌≡◌, ℕ, ◌+◌, ◌*◌, ◌/◌, ◌%◌, ◌<◌, ◌≤◌, Option, Some, None, true, length, slice_range, IsSome, IfSome};
+ghost use Rattle.std.specs.Prelude.{◌≡◌, ℕ, ◌+◌, ◌*◌, ◌/◌, ◌%◌, ◌<◌, ◌≤◌, Option, Some, None, true, length, slice_index, slice_range, IsSome, IfSome};
 ghost use Rattle.cp_dat.specs.Lent.{lent_bytes, lent_pool, lent_keys, user_of};
 ghost use Rattle.s370_store.specs.Access.{IsGranted, put};
 ghost use Rattle.cp_real.specs.Layout.{page_of};
@@ -12,47 +12,29 @@ use s370_store::{Access, Block, Fault, Keyed, Keyring, Page, Range, Storage, put
 /// A user's pages at the addresses of the frames in which they stand, and an area of the control program behind the
 /// frames. Addresses are counted in bytes; frame `f` begins at `4096 * f`.
 #[derive(Drop)]
-pub struct Real<'a> {
-    dat: Dat<'a>,
-    frames: u32,
-    area: &'a mut [u8],
-    ghost counted: { frames ≡ length (lent_pool dat).supply.owners },
+pub struct Real<'a, 'b, 'c> {
+    /// Whose pages are seen.
+    pub dat: &'b mut Dat<'a>,
+    /// The number of all frames.
+    pub frames: u32,
+    /// The area.
+    pub area: &'c mut [u8],
+    ghost counted: { frames ≡ length (lent_pool dat.now).supply.owners },
     ghost few: { frames ≤ 4096 },
     ghost small: { length area.now ≤ 2147483648 },
-    ghost short: { length (lent_bytes dat) ≤ 4294967295 },
+    ghost short: { length (lent_bytes dat.now) ≤ 4294967295 },
 }
 
-impl<'a> Real<'a> {
+impl<'a, 'b, 'c> Real<'a, 'b, 'c> {
     ghost use Rattle.cp_real.specs.Shown.{real_bytes_of, real_keys_of, is_real_page_of, KeepsReal};
-
-    /// Lends the frames and the area to one user's program. `frames` is the number of all frames.
-    pub fn new(dat: Dat<'a>, frames: u32, area: &'a mut [u8]) -> Real<'a>
-        requires counted { frames ≡ length (lent_pool dat).supply.owners }
-        requires few { frames ≤ 4096 }
-        requires small { length area.old ≤ 2147483648 }
-        ensures dat { result.dat ≡ dat.entry }
-        ensures frames { result.frames ≡ frames }
-        ensures area { result.area.now ≡ area.old }
-        ensures same_area { result.area.ghost_name ≡ area.entry.ghost_name }
-    {
-        let _bytes = dat.size();
-        Real { dat, frames, area }
-    }
-
-    /// The frames, and whose pages are seen in them.
-    pub fn dat(&self) -> &Dat<'a>
-        ensures { result.now ≡ self.now.dat }
-    {
-        &self.dat
-    }
 
     /// The user's page in a frame.
     fn page_at(&self, frame: u32) -> Option<u32>
         requires { frame < self.now.frames }
-        ensures page { result ≡ page_of self.now.dat frame }
-        ensures whole { IfSome result (λ page. page * 4096 + 4096 ≤ length (lent_bytes self.now.dat)) }
+        ensures page { result ≡ page_of self.now.dat.now frame }
+        ensures whole { IfSome result (λ page. page * 4096 + 4096 ≤ length (lent_bytes self.now.dat.now)) }
         ensures low { IfSome result (λ page. page * 4096 + 4096 ≤ 4294967295) }
-        ensures keyed { IfSome result (λ page. 2 * page + 1 < length (lent_keys self.now.dat)) }
+        ensures keyed { IfSome result (λ page. 2 * page + 1 < length (lent_keys self.now.dat.now)) }
     {
         let there = self.dat.page_in(FrameNo(frame as u16));
         let size = self.dat.size();
@@ -64,6 +46,14 @@ impl<'a> Real<'a> {
             },
             None => None,
         }
+    }
+
+    /// The key of a block of the user's storage.
+    fn key_of(&self, block: u32) -> StorageKey
+        requires { block < length (lent_keys self.now.dat.now) }
+        ensures { result ≡ slice_index (lent_keys self.now.dat.now) block }
+    {
+        self.dat.key_of(block)
     }
 
     /// Whether a page of real storage can be reached.
@@ -146,11 +136,11 @@ impl<'a> Real<'a> {
 
 /// The keys of real storage.
 #[derive(Clone, Copy)]
-struct RealKeys<'a, 'b> {
-    real: &'b Real<'a>,
+struct RealKeys<'a, 'b, 'c, 'd> {
+    real: &'d Real<'a, 'b, 'c>,
 }
 
-impl<'a, 'b> Keyring for RealKeys<'a, 'b> {
+impl<'a, 'b, 'c, 'd> Keyring for RealKeys<'a, 'b, 'c, 'd> {
     ghost use Rattle.cp_real.specs.Shown.{real_keys_of};
 
     ghost of_blocks = { λ k. real_keys_of k.real.now };
@@ -163,11 +153,11 @@ impl<'a, 'b> Keyring for RealKeys<'a, 'b> {
         let Some(page) = self.real.page_at(frame) else {
             return StorageKey::ZERO;
         };
-        self.real.dat.key_of(2 * page + block % 2)
+        self.real.key_of(2 * page + block % 2)
     }
 }
 
-impl<'a> Storage for Real<'a> {
+impl<'a, 'b, 'c> Storage for Real<'a, 'b, 'c> {
     ghost use Rattle.cp_real.specs.Shown.{real_bytes_of, real_keys_of, is_real_page_of, KeepsReal, keeps_real_same, keeps_real_size, keeps_real_present, keeps_real_on, IsInArea, in_area_kept};
 
     ghost bytes = { real_bytes_of };

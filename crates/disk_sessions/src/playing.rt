@@ -72,7 +72,7 @@ fn difference_on<R: AllocGlobal + Files>(
         let line = str::from_utf8(line)?;
         return Ok(Some(format!(in alloc; "on {frames} frames: {line}")?));
     }
-    match other_volume(rt, block, &system.into_volumes())? {
+    match other_volume(rt, block, &system)? {
         Some(name) => Ok(Some(format!(in alloc;
             "on {frames} frames {name} is not what there is"
         )?)),
@@ -131,9 +131,10 @@ fn other_line<'a>(told: &'a [u8], wanted: &[u8]) -> Option<&'a [u8]> {
 fn other_volume<'a, R: AllocGlobal + Files>(
     rt: &R,
     block: &'a Block,
-    ended: &[Volume],
+    ended: &System,
 ) -> Result<Option<&'a str>> {
-    for (index, volume) in ended.iter().enumerate() {
+    for index in 0..ended.volumes() {
+        let volume = ended.volume(index).context("a volume is away")?;
         let stating = block.ended.get(index).or(block.volumes.get(index));
         let name = stating.context("there are more volumes than before")?;
         if image(rt.alloc(), volume)? != image(rt.alloc(), &stated(rt, name)?)? {

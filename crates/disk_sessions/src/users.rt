@@ -69,8 +69,9 @@ pub fn difference_of_user(
     }
     let mut after = volume_of(alloc, case)?;
     write_tracks(alloc, &mut after, 1, case.tracks_after)?;
-    for volume in system.into_volumes() {
-        if !is_same_volume(&volume, &after) {
+    for index in 0..system.volumes() {
+        let volume = system.volume(index).context("a volume is away")?;
+        if !is_same_volume(volume, &after) {
             return Ok(Some("a track of a user or of a neighbour"));
         }
     }

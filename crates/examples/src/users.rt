@@ -75,7 +75,7 @@ fn transcript<R: AllocGlobal + Files>(rt: &R, folder: &str, sizes: Sizes) -> Res
     let mut script = open(rt, folder, "script")?;
     let mut transcript = Vec::new(alloc);
     session(alloc, &mut system, &mut script, &mut transcript)?;
-    compare_volumes(rt, folder, &names, &system.into_volumes())?;
+    compare_volumes(rt, folder, &names, &system)?;
     Ok(transcript)
 }
 
@@ -103,10 +103,11 @@ fn compare_volumes<R: AllocGlobal + Files>(
     rt: &R,
     folder: &str,
     names: &str,
-    ended: &[Volume],
+    ended: &System,
 ) -> Result<()> {
     let alloc = rt.alloc();
-    for (name, ended) in names.lines().zip(ended) {
+    for (index, name) in names.lines().enumerate() {
+        let ended = ended.volume(index).context("a volume is away")?;
         let after = volume(rt, folder, &format!(in alloc; "{name}.after")?)?;
         let wanted = match after {
             Some(wanted) => Some(wanted),

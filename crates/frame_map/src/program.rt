@@ -57,5 +57,5 @@ fn run<R: AllocGlobal + Files + Env + Print + Eprint>(rt: &R) -> Result<(), Fail
     let mut writer = Counted::new(output);
     write_all(&mut writer, &map)?;
     writer.flush()?;
-    save(rt, system, &options)
+    save(rt, &system, &options)
 }

@@ -101,7 +101,7 @@ fn run<R: AllocGlobal + Files + Env + Print + Eprint>(rt: &R) -> Result<(), Fail
     };
     let mut system = boot(rt, &options)?;
     play(rt, &mut system, options.script)?;
-    save(rt, system, &options)
+    save(rt, &system, &options)
 }
 
 /// Plays the script at a path, and writes its transcript to standard output.
@@ -175,16 +175,17 @@ pub fn boot<R: AllocGlobal + Files>(rt: &R, options: &Options<'_>) -> Result<Sys
 /// Writes the images of the volumes of the system back, in their order, where the options ask for that.
 pub fn save<R: AllocGlobal + Files>(
     rt: &R,
-    system: System,
+    system: &System,
     options: &Options<'_>,
 ) -> Result<(), Failure> {
     if !options.save {
         return Ok(());
     }
     let paths = owned(rt.alloc(), options.volumes.as_slice())?;
-    let volumes = system.into_volumes();
-    for (volume, path) in volumes.iter().zip(paths) {
-        save_volume(rt, volume, path)?;
+    for (index, path) in paths.into_iter().enumerate() {
+        if let Some(volume) = system.volume(index) {
+            save_volume(rt, volume, path)?;
+        }
     }
     Ok(())
 }

@@ -29,6 +29,7 @@ loop-done-preserved g c =
     record {
       same = rw (c.bring.ensures.bytes, c.bring.ensures.keys) (whole.1 ∙ c.loop-done.invariant.same);
       size = ap (λ (bytes : List ℕ). length bytes) c.bring.ensures.bytes ∙ g.met.S.Storage.keeps_size _ _ c.serve.ensures.rest ∙ c.loop-done.invariant.size;
+      others = g.met.C.Disks.others_on _ _ _ c.loop-done.invariant.others c.serve.ensures.others;
       supply = (
         (s.0 ++ []) ++ (page ∷ []),
         g.met.S.Supply.brought_on _ _ _ (s.0 ++ []) (page ∷ []) (g.met.S.Supply.brought_on _ _ _ s.0 [] s.1 (g.met.S.Supply.brought_none _ _ c.serve.ensures.rest)) c.in-Ok-bring.ensures.brought,
@@ -43,3 +44,12 @@ returns-in-Err-clause-supply g c =
       g.met.S.Supply.brought_on _ _ _ (s.0 ++ []) [] (g.met.S.Supply.brought_on _ _ _ s.0 [] s.1 (g.met.S.Supply.brought_none _ _ c.serve.ensures.rest)) c.in-Err.ensures.refused,
       all_needed ProgramNeeds (s.0 ++ []) [] (all_needed ProgramNeeds s.0 [] s.2 tt) tt,
     )
+
+pub returns-in-Ok-clause-others : goal.returns-in-Ok-clause-others
+returns-in-Ok-clause-others g c = g.met.C.Disks.others_on _ _ _ c.loop-done.invariant.others c.serve.ensures.others
+
+pub returns-in-Err-Memory-clause-others : goal.returns-in-Err-Memory-clause-others
+returns-in-Err-Memory-clause-others g c = g.met.C.Disks.others_on _ _ _ c.loop-done.invariant.others c.serve.ensures.others
+
+pub returns-in-Err-clause-others : goal.returns-in-Err-clause-others
+returns-in-Err-clause-others g c = g.met.C.Disks.others_on _ _ _ c.loop-done.invariant.others c.serve.ensures.others

@@ -4,7 +4,7 @@ use Rattle.cp_devices.specs.declared.line.Told.{Told}
 use Rattle.cp_devices.specs.Equipped.{equipped}
 use Rattle.cp_devices.specs.Lines.{loads_from}
 use Rattle.cp_panel.specs.declared.line.LineError.{LineError}
-use Rattle.cp_core.specs.Resident.{disks_on}
+use Rattle.cp_core.specs.Resident.{disks_on, hung_further}
 use Rattle.cp_core.specs.Typed.{IsLineLent}
 use Rattle.cp_core.proofs.Answered.{loads_ipl, plain_whole}
 use Rattle.cp_core.proofs.Worked.{loading_lent, plainly_lent}
@@ -36,6 +36,9 @@ returns-in-Some-clause-lent g c =
     let loads : loads_from c.in-Ok.first ≡ Some c.in-Some.device = sym c.loads_from.ensures ∙ c.in-Some.is in
     let l = loads_ipl (g.W.World.known c.args.world.now) c.args.typed.now before c.in-Ok.first after c.in-Some.device c.in-Ok.ensures.ok loads in
     loading_lent c.args.typed.now before c.args.storage.now c.line.new.storage c.load_supplied.new.storage c.load_supplied.result l.0 c.line.ensures.supply c.line.ensures.size c.load_supplied.ensures.frames c.load_supplied.ensures.supply
+
+pub returns-in-Some-clause-others : goal.returns-in-Some-clause-others
+returns-in-Some-clause-others g c = hung_further c.args.channels.now c.line.new.disks c.load_supplied.new.channels c.line.ensures.others c.load_supplied.ensures.others
 
 pub returns-in-None-clause-ok : goal.returns-in-None-clause-ok
 returns-in-None-clause-ok g c =

@@ -10,10 +10,11 @@ pub invariant_of-self-lent : goal.invariant_of-self-lent
 invariant_of-self-lent c =
     let seats = c.self.inside.users.items in
     let users = c.self.inside.directory in
+    let volumes = c.self.inside.volumes in
     let pool = c.self.inside.frames in
-    let fits : (p q : Pool) → p ≡ q → IsSystem seats q users → IsSystem seats p users = λ p q e whole. subst (λ (p : Pool). IsSystem seats p users) (sym e) whole in
+    let fits : (p q : Pool) → p ≡ q → IsSystem seats volumes q users → IsSystem seats volumes p users = λ p q e whole. subst (λ (p : Pool). IsSystem seats volumes p users) (sym e) whole in
     λ lent. (
-      λ w. fits (c.frame_mut.follows.lender w) _ (c.frame_mut.follows.holds w) (system_written seats pool users c.args.frame.0 w c.self.invariant),
+      λ w. fits (c.frame_mut.follows.lender w) _ (c.frame_mut.follows.holds w) (system_written seats volumes pool users c.args.frame.0 w c.self.invariant),
       fits c.frame_mut.follows.lender-at-none pool c.frame_mut.follows.holds-at-none c.self.invariant,
     )
 
@@ -21,11 +22,12 @@ pub returns : goal.returns
 returns c =
     let seats = c.self.inside.users.items in
     let users = c.self.inside.directory in
+    let volumes = c.self.inside.volumes in
     let pool = c.self.inside.frames in
-    let see = seen_with seats users c.self.inside.files.items c.self.inside.volumes.items c.self.inside.is_spent in (
+    let see = seen_with seats users c.self.inside.files.items volumes c.self.inside.is_spent in (
       (
         refl,
-        λ w. ap see (c.frame_mut.follows.holds w) ∙ (seen_written seats users c.self.inside.files.items c.self.inside.volumes.items c.self.inside.is_spent pool c.args.frame.0 w ∙ ap (λ (s : SystemView). written_frame s c.args.frame.0 w) c.self.view_is),
+        λ w. ap see (c.frame_mut.follows.holds w) ∙ (seen_written seats users c.self.inside.files.items volumes c.self.inside.is_spent pool c.args.frame.0 w ∙ ap (λ (s : SystemView). written_frame s c.args.frame.0 w) c.self.view_is),
         ap see c.frame_mut.follows.holds-at-none ∙ c.self.view_is,
       ),
       record { writes_back = tt; some = rw (← c.self.view_is) c.frame_mut.ensures.some },

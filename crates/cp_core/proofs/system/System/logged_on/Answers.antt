@@ -6,4 +6,4 @@ use Rattle.cp_core.proofs.system.System.logged_on.Goals as goal
 pub returns : goal.returns
 returns c =
     let whole = c.self.invariant.whole in
-    rw (← ap (λ (s : SystemView). logged_on_of s.users) c.self.view_is, ← modes_of c.self.inside.users.items c.self.inside.frames.storages (omega (arith, whole.seated, whole.stored))) (search rules)
+    rw (← ap (λ (s : SystemView). logged_on_of s.users) c.self.view_is, ← modes_of c.self.inside.users.items c.self.inside.volumes c.self.inside.frames.storages (omega (arith, whole.seated, whole.stored))) (search rules)

@@ -21,7 +21,7 @@ pub slot_of-requires : goal.slot_of-requires
 slot_of-requires c =
     let bytes = (machine_at c.args.self.now c.args.user).core.processor.bytes in
     let inside : nat_lt (c.args.page.0 * 4096) (length bytes) ≡ true = sym c.has_page.ensures.inside ∙ c.if-not-has_page.false in
-    let stored = bytes_are c.self.inside.users.items c.self.inside.frames.storages c.self.inside.directory c.args.self.now.users c.args.user c.self.invariant.whole (ap (λ (s : SystemView). s.users) c.self.view_is) (c.has_page.ensures.user c.if-not-has_page.false) in
+    let stored = bytes_are c.self.inside.users.items c.self.inside.volumes c.self.inside.frames.storages c.self.inside.directory c.args.self.now.users c.args.user c.self.invariant.whole (ap (λ (s : SystemView). s.users) c.self.view_is) (c.has_page.ensures.user c.if-not-has_page.false) in
     let less : c.args.page.0 * 4096 < length bytes = grind (arith, nat_tests) in
     omega (arith, less, ap (λ (xs : List ℕ). length xs) stored)
 
@@ -51,5 +51,5 @@ returns-clause-zero c =
     let bytes = (machine_at c.args.self.now c.args.user).core.processor.bytes in
     let inside : nat_lt (c.args.page.0 * 4096) (length bytes) ≡ true = sym c.has_page.ensures.inside ∙ c.if-not-has_page.false in
     let same = ap (λ (s : SystemView). frame_of s.supply.owners c.args.user c.args.page.0) c.self.view_is in
-    let stored = bytes_are c.self.inside.users.items c.self.inside.frames.storages c.self.inside.directory c.args.self.now.users c.args.user c.self.invariant.whole (ap (λ (s : SystemView). s.users) c.self.view_is) (c.has_page.ensures.user c.if-not-has_page.false) in
+    let stored = bytes_are c.self.inside.users.items c.self.inside.volumes c.self.inside.frames.storages c.self.inside.directory c.args.self.now.users c.args.user c.self.invariant.whole (ap (λ (s : SystemView). s.users) c.self.view_is) (c.has_page.ensures.user c.if-not-has_page.false) in
     none_so c.slot_of.result _ _ (λ zero nowhere. subst (λ (bs : List ℕ). IsZeroPage bs c.args.page.0) stored (zero (same ∙ sym (told_inside (nat_lt (c.args.page.0 * 4096) (length bytes)) (frame_of c.args.self.now.supply.owners c.args.user c.args.page.0) inside) ∙ nowhere))) c.slot_of.ensures.zero

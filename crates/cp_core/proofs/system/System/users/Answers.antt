@@ -6,5 +6,5 @@ use Rattle.cp_core.proofs.system.System.users.Goals as goal
 pub returns-clause-value : goal.returns-clause-value
 returns-clause-value c =
     let same : length c.self.inside.users.items ≡ length c.self.inside.frames.storages = omega (arith, c.self.invariant.whole.seated, c.self.invariant.whole.stored) in
-    let all = length-users c.self.inside.users.items c.self.inside.frames.storages same in
+    let all = length-users c.self.inside.users.items c.self.inside.volumes c.self.inside.frames.storages same in
     omega (arith, all, ap (λ (s : SystemView). length s.users) c.self.view_is, c.self.inside.users.ok.0, c.len.ensures)

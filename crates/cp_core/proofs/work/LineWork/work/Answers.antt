@@ -1,28 +1,52 @@
-use Rattle.std.proofs.Common.{refl}
+use Rattle.std.proofs.Common.{◌≡◌, refl, subst, sym, Err, Result, false, List}
+use Rattle.std.specs.Prelude.{IfOk}
 use Rattle.cp_dat.specs.Lent.{lent_bytes, lent_keys, user_of}
-use Rattle.cp_devices.specs.Equipped.{equipped}
-use Rattle.cp_core.specs.Resident.{disks_on}
+use Rattle.cp_devices.specs.Equipped.{Equipped, equipped}
+use Rattle.cp_devices.specs.Lines.{IsWholeLine, requested}
+use Rattle.cp_panel.specs.declared.line.LineError.TheVariants as errors
+use Rattle.cp_volumes.specs.Shared.{DisksValue, KeepsNeighbours, SharedMinidisk, seen}
+use Rattle.ckd_volume.specs.Volume.{VolumeFormat}
+use Rattle.cp_core.specs.Resident.{disks_on, hung_on}
 use Rattle.cp_core.specs.System.{world_among}
+use Rattle.cp_core.specs.Typed.{IsLineLent}
+use Rattle.cp_core.specs.Wants.{LineMay, is_ipl}
 use Rattle.cp_core.proofs.Worked.{typed_work, work_between, work_keeps}
 use Rattle.cp_core.proofs.work.LineWork.work.Goals as goal
 
 pub returns-clause-kept : goal.returns-clause-kept
 returns-clause-kept c =
-    let before = equipped c.args.machine.now c.args.devices.now (disks_on c.args.channels.now) (lent_bytes c.args.storage.now) (lent_keys c.args.storage.now) in
+    let before = equipped c.args.machine.now c.args.devices.now (disks_on c.take-channels.result) (lent_bytes c.args.storage.now) (lent_keys c.args.storage.now) in
     let told = c.type_supplied-told in
     work_keeps c.args.self.now.typed.now before c.args.storage.now told.new.storage c.let_go.new.self told.result told.ensures.lent c.let_go.ensures.let_go
 
 pub returns-clause-between : goal.returns-clause-between
 returns-clause-between c =
-    let before = equipped c.args.machine.now c.args.devices.now (disks_on c.args.channels.now) (lent_bytes c.args.storage.now) (lent_keys c.args.storage.now) in
+    let before = equipped c.args.machine.now c.args.devices.now (disks_on c.take-channels.result) (lent_bytes c.args.storage.now) (lent_keys c.args.storage.now) in
     let told = c.type_supplied-told in
     work_between c.args.self.now.typed.now before c.args.storage.now told.new.storage c.let_go.new.self told.result c.requires.between told.ensures.lent c.let_go.ensures.let_go
+
+pub returns-clause-neighbours : goal.returns-clause-neighbours
+returns-clause-neighbours c =
+    let told = c.type_supplied-told in
+    let first : KeepsNeighbours (record { volumes = c.args.volumes.now; minidisks = c.args.minidisks.now.items }) (hung_on told.new.channels) =
+    subst (λ (d : DisksValue). KeepsNeighbours d (hung_on told.new.channels)) c.take-channels.ensures told.ensures.others in
+    rw (c.give.ensures.volumes, c.give.ensures.minidisks) first
 
 pub returns-clause-does : goal.returns-clause-does
 returns-clause-does c =
     let told = c.type_supplied-told in
-    let before = equipped c.args.machine.now c.args.devices.now (disks_on c.args.channels.now) (lent_bytes c.args.storage.now) (lent_keys c.args.storage.now) in
+    let r = told.result in
+    let start : DisksValue = record { volumes = c.args.volumes.now; minidisks = c.args.minidisks.now.items } in
+    let from : DisksValue → Equipped = λ d. equipped c.args.machine.now c.args.devices.now (seen d) (lent_bytes c.args.storage.now) (lent_keys c.args.storage.now) in
     let after = equipped told.new.machine told.new.devices (disks_on told.new.channels) (lent_bytes told.new.storage) (lent_keys told.new.storage) in
+    let typed = c.args.self.now.typed.now in
     let world = world_among c.users.result.now c.args.self.now.user c.as_slice.result.now in
-    rw (← c.users.ensures.users, ← c.as_slice.ensures.value, c.let_go.ensures.bytes, c.let_go.ensures.keys)
-    (typed_work world (user_of c.args.storage.now) c.args.self.now.typed.now before after c.args.storage.now told.new.storage c.let_go.new.self told.result refl c.requires.between told.ensures.lent c.let_go.ensures.let_go told.ensures.ok told.ensures.same told.ensures.kept told.ensures.memory)
+    let Facts : DisksValue → Type 0 = λ d.
+    IsLineLent typed (from d) c.args.storage.now told.new.storage r
+    × IfOk r (λ t. IsWholeLine world typed (from d) t after)
+    × (r ≡ Err errors.FramesOut → after ≡ from d)
+    × (r ≡ Err errors.Memory → is_ipl (requested typed (from d)) ≡ false → after ≡ from d)
+    × (r ≡ Err errors.Memory → LineMay typed (from d)) in
+    let facts : Facts start = subst Facts c.take-channels.ensures (told.ensures.lent, told.ensures.ok, told.ensures.same, told.ensures.kept, told.ensures.memory) in
+    rw (← c.users.ensures.users, ← c.as_slice.ensures.value, c.let_go.ensures.bytes, c.let_go.ensures.keys, c.give.ensures.volumes, c.give.ensures.minidisks)
+    (typed_work world (user_of c.args.storage.now) typed (from start) after c.args.storage.now told.new.storage c.let_go.new.self r refl c.requires.between facts.0 c.let_go.ensures.let_go facts.1 facts.2 facts.3 facts.4)

@@ -1,19 +1,14 @@
 use Rattle.std.proofs.Common.{ℕ, Bool, arith, length, subst, sym, ap, ◌∙◌}
-use Rattle.std.specs.Prelude.{slice_get, map, ◌≤◌}
-use Rattle.s370_walk.specs.Hardware.{memory_of}
 use Rattle.s370_channel.specs.declared.running.ChannelError.{ChannelError}
-use Rattle.cp_channels.specs.Disks.{reset_disk}
-use Rattle.cp_channels.specs.Own.{disks_of}
-use Rattle.cp_devices.specs.Loading.{LacksPage}
-use Rattle.cp_devices.proofs.Staying.{disk_lacks, psw_page}
+use Rattle.cp_channels.specs.Channels.{LacksPage}
+use Rattle.cp_devices.proofs.Staying.{psw_page}
 use Rattle.cp_devices.proofs.devices.Devices.load_disk.Goals as goal
 
 pub returns-in-Err-Absent-clause-frames : goal.returns-in-Err-Absent-clause-frames
 returns-in-Err-Absent-clause-frames g c = λ same. (
     let bytes = g.S.Storage.bytes c.args.storage.now in
     let present = g.S.Storage.present c.args.storage.now in
-    let h = disk_lacks (slice_get (disks_of c.reset-2.new.self) c.args.index) present (memory_of bytes (g.S.Storage.keys c.args.storage.now)) c.in-Err-Absent.field-0 c.in-Err-Absent.ensures.stopped in
-    (c.in-Err-Absent.field-0-0.0, subst (λ (e : ChannelError). LacksPage (length bytes) present e) c.in-Err-Absent.field-0-is h))
+    (c.in-Err-Absent.field-0-0.0, subst (λ (e : ChannelError). LacksPage (length bytes) present e) c.in-Err-Absent.field-0-is c.in-Err-Absent.ensures.lacks))
 
 pub returns-in-Err-start_loaded-clause-frames : goal.returns-in-Err-start_loaded-clause-frames
 returns-in-Err-start_loaded-clause-frames g c = λ same. (

@@ -17,4 +17,4 @@ pub returns-in-Err-clause-err : goal.returns-in-Err-clause-err
 returns-in-Err-clause-err g c = λ bytes keys. ap (λ (m : Machine). with c.args.self.now (g.D.Disks.disks c.args.disks.now) m) (c.in-Err.ensures.err bytes keys)
 
 pub returns-clause-ok : goal.returns-clause-ok
-returns-clause-ok g c = λ bytes keys. rw (c.reset.ensures, c.reset_disks.ensures) (ap (λ (a : Answer). outcome (with (devices_reset c.args.self.now) (map reset_disk (g.D.Disks.disks c.args.disks.now)) a.machine) (Said SystemReset)) (sym (c.in-Ok.ensures.ok bytes keys)))
+returns-clause-ok g c = λ bytes keys. rw (c.reset.ensures, c.reset_disks.ensures.reset) (ap (λ (a : Answer). outcome (with (devices_reset c.args.self.now) (map reset_disk (g.D.Disks.disks c.args.disks.now)) a.machine) (Said SystemReset)) (sym (c.in-Ok.ensures.ok bytes keys)))

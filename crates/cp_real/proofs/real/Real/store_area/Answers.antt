@@ -7,14 +7,14 @@ use Rattle.cp_real.proofs.real.Real.store_area.Goals as goal
 
 pub put_at-requires : goal.put_at-requires
 put_at-requires c =
-    let d = c.args.self.now.dat in
+    let d = c.args.self.now.dat.now in
     let f = length-framed (lent_bytes d) (lent_pool d).supply.owners (user_of d) in
     let a = length-append (framed_bytes (lent_bytes d) (lent_pool d).supply.owners (user_of d)) c.args.self.now.area.now in
     omega (arith, f, a, c.args.self.now.counted, c.requires.inside)
 
 pub returns-clause-bytes : goal.returns-clause-bytes
 returns-clause-bytes c =
-    let d = c.args.self.now.dat in
+    let d = c.args.self.now.dat.now in
     let framed = framed_bytes (lent_bytes d) (lent_pool d).supply.owners (user_of d) in
     let f = length-framed (lent_bytes d) (lent_pool d).supply.owners (user_of d) in
     let a = length-append framed c.args.self.now.area.now in

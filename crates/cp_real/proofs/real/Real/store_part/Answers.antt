@@ -8,14 +8,14 @@ use Rattle.cp_real.proofs.real.Real.store_part.Goals as goal
 
 pub returns-in-Some-clause-bytes : goal.returns-in-Some-clause-bytes
 returns-in-Some-clause-bytes c =
-    let d = c.args.self.now.dat in
+    let d = c.args.self.now.dat.now in
     let e = c.store.new.self in
     real_put (lent_bytes d) (lent_bytes e) c.args.self.now.area.now c.args.from.now (lent_pool d).supply.owners (lent_pool e).supply.owners (user_of d) (user_of e) c.args.start c.in-Some.page
     (sym c.page_at.ensures.page ∙ c.in-Some.is) (omega (arith, c.args.self.now.counted)) c.requires.one_page c.store.ensures.bytes (ap (λ (s : FrameSupply). s.owners) c.store.ensures.rest.same_supply) c.store.ensures.rest.same_user
 
 pub returns-in-Some-clause-size : goal.returns-in-Some-clause-size
 returns-in-Some-clause-size c =
-    let d = c.args.self.now.dat in
+    let d = c.args.self.now.dat.now in
     let e = c.store.new.self in
     let bytes = real_put (lent_bytes d) (lent_bytes e) c.args.self.now.area.now c.args.from.now (lent_pool d).supply.owners (lent_pool e).supply.owners (user_of d) (user_of e) c.args.start c.in-Some.page
     (sym c.page_at.ensures.page ∙ c.in-Some.is) (omega (arith, c.args.self.now.counted)) c.requires.one_page c.store.ensures.bytes (ap (λ (s : FrameSupply). s.owners) c.store.ensures.rest.same_supply) c.store.ensures.rest.same_user in
@@ -23,19 +23,20 @@ returns-in-Some-clause-size c =
 
 pub returns-in-Some-clause-keys : goal.returns-in-Some-clause-keys
 returns-in-Some-clause-keys c =
-    let d = c.args.self.now.dat in
+    let d = c.args.self.now.dat.now in
     let e = c.store.new.self in
     real_keys_put (lent_bytes d) (lent_bytes e) (lent_keys d) (lent_keys e) (lent_pool d).supply.owners (lent_pool e).supply.owners (user_of d) (user_of e) (length c.args.self.now.area.now)
     c.store.ensures.rest.same_size c.store.ensures.keys (ap (λ (s : FrameSupply). s.owners) c.store.ensures.rest.same_supply) c.store.ensures.rest.same_user
 
 pub returns-in-Some-clause-rest : goal.returns-in-Some-clause-rest
 returns-in-Some-clause-rest c =
-    let d = c.args.self.now.dat in
+    let d = c.args.self.now.dat.now in
     record {
       lent = c.store.ensures.rest;
       keys = c.store.ensures.keys;
       away = λ a none. ap (λ (l : List ℕ). get_or l a 0) c.store.ensures.bytes
           ∙ away_put (lent_bytes d) c.args.from.now (lent_pool d).supply.owners (user_of d) c.args.start c.in-Some.page (sym c.page_at.ensures.page ∙ c.in-Some.is) c.requires.one_page a none;
+      same_dat = refl;
       same_area = refl;
       area = refl;
     }

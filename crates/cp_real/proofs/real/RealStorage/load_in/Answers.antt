@@ -6,6 +6,6 @@ use Rattle.cp_real.proofs.real.RealStorage.load_in.Goals as goal
 pub load_area-requires-clause-inside : goal.load_area-requires-clause-inside
 load_area-requires-clause-inside c =
     let r = c.args.self.now in
-    let all = length-real (lent_bytes r.dat) (lent_pool r.dat).supply.owners (user_of r.dat) r.area.now in
+    let all = length-real (lent_bytes r.dat.now) (lent_pool r.dat.now).supply.owners (user_of r.dat.now) r.area.now in
     let ends = c.requires.placed.ends in
     omega (arith, all, ends, c.requires.ends)

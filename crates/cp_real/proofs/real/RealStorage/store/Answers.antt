@@ -28,7 +28,7 @@ store_part-requires-else-from-left-clause-here c =
 pub overflow_add-start : goal.overflow_add-start
 overflow_add-start c =
     let r = c.args.self.now in
-    let d = r.dat in
+    let d = r.dat.now in
     let f = length-framed (lent_bytes d) (lent_pool d).supply.owners (user_of d) in
     let a = length-append (framed_bytes (lent_bytes d) (lent_pool d).supply.owners (user_of d)) r.area.now in
     omega (arith, f, a, r.counted, r.few, r.small, c.requires.granted.inside)

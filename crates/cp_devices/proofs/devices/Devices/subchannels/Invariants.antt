@@ -1,8 +1,0 @@
-use Rattle.std.proofs.Common.{◌≡◌, ℕ}
-use Rattle.std.specs.Prelude.{◌&&◌, is_some, nat_lt}
-use Rattle.s370_subchannels.specs.Subchannels.{found}
-use Rattle.cp_devices.specs.Devices.{has_device}
-use Rattle.cp_devices.proofs.devices.Devices.subchannels.Given as goal
-
-abbrev pub invariant-loop-address : goal.invariant-loop-address
-invariant-loop-address l = (device : ℕ) → is_some (found device l.subchannels) ≡ (nat_lt device l.address && has_device l.fn.self l.fn.disks device)

@@ -1,0 +1,74 @@
+//! The minidisks of users, each at its place on its volume.
+ghost use Rattle.std.specs.Prelude.{◌≡◌, ◌<◌, false, true, IfOk};
+ghost use Rattle.std.specs.List.{list_any, position};
+ghost use Rattle.cp_directory.specs.Extents.{is_volser};
+ghost use Rattle.cp_seating.specs.Seating.{AreLawful, IsLawful, extent_in, has_volser, lacks_volume, seat_of, seats_of};
+
+use ckd_volume::Volume;
+use cp_directory::{DiskExtent, Minidisk, Volser};
+use cp_minidisk::Extent;
+use cp_volumes::SharedDisk;
+use std::alloc::{AllocError, Global};
+
+/// A user's minidisks on these volumes, in their order, as no program has used them. No cylinder is copied.
+pub fn seats_of(
+    alloc: Global,
+    volumes: &[Volume],
+    minidisks: &[Minidisk],
+) -> Result<Vec<SharedDisk>, AllocError>
+    requires there { list_any (lacks_volume volumes.now) minidisks.now ≡ false }
+    ensures seats { IfOk result (λ seats. seats.items ≡ seats_of volumes.now minidisks.now) }
+    ensures lawful { IfOk result (λ seats. AreLawful minidisks.now) }
+{
+    let mut seats = Vec::with_capacity(alloc, minidisks.len())?;
+    for minidisk in minidisks {
+        seats.push(seat_of(volumes, minidisk))?;
+    }
+    Ok(seats)
+}
+
+/// A minidisk on its volume, as no program has used it.
+#[tactic(auto, using(crate::proofs::Found::unplaced, crate::proofs::Found::placed))]
+fn seat_of(volumes: &[Volume], minidisk: &Minidisk) -> SharedDisk
+    requires { lacks_volume volumes.now minidisk.now ≡ false }
+    ensures seat { result ≡ seat_of volumes.now minidisk.now }
+    ensures lawful { IsLawful minidisk.now }
+{
+    let extent = extent_in(&minidisk.extent);
+    match place_of(volumes, volser_of(&minidisk.extent)) {
+        Some(volume) => SharedDisk::new(minidisk.address, volume, extent),
+        None => unreachable!(),
+    }
+}
+
+/// The index of the first of these volumes that has this serial number.
+fn place_of(volumes: &[Volume], volser: Volser) -> Option<usize>
+    ensures { result ≡ position (has_volser volser) volumes.now }
+{
+    volumes
+        .iter()
+        .position(|volume| volume.volser() == volser.padded())
+}
+
+/// The serial number of an extent's volume.
+fn volser_of(extent: &DiskExtent) -> Volser
+    ensures value { result ≡ extent.now.volser }
+    ensures lawful { is_volser result ≡ true }
+{
+    let volser = extent.volser();
+    // Of which characters each serial number is made is seen here.
+    let _ = volser.as_bytes();
+    volser
+}
+
+/// The extent as a minidisk has it.
+fn extent_in(extent: &DiskExtent) -> Extent
+    ensures value { result ≡ extent_in extent.now }
+    ensures some { 0 < extent.now.count }
+{
+    let writable = !extent.mode().is_read_only();
+    match Extent::new(extent.start(), extent.count(), writable) {
+        Some(extent) => extent,
+        None => unreachable!(),
+    }
+}

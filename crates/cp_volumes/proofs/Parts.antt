@@ -1,0 +1,102 @@
+-- What a program leaves of a minidisk that is mounted on the unit of its volume.
+use Rattle.std.specs.Prelude.{ℕ, ◌≡◌, refl, Bool, List, Option, None, Some, length}
+use Rattle.std.proofs.Common.{sym, ◌∙◌, ap, subst, inl, inr}
+use Rattle.std.proofs.lemmas.Bool.{false≢true, true≢false}
+use Rattle.s370_store.specs.Access.{IsAway}
+use Rattle.s370_walk.specs.declared.parts.Ending.{Ending}
+use Rattle.s370_walk.specs.declared.parts.Order.{Order}
+use Rattle.s370_walk.specs.declared.parts.Spot.{Spot}
+use Rattle.s370_walk.specs.declared.parts.Word.{Word}
+use Rattle.s370_walk.specs.Hardware.{Machine, Memory}
+use Rattle.s370_walk.specs.Short.{nothing_needed}
+use Rattle.s370_walk.specs.Walk.{Form, Setting, State, Fetching, Over, Reaches, Written, entered, live, start_spot}
+use Rattle.s370_channel.specs.declared.running.ChannelError.{ChannelError}
+use Rattle.s370_channel.specs.declared.running.ChannelError.TheVariants as errors
+use Rattle.s370_channel.specs.declared.words.Caw.{Caw}
+use Rattle.s370_channel.specs.Guest.{guest_written}
+use Rattle.s370_channel.specs.Loading.{MatchLoading, loading, loading_limits, implied_word}
+use Rattle.s370_channel.specs.Progress.{MatchStuck, setting}
+use Rattle.s370_channel.specs.Reading.{as_reached}
+use Rattle.s370_channel.specs.Runs.{Walks, limited}
+use Rattle.ckd_volume.specs.Front.{Cylinder}
+use Rattle.ckd_volume.specs.Unit.{disk_machine}
+use Rattle.cp_channels.specs.Channels.{IsAllThere, WalksLoading}
+use Rattle.cp_channels.proofs.Staying.{loading_lacks}
+use Rattle.cp_minidisk.specs.Kept.{Keeps, device_in}
+use Rattle.cp_minidisk.specs.Part.{Part, extent_of, part_machine, unit_of}
+use Rattle.cp_minidisk.specs.PartLaws.{HasSameNeighbours}
+use Rattle.cp_minidisk.specs.Placed.{IsReadOnly}
+use Rattle.cp_minidisk.specs.Projected.{on_device, seen}
+use Rattle.cp_minidisk.proofs.Along as along
+use Rattle.cp_minidisk.proofs.Parting.{HasExtentOf, extent_kept, extent_same, follows, neighbours_kept, read_only_kept}
+use Rattle.cp_minidisk.proofs.Walked as walked
+use Rattle.cp_volumes.specs.Running.{KeepsVolume}
+
+-- ---- what is kept in each step
+
+record IsKept (p q : Part) : Type 0 where
+  neighbours : HasSameNeighbours p q
+  extent : HasExtentOf (extent_of p) q
+  read_only : IsReadOnly p.disk.cylinders p.disk → IsReadOnly p.disk.cylinders q.disk
+
+each_keeps : (p : Part) → Keeps part_machine (IsKept p)
+each_keeps p =
+    let n = neighbours_kept p in
+    let x = extent_kept (extent_of p) in
+    let r = read_only_kept p.disk.cylinders in
+    record {
+      started = λ q order i. record { neighbours = n.started q order i.neighbours; extent = x.started q order i.extent; read_only = λ only. r.started q order (i.read_only only) };
+      gave = λ q i. record { neighbours = n.gave q i.neighbours; extent = x.gave q i.extent; read_only = λ only. r.gave q (i.read_only only) };
+      took = λ q byte i. record { neighbours = n.took q byte i.neighbours; extent = x.took q byte i.extent; read_only = λ only. r.took q byte (i.read_only only) };
+      finished = λ q i. record { neighbours = n.finished q i.neighbours; extent = x.finished q i.extent; read_only = λ only. r.finished q (i.read_only only) };
+    }
+
+at_first : (p : Part) → IsKept p p
+at_first p = record {
+  neighbours = record { volser = refl; below = refl; above = refl };
+  extent = record { start = refl; count = refl; mode = refl };
+  read_only = λ only. only;
+}
+
+kept_volume : (p q : Part) → IsKept p q → KeepsVolume p q
+kept_volume p q i = record {
+  neighbours = i.neighbours;
+  extent = extent_same (extent_of p) q i.extent;
+  read_only = λ only. (rw (i.neighbours.below, i.neighbours.above, (i.read_only only).same) refl);
+}
+
+-- ---- a program
+
+abbrev on_part : Caw → Setting Part
+on_part start = limited part_machine start
+
+pub program_walks : (start : Caw) (m n : Memory) (p q : Part) (end : Ending) → Walks as_reached part_machine start m p end n q → Walks as_reached disk_machine start m p.disk end n q.disk
+program_walks start m n p q end to = walked.reaches_seen (λ (x : Part). x.disk) (on_part start) disk_machine follows (as_reached m) _ _ to
+
+pub program_keeps : (start : Caw) (m n : Memory) (p q : Part) (end : Ending) → Walks as_reached part_machine start m p end n q → KeepsVolume p q
+program_keeps start m n p q end to = kept_volume p q (along.reach_keeps (on_part start) (IsKept p) (each_keeps p) (as_reached m) _ _ to (at_first p))
+
+-- ---- the program of an initial program loading
+
+abbrev loading_part : Setting Part
+loading_part = setting part_machine loading_limits
+
+pub loading_walks : (m n : Memory) (p q : Part) (end : Ending) → WalksLoading part_machine m p end n q → WalksLoading disk_machine m p.disk end n q.disk
+loading_walks m n p q end to =
+    let first : seen (λ (x : Part). x.disk) (loading part_machine m p) ≡ loading disk_machine m p.disk =
+    walked.of_entry (λ (x : Part). x.disk) loading_part disk_machine follows (start_spot 0) implied_word None m p in
+    let whole = walked.reaches_seen (λ (x : Part). x.disk) loading_part disk_machine follows (live guest_written) _ _ to in
+    subst (λ (s : State _). Reaches (live guest_written) (setting disk_machine loading_limits) s (Over end n q.disk)) first whole
+
+pub loading_keeps : (m n : Memory) (p q : Part) (end : Ending) → WalksLoading part_machine m p end n q → KeepsVolume p q
+loading_keeps m n p q end to =
+    let first : IsKept p (device_in (loading part_machine m p)) = along.of_entry loading_part (IsKept p) (each_keeps p) (start_spot 0) implied_word None m p (at_first p) in
+    kept_volume p q (along.reach_keeps loading_part (IsKept p) (each_keeps p) (live guest_written) _ _ to first)
+
+-- over a storage each page of which is present the program of a loading comes to its end
+pub never_lacking : (present : ℕ → Bool) (m : Memory) (p : Part) (error : ChannelError) → IsAllThere (length m.bytes) present → MatchLoading guest_written part_machine nothing_needed present m p error → ⊥
+never_lacking present m p errors.Memory all (inl needed) = false≢true needed
+never_lacking present m p errors.Memory all (inr short) = false≢true short.needed
+never_lacking present m p (errors.Absent page) all s =
+    let lacks : IsAway (length m.bytes) present page.0 = loading_lacks guest_written part_machine nothing_needed present m p page s in
+    true≢false (sym (all page.0 lacks.inside) ∙ lacks.away)

@@ -1,0 +1,42 @@
+use Rattle.std.proofs.Common.{◌≡◌, ◌<◌, ◌∙◌, ap, arith, length, set, subst, refl, Some}
+use Rattle.std.specs.Prelude.{slice_get}
+use Rattle.std.proofs.lemmas.Option.{slice_get_read}
+use Rattle.s370_walk.specs.Hardware.{memory_of}
+use Rattle.cp_channels.specs.Channels.{LoadsDisk}
+use Rattle.cp_volumes.specs.Shared.{DisksValue, IsUsers, KeepsNeighbours, seen, stands_of}
+use Rattle.cp_volumes.proofs.Seats.{as_many, kept_one, seated_at, users_kept, loads}
+use Rattle.cp_volumes.proofs.user_disks.UserDisks.load_disk.Goals as goal
+
+pub load-requires-clause-seated : goal.load-requires-clause-seated
+load-requires-clause-seated g c =
+    let ds = c.self.inside.minidisks.items in
+    let inside : c.args.index < length ds = omega (arith, c.requires.inside, as_many c.args.self.now, ap (λ (v : DisksValue). length v.minidisks) c.self.view_is) in
+    let is : slice_get ds c.args.index ≡ Some c.index_mut.result.now = slice_get_read ds (length ds) c.args.index c.index_mut.result.now refl inside c.index_mut.ensures.value in
+    seated_at c.self.inside.volumes ds c.args.index c.index_mut.result.now c.self.invariant is
+
+pub invariant_of-self : goal.invariant_of-self
+invariant_of-self g c =
+    let ds = c.self.inside.minidisks.items in
+    let inside : c.args.index < length ds = omega (arith, c.requires.inside, as_many c.args.self.now, ap (λ (v : DisksValue). length v.minidisks) c.self.view_is) in
+    let is : slice_get ds c.args.index ≡ Some c.index_mut.result.now = slice_get_read ds (length ds) c.args.index c.index_mut.result.now refl inside c.index_mut.ensures.value in
+    users_kept c.self.inside.volumes c.load.new.self ds c.args.index c.index_mut.result.now c.load.new.disk c.self.invariant is c.load.ensures.stands c.load.ensures.confined
+
+pub returns-clause-walk : goal.returns-clause-walk
+returns-clause-walk g c =
+    let ds = c.self.inside.minidisks.items in
+    let inside : c.args.index < length ds = omega (arith, c.requires.inside, as_many c.args.self.now, ap (λ (v : DisksValue). length v.minidisks) c.self.view_is) in
+    let is : slice_get ds c.args.index ≡ Some c.index_mut.result.now = slice_get_read ds (length ds) c.args.index c.index_mut.result.now refl inside c.index_mut.ensures.value in
+    let m = memory_of (g.S.Storage.bytes c.args.storage.now) (g.S.Storage.keys c.args.storage.now) in
+    let n = memory_of (g.S.Storage.bytes c.load.new.storage) (g.S.Storage.keys c.load.new.storage) in
+    let left : DisksValue = record { volumes = c.load.new.self; minidisks = set ds c.args.index c.load.new.disk } in
+    subst (λ (v : DisksValue). LoadsDisk m (seen v) c.args.index c.load.result n (seen left)) c.self.view_is
+    (loads c.self.inside.volumes c.load.new.self ds c.args.index c.index_mut.result.now c.load.new.disk c.self.invariant is c.load.ensures.stands c.load.ensures.confined m n c.load.result c.load.ensures.walk)
+
+pub returns-clause-others : goal.returns-clause-others
+returns-clause-others g c =
+    let ds = c.self.inside.minidisks.items in
+    let inside : c.args.index < length ds = omega (arith, c.requires.inside, as_many c.args.self.now, ap (λ (v : DisksValue). length v.minidisks) c.self.view_is) in
+    let is : slice_get ds c.args.index ≡ Some c.index_mut.result.now = slice_get_read ds (length ds) c.args.index c.index_mut.result.now refl inside c.index_mut.ensures.value in
+    let left : DisksValue = record { volumes = c.load.new.self; minidisks = set ds c.args.index c.load.new.disk } in
+    subst (λ (v : DisksValue). KeepsNeighbours v left) c.self.view_is
+    (kept_one c.self.inside.volumes c.load.new.self ds c.args.index c.index_mut.result.now c.load.new.disk c.self.invariant is c.load.ensures.stands c.load.ensures.confined)

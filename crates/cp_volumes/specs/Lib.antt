@@ -1,0 +1,4 @@
+pub mod Shared
+pub mod Running
+pub mod Seen
+pub mod Keeping
