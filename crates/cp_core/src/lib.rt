@@ -34,8 +34,8 @@ mod world;
 
 pub use boot::Sizes;
 pub use cp_frames::{FRAME_SIZE, FrameNo};
-pub use delivery::{Delivered, Delivery};
 pub use cp_volumes::SeenDisk;
+pub use delivery::{Delivered, Delivery};
 pub use events::{BootError, CpError, Ended, Event, Reply};
 pub use files::FileNote;
 pub use system::{System, each_is_bare};

@@ -124,11 +124,7 @@ impl<'a> Channels<Dat<'a>> for Resident {
         }
     }
 
-    fn load_disk(
-        &mut self,
-        storage: &mut Dat<'a>,
-        index: usize,
-    ) -> Result<Ending, ChannelError> {
+    fn load_disk(&mut self, storage: &mut Dat<'a>, index: usize) -> Result<Ending, ChannelError> {
         Ok(self.disks.load_disk(storage, index))
     }
 }

@@ -33,13 +33,13 @@ found_at device d = found device d.volumes d.minidisks
 
 -- the same, as one disk
 found_where : (device : ℕ) (volumes : List VolumeFormat) (d : SharedMinidisk) (ds : List SharedMinidisk) (b : Bool)
-  → option_map (λ (x : DiskAt). x.unit) (find (is_disk_at device) (disks_on volumes ds)) ≡ option_map (λ (m : SharedMinidisk). (disk_on volumes m).unit) (find (λ (m : SharedMinidisk). m.address == device) ds)
-  → option_map (λ (x : DiskAt). x.unit) (if b then Some (disk_on volumes d) else find (is_disk_at device) (disks_on volumes ds)) ≡ option_map (λ (m : SharedMinidisk). (disk_on volumes m).unit) (if b then Some d else find (λ (m : SharedMinidisk). m.address == device) ds)
+    → option_map (λ (x : DiskAt). x.unit) (find (is_disk_at device) (disks_on volumes ds)) ≡ option_map (λ (m : SharedMinidisk). (disk_on volumes m).unit) (find (λ (m : SharedMinidisk). m.address == device) ds)
+    → option_map (λ (x : DiskAt). x.unit) (if b then Some (disk_on volumes d) else find (is_disk_at device) (disks_on volumes ds)) ≡ option_map (λ (m : SharedMinidisk). (disk_on volumes m).unit) (if b then Some d else find (λ (m : SharedMinidisk). m.address == device) ds)
 found_where device volumes d ds true rest = refl
 found_where device volumes d ds false rest = rest
 
 pub unit_found : (device : ℕ) (volumes : List VolumeFormat) (ds : List SharedMinidisk)
-  → option_map (λ (x : DiskAt). x.unit) (find (is_disk_at device) (disks_on volumes ds)) ≡ option_map (λ (m : SharedMinidisk). (disk_on volumes m).unit) (find (λ (m : SharedMinidisk). m.address == device) ds)
+    → option_map (λ (x : DiskAt). x.unit) (find (is_disk_at device) (disks_on volumes ds)) ≡ option_map (λ (m : SharedMinidisk). (disk_on volumes m).unit) (find (λ (m : SharedMinidisk). m.address == device) ds)
 unit_found device volumes [] = refl
 unit_found device volumes (d ∷ ds) = found_where device volumes d ds (d.address == device) (unit_found device volumes ds)
 

@@ -23,4 +23,3 @@ neighbours_on a b c h g = record {
   stands = g.stands ∙ h.stands;
   confined = confined_on (stands_of a.minidisks) a.volumes b.volumes c.volumes h.confined (subst (λ (s : List Stand). IsConfined s b.volumes c.volumes) h.stands g.confined);
 }
-
