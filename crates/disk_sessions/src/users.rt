@@ -3,7 +3,7 @@ use crate::case::Case;
 use crate::outcome::{arm_difference, is_same_status};
 use crate::tracks::{is_same_volume, write_tracks};
 use anyhow::{Context, Result, bail};
-use ckd_volume::{HEADS, Volume};
+use ckd_volume::{Arm, HEADS, Volume};
 use cp_core::{Ended, Event, Sizes, System};
 use cp_directory::read_directory;
 use cp_users::UserNo;
@@ -63,8 +63,8 @@ pub fn difference_of_user(
     if !has_bytes(&system, image, case.storage) || !has_bytes(&system, image, case.storage_after) {
         return Ok(Some("storage of a user"));
     }
-    let disk = system.minidisk(user(), DevAddr::new(DISK));
-    if arm_difference(disk.context("there is no such disk")?.arm(), case).is_some() {
+    let arm = arm_of(&system).context("there is no such disk")?;
+    if arm_difference(arm, case).is_some() {
         return Ok(Some("the sense or the arm of a user"));
     }
     let mut after = volume_of(alloc, case)?;
@@ -76,6 +76,14 @@ pub fn difference_of_user(
         }
     }
     Ok(None)
+}
+
+/// The arm of the user's disk.
+fn arm_of(system: &System) -> Option<Arm> {
+    match system.minidisk(user(), DevAddr::new(DISK)) {
+        Some(disk) => Some(disk.arm()),
+        None => None,
+    }
 }
 
 /// A volume with the disk of a line behind a cylinder of the neighbour, and before one.
