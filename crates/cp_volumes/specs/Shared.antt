@@ -1,5 +1,5 @@
 -- Volumes that users share: each minidisk is an extent of one of them (docs/MACHINE.md, "Disks").
-use Rattle.std.specs.Prelude.{ℕ, ◌≡◌, ◌+◌, ◌<◌, ◌≤◌, ◌⊎◌, true, List, [], map, length, slice_get, slice_index_or, slice_set, Option, Some, None}
+use Rattle.std.specs.Prelude.{ℕ, ◌≡◌, ◌+◌, ◌<◌, ◌≤◌, ◌⊎◌, true, List, [], map, length, slice_get, slice_index_or, Option, Some, None}
 use Rattle.ckd_volume.specs.Volume.{VolumeFormat}
 use Rattle.ckd_volume.specs.Unit.{Disk, volume_of}
 use Rattle.cp_channels.specs.Disks.{DiskAt}
