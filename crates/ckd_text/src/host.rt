@@ -61,21 +61,14 @@ pub(crate) fn wrong_use<R: Eprint>(rt: &R, usage: &str, note: &str) -> Failure {
     Failure::Usage
 }
 
-/// The words that the program was started with, of which the first is its name. Words that are no UTF-8 are a wrong
-/// use, which is told here: no file can be opened by such a name.
+/// The words of the program of this name, which is the first of them: those that it was started with, from the one that
+/// names it. Words that are no UTF-8 are a wrong use, which is told here: no file can be opened by such a name.
 pub(crate) fn words<R: AllocGlobal + Env + Eprint>(
     rt: &R,
     program: &str,
 ) -> Result<Vec<String>, Failure> {
     match env::args(rt) {
-        Ok(typed) => {
-            let alloc = rt.alloc();
-            let mut words: Vec<String> = typed.collect(alloc)?;
-            if let Some(name) = words.first_mut() {
-                *name = String::from_str(alloc, program)?;
-            }
-            Ok(words)
-        }
+        Ok(typed) => Ok(typed.skip(1).collect(rt.alloc())?),
         Err(error) if error.kind() == io::ErrorKind::InvalidData => Err(wrong_use(
             rt,
             program,

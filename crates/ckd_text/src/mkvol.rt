@@ -6,7 +6,7 @@ ghost use Rattle.ckd_text.specs.Text.{volume_of};
 
 use crate::arguments::{UsageError, volume_paths};
 use crate::faults::Failure;
-use crate::host::{Ended, ended_of, open, words, wrong_use};
+use crate::host::{open, words, wrong_use};
 use crate::reader::make_volume;
 use ckd_image::write_image;
 use s370_num::host::{Counted, HostFault, HostWriter, read_all};
@@ -31,14 +31,8 @@ A fault is one line on standard error. Exit statuses:
   4  there was not memory enough
 ";
 
-/// The whole program: what it is started with names an image and a text, and the image of the volume that the text
-/// states is written. A failure is told on standard error.
-pub fn program<R: AllocGlobal + Files + Env + Eprint>(rt: &R) -> Ended {
-    ended_of(rt, run(rt))
-}
-
-/// Reads the words and the text, and has the image made.
-fn run<R: AllocGlobal + Files + Env + Eprint>(rt: &R) -> Result<(), Failure> {
+/// The program: its words name an image and a text, and the image of the volume that the text states is written.
+pub(crate) fn run<R: AllocGlobal + Files + Env + Eprint>(rt: &R) -> Result<(), Failure> {
     let alloc = rt.alloc();
     let words = words(rt, PROGRAM)?;
     let paths = match volume_paths(alloc, words.as_slice()) {

@@ -5,7 +5,7 @@ ghost use Rattle.ckd_text.specs.Map.{map_of};
 
 use crate::arguments::{UsageError, image_path};
 use crate::faults::Failure;
-use crate::host::{Ended, ended_of, open, words, wrong_use};
+use crate::host::{open, words, wrong_use};
 use crate::map::track_map;
 use ckd_image::read_image;
 use ckd_volume::Volume;
@@ -32,14 +32,8 @@ The map goes to standard output, a fault as one line to standard error. Exit sta
   4  there was not memory enough
 ";
 
-/// The whole program: what it is started with names an image, and the map of its volume is written. A failure is told
-/// on standard error.
-pub fn program<R: AllocGlobal + Files + Env + Print + Eprint>(rt: &R) -> Ended {
-    ended_of(rt, run(rt))
-}
-
-/// Reads the words and the image, and writes the map.
-fn run<R: AllocGlobal + Files + Env + Print + Eprint>(rt: &R) -> Result<(), Failure> {
+/// The program: its words name an image, and the map of its volume is written.
+pub(crate) fn run<R: AllocGlobal + Files + Env + Print + Eprint>(rt: &R) -> Result<(), Failure> {
     let alloc = rt.alloc();
     let words = words(rt, PROGRAM)?;
     let path = match image_path(alloc, words.as_slice()) {

@@ -1,5 +1,5 @@
 //! The frames of two users on which steps are done, and what comes of each.
-use crate::operands::{frame_of, key_of, page_of, user_of};
+use crate::operands::{frame_of, key_of, user_of};
 use anyhow::{Result, bail};
 use cp_dat::Dat;
 use cp_frames::{FRAME_SIZE, FrameNo, Frames};
@@ -15,9 +15,6 @@ const BLOCKS: usize = 64;
 /// The bytes that those blocks have.
 const MOST_BYTES: u32 = 131072;
 
-/// What a step tells where there is no such page, frame, address or size.
-const OUTSIDE: &str = "outside";
-
 /// The frames and slots of two users, who have the same keys in storage.
 #[derive(Drop)]
 pub struct Work {
@@ -27,6 +24,16 @@ pub struct Work {
 
 /// What is told, where there is memory for it.
 type Told = Result<String, AllocError>;
+
+/// A step is done.
+fn done(alloc: Global) -> Told {
+    String::from_str(alloc, "done")
+}
+
+/// There is no such page, frame, address or size.
+fn outside(alloc: Global) -> Told {
+    String::from_str(alloc, "outside")
+}
 
 /// The text of an access's outcome.
 fn told_fault(alloc: Global, fault: Fault) -> Told {
@@ -84,80 +91,108 @@ impl Work {
 
     /// Does a step, and tells what came of it.
     pub fn take(&mut self, alloc: Global, step: &str) -> Result<String> {
-        let words = words_of(alloc, step)?;
-        let told = match words.as_slice() {
-            ["new", frames, slots, first, second] => {
-                let pages = [decimal(first)?, decimal(second)?];
-                self.begin(alloc, decimal(frames)?, decimal(slots)?, pages)
+        match words_of(alloc, step)?.as_slice() {
+            ["new", words @ ..] => self.take_new(alloc, words),
+            ["put", words @ ..] => self.take_put(alloc, words),
+            ["mark", frame, place, mark] => {
+                let frame = frame_of(frame)?;
+                Ok(self.mark(alloc, frame, decimal(place)?, byte(mark)?)?)
             }
-            ["bring", user, page] => self.bring(alloc, user_of(user)?, page_of(page)?),
-            ["find", user, page] => self.find(alloc, user_of(user)?, page_of(page)?),
-            ["owner", frame] => self.owner(alloc, frame_of(frame)?),
-            ["pin", frame] => {
-                self.frames.pin(frame_of(frame)?);
-                format!(in alloc; "done")
-            }
-            ["unpin", frame] => {
-                self.frames.unpin(frame_of(frame)?);
-                format!(in alloc; "done")
-            }
-            ["unpin-all"] => {
-                self.frames.unpin_all();
-                format!(in alloc; "done")
-            }
-            ["pinned", frame] => format!(in alloc; "{}", self.frames.is_pinned(frame_of(frame)?)),
-            ["release", user] => {
-                self.frames.release(user_of(user)?);
-                format!(in alloc; "done")
-            }
-            ["count"] => format!(in alloc; "{}", self.frames.page_ins()),
-            words => return self.take_storage(alloc, words),
-        };
-        Ok(told?)
+            ["key", block, key] => Ok(self.set_key(alloc, decimal(block)?, byte(key)?)?),
+            [verb] => self.take_all(alloc, verb),
+            [verb, one] => self.take_one(alloc, verb, one),
+            [verb, user, number] => self.take_place(alloc, verb, user_of(user)?, decimal(number)?),
+            _ => bail!("no such step"),
+        }
     }
 
-    /// Does a step over what stands in frames, or over the tables.
-    fn take_storage(&mut self, alloc: Global, words: &[&str]) -> Result<String> {
-        let told = match words {
-            ["mark", frame, place, mark] => {
-                self.mark(alloc, frame_of(frame)?, decimal(place)?, byte(mark)?)
-            }
-            ["byte", user, place] => self.byte(alloc, user_of(user)?, decimal(place)?),
-            ["put", user, place, word, key] => {
-                let place = decimal(place)?;
-                self.put(alloc, user_of(user)?, place, address(word)?, key_of(key)?)
-            }
-            ["get", user, place] => self.get(alloc, user_of(user)?, decimal(place)?),
-            ["supply", user, place] => self.supply(alloc, user_of(user)?, decimal(place)?),
-            ["key", block, key] => self.set_key(alloc, decimal(block)?, byte(key)?),
-            ["segment", user, number] => self.segment(alloc, user_of(user)?, decimal(number)?),
-            ["entry", user, page] => self.entry(alloc, user_of(user)?, decimal(page)?),
+    /// Does a step over all frames.
+    fn take_all(&mut self, alloc: Global, verb: &str) -> Result<String> {
+        match verb {
+            "unpin-all" => self.frames.unpin_all(),
+            "count" => return Ok(format!(in alloc; "{}", self.frames.page_ins())?),
+            _ => bail!("no such step"),
+        }
+        Ok(done(alloc)?)
+    }
+
+    /// Does a step over a frame, or over a user.
+    fn take_one(&mut self, alloc: Global, verb: &str, operand: &str) -> Result<String> {
+        match verb {
+            "owner" => return Ok(self.owner(alloc, frame_of(operand)?)?),
+            "pinned" => return self.pinned(alloc, frame_of(operand)?),
+            "pin" => self.frames.pin(frame_of(operand)?),
+            "unpin" => self.frames.unpin(frame_of(operand)?),
+            "release" => self.frames.release(user_of(operand)?),
+            _ => bail!("no such step"),
+        }
+        Ok(done(alloc)?)
+    }
+
+    /// Does a step over a page, an address or a segment of a user.
+    fn take_place(
+        &mut self,
+        alloc: Global,
+        verb: &str,
+        user: UserNo,
+        number: u32,
+    ) -> Result<String> {
+        let told = match verb {
+            "bring" => self.bring(alloc, user, Page(number)),
+            "find" => self.find(alloc, user, Page(number)),
+            "byte" => self.byte(alloc, user, number),
+            "get" => self.get(alloc, user, number),
+            "supply" => self.supply(alloc, user, number),
+            "segment" => self.segment(alloc, user, number),
+            "entry" => self.entry(alloc, user, number),
             _ => bail!("no such step"),
         };
         Ok(told?)
     }
 
+    /// Begins anew with so many frames, slots, and pages of each user.
+    fn take_new(&mut self, alloc: Global, words: &[&str]) -> Result<String> {
+        let [frames, slots, first, second] = words else {
+            bail!("four numbers are wanted");
+        };
+        let pages = [decimal(first)?, decimal(second)?];
+        Ok(self.begin(alloc, decimal(frames)?, decimal(slots)?, pages)?)
+    }
+
+    /// Stores a word at an address of a user, with a key.
+    fn take_put(&mut self, alloc: Global, words: &[&str]) -> Result<String> {
+        let [user, place, word, key] = words else {
+            bail!("a user, an address, a word and a key are wanted");
+        };
+        let (user, key) = (user_of(user)?, key_of(key)?);
+        Ok(self.put(alloc, user, decimal(place)?, address(word)?, key)?)
+    }
+
+    fn pinned(&self, alloc: Global, frame: FrameNo) -> Result<String> {
+        Ok(format!(in alloc; "{}", self.frames.is_pinned(frame))?)
+    }
+
     fn byte(&self, alloc: Global, user: UserNo, address: u32) -> Told {
         match self.frames.byte(user, address) {
             Some(byte) => format!(in alloc; "{byte:02X}"),
-            None => format!(in alloc; "{OUTSIDE}"),
+            None => outside(alloc),
         }
     }
 
     fn begin(&mut self, alloc: Global, frames: u32, slots: u32, pages: [u32; 2]) -> Told {
         let [first, second] = pages;
         if frames > 4096 || slots > 65536 || first > 32 || second > 32 {
-            return format!(in alloc; "{OUTSIDE}");
+            return outside(alloc);
         }
         let pages = vec![in alloc; first, second]?;
         self.frames = Frames::new(alloc, frames as u16, slots, pages)?;
         self.keys.fill(StorageKey::ZERO);
-        format!(in alloc; "done")
+        done(alloc)
     }
 
     fn bring(&mut self, alloc: Global, user: UserNo, page: Page) -> Told {
         if page.0 >= 1024 || page.0 * PAGE_SIZE >= self.frames.size(user) {
-            return format!(in alloc; "{OUTSIDE}");
+            return outside(alloc);
         }
         match self.frames.bring(user, page) {
             Ok(frame) => format!(in alloc; "frame {}", frame.0),
@@ -167,7 +202,7 @@ impl Work {
 
     fn find(&self, alloc: Global, user: UserNo, page: Page) -> Told {
         if page.0 >= 1024 || page.0 * PAGE_SIZE >= self.frames.size(user) {
-            return format!(in alloc; "{OUTSIDE}");
+            return outside(alloc);
         }
         if let Some(frame) = self.frames.frame_of(user, page) {
             return format!(in alloc; "frame {}", frame.0);
@@ -191,31 +226,31 @@ impl Work {
     fn mark(&mut self, alloc: Global, frame: FrameNo, place: u32, byte: u8) -> Told {
         let place = place as usize;
         if place >= FRAME_SIZE {
-            return format!(in alloc; "{OUTSIDE}");
+            return outside(alloc);
         }
         match self.frames.frame_mut(frame) {
             Some(bytes) => {
                 bytes[place] = byte;
-                format!(in alloc; "done")
+                done(alloc)
             }
-            None => format!(in alloc; "{OUTSIDE}"),
+            None => outside(alloc),
         }
     }
 
     fn put(&mut self, alloc: Global, user: UserNo, at: u32, word: u32, key: AccessKey) -> Told {
         if self.frames.size(user) > MOST_BYTES {
-            return format!(in alloc; "{OUTSIDE}");
+            return outside(alloc);
         }
         let mut dat = Dat::new(&mut self.frames, &mut self.keys, user);
         match put(&mut dat, at, word, key) {
-            Ok(()) => format!(in alloc; "done"),
+            Ok(()) => done(alloc),
             Err(fault) => told_fault(alloc, fault),
         }
     }
 
     fn get(&mut self, alloc: Global, user: UserNo, at: u32) -> Told {
         if self.frames.size(user) > MOST_BYTES {
-            return format!(in alloc; "{OUTSIDE}");
+            return outside(alloc);
         }
         let dat = Dat::new(&mut self.frames, &mut self.keys, user);
         match get(&dat, at) {
@@ -226,7 +261,7 @@ impl Work {
 
     fn supply(&mut self, alloc: Global, user: UserNo, at: u32) -> Told {
         if self.frames.size(user) > MOST_BYTES {
-            return format!(in alloc; "{OUTSIDE}");
+            return outside(alloc);
         }
         let mut dat = Dat::new(&mut self.frames, &mut self.keys, user);
         match supply(&mut dat, at) {
@@ -239,22 +274,22 @@ impl Work {
     fn set_key(&mut self, alloc: Global, block: u32, key: u8) -> Told {
         let block = block as usize;
         if key >= 32 || block >= BLOCKS {
-            return format!(in alloc; "{OUTSIDE}");
+            return outside(alloc);
         }
         self.keys[block] = StorageKey::new(key);
-        format!(in alloc; "done")
+        done(alloc)
     }
 
     fn segment(&self, alloc: Global, user: UserNo, segment: u32) -> Told {
         if segment >= 64 {
-            return format!(in alloc; "{OUTSIDE}");
+            return outside(alloc);
         }
         format!(in alloc; "{:08X}", self.frames.segment_entry(user, segment))
     }
 
     fn entry(&self, alloc: Global, user: UserNo, page: u32) -> Told {
         if page >= 1024 {
-            return format!(in alloc; "{OUTSIDE}");
+            return outside(alloc);
         }
         format!(in alloc; "{:04X}", self.frames.page_entry(user, Page(page)))
     }

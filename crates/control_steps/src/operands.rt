@@ -3,7 +3,6 @@ use anyhow::{Result, bail};
 use cp_frames::FrameNo;
 use cp_users::UserNo;
 use s370_num::AccessKey;
-use s370_store::Page;
 use step_table::{byte, decimal};
 
 /// A user, or one whom nobody is.
@@ -22,11 +21,6 @@ pub fn frame_of(digits: &str) -> Result<FrameNo> {
         number if number < 4096 => Ok(FrameNo(number as u16)),
         _ => bail!("there is no frame {digits}"),
     }
-}
-
-/// A page that may not be there.
-pub fn page_of(digits: &str) -> Result<Page> {
-    Ok(Page(decimal(digits)?))
 }
 
 /// A protection key of an access.

@@ -78,6 +78,6 @@ pub fn file(alloc: Global, step: &Step<'_>) -> Result<String, AllocError> {
 
 /// `message A "HI "`: the line that shows a message of a user.
 pub fn message(alloc: Global, step: &Step<'_>) -> Result<String, AllocError> {
-    let line = message_line(alloc, step.word(1), step.text())?;
+    let line = message_line(alloc, step.word(1).as_bytes(), step.text())?;
     quoted(alloc, &line)
 }

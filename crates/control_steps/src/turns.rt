@@ -15,9 +15,9 @@ pub fn slices(alloc: Global, step: &Step<'_>) -> Result<String, AllocError> {
     policy.join(UserNo::new(2));
     let mut told = String::new(alloc);
     for word in step.operands() {
-        match word {
-            [b'-', digit] => policy.leave(user_named(*digit)),
-            flags => add_user(alloc, &mut told, policy.slice(&ready_of(flags)))?,
+        match word.strip_prefix('-') {
+            Some(digit) => policy.leave(user_named(digit)),
+            None => add_user(alloc, &mut told, policy.slice(&ready_of(word)))?,
         }
     }
     add(&mut told, "queue")?;
@@ -28,14 +28,14 @@ pub fn slices(alloc: Global, step: &Step<'_>) -> Result<String, AllocError> {
 }
 
 /// The user of a digit.
-fn user_named(digit: u8) -> UserNo {
-    UserNo::new(digit.saturating_sub(b'0') & 63)
+fn user_named(digit: &str) -> UserNo {
+    UserNo::new(u8::from_str_radix(digit, 10).unwrap_or(0) & 63)
 }
 
 /// The users whose flag is `1`.
-fn ready_of(flags: &[u8]) -> Ready {
+fn ready_of(flags: &str) -> Ready {
     let mut ready = Ready::nobody();
-    for (number, flag) in flags.iter().enumerate() {
+    for (number, flag) in flags.as_bytes().iter().enumerate() {
         ready.set(UserNo::new((number & 63) as u8), *flag == b'1');
     }
     ready
@@ -53,21 +53,38 @@ fn add_user(alloc: Global, told: &mut String, user: Option<UserNo>) -> Result<()
 /// `serves`: what is served before user 0 has started programs of 009 and 191, twice while both are there, how many are
 /// left when that of 191 has ended, and what is served then.
 pub fn serves(alloc: Global) -> Result<String, AllocError> {
-    let user = UserNo::new(0);
-    let [first, second] = [DevAddr::new(0x009), DevAddr::new(0x191)];
     let mut policy = Policy::new(alloc, 1)?;
     let mut told = String::new(alloc);
-    add_program(alloc, &mut told, policy.serve())?;
-    policy.started(user, first)?;
-    policy.started(user, second)?;
-    add_program(alloc, &mut told, policy.serve())?;
-    add_program(alloc, &mut told, policy.serve())?;
-    policy.ended(user, second);
+    add_served(alloc, &mut told, &mut policy, 1)?;
+    start_both(&mut policy)?;
+    add_served(alloc, &mut told, &mut policy, 2)?;
+    policy.ended(UserNo::new(0), DevAddr::new(0x191));
     let left = policy.programs().len();
     let left = format!(in alloc; "{left} left")?;
     add(&mut told, left.as_str())?;
-    add_program(alloc, &mut told, policy.serve())?;
+    add_served(alloc, &mut told, &mut policy, 1)?;
     Ok(told)
+}
+
+/// User 0 starts programs of 009 and 191.
+fn start_both(policy: &mut Policy) -> Result<(), AllocError> {
+    for device in [0x009, 0x191] {
+        policy.started(UserNo::new(0), DevAddr::new(device))?;
+    }
+    Ok(())
+}
+
+/// Adds what is served, so many times.
+fn add_served(
+    alloc: Global,
+    told: &mut String,
+    policy: &mut Policy,
+    times: u32,
+) -> Result<(), AllocError> {
+    for _ in 0..times {
+        add_program(alloc, told, policy.serve())?;
+    }
+    Ok(())
 }
 
 fn add_program(

@@ -1,6 +1,8 @@
 //! What a machine has at its beginning, also where its storage had something in it.
+use crate::panel::command;
 use anyhow::{Result, bail};
 use bare_installation::Bare;
+use cp_console::responses::Response;
 use cp_panel::Mode;
 use s370_intr::Pending;
 use s370_num::{AccessKey, StorageKey};
@@ -17,7 +19,7 @@ pub fn begin<R: Print + AllocGlobal>(rt: &R) -> Result<()> {
     storage.set_key(3, StorageKey::new(0x1F));
     let mut machine = Bare::without_devices(rt.alloc(), storage);
     tell(rt, &machine)?;
-    machine.line(rt.alloc(), b"LOGON")?;
+    command(rt.alloc(), &mut machine, "LOGON", Some(Response::LogonOk))?;
     tell(rt, &machine)
 }
 
@@ -40,14 +42,25 @@ fn tell<R: Print>(rt: &R, machine: &Bare) -> Result<()> {
 /// Whether storage, keys, general registers, control registers but the first, and the address of the next instruction
 /// are zero, and whether there is no fifth key.
 fn has_zeros(machine: &Bare) -> bool {
-    machine.storage().iter().all(|byte| *byte == 0)
-        && (0..4).all(|block| machine.key(block) == Some(StorageKey::ZERO))
-        && machine.key(4).is_none()
-        && machine.general().iter().all(|register| *register == 0)
-        && machine
-            .control()
-            .iter()
-            .skip(1)
-            .all(|register| *register == 0)
+    let [_, control @ ..] = machine.control();
+    is_zero(machine.storage())
+        && has_zero_keys(machine)
+        && *machine.general() == [0; 16]
+        && *control == [0; 15]
         && machine.psw().address().get() == 0
+}
+
+/// Whether each of these bytes is zero.
+fn is_zero(bytes: &[u8]) -> bool {
+    bytes.iter().all(|byte| *byte == 0)
+}
+
+/// Whether there are four keys, which are zero.
+fn has_zero_keys(machine: &Bare) -> bool {
+    for block in 0..4 {
+        if machine.key(block) != Some(StorageKey::ZERO) {
+            return false;
+        }
+    }
+    machine.key(4).is_none()
 }

@@ -7,12 +7,12 @@
 //!
 //! Before that it is told what a machine has at its beginning.
 use crate::beginning::begin;
-use anyhow::{Result, bail};
+use crate::panel::{give, machine_of, run, said, serve};
+use anyhow::{Context, Result};
 use bare_installation::Bare;
 use cp_console::printing::reply;
-use cp_devices::{Devices, Places, Told};
+use cp_devices::{Devices, Places};
 use s370_num::DevAddr;
-use s370_store::PlainStorage;
 use std::alloc::Global;
 
 /// The device address of the reader.
@@ -22,8 +22,7 @@ const READER: u16 = 0x00C;
 const PRINTER: u16 = 0x00E;
 
 /// What is typed before the guest runs.
-const TYPED: [&str; 12] = [
-    "LOGON",
+const TYPED: [&str; 11] = [
     "STORE 48 0000080000000820",
     "STORE 78 0000000000000300",
     "STORE 100 9C00000ED2030048004C9C00000C8200",
@@ -37,75 +36,95 @@ const TYPED: [&str; 12] = [
     "BEGIN",
 ];
 
-/// Tells what is seen of them.
-pub fn tell_all<R: Print + AllocGlobal>(rt: &R) -> Result<()> {
-    let alloc = rt.alloc();
-    begin(rt)?;
-    let mut machine = machine(alloc)?;
-    let mut card = [0x40; 80];
-    card[0] = 0xC1;
-    machine.deck(vec![in alloc; card]?)?;
-    run(rt, &mut machine, 100)?;
-    serve(rt, &mut machine, PRINTER)?;
-    serve(rt, &mut machine, READER)?;
-    serve(rt, &mut machine, PRINTER)?;
-    run(rt, &mut machine, 1)?;
-    show(rt, &mut machine, "#CP DISPLAY 30")?;
-    show(rt, &mut machine, "#CP DISPLAY 40")?;
-    run(rt, &mut machine, 100)?;
-    show(rt, &mut machine, "#CP DISPLAY 30")?;
-    show(rt, &mut machine, "#CP DISPLAY 40")?;
-    show(rt, &mut machine, "#CP DISPLAY 900")?;
-    for entry in machine.devices().printer().entries() {
-        println!(rt;
-            "printed {:02X} {}",
-            entry.code(),
-            hex::encode_upper(alloc, entry.bytes())?
-        )?;
-    }
-    Ok(())
+/// Something that is done with the machine, and told.
+#[derive(Clone, Copy)]
+enum Act {
+    /// It runs for so many units.
+    Run(u32),
+    /// The device at this address is served.
+    Serve(u16),
+    /// A line is typed that displays something.
+    Show(&'static str),
 }
 
-/// The machine with its devices, running at its program.
+/// What is done, in this order.
+const ACTS: [Act; 11] = [
+    Act::Run(100),
+    Act::Serve(PRINTER),
+    Act::Serve(READER),
+    Act::Serve(PRINTER),
+    Act::Run(1),
+    Act::Show("#CP DISPLAY 30"),
+    Act::Show("#CP DISPLAY 40"),
+    Act::Run(100),
+    Act::Show("#CP DISPLAY 30"),
+    Act::Show("#CP DISPLAY 40"),
+    Act::Show("#CP DISPLAY 900"),
+];
+
+/// Tells what is seen of them.
+pub fn tell_all<R: Print + AllocGlobal>(rt: &R) -> Result<()> {
+    begin(rt)?;
+    let mut machine = machine(rt.alloc())?;
+    act_all(rt, &mut machine)
+}
+
+/// Types what stands before the run, gives the reader a card, does each act, and tells what is printed then.
+fn act_all<R: Print + AllocGlobal>(rt: &R, machine: &mut Bare) -> Result<()> {
+    let alloc = rt.alloc();
+    for line in TYPED {
+        said(alloc, machine, line)?;
+    }
+    let mut card = [0x40; 80];
+    card[0] = 0xC1;
+    give(machine, vec![in alloc; card]?)?;
+    for act in ACTS {
+        do_act(rt, machine, act)?;
+    }
+    tell_printed(rt, machine)
+}
+
+/// The machine with its devices.
 fn machine(alloc: Global) -> Result<Bare> {
     let places = Places {
         reader: Some(DevAddr::new(READER)),
         printer: Some(DevAddr::new(PRINTER)),
         ..Places::NONE
     };
-    let storage = PlainStorage::new(alloc, 4)?;
-    let devices = Devices::new(alloc, places);
-    let mut machine = Bare::new(alloc, storage, devices, Vec::new(alloc))?;
-    for line in TYPED {
-        machine.line(alloc, line.as_bytes())?;
+    machine_of(alloc, 4, Devices::new(alloc, places), Vec::new(alloc))
+}
+
+/// Does something, and tells what comes of it.
+fn do_act<R: Print + AllocGlobal>(rt: &R, machine: &mut Bare, act: Act) -> Result<()> {
+    match act {
+        Act::Run(units) => {
+            let told = run(machine, units);
+            println!(rt; "ran {} {:?}", told.ran.units, told.ran.reason)?;
+        }
+        Act::Serve(device) => {
+            let is_served = serve(machine, device)?;
+            let word = if is_served { "served" } else { "idle" };
+            println!(rt; "{word} {device:03X}")?;
+        }
+        Act::Show(line) => show(rt, machine, line)?,
     }
-    Ok(machine)
-}
-
-/// Lets the machine run, and tells how it went.
-fn run<R: Print>(rt: &R, machine: &mut Bare, units: u32) -> Result<()> {
-    let told = machine.units(units);
-    println!(rt; "ran {} {:?}", told.ran.units, told.ran.reason)?;
-    Ok(())
-}
-
-/// Serves a device, and tells whether it worked.
-fn serve<R: Print>(rt: &R, machine: &mut Bare, device: u16) -> Result<()> {
-    let word = if machine.serve(DevAddr::new(device))? {
-        "served"
-    } else {
-        "idle"
-    };
-    println!(rt; "{word} {device:03X}")?;
     Ok(())
 }
 
 /// What a display shows.
 fn show<R: Print + AllocGlobal>(rt: &R, machine: &mut Bare, line: &str) -> Result<()> {
-    let Told::Said(response) = machine.line(rt.alloc(), line.as_bytes())? else {
-        bail!("nothing was said");
-    };
-    let text = String::from_utf8(reply(rt.alloc(), &response)?)?;
+    let alloc = rt.alloc();
+    let response = said(alloc, machine, line)?.context("nothing was said")?;
+    let text = String::from_utf8(reply(alloc, &response)?)?;
     println!(rt; "{text}")?;
+    Ok(())
+}
+
+/// What the printer has printed.
+fn tell_printed<R: Print + AllocGlobal>(rt: &R, machine: &Bare) -> Result<()> {
+    for entry in machine.devices().printer().entries() {
+        let bytes = hex::encode_upper(rt.alloc(), entry.bytes())?;
+        println!(rt; "printed {:02X} {bytes}", entry.code())?;
+    }
     Ok(())
 }

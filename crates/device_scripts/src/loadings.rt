@@ -1,5 +1,5 @@
 //! Initial program loadings of a disk or a reader: how they end, and what they leave of storage.
-use crate::panel::{display, machine_of};
+use crate::panel::{display, give, machine_of, run, said};
 use crate::states::FIRST_TRACK;
 use anyhow::{Context, Result, bail};
 use bare_installation::Bare;
@@ -7,7 +7,7 @@ use ckd_text::make_volume;
 use ckd_volume::Unit;
 use cp_channels::AttachedDisk;
 use cp_console::responses::Response;
-use cp_devices::{Devices, Places, Told};
+use cp_devices::{Devices, Places};
 use s370_num::DevAddr;
 use std::alloc::Global;
 use unit_record::Card;
@@ -50,12 +50,27 @@ fn loading_of(fields: &str) -> Option<Loading<'_>> {
 /// What differs first from what a line's fields tell.
 pub fn difference(alloc: Global, fields: &str) -> Result<Option<String>> {
     let loading = loading_of(fields).context("a loading has four fields")?;
-    let mut machine = machine(alloc, &loading)?;
+    let mut machine = match loading.kind {
+        "reader" => machine_with_reader(alloc)?,
+        _ => machine_with_disk(alloc, &loading)?,
+    };
+    if loading.kind == "reader" && loading.content != "-" {
+        give(&mut machine, cards_of(alloc, loading.content)?)?;
+    }
+    loaded_difference(alloc, &mut machine, &loading)
+}
+
+/// What differs first when the machine is loaded.
+fn loaded_difference(
+    alloc: Global,
+    machine: &mut Bare,
+    loading: &Loading<'_>,
+) -> Result<Option<String>> {
     let wanted = match loading.end {
         "OK" => End::Loaded,
         _ => End::Failed,
     };
-    let end = load(alloc, &mut machine)?;
+    let end = load(alloc, machine)?;
     if end != wanted {
         return Ok(Some(format!(in alloc; "it is {end:?}")?));
     }
@@ -63,29 +78,30 @@ pub fn difference(alloc: Global, fields: &str) -> Result<Option<String>> {
         End::Loaded => 0,
         End::Failed | End::Running => 8,
     };
-    storage_difference(alloc, &mut machine, first, loading.storage)
+    storage_difference(alloc, machine, first, loading.storage)
 }
 
-/// A machine whose only device has these cards or tracks.
-fn machine(alloc: Global, loading: &Loading<'_>) -> Result<Bare> {
-    let is_reader = loading.kind == "reader";
-    let device = DevAddr::new(DEVICE);
+/// A machine whose only device is a reader.
+fn machine_with_reader(alloc: Global) -> Result<Bare> {
     let places = Places {
-        reader: if is_reader { Some(device) } else { None },
+        reader: Some(DevAddr::new(DEVICE)),
         ..Places::NONE
     };
-    let devices = Devices::new(alloc, places);
-    let mut disks = Vec::new(alloc);
-    if !is_reader {
-        let text = volume_text(alloc, loading)?;
-        let unit = Unit::new(alloc, make_volume(alloc, text.as_bytes())?, FIRST_TRACK)?;
-        disks.push(AttachedDisk::new(device, unit))?;
-    }
-    let mut machine = machine_of(alloc, BLOCKS, devices, disks)?;
-    if is_reader && loading.content != "-" {
-        machine.deck(cards_of(alloc, loading.content)?)?;
-    }
-    Ok(machine)
+    machine_of(alloc, BLOCKS, Devices::new(alloc, places), Vec::new(alloc))
+}
+
+/// A machine whose only device is a disk with these tracks.
+fn machine_with_disk(alloc: Global, loading: &Loading<'_>) -> Result<Bare> {
+    let devices = Devices::new(alloc, Places::NONE);
+    let disk = AttachedDisk::new(DevAddr::new(DEVICE), unit_of(alloc, loading)?);
+    machine_of(alloc, BLOCKS, devices, vec![in alloc; disk]?)
+}
+
+/// The disk with these tracks.
+fn unit_of(alloc: Global, loading: &Loading<'_>) -> Result<Unit> {
+    let text = volume_text(alloc, loading)?;
+    let volume = make_volume(alloc, text.as_bytes())?;
+    Ok(Unit::new(alloc, volume, FIRST_TRACK)?)
 }
 
 /// The text of the volume with these tracks.
@@ -96,13 +112,19 @@ fn volume_text(alloc: Global, loading: &Loading<'_>) -> Result<String> {
         return Ok(text);
     }
     for track in loading.content.split(';') {
-        let (place, records) = track.split_once('=').context("a track has a place")?;
-        let (cylinder, head) = place.split_once('.').context("a place is of two numbers")?;
-        for record in records.split('+') {
-            add_record(alloc, &mut text, cylinder, head, record)?;
-        }
+        add_track(alloc, &mut text, track)?;
     }
     Ok(text)
+}
+
+/// Adds the lines of a track.
+fn add_track(alloc: Global, text: &mut String, track: &str) -> Result<()> {
+    let (place, records) = track.split_once('=').context("a track has a place")?;
+    let (cylinder, head) = place.split_once('.').context("a place is of two numbers")?;
+    for record in records.split('+') {
+        add_record(alloc, text, cylinder, head, record)?;
+    }
+    Ok(())
 }
 
 /// Adds the line of a record.
@@ -126,13 +148,18 @@ fn add_record(
 fn cards_of(alloc: Global, list: &str) -> Result<Vec<Card>> {
     let mut cards = Vec::new(alloc);
     for digits in list.split('+') {
-        let mut card = [0u8; 80];
-        for (column, byte) in card.iter_mut().zip(hex::decode(alloc, digits)?.as_slice()) {
-            *column = *byte;
-        }
-        cards.push(card)?;
+        cards.push(card_of(alloc, digits)?)?;
     }
     Ok(cards)
+}
+
+/// A card.
+fn card_of(alloc: Global, digits: &str) -> Result<Card> {
+    let mut card = [0u8; 80];
+    for (column, byte) in card.iter_mut().zip(hex::decode(alloc, digits)?.as_slice()) {
+        *column = *byte;
+    }
+    Ok(card)
 }
 
 /// How a loading ends.
@@ -148,9 +175,9 @@ enum End {
 
 /// Loads the machine, and tells how that ended.
 fn load(alloc: Global, machine: &mut Bare) -> Result<End> {
-    match machine.line(alloc, b"IPL 190")? {
-        Told::Said(Response::IplFailed) => Ok(End::Failed),
-        Told::Silent => match machine.units(1).notice {
+    match said(alloc, machine, "IPL 190")? {
+        Some(Response::IplFailed) => Ok(End::Failed),
+        None => match run(machine, 1).notice {
             Some(Response::StoppedDisabledWait) => Ok(End::Loaded),
             _ => Ok(End::Running),
         },
@@ -165,14 +192,20 @@ fn image_of(alloc: Global, list: &str) -> Result<Vec<u8>> {
         return Ok(image);
     }
     for run in list.split(',') {
-        let (address, digits) = run.split_once(':').context("a run has an address")?;
-        let start = usize::from_str_radix(address, 16)?;
-        let bytes = hex::decode(alloc, digits)?;
-        for (place, byte) in image.iter_mut().skip(start).zip(bytes.as_slice()) {
-            *place = *byte;
-        }
+        set_run(alloc, &mut image, run)?;
     }
     Ok(image)
+}
+
+/// Sets the bytes of a run from its address on.
+fn set_run(alloc: Global, image: &mut [u8], run: &str) -> Result<()> {
+    let (address, digits) = run.split_once(':').context("a run has an address")?;
+    let start = usize::from_str_radix(address, 16)?;
+    let bytes = hex::decode(alloc, digits)?;
+    for (place, byte) in image.iter_mut().skip(start).zip(bytes.as_slice()) {
+        *place = *byte;
+    }
+    Ok(())
 }
 
 /// What differs first of storage, from an address on; the interval timer is not compared.

@@ -1,5 +1,6 @@
 //! Scripts of four disks: what the instructions that ask a device are answered, and what interrupts.
-use crate::panel::{begin, condition_code, display, machine_of, store};
+use crate::panel;
+use crate::panel::{command, condition_code, display, machine_of, run, store};
 use anyhow::{Context, Result, bail};
 use bare_installation::Bare;
 use ckd_volume::{Arm, Sense, Unit, Volume};
@@ -42,10 +43,20 @@ const UNTOUCHED: &str = "EEEEEEEEEEEEEEEE";
 
 /// What differs first from the answers of a script.
 pub fn difference(alloc: Global, script: &str) -> Result<Option<String>> {
-    let mut machine = machine(alloc)?;
+    let devices = Devices::new(alloc, Places::NONE);
+    let mut machine = machine_of(alloc, BLOCKS, devices, disks(alloc)?)?;
+    first_difference(alloc, &mut machine, script)
+}
+
+/// What differs first from the answers of a script on a machine with the disks, which runs then.
+fn first_difference(alloc: Global, machine: &mut Bare, script: &str) -> Result<Option<String>> {
+    for (place, digits) in STORED {
+        store(alloc, machine, place, digits)?;
+    }
+    command(alloc, machine, "BEGIN", None)?;
     for step in script.split_whitespace() {
         let (asked, wanted) = step.split_once('=').unwrap_or((step, ""));
-        let told = answer(alloc, &mut machine, asked)?;
+        let told = answer(alloc, machine, asked)?;
         if told.as_str() != wanted {
             return Ok(Some(format!(in alloc; "{asked} gives {told}")?));
         }
@@ -53,42 +64,47 @@ pub fn difference(alloc: Global, script: &str) -> Result<Option<String>> {
     Ok(None)
 }
 
-/// A machine with the disks, which runs.
-fn machine(alloc: Global) -> Result<Bare> {
-    let devices = Devices::new(alloc, Places::NONE);
+/// The disks.
+fn disks(alloc: Global) -> Result<Vec<AttachedDisk>> {
     let mut disks = Vec::new(alloc);
     for address in DISKS {
-        let volume = Volume::blank(alloc, *b"TEST01", 1)?;
-        let unit = Unit::new(alloc, volume, FIRST_TRACK)?;
-        disks.push(AttachedDisk::new(DevAddr::new(address), unit))?;
+        disks.push(disk(alloc, address)?)?;
     }
-    let mut machine = machine_of(alloc, BLOCKS, devices, disks)?;
-    for (place, digits) in STORED {
-        store(alloc, &mut machine, place, digits)?;
-    }
-    begin(alloc, &mut machine)?;
-    Ok(machine)
+    Ok(disks)
+}
+
+/// A blank disk of one cylinder.
+fn disk(alloc: Global, address: u16) -> Result<AttachedDisk> {
+    let volume = Volume::blank(alloc, *b"TEST01", 1)?;
+    let unit = Unit::new(alloc, volume, FIRST_TRACK)?;
+    Ok(AttachedDisk::new(DevAddr::new(address), unit))
 }
 
 /// What a step of a script gives, as the script would say it.
 fn answer(alloc: Global, machine: &mut Bare, asked: &str) -> Result<String> {
     let (verb, operand) = asked.split_once(':').unwrap_or((asked, ""));
     match verb {
-        "SIO" => {
-            let (device, program) = operand.split_once(',').context("a program is named")?;
-            store(alloc, machine, "48", address_word(program)?)?;
-            ask(alloc, machine, "9C00", device)
-        }
+        "SIO" => start(alloc, machine, operand),
         "TIO" => ask(alloc, machine, "9D00", operand),
         "HIO" => ask(alloc, machine, "9E00", operand),
-        "TCH" => {
-            let device = format!(in alloc; "{operand}00")?;
-            ask(alloc, machine, "9F00", device.as_str())
-        }
+        "TCH" => ask_channel(alloc, machine, operand),
         "INT" => interruption(alloc, machine, operand),
         "SERVE" => serve(alloc, machine),
         _ => bail!("{verb} is no step"),
     }
+}
+
+/// What SIO gives, of a device and a program.
+fn start(alloc: Global, machine: &mut Bare, operand: &str) -> Result<String> {
+    let (device, program) = operand.split_once(',').context("a program is named")?;
+    store(alloc, machine, "48", address_word(program)?)?;
+    ask(alloc, machine, "9C00", device)
+}
+
+/// What TCH gives, of a channel.
+fn ask_channel(alloc: Global, machine: &mut Bare, channel: &str) -> Result<String> {
+    let device = format!(in alloc; "{channel}00")?;
+    ask(alloc, machine, "9F00", device.as_str())
 }
 
 /// The channel address word of a program.
@@ -109,7 +125,7 @@ fn execute(alloc: Global, machine: &mut Bare, mask: &str, instruction: &str) -> 
     store(alloc, machine, "200", instruction)?;
     let psw = format!(in alloc; "{mask}000000 00000200")?;
     store(alloc, machine, "PSW", psw.as_str())?;
-    machine.units(1);
+    run(machine, 1);
     Ok(())
 }
 
@@ -148,7 +164,7 @@ fn interruption(alloc: Global, machine: &mut Bare, mask: &str) -> Result<String>
 /// Serves each disk, and says nothing.
 fn serve(alloc: Global, machine: &mut Bare) -> Result<String> {
     for address in DISKS {
-        machine.serve(DevAddr::new(address))?;
+        panel::serve(machine, address)?;
     }
     Ok(String::new(alloc))
 }

@@ -17,27 +17,55 @@ type Told = Result<String, AllocError>;
 
 /// What comes of a step.
 pub fn told(alloc: Global, step: &str) -> Result<String> {
-    let told = match words_of(alloc, step)?.as_slice() {
-        ["new"] => new(alloc),
-        ["access", start, count, kind, key] => {
-            access(alloc, range(start, count)?, access_of(kind)?, key_of(key)?)
-        }
-        ["both", start, count, other, others, key] => {
-            both(
-                alloc,
-                range(start, count)?,
-                range(other, others)?,
-                key_of(key)?,
-            )
-        }
-        ["paged", start, count, key] => paged(alloc, range(start, count)?, key_of(key)?),
-        ["find", start, kind, key] => find(alloc, address(start)?, access_of(kind)?, key_of(key)?),
-        ["move", from, to] => moves(alloc, address(from)?, address(to)?),
-        ["bytes"] => bytes(alloc),
-        ["stamp", user, start, mark] => stamp(alloc, byte(user)?, address(start)?, byte(mark)?),
+    match words_of(alloc, step)?.as_slice() {
+        ["new"] => Ok(new(alloc)?),
+        ["bytes"] => Ok(bytes(alloc)?),
+        ["access", start, count, rest @ ..] => access_to(alloc, range(start, count)?, rest),
+        ["both", start, count, rest @ ..] => both_of(alloc, range(start, count)?, rest),
+        ["paged", start, count, key] => Ok(paged(alloc, range(start, count)?, key_of(key)?)?),
+        ["find", start, kind, key] => find_from(alloc, start, kind, key),
+        ["move", from, to] => moves_of(alloc, from, to),
+        ["stamp", user, start, mark] => stamp_of(alloc, user, start, mark),
         _ => bail!("no such step: {step}"),
+    }
+}
+
+/// `access`, of a kind and with a key.
+fn access_to(alloc: Global, range: Range, words: &[&str]) -> Result<String>
+    requires { range.count ≤ 256 }
+{
+    let [kind, key] = words else {
+        bail!("a kind and a key are wanted");
     };
-    Ok(told?)
+    Ok(access(alloc, range, access_of(kind)?, key_of(key)?)?)
+}
+
+/// `both`, of another range and with a key.
+fn both_of(alloc: Global, one: Range, words: &[&str]) -> Result<String>
+    requires { one.count ≤ 256 }
+{
+    let [start, count, key] = words else {
+        bail!("a range and a key are wanted");
+    };
+    let other = range(start, count)?;
+    Ok(both(alloc, one, other, key_of(key)?)?)
+}
+
+/// `find`, by its words.
+fn find_from(alloc: Global, start: &str, kind: &str, key: &str) -> Result<String> {
+    let (access, key) = (access_of(kind)?, key_of(key)?);
+    Ok(find(alloc, address(start)?, access, key)?)
+}
+
+/// `move`, by its words.
+fn moves_of(alloc: Global, from: &str, to: &str) -> Result<String> {
+    Ok(moves(alloc, address(from)?, address(to)?)?)
+}
+
+/// `stamp`, by its words.
+fn stamp_of(alloc: Global, user: &str, start: &str, mark: &str) -> Result<String> {
+    let (user, mark) = (byte(user)?, byte(mark)?);
+    Ok(stamp(alloc, user, address(start)?, mark)?)
 }
 
 /// A range of at most 256 bytes.

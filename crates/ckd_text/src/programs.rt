@@ -1,0 +1,32 @@
+//! Which program is run: the first word says it.
+use crate::arguments::Tool;
+use crate::host::{Ended, ended_of, wrong_use};
+use crate::{mkvol, trackmap};
+use std::rt::{Env, Files};
+
+/// What is told where no program is named.
+const USAGE: &str = "Usage: mkvol OUT TEXT
+       trackmap IMAGE
+";
+
+/// The whole program: the first word that it is started with names a program, whose words are those behind it. A failure
+/// is told on standard error.
+pub fn program<R: AllocGlobal + Files + Env + Print + Eprint>(rt: &R) -> Ended {
+    let ended = match named(rt) {
+        Some(Tool::Mkvol) => mkvol::run(rt),
+        Some(Tool::Trackmap) => trackmap::run(rt),
+        None => Err(wrong_use(rt, USAGE, "")),
+    };
+    ended_of(rt, ended)
+}
+
+/// The program that the first word names. The other words are judged behind it, so that it is known who tells of them.
+fn named<R: Env>(rt: &R) -> Option<Tool> {
+    let mut room = [0u8; 8];
+    let length = rt.arg(1, &mut room).ok()?;
+    match str::from_utf8(&room[..length]).ok()? {
+        "mkvol" => Some(Tool::Mkvol),
+        "trackmap" => Some(Tool::Trackmap),
+        _ => None,
+    }
+}

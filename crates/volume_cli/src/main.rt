@@ -1,0 +1,9 @@
+//! The programs of volumes, of which the first word says which is run: `mkvol OUT TEXT` (docs/FORMATS.md, "Volume
+//! texts") and `trackmap IMAGE` (docs/FORMATS.md, "Track maps").
+#![tactic(auto)]
+
+use ckd_text::{Ended, program};
+
+fn main(rt: HostRuntime) -> Ended {
+    program(&rt)
+}
