@@ -9,6 +9,7 @@
 #![tactic(auto)]
 
 mod channels;
+mod events;
 mod exchange;
 mod guests;
 mod images;
