@@ -3,7 +3,7 @@ use crate::equipment::Equipment;
 use crate::exchange::{Exchange, LIMITS, START, is_well};
 use crate::timing::Repeated;
 use anyhow::{Result, bail};
-use cp_ccw::{Table, run_fixed, run_translated, translate};
+use cp_ccw::{Table, run_translated, translate};
 use cp_dat::Dat;
 use cp_frames::Frames;
 use cp_graph::CopyError;
@@ -195,10 +195,16 @@ fn run_reached<D: Device>(dat: &mut Dat<'_>, device: &mut D) -> Result<bool> {
     Ok(is_well(&run(&Guest, dat, START, &LIMITS, device)?))
 }
 
+/// A copy of the program is made and runs, as [`cp_ccw::run_fixed`] has it: whether it ended well.
+fn run_anew<D: Device>(alloc: Global, dat: &mut Dat<'_>, device: &mut D) -> Result<bool> {
+    let table = copied(alloc, dat)?;
+    run_kept(&table, dat, device)
+}
+
 /// What a serve does with the program, for a device that is no disk: whether it ended well.
 fn run_whole<D: Device>(alloc: Global, dat: &mut Dat<'_>, device: &mut D) -> Result<bool> {
     match needed(alloc, dat, START)? {
-        Wanted::Fixed => Ok(is_well(&run_fixed(alloc, dat, START, &LIMITS, device)?)),
+        Wanted::Fixed => run_anew(alloc, dat, device),
         Wanted::Whole => run_reached(dat, device),
         Wanted::Page(_) => Ok(false),
     }
