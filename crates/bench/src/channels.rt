@@ -1,23 +1,27 @@
-//! How fast channel programs move bytes and how fast the image of a volume is read. Each is done five times; the best
-//! time is told.
-use crate::exchange::{EXCHANGES, Exchange, disk_with, repeat, source_of, storage_with};
+//! How fast channel programs move bytes, what users' channel programs cost part by part, and how fast the image of a
+//! volume is read. Each is done five times as often as is said; the best time is told.
+use crate::exchange::Exchange;
 use crate::images::full_image;
+use crate::plain::Plain;
+use crate::served::{measure_parts, measure_served};
+use crate::timing::best_of;
 use anyhow::{Result, bail};
 use ckd_image::read_image;
 use cp_text::numbers::decimal_of;
 use s370_num::host::Bytes;
-use s370_store::PlainStorage;
-use s370_walk::Device;
 use std::alloc::Global;
 use std::env;
 use std::rt::Env;
 use std::time::{CpuClock, Duration};
 
-/// How often each run is timed.
+/// How often an image is read.
 const TIMES: u32 = 5;
 
 /// How many bytes a program moves that shows what is paid beside the bytes.
 const FEW: u16 = 1;
+
+/// The programs of which it is measured how fast they move bytes.
+static MOVING: [Exchange; 3] = [Exchange::Give, Exchange::Read, Exchange::Write];
 
 /// The number that a word of the command line spells, or another one where there is no word.
 fn number_of(word: Option<String>, other: u32) -> Result<u32> {
@@ -30,42 +34,6 @@ fn number_of(word: Option<String>, other: u32) -> Result<u32> {
     }
 }
 
-/// The fastest of some runs of so many programs, and how many of all ended well.
-fn best_of<D: Device>(
-    rt: &impl CpuClock,
-    storage: &mut PlainStorage,
-    device: &mut D,
-    programs: u32,
-) -> Result<(Duration, u64)> {
-    let mut best = Duration::MAX;
-    let mut done = 0u64;
-    for _ in 0..TIMES {
-        let start = rt.process_cpu_time()?;
-        done = done.wrapping_add(repeat(storage, device, programs)?);
-        let end = rt.process_cpu_time()?;
-        best = best.min(end.checked_sub(start).unwrap_or(Duration::MAX));
-    }
-    Ok((best, done))
-}
-
-/// Runs the program of an exchange with so many bytes: the time of so many, in nanoseconds, and how many ended well.
-fn timed(
-    rt: &impl CpuClock,
-    alloc: Global,
-    exchange: Exchange,
-    bytes: u16,
-    programs: u32,
-) -> Result<(u128, u64)> {
-    let mut storage = storage_with(alloc, exchange, bytes)?;
-    let (time, done) = match exchange {
-        Exchange::Give => best_of(rt, &mut storage, &mut source_of(bytes), programs)?,
-        Exchange::Read | Exchange::Write => {
-            best_of(rt, &mut storage, &mut disk_with(alloc, bytes)?, programs)?
-        }
-    };
-    Ok((time.as_nanos(), done))
-}
-
 /// Measures an exchange: what is paid beside the bytes, and how fast they move.
 fn measure(
     rt: &(impl AllocGlobal + CpuClock + Print + Eprint),
@@ -73,15 +41,27 @@ fn measure(
     programs: u32,
 ) -> Result<()> {
     let (name, many) = (exchange.name(), exchange.many());
-    let (short, few_done) = timed(rt, rt.alloc(), exchange, FEW, programs)?;
-    let (long, many_done) = timed(rt, rt.alloc(), exchange, many, programs)?;
-    println!(rt; "{name}: {few_done} programs of {FEW} byte, {many_done} of {many} bytes")?;
-    let count = u128::from(programs).max(1);
-    let (few_time, many_time) = (short / count, long / count);
-    let beside = long.saturating_sub(short).max(1);
-    let rate = u128::from(many) * u128::from(programs) * 1000 / beside;
+    let short = best_of(
+        rt,
+        rt.alloc(),
+        &mut Plain::new(rt.alloc(), exchange, FEW)?,
+        programs,
+    )?;
+    let long = best_of(
+        rt,
+        rt.alloc(),
+        &mut Plain::new(rt.alloc(), exchange, many)?,
+        programs,
+    )?;
+    println!(rt;
+        "{name}: {} programs of {FEW} byte, {} of {many} bytes",
+        short.done, long.done
+    )?;
+    let beside = long.nanos.saturating_sub(short.nanos).max(1);
+    let rate = u128::from(many) * 1000 / beside;
     eprintln!(rt;
-        "{name}: {FEW} byte {few_time} ns, {many} bytes {many_time} ns, {rate} MB a second beside the one"
+        "{name}: {FEW} byte {} ns, {many} bytes {} ns, {rate} MB a second beside the one",
+        short.nanos, long.nanos
     )?;
     Ok(())
 }
@@ -122,8 +102,10 @@ pub fn measure_channels<R: AllocGlobal + CpuClock + Env + Print + Eprint>(rt: &R
     let mut words = env::args(rt)?.skip(2);
     let programs = number_of(words.next(), 40)?;
     let cylinders = number_of(words.next(), 2)?;
-    for exchange in &EXCHANGES {
+    for exchange in &MOVING {
         measure(rt, *exchange, programs)?;
     }
+    measure_parts(rt, programs)?;
+    measure_served(rt, programs)?;
     measure_image(rt, cylinders)
 }

@@ -1,13 +1,11 @@
 //! Where the guest programs run: on a bare machine, or as users of the control program.
+use crate::events::{run, type_line};
 use crate::loops::Loop;
 use anyhow::{Result, bail};
 use bare_installation::Bare;
-use cp_console::responses::Response;
-use cp_core::{Delivered, Ended, Event, Sizes, System};
-use cp_devices::Told;
+use cp_core::{Sizes, System};
 use cp_directory::read_directory;
 use cp_users::UserNo;
-use s370_num::DevAddr;
 use s370_store::PlainStorage;
 use std::alloc::Global;
 
@@ -89,36 +87,9 @@ fn users_guest(alloc: Global, directory: &str, users: u8, guest: Loop) -> Result
     Ok(system)
 }
 
-/// A user types a line.
-fn type_line(system: &mut System, user: UserNo, typed: &[u8]) -> Result<()> {
-    let reply = system.apply(Event::Line(user, typed))?;
-    // The prover finds what a reply may hold only where a function names it.
-    let _device = DevAddr::new(0);
-    let _response = Response::Sent;
-    let _delivered: Option<Delivered> = reply.delivered;
-    let _said: Told = reply.said;
-    Ok(())
-}
-
 /// Units of a bare machine: how many were done.
 fn on_bare(machine: &mut Bare, units: u32) -> u64 {
     u64::from(machine.units(units).ran.units)
-}
-
-/// Units of a user: how many were done, if the system lives. It makes no error, whose place would be a part of each
-/// turn.
-fn of_user(system: &mut System, user: UserNo, units: u32) -> Option<u64> {
-    let reply = match system.apply(Event::Run(user, units)) {
-        Ok(reply) => reply,
-        Err(_) => return None,
-    };
-    // The prover finds the type of what was said only where a function names it.
-    let _said: Told = reply.said;
-    let _device = DevAddr::new(0);
-    Some(match reply.ended {
-        Ended::Ran(ran) => u64::from(ran.units),
-        Ended::Done | Ended::Served(_) | Ended::FramesOut => 0,
-    })
 }
 
 /// Units of all users in turns: how many were done together.
@@ -126,10 +97,7 @@ fn in_turns(system: &mut System, units: u32) -> Result<u64> {
     let mut done = 0u64;
     for _ in 0..units / (TURN * u32::from(USERS)) {
         for user in 0..USERS {
-            match of_user(system, UserNo::new(user), TURN) {
-                Some(units) => done = done.wrapping_add(units),
-                None => bail!("the system is spent"),
-            }
+            done = done.wrapping_add(run(system, UserNo::new(user), TURN)?);
         }
     }
     Ok(done)
@@ -170,10 +138,7 @@ impl Guests {
     pub fn run(&mut self, units: u32) -> Result<u64> {
         match self {
             Guests::Bare(machine) => Ok(on_bare(machine, units)),
-            Guests::One(system) => match of_user(system, UserNo::new(0), units) {
-                Some(done) => Ok(done),
-                None => bail!("the system is spent"),
-            },
+            Guests::One(system) => run(system, UserNo::new(0), units),
             Guests::Eight(system) => in_turns(system, units),
             Guests::Machines(machines) => Ok(in_turns_apart(machines, units)),
         }

@@ -88,44 +88,79 @@ fn time_pages(
     Ok(done)
 }
 
+/// Times a line that each user types.
+fn time_line(
+    rt: &(impl CpuClock + Eprint),
+    system: &mut System,
+    users: u8,
+    typed: &str,
+    what: &str,
+) -> Result<()> {
+    let start = rt.process_cpu_time()?;
+    each_types(system, users, typed.as_bytes())?;
+    tell(rt, start, what, u32::from(users))
+}
+
+/// Times the boot of a system of so many users, frames and slots.
+fn time_boot(rt: &(impl CpuClock + Eprint + AllocGlobal), asked: Asked) -> Result<System> {
+    let Some(sizes) = Sizes::new(asked.frames, asked.slots) else {
+        bail!("there are 16 to 4096 frames, and at most 65536 slots");
+    };
+    let text = directory_of(rt.alloc(), asked.users)?;
+    let directory = read_directory(rt.alloc(), text.as_bytes())?;
+    let start = rt.process_cpu_time()?;
+    let system = System::boot(rt.alloc(), directory, Vec::new(rt.alloc()), sizes)?;
+    tell(rt, start, "boot", 1)?;
+    Ok(system)
+}
+
+/// How many units the users of an installation did.
+#[derive(Clone, Copy)]
+struct Done {
+    /// While they touched their pages for the first time.
+    first: u64,
+    /// While they touched them once more.
+    again: u64,
+    /// In turns.
+    turns: u64,
+}
+
+/// Times the pages and the turns of users who are logged on.
+fn time_runs(
+    rt: &(impl CpuClock + Eprint + AllocGlobal),
+    system: &mut System,
+    asked: Asked,
+) -> Result<Done> {
+    let first = "page touched for the first time, with three units";
+    let again = "page touched once more, with three units";
+    Ok(Done {
+        first: time_pages(rt, system, asked, first)?,
+        again: time_pages(rt, system, asked, again)?,
+        turns: time_turns(rt, system, asked.users)?,
+    })
+}
+
 /// Measures an installation of as many users, frames and slots as the words of the command line say; four users on 64
 /// frames where they say nothing.
 pub fn measure_installation<R: AllocGlobal + CpuClock + Env + Print + Eprint>(
     rt: &R,
 ) -> Result<()> {
     let asked = words_of(rt)?;
-    let text = directory_of(rt.alloc(), asked.users)?;
-    let directory = read_directory(rt.alloc(), text.as_bytes())?;
-    let Some(sizes) = Sizes::new(asked.frames, asked.slots) else {
-        bail!("there are 16 to 4096 frames, and at most 65536 slots");
-    };
-    let start = rt.process_cpu_time()?;
-    let mut system = System::boot(rt.alloc(), directory, Vec::new(rt.alloc()), sizes)?;
-    tell(rt, start, "boot", 1)?;
-    let start = rt.process_cpu_time()?;
-    each_types(&mut system, asked.users, b"LOGON")?;
-    tell(rt, start, "LOGON", u32::from(asked.users))?;
-    let first = time_pages(
-        rt,
-        &mut system,
-        asked,
-        "page touched for the first time, with three units",
-    )?;
-    let again = time_pages(
-        rt,
-        &mut system,
-        asked,
-        "page touched once more, with three units",
-    )?;
-    let turns = time_turns(&rt, &mut system, asked.users)?;
-    let start = rt.process_cpu_time()?;
-    each_types(&mut system, asked.users, b"#CP LOGOFF")?;
-    tell(rt, start, "LOGOFF", u32::from(asked.users))?;
-    let start = rt.process_cpu_time()?;
-    each_types(&mut system, asked.users, b"LOGON")?;
-    tell(rt, start, "LOGON once more", u32::from(asked.users))?;
+    let Asked {
+        users,
+        frames,
+        slots,
+    } = asked;
+    let mut system = time_boot(rt, asked)?;
+    time_line(rt, &mut system, users, "LOGON", "LOGON")?;
+    let Done {
+        first,
+        again,
+        turns,
+    } = time_runs(rt, &mut system, asked)?;
+    time_line(rt, &mut system, users, "#CP LOGOFF", "LOGOFF")?;
+    time_line(rt, &mut system, users, "LOGON", "LOGON once more")?;
     let came = system.page_ins();
-    let (users, frames, slots) = (asked.users, asked.frames, asked.slots);
     println!(rt;
         "{users} users on {frames} frames and {slots} slots: {first}, {again} and {turns} units, {came} pages came"
     )?;

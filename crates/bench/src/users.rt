@@ -1,10 +1,8 @@
 //! The users whose costs are measured: each has a guest that stores into one page after another.
+use crate::events::{run, type_line};
 use anyhow::Result;
-use cp_console::responses::Response;
-use cp_core::{Delivered, Ended, Event, System};
-use cp_devices::Told;
+use cp_core::System;
 use cp_users::UserNo;
-use s370_num::DevAddr;
 use std::alloc::Global;
 
 /// The most users of an installation.
@@ -23,40 +21,10 @@ pub fn directory_of(alloc: Global, users: u8) -> Result<String> {
     Ok(text)
 }
 
-/// A user types a line, and this is said.
-fn said(system: &mut System, user: UserNo, typed: &[u8]) -> Result<Told> {
-    let reply = system.apply(Event::Line(user, typed))?;
-    // The prover finds what a reply may hold only where a function names it.
-    let _device = DevAddr::new(0);
-    let _response = Response::Sent;
-    let _delivered: Option<Delivered> = reply.delivered;
-    let said: Told = reply.said;
-    Ok(said)
-}
-
-/// Lets a user run: how many units were done.
-fn ran(system: &mut System, user: UserNo, units: u32) -> Result<u32> {
-    let reply = system.apply(Event::Run(user, units))?;
-    let _device = DevAddr::new(0);
-    let _response = Response::Sent;
-    let _delivered: Option<Delivered> = reply.delivered;
-    let _said: Told = reply.said;
-    Ok(units_of(reply.ended))
-}
-
-/// How many units were done.
-fn units_of(ended: Ended) -> u32 {
-    match ended {
-        Ended::Ran(ran) => ran.units,
-        Ended::Done | Ended::Served(_) | Ended::FramesOut => 0,
-    }
-}
-
 /// The same line is typed by each user.
 pub fn each_types(system: &mut System, users: u8, typed: &[u8]) -> Result<()> {
-    let _response = Response::Sent;
     for user in 0..users.min(MOST_USERS) {
-        let _said = said(system, UserNo::new(user), typed)?;
+        type_line(system, UserNo::new(user), typed)?;
     }
     Ok(())
 }
@@ -65,8 +33,7 @@ pub fn each_types(system: &mut System, users: u8, typed: &[u8]) -> Result<()> {
 pub fn each_runs(system: &mut System, users: u8, units: u32) -> Result<u64> {
     let mut done = 0u64;
     for user in 0..users.min(MOST_USERS) {
-        let units = ran(system, UserNo::new(user), units)?;
-        done = done.wrapping_add(u64::from(units));
+        done = done.wrapping_add(run(system, UserNo::new(user), units)?);
     }
     Ok(done)
 }

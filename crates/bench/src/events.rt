@@ -1,0 +1,62 @@
+//! Events of a system, and how they end.
+use anyhow::{Result, bail};
+use cp_console::responses::Response;
+use cp_core::{Delivered, Ended, Event, System};
+use cp_devices::Told;
+use cp_users::UserNo;
+use s370_num::DevAddr;
+use unit_record::Card;
+
+/// How an event ends that is no run.
+fn end_of(system: &mut System, event: Event<'_>) -> Result<Ended> {
+    let reply = system.apply(event)?;
+    // The prover finds what a reply may hold only where a function names it.
+    let _device = DevAddr::new(0);
+    let _response = Response::Sent;
+    let _delivered: Option<Delivered> = reply.delivered;
+    let _said: Told = reply.said;
+    Ok(reply.ended)
+}
+
+/// A user types a line.
+pub fn type_line(system: &mut System, user: UserNo, typed: &[u8]) -> Result<()> {
+    let _ended = end_of(system, Event::Line(user, typed))?;
+    Ok(())
+}
+
+/// The operator gives a deck to a user's reader.
+pub fn give_deck(system: &mut System, user: UserNo, cards: &[Card]) -> Result<()> {
+    let _ended = end_of(system, Event::Deck(user, cards))?;
+    Ok(())
+}
+
+/// A device of a user is served: whether it had a program.
+pub fn serve(system: &mut System, user: UserNo, device: DevAddr) -> Result<bool> {
+    match end_of(system, Event::Serve(user, device))? {
+        Ended::Served(done) => Ok(done),
+        Ended::Ran(_) | Ended::Done | Ended::FramesOut => bail!("no room for a program's pages"),
+    }
+}
+
+/// Units of a user: how many were done, if the system lives. It makes no error, whose place would be a part of each
+/// turn.
+fn units_of(system: &mut System, user: UserNo, units: u32) -> Option<u32> {
+    let reply = match system.apply(Event::Run(user, units)) {
+        Ok(reply) => reply,
+        Err(_) => return None,
+    };
+    let _said: Told = reply.said;
+    let _device = DevAddr::new(0);
+    Some(match reply.ended {
+        Ended::Ran(ran) => ran.units,
+        Ended::Done | Ended::Served(_) | Ended::FramesOut => 0,
+    })
+}
+
+/// Lets a user run for so many units: how many were done.
+pub fn run(system: &mut System, user: UserNo, units: u32) -> Result<u64> {
+    match units_of(system, user, units) {
+        Some(done) => Ok(u64::from(done)),
+        None => bail!("the system is spent"),
+    }
+}
