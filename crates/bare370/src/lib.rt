@@ -6,7 +6,9 @@
 //! same, but for the user's name. Turns deal serves too, since this machine has devices.
 #![tactic(auto)]
 
+mod acts;
 pub mod arguments;
+mod files;
 pub mod program;
 mod script;
 pub mod session;
