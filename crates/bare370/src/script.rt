@@ -1,76 +1,117 @@
-//! The script of a machine of its own: events, decks of cards, and turns.
+//! The script of a machine of its own: the events that it names, and how they happen to the machine.
+ghost use Rattle.std.specs.Prelude.{◌≡◌, ◌∷◌, ◌⊎◌, [], All, IfErr, IfOk, Ok, OnErr, map};
+ghost use Rattle.cp_script.specs.Script.{Deck, IsRefusal, said, script_of};
+ghost use Rattle.vm370.specs.Script.{IsApplicable, IsOfUser, IsWhole};
+ghost use Rattle.bare370.specs.Schedule.{IsLost};
+ghost use Rattle.bare370.specs.Script.{addresses_of, as_said, known_with, users_of};
+ghost use Rattle.bare370.specs.Session.{HasHappened};
+
 use bare_installation::{BARE, Bare, Event, Reply};
-use cp_script::{Cards, ScriptError, ScriptEvent, ScriptUser, read_script};
+use cp_script::{ScriptError, ScriptEvent, ScriptUser, read_script};
 use s370_num::DevAddr;
+use s370_subchannels::Subchannel;
 use std::alloc::{AllocError, Global};
+use unit_record::Card;
 
-/// What a line of a script asks for.
-#[derive(Drop)]
-pub enum Step<'a> {
-    /// The machine is let run for at most so many units.
-    Run(u32),
-    /// So many turns are dealt.
-    Turns(u32),
-    /// Something else happens to the machine.
-    Happens(Happening<'a>),
+/// The events that a script names for this machine. The whole text is judged: its first line that is wrong is told.
+pub(crate) fn read_events<'a>(
+    alloc: Global,
+    machine: &Bare,
+    text: &'a [u8],
+) -> Result<Vec<ScriptEvent<'a>>, ScriptError>
+    ensures ok { IfOk result (λ events. script_of (users_of machine.now) text.now ≡ Ok (map said events.items)) }
+    ensures users { IfOk result (λ events. All (IsOfUser 1) events.items) }
+    ensures err { IfErr result (IsRefusal (script_of (users_of machine.now) text.now)) }
+{
+    let Ok(devices) = addresses(alloc, machine.subchannels()) else {
+        return Err(ScriptError::Memory);
+    };
+    read_for(alloc, &devices, text)
 }
 
-/// What a script says that happens to the machine, but for runs.
-#[derive(Drop)]
-pub enum Happening<'a> {
-    /// A line is typed.
-    Line(&'a [u8]),
-    /// Its interval timer ticks.
-    Tick,
-    /// The device of this address is served.
-    Serve(u16),
-    /// The operator gives a deck of these cards.
-    Deck(Cards<'a>),
-}
-
-impl<'a> Happening<'a> {
-    /// Lets it happen to the machine, and says what is told.
-    pub fn happen(&self, alloc: Global, machine: &mut Bare) -> Result<Reply, AllocError> {
-        match self {
-            Happening::Line(typed) => machine.apply(alloc, Event::Line(typed)),
-            Happening::Tick => machine.apply(alloc, Event::Tick),
-            Happening::Serve(device) => machine.apply(alloc, Event::Serve(DevAddr::new(*device))),
-            Happening::Deck(cards) => {
-                let cards = cards.to_vec(alloc)?;
-                machine.apply(alloc, Event::Deck(cards.as_slice()))
-            }
-        }
+/// The addresses of these devices.
+fn addresses(alloc: Global, devices: &[Subchannel]) -> Result<Vec<u16>, AllocError>
+    ensures { IfOk result (λ list. list.items ≡ addresses_of devices.now) }
+{
+    let mut list = Vec::new(alloc);
+    for device in devices {
+        list.push(device.address.get())?;
     }
+    Ok(list)
 }
 
-/// The steps of a script for a machine with these devices. The whole text is judged: its first line that is wrong is
-/// told.
-pub fn read_steps<'a>(
+/// The events that a script names for a machine with devices at these addresses.
+fn read_for<'a>(
     alloc: Global,
     devices: &[u16],
     text: &'a [u8],
-) -> Result<Vec<Step<'a>>, ScriptError> {
+) -> Result<Vec<ScriptEvent<'a>>, ScriptError>
+    ensures ok { IfOk result (λ events. script_of (known_with devices.now ∷ []) text.now ≡ Ok (map said events.items)) }
+    ensures users { IfOk result (λ events. All (IsOfUser 1) events.items) }
+    ensures err { IfErr result (IsRefusal (script_of (known_with devices.now ∷ []) text.now)) }
+{
     let users = [ScriptUser {
         name: BARE,
         devices,
     }];
-    let mut steps = Vec::new(alloc);
-    for event in read_script(alloc, &users, text)? {
-        if steps.push(step_of(event)).is_err() {
-            return Err(ScriptError::Memory);
-        }
-    }
-    Ok(steps)
+    read_script(alloc, &users, text)
 }
 
-/// The step of an event of a script whose only user is this machine's.
-fn step_of(event: ScriptEvent<'_>) -> Step<'_> {
+/// Lets what a line of a script says happen to the machine, and says what is told.
+pub(crate) fn happen(
+    alloc: Global,
+    machine: &mut Bare,
+    event: &ScriptEvent<'_>,
+) -> Result<Reply, AllocError>
+    requires user { IsOfUser 1 event.now }
+    requires event { IsApplicable event.now }
+    ensures ok { IfOk result (λ reply. HasHappened (said event.now) machine.old machine.new reply) }
+    ensures err { OnErr result ((machine.new ≡ machine.old) ⊎ IsLost (said event.now) machine.old) }
+{
     match event {
-        ScriptEvent::Run(_, units) => Step::Run(units),
-        ScriptEvent::Line(_, typed) => Step::Happens(Happening::Line(typed)),
-        ScriptEvent::Tick(_) => Step::Happens(Happening::Tick),
-        ScriptEvent::Serve(_, device) => Step::Happens(Happening::Serve(device)),
-        ScriptEvent::Auto(turns) => Step::Turns(turns),
-        ScriptEvent::Deck(_, cards) => Step::Happens(Happening::Deck(cards)),
+        ScriptEvent::Deck(_, cards) => {
+            let cards = cards.to_vec(alloc)?;
+            give(alloc, machine, &cards)
+        }
+        _ => ask(alloc, machine, event),
+    }
+}
+
+/// The operator gives a deck of these cards.
+fn give(alloc: Global, machine: &mut Bare, cards: &[Card]) -> Result<Reply, AllocError>
+    ensures ok { IfOk result (λ reply. HasHappened (Deck 0 cards.now) machine.old machine.new reply) }
+    ensures err { OnErr result ((machine.new ≡ machine.old) ⊎ IsLost (Deck 0 cards.now) machine.old) }
+{
+    match machine.apply(alloc, Event::Deck(cards)) {
+        Ok(reply) => Ok(reply),
+        Err(error) => Err(error),
+    }
+}
+
+/// Lets an event happen that a script says with all that it has.
+fn ask(alloc: Global, machine: &mut Bare, event: &ScriptEvent<'_>) -> Result<Reply, AllocError>
+    requires user { IsOfUser 1 event.now }
+    requires event { IsWhole event.now }
+    ensures ok { IfOk result (λ reply. HasHappened (said event.now) machine.old machine.new reply) }
+    ensures err { OnErr result ((machine.new ≡ machine.old) ⊎ IsLost (said event.now) machine.old) }
+{
+    match machine.apply(alloc, event_of(event)) {
+        Ok(reply) => Ok(reply),
+        Err(error) => Err(error),
+    }
+}
+
+/// The event that a line of a script says with all that it has.
+fn event_of<'a>(event: &ScriptEvent<'a>) -> Event<'a>
+    requires user { IsOfUser 1 event.now }
+    requires event { IsWhole event.now }
+    ensures { as_said result ≡ said event.now }
+{
+    match *event {
+        ScriptEvent::Run(_, units) => Event::Run(units),
+        ScriptEvent::Line(_, typed) => Event::Line(typed),
+        ScriptEvent::Tick(_) => Event::Tick,
+        ScriptEvent::Serve(_, device) => Event::Serve(DevAddr::new(device)),
+        ScriptEvent::Deck(_, _) | ScriptEvent::Auto(_) => unreachable!(),
     }
 }

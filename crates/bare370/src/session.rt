@@ -1,14 +1,26 @@
 //! A session of a machine of its own: from a script's bytes to a transcript's bytes.
-ghost use Rattle.std.specs.Prelude.{◌≤◌, IfOk, length};
+ghost use Rattle.std.specs.Prelude.{◌≡◌, ◌≤◌, ◌⊎◌, ℕ, [], All, Err, IfOk, OnErr, OnOk, length, map};
+ghost use Rattle.std.specs.Io.KnownBytes.{Appends};
+ghost use Rattle.s370_num.specs.Host.{AppendsFront};
 ghost use Rattle.s370_store.specs.Plain.{plain_bytes};
+ghost use Rattle.cp_script.specs.Script.{said};
+ghost use Rattle.vm370.specs.Schedule.{acts};
+ghost use Rattle.vm370.specs.Script.{IsOfUser};
+ghost use Rattle.vm370.specs.Session.{CountsFiles, CountsWriter, IsRefused};
+ghost use Rattle.vm370.specs.Transcript.{ended};
+ghost use Rattle.bare370.specs.Files.{closing_lines};
+ghost use Rattle.bare370.specs.Schedule.{scene};
+ghost use Rattle.bare370.specs.Script.{users_of};
+ghost use Rattle.bare370.specs.Session.{IsCut, IsPartly, IsPlayed, IsSession};
 
-use crate::script::{Step, read_steps};
-use crate::transcript::{print_files, print_happening, print_run, print_turn};
+use crate::acts::act;
+use crate::files::print_files;
+use crate::script::read_events;
 use bare_installation::Bare;
 use ckd_volume::{Arm, Sense, Unit, Volume};
 use cp_channels::AttachedDisk;
 use cp_devices::{AttachError, Devices, Places};
-use cp_script::ScriptError;
+use cp_script::ScriptEvent;
 use s370_num::DevAddr;
 use s370_num::host::{HostReader, HostWriter, read_all, write_all};
 use s370_store::PlainStorage;
@@ -95,71 +107,68 @@ fn disk(alloc: Global, volume: Volume) -> Result<Unit, AllocError> {
     Unit::new(alloc, volume, FIRST_CYLINDER)
 }
 
-/// The addresses of the devices of a machine.
-fn addresses(alloc: Global, machine: &Bare) -> Result<Vec<u16>, AllocError> {
-    let mut addresses = Vec::new(alloc);
-    for subchannel in machine.subchannels() {
-        addresses.push(subchannel.address.get())?;
-    }
-    Ok(addresses)
-}
-
-/// Reads a whole script and judges it; then lets its steps happen to the machine and deals its turns one after another,
-/// and writes the lines of each as they come, and at the end the files for the operator. Where the script is refused
-/// nothing happens, and nothing is written. After any other failure a beginning of the transcript is written.
+/// Reads a whole script and judges it; then lets its events happen to the machine and deals its turns one after another,
+/// and writes the lines of each as they come, and at the end the files for the operator. When it ends well, nothing that
+/// was written is held back. Where memory is refused to an event, nothing is said of the machine.
 pub fn bare_session<R: HostReader, W: HostWriter>(
     alloc: Global,
     machine: &mut Bare,
     reader: &mut R,
     writer: &mut W,
-) -> Result<(), SessionError> {
+) -> Result<(), SessionError>
+    ensures ok { OnOk result (IsSession machine.old machine.new (R.remaining reader.old) (R.remaining reader.new)
+        (W.contents writer.old) (W.contents writer.new)) }
+    ensures line { (n : ℕ) → result ≡ Err (SessionError.Line n)
+        → IsRefused (users_of machine.old) (R.remaining reader.old) (R.remaining reader.new) n }
+    ensures refused { (n : ℕ) → result ≡ Err (SessionError.Line n) → (machine.new ≡ machine.old)
+        × (writer.new ≡ writer.old) }
+    ensures err { OnErr result
+        (((machine.new ≡ machine.old) × (writer.new ≡ writer.old))
+        ⊎ IsCut machine.old machine.new (R.remaining reader.old) (R.remaining reader.new) (W.contents writer.old)
+        (W.contents writer.new)) }
+    ensures flushed { OnOk result (W.held writer.new ≡ []) }
+    ensures counts { CountsFiles result (R.HostFile.failures reader.old) (R.HostFile.failures reader.new)
+        (W.HostFile.failures writer.old) (W.HostFile.failures writer.new) }
+{
     let text = read_all(alloc, reader)?;
-    let devices = addresses(alloc, machine)?;
-    let steps = match read_steps(alloc, &devices, &text) {
-        Ok(steps) => steps,
-        Err(ScriptError::Memory) => return Err(SessionError::Memory),
-        Err(ScriptError::Line(number)) => return Err(SessionError::Line(number)),
-    };
-    play(alloc, machine, &steps, writer)
+    let events = read_events(alloc, machine, &text)?;
+    play(alloc, machine, &events, writer)?;
+    close(alloc, machine, writer)
 }
 
-/// Lets the steps happen and deals the turns one after another, and writes the lines of each as they come, and then the
-/// files.
+/// Lets the events happen and deals the turns one after another, and writes the lines of each as they come.
 fn play<W: HostWriter>(
     alloc: Global,
     machine: &mut Bare,
-    steps: &[Step<'_>],
+    events: &[ScriptEvent<'_>],
     writer: &mut W,
-) -> Result<(), SessionError> {
-    for step in steps {
-        match step {
-            Step::Run(units) => {
-                let lines = print_run(alloc, machine, *units)?;
-                write_all(writer, &lines)?;
-            }
-            Step::Turns(turns) => deal(alloc, machine, *turns, writer)?,
-            Step::Happens(happening) => {
-                let lines = print_happening(alloc, machine, happening)?;
-                write_all(writer, &lines)?;
-            }
-        }
+) -> Result<(), SessionError>
+    requires { All (IsOfUser 1) events.now }
+    ensures ok { OnOk result (IsPlayed (acts (map said events.now)) (scene machine.old) (scene machine.new)
+        (W.contents writer.old) (W.contents writer.new)) }
+    ensures err { OnErr result (IsPartly (acts (map said events.now)) (scene machine.old) machine.new
+        (W.contents writer.old) (W.contents writer.new)) }
+    ensures no_line { (n : ℕ) → result ≡ Err (SessionError.Line n) → ⊥ }
+    ensures counts { CountsWriter result (W.HostFile.failures writer.old) (W.HostFile.failures writer.new) }
+{
+    for event in events {
+        act(alloc, machine, event, writer)?;
     }
-    let files = print_files(alloc, machine)?;
-    write_all(writer, &files)?;
-    writer.flush()?;
     Ok(())
 }
 
-/// Deals so many turns, one after another, and writes the lines of each.
-fn deal<W: HostWriter>(
-    alloc: Global,
-    machine: &mut Bare,
-    turns: u32,
-    writer: &mut W,
-) -> Result<(), SessionError> {
-    for _turn in 0..turns {
-        let lines = print_turn(alloc, machine)?;
-        write_all(writer, &lines)?;
-    }
+/// Writes the files for the operator, and nothing that was written is held back.
+fn close<W: HostWriter>(alloc: Global, machine: &Bare, writer: &mut W) -> Result<(), SessionError>
+    ensures ok { OnOk result
+        (Appends (W.contents writer.old) (W.contents writer.new) (ended (closing_lines machine.now))) }
+    ensures err { OnErr result
+        (AppendsFront (W.contents writer.old) (W.contents writer.new) (ended (closing_lines machine.now))) }
+    ensures no_line { (n : ℕ) → result ≡ Err (SessionError.Line n) → ⊥ }
+    ensures flushed { OnOk result (W.held writer.new ≡ []) }
+    ensures counts { CountsWriter result (W.HostFile.failures writer.old) (W.HostFile.failures writer.new) }
+{
+    let files = print_files(alloc, machine)?;
+    write_all(writer, &files)?;
+    writer.flush()?;
     Ok(())
 }

@@ -1,103 +1,91 @@
-//! The transcript of a machine of its own: the lines of an event and of a turn, and the files at the end.
-ghost use Rattle.std.specs.Prelude.{◌≡◌, ◌++◌, ◌∷◌, [], OnOk};
+//! The transcript of a machine of its own: the lines of an event and its reply.
+ghost use Rattle.std.specs.Prelude.{◌≡◌, ◌++◌, ◌∷◌, [], IfOk, OnOk};
 ghost use Rattle.cp_console.specs.Responses.{text_of};
+ghost use Rattle.cp_script.specs.Script.{said};
 ghost use Rattle.bare_installation.specs.Bare.{bare};
-ghost use Rattle.vm370.specs.Transcript.{ended, told_line};
-ghost use Rattle.bare370.specs.Transcript.{queue_line, queue_lines, said_lines, told_lines};
+ghost use Rattle.vm370.specs.Transcript.{ended, served_lines, told_line};
+ghost use Rattle.bare370.specs.Transcript.{answer_lines, ending_lines, printed_lines, queue_line, queue_lines, reply_lines, said_lines, told_lines};
 
-use crate::script::Happening;
-use bare_installation::{BARE, Bare, FileKind, Reply};
+use bare_installation::{BARE, Bare, Reply};
 use cp_console::printing;
 use cp_console::responses::Response;
 use cp_devices::{Told, deck_line};
+use cp_script::ScriptEvent;
 use s370_num::DevAddr;
-use s370_subchannels::first_started;
 use std::alloc::{AllocError, Global};
-use unit_record::{Deck, File, Reader};
-use vm370::files::print_file;
-use vm370::transcript::{idle_line, print_line, print_ran, print_served};
+use unit_record::{Deck, Reader};
+use vm370::transcript::{print_line, print_ran, print_served};
 
-/// How many units a slice has.
-const SLICE_UNITS: u32 = 100;
-
-/// Lets what a script says happen to the machine. The transcript's lines for it, each ended by LF: the answer to a line
-/// where the console has not printed it, what the console printed meanwhile, and then how the event ended.
-pub(crate) fn print_happening(
+/// The transcript's lines for the reply that the machine has just given to an event, before which its console had
+/// printed so many lines, each ended by LF: the answer to a line where the console has not printed it, what the console
+/// printed meanwhile, and then how the event ended.
+#[tactic(auto, using(crate::proofs::Endings::three_ended))]
+pub(crate) fn print_reply(
     alloc: Global,
-    machine: &mut Bare,
-    happening: &Happening<'_>,
-) -> Result<Vec<u8>, AllocError> {
+    machine: &Bare,
+    before: usize,
+    event: &ScriptEvent<'_>,
+    reply: &Reply,
+) -> Result<Vec<u8>, AllocError>
+    ensures { IfOk result (λ text. text.items ≡ ended (reply_lines before (said event.now) reply.now machine.now)) }
+{
     let mut text = Vec::new(alloc);
-    let before = machine.printed();
-    match happening.happen(alloc, machine) {
-        Ok(Reply::Told(told)) => {
-            print_told(alloc, &mut text, machine.devices().reader(), told)?;
-            print_console(alloc, &mut text, machine, before)?;
-        }
-        Ok(Reply::Served(done)) => {
-            print_console(alloc, &mut text, machine, before)?;
-            if let Happening::Serve(device) = happening {
-                print_served(alloc, &mut text, BARE, DevAddr::new(*device), done)?;
-            }
-        }
-        Ok(Reply::Ran(_) | Reply::Done) => {}
-        Err(error) => return Err(error),
-    }
+    print_answer(alloc, &mut text, machine.devices().reader(), reply)?;
+    print_console(alloc, &mut text, machine, before)?;
+    print_ending(alloc, &mut text, event, reply)?;
     Ok(text)
 }
 
-/// Lets the machine run for so many units. The transcript's lines for it: what the console printed meanwhile, and then
-/// how the run ended.
-pub(crate) fn print_run(
-    alloc: Global,
-    machine: &mut Bare,
-    units: u32,
-) -> Result<Vec<u8>, AllocError> {
-    let mut text = Vec::new(alloc);
-    add_run(alloc, &mut text, machine, units)?;
-    Ok(text)
-}
-
-/// Lets the machine run for so many units, and adds the lines for it.
-fn add_run(
+/// Adds the lines of a reply to a line, given by a machine with this reader.
+fn print_answer(
     alloc: Global,
     out: &mut Vec<u8>,
-    machine: &mut Bare,
-    units: u32,
-) -> Result<(), AllocError> {
-    let before = machine.printed();
-    let told = machine.units(units);
-    print_console(alloc, out, machine, before)?;
-    print_ran(alloc, out, BARE, told.ran)
+    reader: &Reader,
+    reply: &Reply,
+) -> Result<(), AllocError>
+    ensures { OnOk result (out.new.items ≡ out.old.items ++ ended (answer_lines reader.now.decks reply.now)) }
+{
+    match *reply {
+        Reply::Told(told) => print_told(alloc, out, reader, told),
+        Reply::Ran(_) | Reply::Served(_) | Reply::Done => Ok(()),
+    }
 }
 
-/// Deals a turn: a slice, where the machine is ready, and then a serve of the program that was started first, where one
-/// is under way. Its lines are those of both, or that there was neither.
-pub(crate) fn print_turn(alloc: Global, machine: &mut Bare) -> Result<Vec<u8>, AllocError> {
-    let mut text = Vec::new(alloc);
-    if machine.is_ready() {
-        add_run(alloc, &mut text, machine, SLICE_UNITS)?;
-    }
-    if let Some(started) = first_started(machine.subchannels(), 0) {
-        add_serve(alloc, &mut text, machine, started.address)?;
-    }
-    if text.is_empty() {
-        text.extend_from_slice(idle_line())?;
-    }
-    Ok(text)
-}
-
-/// Serves the device to which a serve is dealt, and adds the lines for it.
-fn add_serve(
+/// Adds how an event ended, where the transcript has a line for it.
+fn print_ending(
     alloc: Global,
     out: &mut Vec<u8>,
-    machine: &mut Bare,
-    device: DevAddr,
-) -> Result<(), AllocError> {
-    let before = machine.printed();
-    let done = machine.serve(device)?;
-    print_console(alloc, out, machine, before)?;
-    print_served(alloc, out, BARE, device, done)
+    event: &ScriptEvent<'_>,
+    reply: &Reply,
+) -> Result<(), AllocError>
+    ensures { OnOk result (out.new.items ≡ out.old.items ++ ended (ending_lines (said event.now) reply.now)) }
+{
+    match *reply {
+        Reply::Ran(told) => print_ran(alloc, out, BARE, told.ran),
+        Reply::Served(done) => print_end(alloc, out, event, done),
+        Reply::Told(_) | Reply::Done => Ok(()),
+    }
+}
+
+/// Adds the line of a serve.
+fn print_end(
+    alloc: Global,
+    out: &mut Vec<u8>,
+    event: &ScriptEvent<'_>,
+    done: bool,
+) -> Result<(), AllocError>
+    ensures { OnOk result (out.new.items ≡ out.old.items ++ ended (served_lines bare (said event.now) done)) }
+{
+    match event {
+        ScriptEvent::Serve(_, device) => {
+            print_served(alloc, out, BARE, DevAddr::new(*device), done)
+        }
+        ScriptEvent::Run(_, _)
+        | ScriptEvent::Line(_, _)
+        | ScriptEvent::Tick(_)
+        | ScriptEvent::Deck(_, _)
+        | ScriptEvent::Auto(_) => Ok(()),
+    }
 }
 
 /// Adds what was told to a line, where it is not printed on the console.
@@ -148,17 +136,22 @@ fn print_deck(alloc: Global, out: &mut Vec<u8>, deck: &Deck) -> Result<(), Alloc
     print_line(out, BARE, &line)
 }
 
-/// Adds the lines that the console has printed after so many.
+/// Adds the lines that the console has printed since it had printed so many.
+#[tactic(auto, using(vm370::proofs::Written::one_more, vm370::proofs::Written::no_more))]
 fn print_console(
     alloc: Global,
     out: &mut Vec<u8>,
     machine: &Bare,
     before: usize,
-) -> Result<(), AllocError> {
+) -> Result<(), AllocError>
+    ensures { OnOk result (out.new.items
+        ≡ out.old.items ++ ended (printed_lines before machine.now.equipped.machine.output)) }
+{
     for line in before..machine.printed() {
-        if let Some(response) = machine.console_output(line) {
-            print_response(alloc, out, &response)?;
-        }
+        let Some(response) = machine.console_output(line) else {
+            unreachable!();
+        };
+        print_response(alloc, out, &response)?;
     }
     Ok(())
 }
@@ -169,43 +162,4 @@ fn print_response(alloc: Global, out: &mut Vec<u8>, response: &Response) -> Resu
 {
     let text = printing::reply(alloc, response)?;
     print_line(out, BARE, &text)
-}
-
-/// The files that were closed for the operator, in the order of their numbers: a first line, and then each entry of a
-/// printer (its command code and its text), or each card.
-pub fn print_files(alloc: Global, machine: &Bare) -> Result<Vec<u8>, AllocError> {
-    let mut text = Vec::new(alloc);
-    let mut punched = 0usize;
-    let mut printed = 0usize;
-    for (index, kind) in machine.files().iter().enumerate() {
-        match kind {
-            FileKind::Deck => {}
-            FileKind::Punch => {
-                let file = machine.devices().punch().closed().get(punched);
-                print_found(alloc, &mut text, index, *kind, file)?;
-                punched = punched.saturating_add(1);
-            }
-            FileKind::Printer => {
-                let file = machine.devices().printer().closed().get(printed);
-                print_found(alloc, &mut text, index, *kind, file)?;
-                printed = printed.saturating_add(1);
-            }
-        }
-    }
-    Ok(text)
-}
-
-/// Adds a file of this kind that stands at this place among all.
-fn print_found(
-    alloc: Global,
-    out: &mut Vec<u8>,
-    place: usize,
-    kind: FileKind,
-    file: Option<&File>,
-) -> Result<(), AllocError> {
-    let Some(file) = file else {
-        return Ok(());
-    };
-    let number = (place as u64).saturating_add(1);
-    print_file(alloc, out, kind, number, BARE, file)
 }
