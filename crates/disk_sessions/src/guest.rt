@@ -10,15 +10,6 @@ use s370_store::PlainStorage;
 use std::alloc::Global;
 use step_table::lists::byte_at;
 
-/// How many frames the machine of the program `vm370` has.
-pub const FRAMES: u32 = 64;
-
-/// The fewest that a system may have.
-pub const FEWEST_FRAMES: u32 = 16;
-
-/// How many slots for pages it has.
-pub const SLOTS: u32 = 256;
-
 /// The user, who is the first of his directory.
 pub fn user() -> UserNo {
     UserNo::new(0)

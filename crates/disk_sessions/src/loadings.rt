@@ -1,7 +1,7 @@
 //! Initial program loadings of a disk or a reader by a user, whose disk lies in the middle of a volume between those of a
-//! neighbour: how they end, and what they leave of storage.
+//! neighbour: how they end, and what they leave of storage; on the fewest frames.
 use crate::between::{directory_between, volume_between};
-use crate::guest::{FEWEST_FRAMES, FRAMES, SLOTS, booted, has_byte, has_volume, user};
+use crate::guest::{booted, has_byte, has_volume, user};
 use crate::playing::other_line;
 use anyhow::{Result, bail};
 use cp_core::{Event, System};
@@ -23,6 +23,9 @@ const BLOCKS: u32 = 8;
 
 /// How many bytes that is.
 const SIZE: u32 = 0x4000;
+
+/// The fewest frames that a system may have.
+const FRAMES: u32 = 16;
 
 /// What happens: what was loaded stops at once, in a disabled wait.
 const SCRIPT: &[u8] = b"LINE A LOGON\nLINE A IPL 190\nRUN A 1\n";
@@ -76,43 +79,34 @@ fn difference(alloc: Global, line: &str) -> Result<Option<String>> {
     let Some(loading) = loading_of(line) else {
         bail!("a loading has four fields");
     };
-    match difference_on(alloc, &loading, FRAMES)? {
-        Some(what) => Ok(Some(what)),
-        None => difference_on(alloc, &loading, FEWEST_FRAMES),
-    }
-}
-
-/// What differs first from what a loading is, on so many frames.
-fn difference_on(alloc: Global, loading: &Loading<'_>, frames: u32) -> Result<Option<String>> {
-    let mut system = booted_with(alloc, loading, frames)?;
+    let mut system = booted_with(alloc, &loading)?;
     let mut told = Vec::new(alloc);
     session(alloc, &mut system, &mut Bytes::new(SCRIPT), &mut told)?;
     let wanted = if loading.is_loaded { LOADED } else { FAILED };
     if let Some(line) = other_line(&told, wanted) {
-        let line = str::from_utf8(line)?;
-        return Ok(Some(format!(in alloc; "on {frames} frames: {line}")?));
+        return Ok(Some(String::from_str(alloc, str::from_utf8(line)?)?));
     }
-    if let Some(at) = other_byte(alloc, &system, loading)? {
-        return Ok(Some(format!(in alloc; "on {frames} frames: byte {at:06X}")?));
+    if let Some(at) = other_byte(alloc, &system, &loading)? {
+        return Ok(Some(format!(in alloc; "byte {at:06X} of storage")?));
     }
-    if !has_same_disk(alloc, &system, loading)? {
-        return Ok(Some(format!(in alloc; "on {frames} frames: a track")?));
+    if !has_same_disk(alloc, &system, &loading)? {
+        return Ok(Some(String::from_str(alloc, "a track")?));
     }
     Ok(None)
 }
 
 /// The system of a loading, with the deck in the reader.
-fn booted_with(alloc: Global, loading: &Loading<'_>, frames: u32) -> Result<System> {
+fn booted_with(alloc: Global, loading: &Loading<'_>) -> Result<System> {
     let Some(cylinders) = loading.cylinders else {
         let volumes = Vec::new(alloc);
-        let mut system = booted(alloc, WITH_READER.as_bytes(), volumes, frames, SLOTS)?;
+        let mut system = booted(alloc, WITH_READER.as_bytes(), volumes, FRAMES, 0)?;
         give(&mut system, &cards_of(alloc, loading.content)?)?;
         return Ok(system);
     };
     let directory = directory_between(alloc, "16K", cylinders, "W")?;
     let volume = volume_between(alloc, cylinders, loading.content.as_bytes())?;
     let volumes = vec![in alloc; volume]?;
-    booted(alloc, directory.as_bytes(), volumes, frames, SLOTS)
+    booted(alloc, directory.as_bytes(), volumes, FRAMES, 0)
 }
 
 /// The cards of a list, which are zero behind what is listed.

@@ -1,6 +1,6 @@
 //! A session is played, and compared with its block.
 use crate::block::Block;
-use crate::guest::{FEWEST_FRAMES, FRAMES, SLOTS, booted};
+use crate::guest::booted;
 use anyhow::{Context, Result};
 use ckd_image::image;
 use ckd_text::make_volume;
@@ -14,6 +14,15 @@ use std::fs;
 use std::rt::Files;
 use vm370::faults::{Failure, fault_line};
 use vm370::session::session;
+
+/// How many frames the machine of the program `vm370` has.
+const FRAMES: u32 = 64;
+
+/// The fewest that a system may have.
+const FEWEST_FRAMES: u32 = 16;
+
+/// How many slots for pages it has.
+const SLOTS: u32 = 256;
 
 /// What differs first from what a block says; none where all is as it says.
 pub fn difference<R: AllocGlobal + Files>(rt: &R, block: &Block) -> Result<Option<String>> {

@@ -1,5 +1,5 @@
 //! What SIO, TIO, HIO and TCH are answered in each state of four disks, and what interrupts, where the machine is that of
-//! a user and each disk lies between two of a neighbour. A script of the table becomes a session.
+//! a user and each disk lies between two of a neighbour. A script of the table becomes a session, on the fewest frames.
 use crate::block::Block;
 use crate::playing::difference;
 use anyhow::{Context, Result, bail};
@@ -8,7 +8,7 @@ use std::rt::Files;
 use step_table::tally;
 
 /// How the session begins, in the notation of `sessions.txt`.
-const BEGINNING: [&str; 15] = [
+const BEGINNING: [&str; 16] = [
     "@ USER A PW 16K",
     "@ MDISK 190 3330 1 1 TEST01 W",
     "@ MDISK 191 3330 3 1 TEST01 W",
@@ -21,6 +21,7 @@ const BEGINNING: [&str; 15] = [
     "@ MDISK 193 3330 6 1 TEST01 W",
     "@ MDISK 194 3330 8 1 TEST01 W",
     ": neighbours",
+    "% 16 0",
     "> LINE A LOGON",
     "A: LOGON OK",
     "> LINE A BEGIN",

@@ -15,8 +15,8 @@ use step_table::lists::addressed;
 /// The storage of the user: that of the machine on which the programs ran.
 const STORAGE: &str = "4M";
 
-/// The frames: all of that storage stands in them, and a few are left.
-const FRAMES: u32 = 1040;
+/// The frames: no program needs more pages.
+const FRAMES: u32 = 64;
 
 /// The address of the disk.
 const DISK: u16 = 0x190;

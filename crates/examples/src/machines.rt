@@ -89,10 +89,7 @@ fn booted<R: AllocGlobal + Files>(rt: &R, folder: &str, frames: u32) -> Result<S
     let text = directory(alloc, &storage(rt, folder)?, &disks)?;
     let directory = read_directory(alloc, &text)?;
     let sizes = Sizes::new(frames, SLOTS).context("so many frames or slots are too many")?;
-    let mut volumes = Vec::new(alloc);
-    for disk in disks {
-        volumes.push(in_the_middle(alloc, disk)?)?;
-    }
+    let volumes = in_the_middle_each(alloc, disks)?;
     Ok(System::boot(alloc, directory, volumes, sizes)?)
 }
 
@@ -111,6 +108,15 @@ fn directory(alloc: Global, storage: &[u8], disks: &[Volume]) -> Result<Vec<u8>>
         address = address.wrapping_add(1);
     }
     Ok(text)
+}
+
+/// A volume for each of these disks.
+fn in_the_middle_each(alloc: Global, disks: Vec<Volume>) -> Result<Vec<Volume>> {
+    let mut volumes = Vec::new(alloc);
+    for disk in disks {
+        volumes.push(in_the_middle(alloc, disk)?)?;
+    }
+    Ok(volumes)
 }
 
 /// A volume with a disk in its middle: there is a cylinder before it and one behind.
@@ -144,7 +150,12 @@ fn is_empty(volume: &Volume, number: usize) -> bool {
         return false;
     }
     let cylinder = volume.cylinder(number);
-    (0..HEADS).all(|head| cylinder.track(head).len() == 0)
+    for head in 0..HEADS {
+        if cylinder.track(head).len() != 0 {
+            return false;
+        }
+    }
+    true
 }
 
 /// What tells the size of the machine's storage.
