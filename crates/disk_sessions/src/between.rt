@@ -13,8 +13,7 @@ pub fn directory_between(
     mode: &str,
 ) -> Result<String> {
     let behind = cylinders.wrapping_add(1);
-    let own =
-        format!(in alloc; "USER A PW {storage}\nMDISK 190 3330 1 {cylinders} TEST01 {mode}")?;
+    let own = format!(in alloc; "USER A PW {storage}\nMDISK 190 3330 1 {cylinders} TEST01 {mode}")?;
     let before = "USER B PW 8K\nMDISK 190 3330 0 1 TEST01 W";
     Ok(format!(in alloc; "{own}\n{before}\nMDISK 191 3330 {behind} 1 TEST01 W\n")?)
 }

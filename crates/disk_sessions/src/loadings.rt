@@ -79,40 +79,59 @@ fn difference(alloc: Global, line: &str) -> Result<Option<String>> {
     let Some(loading) = loading_of(line) else {
         bail!("a loading has four fields");
     };
-    let mut system = booted_with(alloc, &loading)?;
+    let mut system = match loading.cylinders {
+        Some(cylinders) => with_disk(alloc, &loading, cylinders)?,
+        None => with_reader(alloc, &loading)?,
+    };
+    match difference_of(alloc, &mut system, &loading)? {
+        Some(what) => Ok(Some(String::from_str(alloc, what)?)),
+        None => Ok(None),
+    }
+}
+
+/// What differs first after a loading was done.
+fn difference_of(
+    alloc: Global,
+    system: &mut System,
+    loading: &Loading<'_>,
+) -> Result<Option<&'static str>> {
     let mut told = Vec::new(alloc);
-    session(alloc, &mut system, &mut Bytes::new(SCRIPT), &mut told)?;
+    session(alloc, system, &mut Bytes::new(SCRIPT), &mut told)?;
     let wanted = if loading.is_loaded { LOADED } else { FAILED };
-    if let Some(line) = other_line(&told, wanted) {
-        return Ok(Some(String::from_str(alloc, str::from_utf8(line)?)?));
+    if other_line(&told, wanted).is_some() {
+        return Ok(Some("how it ends"));
     }
-    if let Some(at) = other_byte(alloc, &system, &loading)? {
-        return Ok(Some(format!(in alloc; "byte {at:06X} of storage")?));
+    if !has_storage(alloc, system, loading)? {
+        return Ok(Some("storage"));
     }
-    if !has_same_disk(alloc, &system, &loading)? {
-        return Ok(Some(String::from_str(alloc, "a track")?));
+    if !has_same_disk(alloc, system, loading)? {
+        return Ok(Some("a track"));
     }
     Ok(None)
 }
 
-/// The system of a loading, with the deck in the reader.
-fn booted_with(alloc: Global, loading: &Loading<'_>) -> Result<System> {
-    let Some(cylinders) = loading.cylinders else {
-        let volumes = Vec::new(alloc);
-        let mut system = booted(alloc, WITH_READER.as_bytes(), volumes, FRAMES, 0)?;
-        give(&mut system, &cards_of(alloc, loading.content)?)?;
-        return Ok(system);
-    };
+/// The system of a loading from a disk.
+fn with_disk(alloc: Global, loading: &Loading<'_>, cylinders: usize) -> Result<System> {
     let directory = directory_between(alloc, "16K", cylinders, "W")?;
     let volume = volume_between(alloc, cylinders, loading.content.as_bytes())?;
     let volumes = vec![in alloc; volume]?;
     booted(alloc, directory.as_bytes(), volumes, FRAMES, 0)
 }
 
+/// The system of a loading from a reader, with the deck.
+fn with_reader(alloc: Global, loading: &Loading<'_>) -> Result<System> {
+    let volumes = Vec::new(alloc);
+    let mut system = booted(alloc, WITH_READER.as_bytes(), volumes, FRAMES, 0)?;
+    if loading.content != "-" {
+        give(&mut system, &cards_of(alloc, loading.content)?)?;
+    }
+    Ok(system)
+}
+
 /// The cards of a list, which are zero behind what is listed.
 fn cards_of(alloc: Global, list: &str) -> Result<Vec<Card>> {
     let mut cards = Vec::new(alloc);
-    for digits in list.split('+').filter(|digits| *digits != "-") {
+    for digits in list.split('+') {
         let mut card = [0u8; 80];
         for (column, byte) in card.iter_mut().zip(hex::decode(alloc, digits)?.as_slice()) {
             *column = *byte;
@@ -131,19 +150,19 @@ fn give(system: &mut System, cards: &[Card]) -> Result<()> {
     }
 }
 
-/// The address of the first byte of storage that is otherwise. The interval timer is not compared, nor what a loading
-/// that fails has left of the PSW.
-fn other_byte(alloc: Global, system: &System, loading: &Loading<'_>) -> Result<Option<u32>> {
+/// Whether storage is as a loading leaves it. The interval timer is not compared, nor what a loading that fails has left
+/// of the PSW.
+fn has_storage(alloc: Global, system: &System, loading: &Loading<'_>) -> Result<bool> {
     let mut image = PlainStorage::new(alloc, BLOCKS)?;
     set_bytes(&mut image, loading.storage.as_bytes());
     let first = if loading.is_loaded { 0 } else { 8 };
     for at in first..SIZE {
         let is_timer = 0x50 <= at && at < 0x54;
         if !is_timer && !has_byte(system, &mut image, at) {
-            return Ok(Some(at));
+            return Ok(false);
         }
     }
-    Ok(None)
+    Ok(true)
 }
 
 /// Whether the disk of a loading and the cylinders beside it are as they were.

@@ -18,7 +18,10 @@ pub fn run_all<R: AllocGlobal + Print>(rt: &R, table: &str) -> Result<()> {
     let agreement = tally(rt, table, |line| {
         try_line(alloc, &mut storage, &mut image, line.as_bytes())
     })?;
-    println!(rt; "{} of {}, and by users too", agreement.agreed, agreement.steps)?;
+    println!(rt;
+        "{} of {}, and by users too",
+        agreement.agreed, agreement.steps
+    )?;
     if !is_clear(&mut storage) {
         println!(rt; "bytes or keys were changed that no line names")?;
     }

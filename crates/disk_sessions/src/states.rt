@@ -46,7 +46,10 @@ pub fn play_all<R: AllocGlobal + Files + Print>(rt: &R, table: &str) -> Result<(
     let agreement = tally(rt, table, |line| {
         difference(rt, &session_of(rt.alloc(), line)?)
     })?;
-    println!(rt; "states of disks: {} of {}", agreement.agreed, agreement.steps)?;
+    println!(rt;
+        "states of disks: {} of {}",
+        agreement.agreed, agreement.steps
+    )?;
     Ok(())
 }
 
@@ -176,7 +179,9 @@ impl<'a> Session<'a> {
 
     /// The channel status word is shown, and the channel address word behind it.
     fn show_status(&mut self, alloc: Global, status: &str) -> Result<()> {
-        let (first, second) = status.split_at_checked(8).context("a status has 16 digits")?;
+        let (first, second) = status
+            .split_at_checked(8)
+            .context("a status has 16 digits")?;
         let address_word = self.address_word;
         let shown = format!(in alloc; "000040 {first} {second} {address_word} 00000000")?;
         self.say(alloc, "DISPLAY 40", shown.as_str())

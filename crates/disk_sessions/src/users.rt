@@ -115,10 +115,7 @@ fn set_keys(alloc: Global, system: &mut System, list: &[u8]) -> Result<()> {
 
 /// Sets the key of a block by an instruction.
 fn set_key(alloc: Global, system: &mut System, at: u32, digits: &str) -> Result<()> {
-    type_line(
-        system,
-        &format!(in alloc; "#CP STORE G1 000000{digits}")?,
-    )?;
+    type_line(system, &format!(in alloc; "#CP STORE G1 000000{digits}")?)?;
     type_line(system, &format!(in alloc; "#CP STORE G2 {at:08X}")?)?;
     type_line(system, "#CP STORE PSW 00000000 00000110")?;
     run(system)
@@ -176,5 +173,10 @@ fn has_run(system: &System, image: &mut PlainStorage, at: u32, count: usize) -> 
     let Ok(count) = u32::try_from(count) else {
         return false;
     };
-    (0..count).all(|k| has_byte(system, image, at.wrapping_add(k)))
+    for k in 0..count {
+        if !has_byte(system, image, at.wrapping_add(k)) {
+            return false;
+        }
+    }
+    true
 }
