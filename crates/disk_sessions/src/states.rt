@@ -43,14 +43,18 @@ const UNTOUCHED: &str = "EEEEEEEEEEEEEEEE";
 
 /// Plays the scripts of a table, and prints those that are otherwise and how many are as it says.
 pub fn play_all<R: AllocGlobal + Files + Print>(rt: &R, table: &str) -> Result<()> {
-    let agreement = tally(rt, table, |line| {
-        difference(rt, &session_of(rt.alloc(), line)?)
-    })?;
+    let agreement = tally(rt, table, |line| difference_of(rt, line))?;
     println!(rt;
         "states of disks: {} of {}",
         agreement.agreed, agreement.steps
     )?;
     Ok(())
+}
+
+/// What differs first where the session of a line is played.
+fn difference_of<R: AllocGlobal + Files>(rt: &R, line: &str) -> Result<Option<String>> {
+    let block = session_of(rt.alloc(), line)?;
+    difference(rt, &block)
 }
 
 /// The session of a line.
