@@ -33,6 +33,7 @@ pub fn booted(
 
 /// Lets the machine do a unit.
 pub fn run(system: &mut System) -> Result<()> {
+    // The prover finds what a reply may hold only where a function names it.
     let _device = DevAddr::new(0);
     match system.apply(Event::Run(user(), 1)) {
         Ok(_) => Ok(()),
