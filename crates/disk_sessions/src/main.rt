@@ -7,14 +7,20 @@
 //!   What is not as a block says is told by the line in which the block ends.
 //! - `programs.txt`: channel programs that an independent System/370 executed, one a line, with the disk, the storage
 //!   and the keys that each finds, and all that it leaves: status word, storage, sense, arm and tracks. A line that
-//!   does not agree is told by its number and what differs.
+//!   does not agree is told by its number and what differs. A user runs each once more.
+//! - `states.txt`: what such a machine is answered in each state of four disks, and what interrupts.
+//! - `loadings.txt`: its initial program loadings of a disk or a reader. These two are done by users.
 #![tactic(auto)]
 
+mod between;
 mod block;
 mod case;
+mod guest;
+mod loadings;
 mod outcome;
 mod playing;
 mod programs;
+mod states;
 mod tracks;
 mod users;
 
@@ -31,6 +37,8 @@ fn main(rt: HostRuntime) -> Result<()> {
         match path.as_str() {
             "sessions.txt" => play_all(&rt, &table)?,
             "programs.txt" => programs::run_all(&rt, &table)?,
+            "states.txt" => states::play_all(&rt, &table)?,
+            "loadings.txt" => loadings::load_all(&rt, &table)?,
             _ => bail!("{path} is no table"),
         }
     }

@@ -1,11 +1,12 @@
 //! A session is played, and compared with its block.
 use crate::block::Block;
-use anyhow::{Context, Result, bail};
+use crate::guest::booted;
+use anyhow::{Context, Result};
 use ckd_image::image;
 use ckd_text::make_volume;
 use ckd_volume::Volume;
-use cp_core::{Sizes, System};
-use cp_directory::{Directory, read_directory};
+use cp_core::System;
+use cp_directory::read_directory;
 use cp_text::lines::numbered_lines;
 use s370_num::host::{Bytes, Counted, read_all};
 use std::alloc::Global;
@@ -60,7 +61,7 @@ fn difference_on<R: AllocGlobal + Files>(
     slots: u32,
 ) -> Result<Option<String>> {
     let alloc = rt.alloc();
-    let mut system = booted(rt, block, frames, slots)?;
+    let mut system = booted_with(rt, block, frames, slots)?;
     let mut told = Vec::new(alloc);
     session(
         alloc,
@@ -81,28 +82,17 @@ fn difference_on<R: AllocGlobal + Files>(
 }
 
 /// The system of a block on so many frames and slots.
-fn booted<R: AllocGlobal + Files>(
+fn booted_with<R: AllocGlobal + Files>(
     rt: &R,
     block: &Block,
     frames: u32,
     slots: u32,
 ) -> Result<System> {
-    let directory = read(rt.alloc(), block)?;
     let mut volumes = Vec::new(rt.alloc());
     for name in block.volumes.iter() {
         volumes.push(stated(rt, name)?)?;
     }
-    let sizes = Sizes::new(frames, slots).context("so many frames or slots are too many")?;
-    Ok(System::boot(rt.alloc(), directory, volumes, sizes)?)
-}
-
-/// The directory of a block.
-fn read(alloc: Global, block: &Block) -> Result<Directory> {
-    let directory = read_directory(alloc, &block.directory)?;
-    if directory.len() > 64 {
-        bail!("so many users are too many");
-    }
-    Ok(directory)
+    booted(rt.alloc(), &block.directory, volumes, frames, slots)
 }
 
 /// The volume that a file states.
@@ -113,7 +103,7 @@ fn stated<R: AllocGlobal + Files>(rt: &R, name: &str) -> Result<Volume> {
 }
 
 /// The first line of a transcript that is not that of another one; where the other has more, the empty one.
-fn other_line<'a>(told: &'a [u8], wanted: &[u8]) -> Option<&'a [u8]> {
+pub fn other_line<'a>(told: &'a [u8], wanted: &[u8]) -> Option<&'a [u8]> {
     let mut others = numbered_lines(wanted);
     for line in numbered_lines(told) {
         match others.next() {

@@ -1,8 +1,8 @@
-//! Channel programs of a disk that an independent System/370 executed. Each is run on a unit of its own, and some of
-//! them are run once more by a user whose disk lies in the middle of a volume.
+//! Channel programs of a disk that an independent System/370 executed. Each is run on a unit of its own, and once more by
+//! a user whose disk lies in the middle of a volume.
 use crate::case::{Case, case_of};
 use crate::outcome::difference;
-use crate::users::{difference_of_user, is_of_user};
+use crate::users::difference_of_user;
 use anyhow::{Context, Result};
 use cp_text::words::words_of;
 use s370_store::PlainStorage;
@@ -13,20 +13,13 @@ use step_table::tally;
 /// Runs the programs of a table, and prints those that do not agree, by their line and what differs, and how many do.
 pub fn run_all<R: AllocGlobal + Print>(rt: &R, table: &str) -> Result<()> {
     let alloc = rt.alloc();
-    let mut by_users = 0u64;
     let mut storage = PlainStorage::new(alloc, 2048)?;
     let mut image = PlainStorage::new(alloc, 2048)?;
     let agreement = tally(rt, table, |line| {
-        try_line(
-            alloc,
-            &mut storage,
-            &mut image,
-            line.as_bytes(),
-            &mut by_users,
-        )
+        try_line(alloc, &mut storage, &mut image, line.as_bytes())
     })?;
     println!(rt;
-        "{} of {}, {by_users} of them by users too",
+        "{} of {}, and by users too",
         agreement.agreed, agreement.steps
     )?;
     if !is_clear(&mut storage) {
@@ -41,13 +34,11 @@ fn try_line(
     storage: &mut PlainStorage,
     image: &mut PlainStorage,
     line: &[u8],
-    by_users: &mut u64,
 ) -> Result<Option<String>> {
     let words = words_of(alloc, line)?;
     let case = case_of(&words).context("a line has twelve fields")?;
     let mut differs = difference(alloc, storage, image, &case)?;
-    if differs.is_none() && is_of_user(&case) {
-        *by_users = by_users.wrapping_add(1);
+    if differs.is_none() {
         differs = difference_of_user(alloc, image, &case)?;
     }
     clear(storage, &case);

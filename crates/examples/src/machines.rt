@@ -5,17 +5,18 @@
 //! end, `190-saved`, whose image has to be the disk's, byte for byte. `hello` and `compute` are whole guests, loaded
 //! from cards, and an independent System/370 printed the same lines.
 //!
-//! A script that uses no disk and loads nothing has to give the same transcript for a user of the control program whose
-//! name is that of the machine's own, on as many frames as `vm370` has, and on the fewest.
+//! The script has to give the same transcript for a user of the control program whose name is that of the machine's own,
+//! on as many frames as `vm370` has, and on the fewest; each of his disks lies in the middle of a volume, has at the end
+//! what the machine's disk has, and the cylinders beside it stay empty.
 use crate::files::{contents, have_one_image, open, volume};
 use anyhow::{Context, Result, bail};
 use bare_installation::Bare;
 use bare370::session::{FIRST_DISK, MOST_DISKS};
 use bare370::{bare_session, machine_of};
-use ckd_volume::Volume;
+use ckd_volume::{HEADS, Volume};
 use cp_core::{Sizes, System};
 use cp_directory::{StorageSize, read_directory, storage_of};
-use cp_text::lines::numbered_lines;
+use std::alloc::Global;
 use std::rt::Files;
 use vm370::session::session;
 
@@ -37,66 +38,124 @@ const SLOTS: u32 = 256;
 
 /// Compares the transcript of an example with the stored one.
 pub fn compare_example<R: AllocGlobal + Files>(rt: &R, folder: &str, stored: &[u8]) -> Result<()> {
-    if transcript(rt, folder)?.as_slice() != stored {
-        bail!("{folder}: the script gives another transcript");
-    }
-    if is_for_a_user(rt, folder)? {
-        compare_user(rt, folder, FRAMES, stored)?;
-        compare_user(rt, folder, FEWEST_FRAMES, stored)?;
-    }
-    Ok(())
+    let machine = played(rt, folder, stored)?;
+    compare_disks(rt, folder, &machine)?;
+    compare_user(rt, folder, FRAMES, stored, &machine)?;
+    compare_user(rt, folder, FEWEST_FRAMES, stored, &machine)
 }
 
-/// What a folder's script gives.
-fn transcript<R: AllocGlobal + Files>(rt: &R, folder: &str) -> Result<Vec<u8>> {
+/// The machine at the end of a folder's script, which has to give this transcript.
+fn played<R: AllocGlobal + Files>(rt: &R, folder: &str, stored: &[u8]) -> Result<Bare> {
     let alloc = rt.alloc();
     let mut machine = machine_of(alloc, size(rt, folder)?.blocks(), volumes(rt, folder)?)?;
     let mut script = open(rt, folder, "script")?;
     let mut transcript = Vec::new(alloc);
     bare_session(alloc, &mut machine, &mut script, &mut transcript)?;
-    compare_disks(rt, folder, &machine)?;
-    Ok(transcript)
-}
-
-/// Whether a folder's script is one for a user of the control program too: it uses no disk and loads nothing.
-fn is_for_a_user<R: AllocGlobal + Files>(rt: &R, folder: &str) -> Result<bool> {
-    let disk = format!(in rt.alloc(); "{FIRST_DISK:X}")?;
-    if contents(rt, folder, disk.as_str())?.is_some() {
-        return Ok(false);
+    if transcript.as_slice() != stored {
+        bail!("{folder}: the script gives another transcript");
     }
-    let script = contents(rt, folder, "script")?.context("there is no script")?;
-    Ok(!numbered_lines(&script).any(|line| loads(line.text)))
+    Ok(machine)
 }
 
-/// Whether a line of a script has the word `IPL`.
-fn loads(line: &[u8]) -> bool {
-    line.split(|character| *character == b' ')
-        .any(|word| word == b"IPL".as_slice())
-}
-
-/// Whether a folder's script gives this transcript for a user of the same name, with the same storage and devices, on
-/// so many frames.
+/// Whether a folder's script gives this transcript for a user of the same name, with the same storage, devices and disks,
+/// on so many frames; and leaves on his disks what it leaves on those of the machine.
 fn compare_user<R: AllocGlobal + Files>(
     rt: &R,
     folder: &str,
     frames: u32,
     stored: &[u8],
+    machine: &Bare,
 ) -> Result<()> {
-    let alloc = rt.alloc();
-    let mut text = Vec::new(alloc);
-    text.extend_from_slice(b"USER BARE PW ")?;
-    text.extend_from_slice(&storage(rt, folder)?)?;
-    text.extend_from_slice(DEVICES)?;
-    let directory = read_directory(alloc, &text)?;
-    let sizes = Sizes::new(frames, SLOTS).context("so many frames or slots are too many")?;
-    let mut system = System::boot(alloc, directory, Vec::new(alloc), sizes)?;
+    let mut system = booted(rt, folder, frames)?;
     let mut script = open(rt, folder, "script")?;
-    let mut transcript = Vec::new(alloc);
-    session(alloc, &mut system, &mut script, &mut transcript)?;
+    let mut transcript = Vec::new(rt.alloc());
+    session(rt.alloc(), &mut system, &mut script, &mut transcript)?;
     if transcript.as_slice() != stored {
         bail!("{folder}: a user on {frames} frames has another transcript");
     }
+    for (index, disk) in machine.disks().iter().enumerate() {
+        let volume = system.volume(index).context("a volume is away")?;
+        if !has_in_the_middle(rt.alloc(), volume, disk.unit().volume())? {
+            bail!("{folder}: a user on {frames} frames has another disk at the end");
+        }
+    }
     Ok(())
+}
+
+/// The system of a user who has what the machine of a folder has.
+fn booted<R: AllocGlobal + Files>(rt: &R, folder: &str, frames: u32) -> Result<System> {
+    let alloc = rt.alloc();
+    let disks = volumes(rt, folder)?;
+    let text = directory(alloc, &storage(rt, folder)?, &disks)?;
+    let directory = read_directory(alloc, &text)?;
+    let sizes = Sizes::new(frames, SLOTS).context("so many frames or slots are too many")?;
+    let volumes = in_the_middle_each(alloc, disks)?;
+    Ok(System::boot(alloc, directory, volumes, sizes)?)
+}
+
+/// The directory of a user with so much storage and these disks.
+fn directory(alloc: Global, storage: &[u8], disks: &[Volume]) -> Result<Vec<u8>> {
+    let mut text = Vec::new(alloc);
+    text.extend_from_slice(b"USER BARE PW ")?;
+    text.extend_from_slice(storage)?;
+    text.extend_from_slice(DEVICES)?;
+    let mut address = FIRST_DISK;
+    for disk in disks {
+        let (serial, count) = (disk.volser(), disk.count());
+        let serial = str::from_utf8(&serial)?.trim_end();
+        let statement = format!(in alloc; "MDISK {address:X} 3330 1 {count} {serial} W\n")?;
+        text.extend_from_slice(statement.as_bytes())?;
+        address = address.wrapping_add(1);
+    }
+    Ok(text)
+}
+
+/// A volume for each of these disks.
+fn in_the_middle_each(alloc: Global, disks: Vec<Volume>) -> Result<Vec<Volume>> {
+    let mut volumes = Vec::new(alloc);
+    for disk in disks {
+        volumes.push(in_the_middle(alloc, disk)?)?;
+    }
+    Ok(volumes)
+}
+
+/// A volume with a disk in its middle: there is a cylinder before it and one behind.
+fn in_the_middle(alloc: Global, disk: Volume) -> Result<Volume> {
+    let count = disk.count();
+    let Ok(cylinders) = u16::try_from(count.wrapping_add(2)) else {
+        bail!("too many cylinders");
+    };
+    let mut volume = Volume::blank(alloc, disk.volser(), cylinders)?;
+    if volume.count() < 1 + count {
+        bail!("too few cylinders");
+    }
+    volume.put_back(1, disk);
+    Ok(volume)
+}
+
+/// Whether a volume has this disk in its middle, and nothing on the cylinders beside it.
+fn has_in_the_middle(alloc: Global, volume: &Volume, disk: &Volume) -> Result<bool> {
+    let count = disk.count();
+    if volume.count() != count + 2 {
+        return Ok(false);
+    }
+    let middle = volume.slice(alloc, 1, count)?;
+    let is_same = have_one_image(alloc, &middle, disk)?;
+    Ok(is_same && is_empty(volume, 0) && is_empty(volume, count + 1))
+}
+
+/// Whether no track of a cylinder has a record.
+fn is_empty(volume: &Volume, number: usize) -> bool {
+    if number >= volume.count() {
+        return false;
+    }
+    let cylinder = volume.cylinder(number);
+    for head in 0..HEADS {
+        if cylinder.track(head).len() != 0 {
+            return false;
+        }
+    }
+    true
 }
 
 /// What tells the size of the machine's storage.
