@@ -100,11 +100,7 @@ impl Follower {
     }
 
     /// Ends the session: writes the files for the operator, holds nothing back, and gives the system.
-    pub fn close<W: HostWriter>(
-        self,
-        alloc: Global,
-        writer: &mut W,
-    ) -> Result<System, SessionError>
+    pub fn close<W: HostWriter>(self, alloc: Global, writer: &mut W) -> Result<System, SessionError>
         ensures system { IfOk result (λ system. system ≡ self.system) }
         ensures ok { OnOk result
             (Appends (W.contents writer.old) (W.contents writer.new) (ended (closing_lines self.system))) }

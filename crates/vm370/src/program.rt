@@ -143,10 +143,7 @@ fn follow<R: AllocGlobal + Files + Input + Print + Eprint>(
 }
 
 /// Follows the parts of a script on standard input, and gives the system at the end.
-fn follow_input<R: AllocGlobal + Input + Print>(
-    rt: &R,
-    system: System,
-) -> Result<System, Failure> {
+fn follow_input<R: AllocGlobal + Input + Print>(rt: &R, system: System) -> Result<System, Failure> {
     let Ok(input) = io::BufReader::new(rt.alloc(), rt.reader()) else {
         return Err(Failure::Memory);
     };

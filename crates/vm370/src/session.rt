@@ -134,7 +134,11 @@ pub(crate) fn play<W: HostWriter>(
 }
 
 /// Writes the files for the operator, and nothing that was written is held back.
-pub(crate) fn close<W: HostWriter>(alloc: Global, system: &System, writer: &mut W) -> Result<(), SessionError>
+pub(crate) fn close<W: HostWriter>(
+    alloc: Global,
+    system: &System,
+    writer: &mut W,
+) -> Result<(), SessionError>
     ensures ok { OnOk result
         (Appends (W.contents writer.old) (W.contents writer.new) (ended (closing_lines system.now))) }
     ensures err { OnErr result
