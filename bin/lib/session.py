@@ -21,7 +21,8 @@ class Replaying:
         return events[len(session.events) :], closed
 
     def settle(self, script, added, is_busy):
-        """The last part was kept as these lines, which end the script; or only so few of its turns, since somebody does not wait."""
+        """The last part was kept as these lines, which now end the script; whether only few of its turns were, since somebody does
+        not wait."""
 
     def close(self):
         pass
