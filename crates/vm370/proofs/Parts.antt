@@ -1,19 +1,15 @@
 -- Parts of a script that are joined.
-use Rattle.std.proofs.Common.{◌≡◌, ℕ, zero, suc, Bool, true, false, inl, inr, List, [], ◌∷◌, ◌++◌, ◌⊎◌, Option, Ok, refl, ap, sym, ◌∙◌, subst, append_assoc, append-nil}
-use Rattle.std.specs.Prelude.{◌==◌, if◌then◌else◌}
-use Rattle.std.specs.Io.KnownBytes.{Appends}
+use Rattle.std.proofs.Common.{◌≡◌, ℕ, zero, suc, Bool, true, false, inl, inr, List, [], ◌∷◌, ◌++◌, Ok, refl, ap, sym, ◌∙◌, subst, append_assoc, append-nil}
+use Rattle.std.specs.Prelude.{◌==◌}
 use Rattle.std.proofs.KnownBytes.{Appends-trans}
-use Rattle.std.specs.List.{onto_first}
 use Rattle.cp_text.specs.Lines.{lines_of}
-use Rattle.cp_core.specs.System.{SystemView}
-use Rattle.cp_script.specs.Grammar.{IsScript, Reads, ReadsGrammar, Says}
+use Rattle.cp_script.specs.Grammar.{Reads, ReadsGrammar, Says}
 use Rattle.cp_script.specs.Script.{Said, Run, Line, Tick, Serve, Auto, Deck, cards_after, script_of}
 use Rattle.cp_script.specs.Users.{KnownUser}
 use Rattle.vm370.specs.Files.{closing_lines}
-use Rattle.vm370.specs.Follow.{BeginsWithNothing, EndsAsSession, HasWholeLines, IsFollowed, PartsJoin}
-use Rattle.vm370.specs.Schedule.{Act, Scene, acts}
-use Rattle.vm370.specs.Script.{known_users}
-use Rattle.vm370.specs.Session.{IsPlayed, IsRead, IsSession, at_first, names_of, transcript, users_of}
+use Rattle.vm370.specs.Follow.{BeginsWithNothing, EndsAsSession, HasWholeLines, PartsJoin}
+use Rattle.vm370.specs.Schedule.{acts}
+use Rattle.vm370.specs.Session.{at_first, names_of, transcript, users_of}
 use Rattle.vm370.specs.Transcript.{ended}
 use Rattle.vm370.proofs.Histories.{acts_append, history, played_more, played_none}
 

@@ -13,6 +13,8 @@
 //! A: LOGON OK
 //! > DONE
 //! ```
+ghost use Rattle.std.specs.Prelude.{◌<◌, length};
+
 use crate::files::{closed_file, print_heading};
 use crate::follow::{Follower, Part};
 use crate::session::SessionError;
@@ -91,10 +93,10 @@ fn add_heading(
     text: &mut Vec<u8>,
     system: &System,
     place: usize,
-) -> Result<(), AllocError> {
-    let Some(note) = system.files().get(place) else {
-        return Ok(());
-    };
+) -> Result<(), AllocError>
+    requires { place < length system.now.files }
+{
+    let note = system.files()[place];
     let before = &system.files()[..place];
     let Some(file) = closed_file(system, before, note.user, note.kind) else {
         return Ok(());
@@ -103,7 +105,7 @@ fn add_heading(
         Target::System => {
             let name = name_of(system.directory().users(), note.user);
             text.extend_from_slice(b"> ")?;
-            print_heading(alloc, text, note.kind, place as u64 + 1, name)
+            print_heading(alloc, text, note.kind, before.len() as u64 + 1, name)
         }
         Target::User(_) => Ok(()),
     }
