@@ -42,6 +42,13 @@ class Machines:
             file.write(script)
         return [*self.before[:-1], "--", self.before[-1], path, *self.volumes]
 
+    def follow_words(self):
+        """Those for a script that the program is given part by part."""
+        return [*self.before[:-1], "--follow", "--", self.before[-1], *self.volumes]
+
+    def program(self):
+        return os.path.join(ROOT, "crates", self.name + "_cli", "out", self.name + "_cli")
+
     def build(self):
         """Has the command of this name do nothing, which proves and builds the program where that is to be done, and judges what
         it is given; it tells what is wrong by itself."""
@@ -55,17 +62,21 @@ class Machines:
         """The transcript of a script, both as bytes."""
         if not self.is_built:
             self.build()
-        program = os.path.join(ROOT, "crates", self.name + "_cli", "out", self.name + "_cli")
-        done = subprocess.run([program, *self.words(script)], stdin=subprocess.DEVNULL, capture_output=True)
+        done = subprocess.run([self.program(), *self.words(script)], stdin=subprocess.DEVNULL, capture_output=True)
         if done.returncode == 0:
             return done.stdout
         told = done.stderr.decode(errors="surrogateescape").splitlines()
         wrong = re.fullmatch("fault: script Line ([0-9]+)", told[0]) if told else None
         if wrong:
             raise ScriptRefused(int(wrong[1]), *told)
-        if done.returncode < 0:
-            raise Failure(FILE_FAILED, f"the program was ended by signal {-done.returncode}")
-        raise Failure(done.returncode, *(it for it in told if it))
+        raise failure(done.returncode, told)
+
+
+def failure(status, told):
+    """The failure that a program's end with this status is, and what it told."""
+    if status < 0:
+        return Failure(FILE_FAILED, f"the program was ended by signal {-status}")
+    return Failure(status, *(it for it in told if it))
 
 
 def read_storage(text):
@@ -163,6 +174,11 @@ def parts(transcript):
         if line.startswith("== "):
             return lines[:place], lines[place:]
     return lines, []
+
+
+def headings_of(files):
+    """The headings of the files for the operator. A card that looks like one has blanks behind it."""
+    return [it for it in files if re.fullmatch("== (PRT|PUN) [0-9]{4,} [A-Z0-9]+", it)]
 
 
 USER_OPTION = {"--user": user_name}

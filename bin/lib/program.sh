@@ -6,20 +6,27 @@ file_failed=3
 
 # --- words and files, judged before any build ---
 
-# the words of a command over a directory, a script and volumes: read_run_words MORE_OPTIONS WORD..
+# the words of a command over a directory, a script and volumes, or with --follow no script: read_run_words MORE_OPTIONS WORD..
 read_run_words() {
     more=$1
     shift
     read_words "frames: slots: save $more" "$@"
     check_number --frames "${option_frames-64}" 0 4096
     check_number --slots "${option_slots-256}" 0 65536
-    need_paths DIRECTORY SCRIPT '[..]'
+    script=
+    if [ -n "${option_follow-}" ]; then
+        need_paths DIRECTORY '[..]'
+        number=2
+    else
+        need_paths DIRECTORY SCRIPT '[..]'
+        script=$path2
+        number=3
+    fi
     check_texts "$@"
     directory=$path1
-    script=$path2
     check_readable "$directory"
-    check_readable "$script"
-    check_volumes
+    [ -n "${option_follow-}" ] || check_readable "$script"
+    check_volumes "$number"
 }
 
 # the words of a command over one machine: read_bare_words MORE_OPTIONS WORD..
@@ -33,12 +40,12 @@ read_bare_words() {
     check_texts "$@"
     script=$path2
     check_readable "$script"
-    check_volumes
+    check_volumes 3
 }
 
-# whether the volumes, the words behind the script, can be read, and written too where they are saved
+# whether the volumes, the words from this one on, can be read, and written too where they are saved: check_volumes NUMBER
 check_volumes() {
-    number=3
+    number=$1
     while [ "$number" -le "$count" ]; do
         eval "path=\$path$number"
         check_readable "$path"

@@ -9,6 +9,7 @@ pub mod Stated
 pub mod Histories
 pub mod Queues
 pub mod Sessions
+pub mod Parts
 pub mod Told
 pub mod Rules
 pub mod Words

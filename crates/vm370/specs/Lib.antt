@@ -6,3 +6,5 @@ pub mod BootFaults
 pub mod Faults
 pub mod Session
 pub mod Files
+pub mod Follow
+pub mod FollowOptions

@@ -75,10 +75,7 @@ pub fn arguments<'a, S: AsStr>(
 {
     let matches = matched(alloc, program, words)?;
     let Some(sizes) = sizes_in(&matches) else {
-        return Err(usage(
-            alloc,
-            "there are at most 4096 frames and 65536 slots, each a decimal number\n",
-        ));
+        return Err(wrong_sizes(alloc));
     };
     let Some((directory, script)) = paths_in(&matches) else {
         return Err(usage(alloc, "a path is missing\n"));
@@ -101,8 +98,16 @@ pub fn usage(alloc: Global, text: &str) -> UsageError {
     }
 }
 
+/// A wrong use: frames or slots that there can't be.
+pub(crate) fn wrong_sizes(alloc: Global) -> UsageError {
+    usage(
+        alloc,
+        "there are at most 4096 frames and 65536 slots, each a decimal number\n",
+    )
+}
+
 /// How many frames and slots are named, where there may be so many.
-fn sizes_in(matches: &ArgMatches<'_>) -> Option<Sizes>
+pub(crate) fn sizes_in(matches: &ArgMatches<'_>) -> Option<Sizes>
     ensures some { IfSome result (IsSized (rows_of (found_of matches.now))) }
     ensures none { (sizes : SystemSizes) → IsSized (rows_of (found_of matches.now)) sizes → IsSome result }
 {
@@ -225,7 +230,7 @@ fn command<'a>(alloc: Global, program: &'a str) -> Result<Command<'a>, AllocErro
 }
 
 /// `--frames N`
-fn frames<'a>(alloc: Global) -> Arg<'a>
+pub(crate) fn frames<'a>(alloc: Global) -> Arg<'a>
     ensures rule { rule_of result ≡ frames_rule }
     ensures local { result.global ≡ false }
 {
@@ -238,7 +243,7 @@ fn frames<'a>(alloc: Global) -> Arg<'a>
 }
 
 /// `--slots N`
-fn slots<'a>(alloc: Global) -> Arg<'a>
+pub(crate) fn slots<'a>(alloc: Global) -> Arg<'a>
     ensures rule { rule_of result ≡ slots_rule }
     ensures local { result.global ≡ false }
 {
@@ -262,7 +267,7 @@ pub fn save<'a>(alloc: Global) -> Arg<'a>
 }
 
 /// The first word, which is the path of the directory.
-fn directory<'a>(alloc: Global) -> Arg<'a>
+pub(crate) fn directory<'a>(alloc: Global) -> Arg<'a>
     ensures rule { rule_of result ≡ directory_rule }
     ensures local { result.global ≡ false }
 {
@@ -282,7 +287,7 @@ fn script<'a>(alloc: Global) -> Arg<'a>
 }
 
 /// The words after them, which are the paths of images.
-fn volumes<'a>(alloc: Global) -> Arg<'a>
+pub(crate) fn volumes<'a>(alloc: Global) -> Arg<'a>
     ensures rule { rule_of result ≡ volume_rule }
     ensures local { result.global ≡ false }
 {

@@ -92,7 +92,7 @@ fn print_found(
 }
 
 /// The file of this kind that a user has closed, where these were noted before it.
-fn closed_file<'a>(
+pub(crate) fn closed_file<'a>(
     system: &'a System,
     before: &[FileNote],
     user: UserNo,
@@ -177,7 +177,7 @@ pub fn print_file(
 }
 
 /// Adds the first line of a file.
-fn print_heading(
+pub(crate) fn print_heading(
     alloc: Global,
     out: &mut Vec<u8>,
     kind: FileKind,

@@ -2,7 +2,8 @@
 //!
 //! What a session writes is what the control program answered to the events that the script names and to the
 //! slices and serves that its turns deal, and each reply is what a bare machine tells ([`session::session`]). After any
-//! failure it is a beginning of that.
+//! failure it is a beginning of that. A script may also be given part by part, and is followed
+//! ([`follow::Follower`]): the parts joined are one session.
 //!
 //! A script's bytes name events exactly where they are a text of the grammar of docs/FORMATS.md, and
 //! any other text is refused at its first line that the grammar does not have
@@ -17,8 +18,11 @@ pub mod arguments;
 pub mod boot_faults;
 pub mod faults;
 pub mod files;
+pub mod follow;
+pub mod follow_arguments;
 pub mod images;
 mod known;
+pub mod parts;
 pub mod program;
 mod queue;
 pub mod session;

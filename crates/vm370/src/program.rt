@@ -1,5 +1,5 @@
 //! The program `vm370 [--frames N] [--slots N] [--save] DIRECTORY SCRIPT [VOLUME]...`: its words, its files, its
-//! session, and what it says of a failure.
+//! session, and what it says of a failure. With `--follow` there is no `SCRIPT`, and standard input has its parts.
 //!
 //! The transcript goes to standard output. A failure is one line on standard error, and its kind is the
 //! exit status; of an image that is not saved a second line has the path.
@@ -10,9 +10,11 @@ ghost use Rattle.vm370.specs.Faults.{outcome_of};
 use crate::arguments::{Options, UsageError, arguments};
 use crate::boot_faults::{boot_failure, names_of};
 use crate::faults::{Failure, fault_line, outcome};
+use crate::follow_arguments::{asks_to_follow, follow_arguments};
 use crate::images::{owned, read_volumes, save_volume};
+use crate::parts::follow_parts;
 use crate::session::session;
-use cp_core::System;
+use cp_core::{Sizes, System};
 use cp_directory::read_directory;
 use s370_num::host::{Counted, read_all};
 use std::process::{ExitCode, Termination};
@@ -56,7 +58,7 @@ impl Termination for Ended {
 
 /// The whole program: what it is started with names a directory, a script and volumes, and the transcript of that
 /// script is written. A failure is told on standard error.
-pub fn program<R: AllocGlobal + Files + Env + Print + Eprint>(rt: &R) -> Ended {
+pub fn program<R: AllocGlobal + Files + Env + Input + Print + Eprint>(rt: &R) -> Ended {
     finish(rt, run(rt))
 }
 
@@ -92,9 +94,12 @@ fn tell<R: AllocGlobal + Eprint>(rt: &R, failure: Failure) -> Failure {
 
 /// Reads the words, the directory, the images and the script, writes the transcript, and saves the volumes where that
 /// is asked for. A wrong use is told here.
-fn run<R: AllocGlobal + Files + Env + Print + Eprint>(rt: &R) -> Result<(), Failure> {
+fn run<R: AllocGlobal + Files + Env + Input + Print + Eprint>(rt: &R) -> Result<(), Failure> {
     let alloc = rt.alloc();
     let words = words(rt, PROGRAM)?;
+    if asks_to_follow(words.as_slice()) {
+        return follow(rt, words.as_slice());
+    }
     let options = match arguments(alloc, PROGRAM, words.as_slice()) {
         Ok(options) => options,
         Err(error) => return Err(wrong_use(rt, &error, USAGE_NOTE)),
@@ -115,6 +120,39 @@ fn play<R: AllocGlobal + Files + Print>(
         return Err(Failure::Memory);
     };
     Ok(session(rt.alloc(), system, &mut script, &mut Counted::new(output))?)
+}
+
+/// Follows a script by these words, whose parts are read from standard input, and writes its transcript to standard
+/// output; at the end of the input saves the volumes where that is asked for. A wrong use is told here.
+fn follow<R: AllocGlobal + Files + Input + Print + Eprint>(
+    rt: &R,
+    words: &[String],
+) -> Result<(), Failure> {
+    let alloc = rt.alloc();
+    let options = match follow_arguments(alloc, PROGRAM, words) {
+        Ok(options) => options,
+        Err(error) => return Err(wrong_use(rt, &error, USAGE_NOTE)),
+    };
+    let volumes = options.volumes.as_slice();
+    let system = boot_of(rt, options.directory, volumes, options.sizes)?;
+    let system = follow_input(rt, system)?;
+    if options.save {
+        save_volumes(rt, &system, volumes)?;
+    }
+    Ok(())
+}
+
+/// Follows the parts of a script on standard input, and gives the system at the end.
+fn follow_input<R: AllocGlobal + Input + Print>(rt: &R, system: System) -> Result<System, Failure> {
+    let Ok(input) = io::BufReader::new(rt.alloc(), rt.reader()) else {
+        return Err(Failure::Memory);
+    };
+    let Ok(output) = io::BufWriter::new(rt.alloc(), io::writer(rt)) else {
+        return Err(Failure::Memory);
+    };
+    let mut reader = Counted::new(input);
+    let mut writer = Counted::new(output);
+    Ok(follow_parts(rt.alloc(), system, &mut reader, &mut writer)?)
 }
 
 /// What words that name no options are as a failure. A wrong use is told here, by its text and then this note.
@@ -161,12 +199,27 @@ pub fn open<R: Files>(rt: &R, path: &str) -> Result<Counted<R::File>, Failure> {
 
 /// The system that the directory and the volumes of these options state.
 pub fn boot<R: AllocGlobal + Files>(rt: &R, options: &Options<'_>) -> Result<System, Failure> {
+    boot_of(
+        rt,
+        options.directory,
+        options.volumes.as_slice(),
+        options.sizes,
+    )
+}
+
+/// The system that the directory and the volumes at these paths state.
+fn boot_of<R: AllocGlobal + Files>(
+    rt: &R,
+    directory: &str,
+    volumes: &[&str],
+    sizes: Sizes,
+) -> Result<System, Failure> {
     let alloc = rt.alloc();
-    let text = read_all(alloc, &mut open(rt, options.directory)?)?;
+    let text = read_all(alloc, &mut open(rt, directory)?)?;
     let directory = read_directory(alloc, &text)?;
-    let volumes = read_volumes(rt, options.volumes.as_slice())?;
+    let volumes = read_volumes(rt, volumes)?;
     let names = names_of(alloc, directory.users())?;
-    match System::boot(alloc, directory, volumes, options.sizes) {
+    match System::boot(alloc, directory, volumes, sizes) {
         Ok(system) => Ok(system),
         Err(error) => Err(boot_failure(alloc, names, error)),
     }
@@ -181,7 +234,16 @@ pub fn save<R: AllocGlobal + Files>(
     if !options.save {
         return Ok(());
     }
-    let paths = owned(rt.alloc(), options.volumes.as_slice())?;
+    save_volumes(rt, system, options.volumes.as_slice())
+}
+
+/// Writes the images of the volumes of the system to these paths, in their order.
+fn save_volumes<R: AllocGlobal + Files>(
+    rt: &R,
+    system: &System,
+    paths: &[&str],
+) -> Result<(), Failure> {
+    let paths = owned(rt.alloc(), paths)?;
     for (index, path) in paths.into_iter().enumerate() {
         if let Some(volume) = system.volume(index) {
             save_volume(rt, volume, path)?;

@@ -104,7 +104,7 @@ pub fn session<R: HostReader, W: HostWriter>(
 }
 
 /// Applies the events and deals the turns one after another, and writes the lines of each as they come.
-fn play<W: HostWriter>(
+pub(crate) fn play<W: HostWriter>(
     alloc: Global,
     system: &mut System,
     policy: &mut Policy,
@@ -120,6 +120,9 @@ fn play<W: HostWriter>(
     ensures err { OnErr result
         (IsPartly (acts (map said events.now)) (scene system.old policy.old) system.new (W.contents writer.old)
         (W.contents writer.new)) }
+    ensures directory { OnOk result (system.new.directory ≡ system.old.directory) }
+    ensures seats { OnOk result (policy.new.most_users ≡ policy.old.most_users) }
+    ensures stated { OnOk result (IsLineStated system.new policy.new.programs) }
     ensures line { (n : ℕ) → result ≡ Err (SessionError.Line n) → ⊥ }
     ensures spent { result ≡ Err SessionError.Spent → system.old.is_spent ≡ true }
     ensures counts { CountsWriter result (W.HostFile.failures writer.old) (W.HostFile.failures writer.new) }
@@ -131,7 +134,11 @@ fn play<W: HostWriter>(
 }
 
 /// Writes the files for the operator, and nothing that was written is held back.
-fn close<W: HostWriter>(alloc: Global, system: &System, writer: &mut W) -> Result<(), SessionError>
+pub(crate) fn close<W: HostWriter>(
+    alloc: Global,
+    system: &System,
+    writer: &mut W,
+) -> Result<(), SessionError>
     ensures ok { OnOk result
         (Appends (W.contents writer.old) (W.contents writer.new) (ended (closing_lines system.now))) }
     ensures err { OnErr result

@@ -1,0 +1,111 @@
+//! The words of the program where it follows a script that it is given part by part.
+ghost use Rattle.std.specs.Prelude.{◌≡◌, IfOk, OnOk, false, map};
+ghost use Rattle.clap.specs.Words.{app_of, found_of, rows_of, rule_of};
+ghost use Rattle.vm370.specs.FollowOptions.{HasNoFault, IsNamed, command_of, follow_rule, rows_named};
+
+use crate::arguments::{
+    UsageError, directory, frames, is_given, paths_of, refusal, save, sizes_in, slots, text_of,
+    usage, volumes, wrong_sizes,
+};
+use clap::{Arg, ArgAction, ArgMatches, Command};
+use cp_core::Sizes;
+use std::alloc::{AllocError, Global};
+use std::convert::AsStr;
+
+/// The word that asks for that.
+const FOLLOW: &str = "--follow";
+
+/// What the words of the program name:
+/// `vm370 [--frames N] [--slots N] [--save] --follow DIRECTORY [VOLUME]...`.
+#[derive(Drop)]
+pub struct FollowOptions<'a> {
+    /// How many frames and slots the machine has.
+    pub sizes: Sizes,
+    /// The images of the volumes are written back at the end.
+    pub save: bool,
+    /// The path of the directory.
+    pub directory: &'a str,
+    /// The paths of the volumes' images, in order.
+    pub volumes: Vec<&'a str>,
+}
+
+/// Whether the words ask for a script to be followed: the word for that stands before any `--`.
+pub fn asks_to_follow(words: &[String]) -> bool {
+    for word in words {
+        if word.as_str() == "--" {
+            return false;
+        }
+        if word.as_str() == FOLLOW {
+            return true;
+        }
+    }
+    false
+}
+
+/// What the words name, the first of which is the name that the program was started by, as
+/// [`arguments`](crate::arguments::arguments) reads them.
+pub fn follow_arguments<'a, S: AsStr>(
+    alloc: Global,
+    program: &'a str,
+    words: &'a [S],
+) -> Result<FollowOptions<'a>, UsageError>
+    ensures ok { IfOk result (IsNamed (rows_named program.entry.now (map S.text words.entry.now))) }
+    ensures taken { OnOk result (HasNoFault program.entry.now (map S.text words.entry.now)) }
+{
+    let matches = matched(alloc, program, words)?;
+    let Some(sizes) = sizes_in(&matches) else {
+        return Err(wrong_sizes(alloc));
+    };
+    let Some(directory) = text_of(&matches, "DIRECTORY") else {
+        return Err(usage(alloc, "a path is missing\n"));
+    };
+    let volumes = paths_of(alloc, &matches, "VOLUME")?;
+    Ok(FollowOptions {
+        sizes,
+        save: is_given(&matches, "save"),
+        directory,
+        volumes,
+    })
+}
+
+/// What `clap` finds in the words.
+fn matched<'a, S: AsStr>(
+    alloc: Global,
+    program: &'a str,
+    words: &'a [S],
+) -> Result<ArgMatches<'a>, UsageError>
+    ensures ok { IfOk result (λ m. rows_of (found_of m) ≡ rows_named program.entry.now (map S.text words.entry.now)) }
+    ensures taken { OnOk result (HasNoFault program.entry.now (map S.text words.entry.now)) }
+{
+    let command = command(alloc, program)?;
+    match command.try_get_matches_from(words) {
+        Ok(matches) => Ok(matches),
+        Err(error) => Err(refusal(alloc, &error)),
+    }
+}
+
+/// The program's words, as `clap` is told of them.
+fn command<'a>(alloc: Global, program: &'a str) -> Result<Command<'a>, AllocError>
+    ensures { IfOk result (λ c. app_of c ≡ command_of program.entry.now) }
+{
+    let command = Command::new(alloc, program)
+        .about("Runs many System/370 machines at once, by a script that it is given part by part")
+        .arg(frames(alloc))?
+        .arg(slots(alloc))?
+        .arg(save(alloc))?
+        .arg(follow(alloc))?
+        .arg(directory(alloc))?
+        .arg(volumes(alloc))?;
+    Ok(command)
+}
+
+/// `--follow`
+fn follow<'a>(alloc: Global) -> Arg<'a>
+    ensures rule { rule_of result ≡ follow_rule }
+    ensures local { result.global ≡ false }
+{
+    Arg::new(alloc, "follow")
+        .long("follow")
+        .action(ArgAction::SetTrue)
+        .help("Reads parts of a script from standard input (docs/COMMAND_LINE.md)")
+}
