@@ -2,6 +2,7 @@ pub mod Keeping
 pub mod Walking
 pub mod Finding
 pub mod Blocks
+pub mod Lists
 pub mod Programs
 pub mod Clearing
 pub mod Sizes
