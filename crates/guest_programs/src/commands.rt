@@ -61,7 +61,7 @@ fn booted(alloc: Global, sequence: &mut Sequence) -> Result<SideBySide> {
     let volumes = vec![in alloc; volume(alloc)?]?;
     let mut machines = SideBySide::boot_on(alloc, DIRECTORY, volumes, sizes)?;
     for number in 0..4u8 {
-        let lines = sequence.below(READY.len() as u32 + 1) as usize;
+        let lines = sequence.below(7) as usize;
         for line in READY.iter().take(lines) {
             machines.line(alloc, UserNo::new(number), line.as_bytes())?;
         }
@@ -127,37 +127,56 @@ fn type_line(
     Ok(())
 }
 
-/// Compares all views of a user but for the lines that his console had printed.
+/// Compares all views of a user but those of disks; of the lines that his console has printed, these and all later.
 fn look(machines: &mut SideBySide, user: UserNo, printed: usize) -> Result<(), SideError> {
     machines.compare_registers(user)?;
     machines.compare_console(user, printed)?;
     machines.compare_devices(user)?;
-    machines.compare_pages(user)?;
-    machines.compare_disks(user)
+    machines.compare_pages(user)
 }
 
-/// Plays a script: after each event the views of all users are compared.
-fn play(
-    alloc: Global,
-    sequence: &mut Sequence,
-    machines: &mut SideBySide,
-) -> Result<(), SideError> {
-    for _event in 0..EVENTS {
-        let user = UserNo::new(sequence.below(USERS) as u8);
-        let printed = machines.bare(user)?.printed();
-        next_event(alloc, sequence, machines, user)?;
-        look(machines, user, printed)?;
-        look_at_all(machines)?;
-    }
-    Ok(())
-}
-
-/// Compares the views of all users; of the lines that a console has printed, the last.
+/// Compares all views of all users; of the lines that a console has printed, the last.
 fn look_at_all(machines: &mut SideBySide) -> Result<(), SideError> {
     for number in 0..4u8 {
         let user = UserNo::new(number);
         let last = machines.bare(user)?.printed().saturating_sub(1);
         look(machines, user, last)?;
+        machines.compare_disks(user)?;
+    }
+    Ok(())
+}
+
+/// Lets something happen to a user, and compares his views, and those of him to whom it delivers something.
+fn happen(
+    alloc: Global,
+    sequence: &mut Sequence,
+    machines: &mut SideBySide,
+    user: UserNo,
+) -> Result<(), SideError> {
+    let printed = machines.bare(user)?.printed();
+    next_event(alloc, sequence, machines, user)?;
+    look(machines, user, printed)?;
+    match machines.delivered() {
+        Some(delivered) => {
+            let last = machines.bare(delivered.to)?.printed().saturating_sub(1);
+            look(machines, delivered.to, last)
+        }
+        None => Ok(()),
+    }
+}
+
+/// Plays a script: after each event the views of whom it concerns are compared, and after each eighth those of all.
+fn play(
+    alloc: Global,
+    sequence: &mut Sequence,
+    machines: &mut SideBySide,
+) -> Result<(), SideError> {
+    for event in 1..=EVENTS {
+        let user = UserNo::new(sequence.below(USERS) as u8);
+        happen(alloc, sequence, machines, user)?;
+        if event % 8 == 0 {
+            look_at_all(machines)?;
+        }
     }
     Ok(())
 }

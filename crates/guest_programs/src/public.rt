@@ -4,7 +4,7 @@
 //! Those by hand are for a device that no machine has: they run on a reader, a punch and a console, with the commands
 //! that come nearest.
 use crate::places::Unit;
-use crate::stage::Stage;
+use crate::stage::{FRAMES, Stage};
 use anyhow::{Context, Result};
 use bare_installation::Bare;
 use cp_text::numbers::hexadecimal_of;
@@ -17,6 +17,9 @@ use unit_record::Card;
 const OF_UNITS: u32 = 4096;
 
 const BY_HAND: u32 = 16;
+
+/// How many frames suffice for a program that may change its words: it needs all pages of its user.
+const PLENTY: u32 = 1100;
 
 /// The devices on which the programs by hand run.
 const UNITS: [Unit; 3] = [Unit::Reader, Unit::Punch, Unit::Console];
@@ -92,26 +95,40 @@ fn has_list(alloc: Global, bare: &Bare, list: &str) -> Result<bool> {
     Ok(true)
 }
 
-/// What differs first, of a line that another System/370 ran.
-fn try_unit(alloc: Global, line: &str) -> Result<Option<String>> {
+/// Runs the program of a line on so many frames, and tells what differs first.
+fn try_line(alloc: Global, stage: &mut Stage, line: &str) -> Result<Option<String>> {
     let words = words_of(alloc, line)?;
     let [_, kind, cards, keys, storage, caw, _, csw, after, ..] = *words.as_slice() else {
         return Ok(Some(String::from_str(alloc, "it is no line")?));
     };
     let unit = unit_of(kind).context("a device")?;
-    let mut stage = Stage::boot_plain(alloc, OF_UNITS)?;
     stage.give_cards(alloc, &cards_of(alloc, cards)?)?;
-    set_list(alloc, &mut stage, keys)?;
-    store_list(alloc, &mut stage, storage)?;
-    if let Some(different) = differs(alloc, stage.try_words(alloc, unit, caw))? {
-        return Ok(Some(different));
+    set_list(alloc, stage, keys)?;
+    store_list(alloc, stage, storage)?;
+    let different = differs(alloc, stage.try_words(alloc, unit, caw))?;
+    if different.is_some() || stage.lacks_frames() {
+        return Ok(different);
     }
-    let bare = stage.bare()?;
     let status = format!(in alloc; "000040:{csw}")?;
-    if has_list(alloc, bare, status.as_str())? && has_list(alloc, bare, after)? {
+    if has_list(alloc, stage.bare()?, status.as_str())? && has_list(alloc, stage.bare()?, after)? {
         return Ok(None);
     }
     Ok(Some(String::from_str(alloc, "not as the line says")?))
+}
+
+/// What differs first, of a line that another System/370 ran; it is tried again where 16 frames are too few.
+fn try_unit(alloc: Global, line: &str) -> Result<Option<String>> {
+    let mut stage = Stage::boot_plain(alloc, OF_UNITS, FRAMES)?;
+    let different = try_line(alloc, &mut stage, line)?;
+    if different.is_some() || !stage.lacks_frames() {
+        return Ok(different);
+    }
+    let mut stage = Stage::boot_plain(alloc, OF_UNITS, PLENTY)?;
+    let different = try_line(alloc, &mut stage, line)?;
+    if different.is_none() && stage.lacks_frames() {
+        return Ok(Some(String::from_str(alloc, "out of frames")?));
+    }
+    Ok(different)
 }
 
 /// What differs, where that is why a trial ended.
@@ -158,7 +175,7 @@ fn store_item(alloc: Global, stage: &mut Stage, unit: Unit, item: &str) -> Resul
 /// What differs first, of a line by hand on one device.
 fn try_on(alloc: Global, line: &str, unit: Unit) -> Result<Option<String>> {
     let (given, _) = line.split_once(" | ").context("a line has a mark")?;
-    let mut stage = Stage::boot_plain(alloc, BY_HAND)?;
+    let mut stage = Stage::boot_plain(alloc, BY_HAND, FRAMES)?;
     stage.give_cards(alloc, &[[0xC1; 80], [0xC2; 80], [0xC3; 80]])?;
     let mut caw = "00000008";
     for word in given.split_whitespace().skip(1) {

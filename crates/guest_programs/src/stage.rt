@@ -16,7 +16,7 @@ const DIRECTORY: &[u8] =
     b"USER NEIGHBOR PW 36K\nCONSOLE 009 3215\nMDISK 190 3330 0 1 SHARED W\nMDISK 191 3330 3 1 SHARED W\nUSER GUEST PW 32K\nCONSOLE 009 3215\nSPOOL 00C READER\nSPOOL 00D PUNCH\nSPOOL 00E PRINTER\nMDISK 190 3330 1 2 SHARED W\n";
 
 /// How many frames and slots there are.
-const FRAMES: u32 = 16;
+pub const FRAMES: u32 = 16;
 
 const SLOTS: u32 = 16;
 
@@ -98,9 +98,10 @@ impl Stage {
         alloc: Global,
         directory: &[u8],
         volumes: Vec<Volume>,
+        frames: u32,
         lines: &[&str],
     ) -> Result<Stage> {
-        let Some(sizes) = Sizes::new(FRAMES, SLOTS) else {
+        let Some(sizes) = Sizes::new(frames, SLOTS) else {
             bail!("too many frames");
         };
         let mut machines = SideBySide::boot_on(alloc, directory, volumes, sizes)?;
@@ -116,23 +117,28 @@ impl Stage {
     /// Both machines run, and the user's storage is filled.
     pub fn boot(alloc: Global, sequence: &mut Sequence) -> Result<Stage> {
         let volumes = vec![in alloc; next_volume(alloc, sequence)?]?;
-        let mut stage = Stage::booted(alloc, DIRECTORY, volumes, &GUEST)?;
+        let mut stage = Stage::booted(alloc, DIRECTORY, volumes, FRAMES, &GUEST)?;
         stage.run(FILLING)?;
         stage.compare_disks()?;
         Ok(stage)
     }
 
-    /// The user has so many kilobytes of storage, which are all zero, and no disk.
-    pub fn boot_plain(alloc: Global, size: u32) -> Result<Stage> {
+    /// The user has so many kilobytes of storage, which are all zero, and no disk; there are so many frames.
+    pub fn boot_plain(alloc: Global, size: u32, frames: u32) -> Result<Stage> {
         let neighbour = "USER NEIGHBOR PW 64K\nUSER GUEST PW";
         let devices = "CONSOLE 009 3215\nSPOOL 00C READER\nSPOOL 00D PUNCH\nSPOOL 00E PRINTER";
         let directory = format!(in alloc; "{neighbour} {size}K\n{devices}\n")?;
-        Stage::booted(alloc, directory.as_bytes(), Vec::new(alloc), &PLAIN)
+        Stage::booted(alloc, directory.as_bytes(), Vec::new(alloc), frames, &PLAIN)
     }
 
     /// How many programs were served.
     pub fn served(&self) -> u32 {
         self.served
+    }
+
+    /// Whether an event was out of frames.
+    pub fn lacks_frames(&self) -> bool {
+        self.machines.out_of_frames() > 0
     }
 
     /// The user's bare machine.

@@ -51,7 +51,7 @@ pub struct Trial {
 
 /// Keys of all blocks under which most of a program with this key passes.
 fn next_keys(sequence: &mut Sequence, key: u32) -> [u8; BLOCKS] {
-    let usual = ((key % 16) << 4) as u8;
+    let usual = (key % 16 * 16) as u8;
     let mut keys = [usual; BLOCKS];
     for _change in 0..sequence.below(3) {
         let place = sequence.below(16) as usize % BLOCKS;
@@ -87,12 +87,16 @@ fn next_list(alloc: Global, sequence: &mut Sequence, plan: Plan) -> Result<Vec<u
     Ok(list)
 }
 
-/// A card: ten words of a program.
+/// A card: ten words of a program. Where it is loaded, the first is a PSW, and the second reads over those behind it.
 fn next_card(sequence: &mut Sequence, plan: Plan) -> Card {
     let mut card = [0u8; 80];
     let mut index = 0u32;
     for part in card.chunks_mut(8) {
-        let bytes = plan.next_word(sequence, index, false);
+        let bytes = if plan.base == 0 && index == 1 {
+            plan.next_change(sequence, index)
+        } else {
+            plan.next_word(sequence, index, false)
+        };
         for (to, from) in part.iter_mut().zip(bytes.iter()) {
             *to = *from;
         }
@@ -101,14 +105,15 @@ fn next_card(sequence: &mut Sequence, plan: Plan) -> Card {
     card
 }
 
-/// Up to three cards.
-pub fn next_cards(
-    alloc: Global,
-    sequence: &mut Sequence,
-    plan: Plan,
-) -> Result<Vec<Card>, AllocError> {
+/// Up to three cards, at least one where they change a program.
+fn next_cards(alloc: Global, sequence: &mut Sequence, plan: Plan) -> Result<Vec<Card>, AllocError> {
     let mut cards = Vec::new(alloc);
-    for _card in 0..sequence.below(4) {
+    let count = if plan.is_changing {
+        1 + sequence.below(3)
+    } else {
+        sequence.below(4)
+    };
+    for _card in 0..count {
         cards.push(next_card(sequence, plan))?;
     }
     Ok(cards)
@@ -116,11 +121,11 @@ pub fn next_cards(
 
 /// Where the words of the next program stand, and for which device they are.
 fn next_plan(sequence: &mut Sequence, is_changing: bool) -> Plan {
-    let unit = match sequence.below(if is_changing { 6 } else { 5 }) {
+    let unit = match sequence.below(6) {
         0 => Unit::Console,
-        1 => Unit::Punch,
-        2 => Unit::Printer,
-        3 | 5 => Unit::Reader,
+        1 if !is_changing => Unit::Punch,
+        2 if !is_changing => Unit::Printer,
+        1..=3 => Unit::Reader,
         _ => Unit::Disk,
     };
     Plan {
@@ -135,8 +140,12 @@ fn next_plan(sequence: &mut Sequence, is_changing: bool) -> Plan {
 fn next_words(alloc: Global, sequence: &mut Sequence, plan: Plan) -> Result<Vec<u8>, AllocError> {
     let mut program = Vec::new(alloc);
     program.extend_from_slice(&random_word(sequence))?;
-    let count = 1 + sequence.below(7);
-    for index in 0..count {
+    let first = if plan.is_changing { 1 } else { 0 };
+    if plan.is_changing {
+        program.extend_from_slice(&plan.next_change(sequence, 0))?;
+    }
+    let count = 2 + sequence.below(6);
+    for index in first..count {
         let is_last = index.wrapping_add(1) == count;
         program.extend_from_slice(&plan.next_word(sequence, index, is_last))?;
     }
@@ -152,11 +161,14 @@ fn next_search(alloc: Global, sequence: &mut Sequence, plan: Plan) -> Result<Vec
     for step in approach(plan, sequence) {
         program.extend_from_slice(&step)?;
     }
-    let count = 1 + sequence.below(4);
-    for index in 0..count {
+    let first = if plan.is_changing { 4 } else { 3 };
+    if plan.is_changing {
+        program.extend_from_slice(&plan.next_change(sequence, 3))?;
+    }
+    let count = 5 + sequence.below(4);
+    for index in first..count {
         let is_last = index.wrapping_add(1) == count;
-        let place = index.wrapping_add(3);
-        program.extend_from_slice(&plan.next_word(sequence, place, is_last))?;
+        program.extend_from_slice(&plan.next_word(sequence, index, is_last))?;
     }
     program.extend_from_slice(&random_word(sequence))?;
     Ok(program)
@@ -169,7 +181,7 @@ pub fn next_chain(
     is_changing: bool,
 ) -> Result<Trial, AllocError> {
     let plan = next_plan(sequence, is_changing);
-    let program = if plan.unit == Unit::Disk && sequence.below(4) != 0 {
+    let program = if plan.unit == Unit::Disk && (is_changing || sequence.below(4) != 0) {
         next_search(alloc, sequence, plan)?
     } else {
         next_words(alloc, sequence, plan)?
@@ -222,7 +234,7 @@ fn next_trial(
         _ => Vec::new(alloc),
     };
     let typed = match plan.unit {
-        Unit::Console if sequence.below(2) == 0 => Some(sequence.pick(&TYPED)),
+        Unit::Console if plan.is_changing || sequence.below(2) == 0 => Some(sequence.pick(&TYPED)),
         _ => None,
     };
     Ok(Trial {

@@ -60,6 +60,25 @@ impl Plan {
         }
     }
 
+    /// The next word, which reads over words that come behind this place, or over what a seek or a list has there.
+    pub fn next_change(self, sequence: &mut Sequence, index: u32) -> [u8; 8] {
+        let code = match self.unit {
+            Unit::Console => 0x0A,
+            Unit::Disk => sequence.one_of(&[0x06, 0x06, 0x0E, 0x1E]),
+            _ => 0x02,
+        };
+        let ahead = index.wrapping_add(1).wrapping_add(sequence.below(3));
+        let inside = sequence.one_of(&[0, 0, 0, 4, 4, 2]);
+        let address = match sequence.below(8) {
+            0 => SEEKS + sequence.below(0x40),
+            1 => self.list,
+            _ => self.place(ahead).wrapping_add(inside),
+        };
+        let flags = CHAIN_COMMAND | sequence.one_of(&[SUPPRESS, SUPPRESS, SUPPRESS, 0]);
+        let count = sequence.one_of(&[1, 4, 8, 16, 24, 40, 80, 80]);
+        word(code, address, flags, count)
+    }
+
     /// Where a transfer in channel goes: most often a few words on.
     fn target(self, sequence: &mut Sequence, index: u32) -> u32 {
         let ahead = index.wrapping_add(1).wrapping_add(sequence.below(3));
@@ -94,10 +113,11 @@ impl Plan {
 
     /// A word of the list, or seldom a place between two.
     fn list_word(self, sequence: &mut Sequence) -> u32 {
-        let off = u32::from(sequence.below(32) == 0) * 2;
-        self.list
-            .wrapping_add(sequence.below(3) * 4)
-            .wrapping_add(off)
+        let off = match sequence.below(32) {
+            0 => 2,
+            _ => sequence.below(3) * 4,
+        };
+        self.list.wrapping_add(off)
     }
 
     /// The address of bytes that move: at ends of pages, blocks and storage, past it, or over the own words.
