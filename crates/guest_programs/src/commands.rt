@@ -19,8 +19,11 @@ const USERS: u32 = 4;
 
 /// Two users with all kinds of devices, one who reads the disk of the first, and one without devices. They have 21 pages
 /// of storage.
-const DIRECTORY: &[u8] =
-    b"USER A PW 24K\nCONSOLE 009 3215\nSPOOL 00C READER\nSPOOL 00D PUNCH\nSPOOL 00E PRINTER\nMDISK 190 3330 0 1 SHARED R\nUSER B PW 32K\nCONSOLE 009 3215\nSPOOL 00C READER\nSPOOL 00D PUNCH\nSPOOL 00E PRINTER\nMDISK 191 3330 1 1 SHARED W\nUSER C PW 16K\nSPOOL 00C READER\nSPOOL 10D PUNCH\nMDISK 190 3330 0 1 SHARED R\nUSER DISKLESS PW 12K\n";
+const DIRECTORY: &str =
+    "USER A PW 24K\nCONSOLE 009 3215\nSPOOL 00C READER\nSPOOL 00D PUNCH\nSPOOL 00E PRINTER\n\
+    MDISK 190 3330 0 1 SHARED R\nUSER B PW 32K\nCONSOLE 009 3215\nSPOOL 00C READER\nSPOOL 00D PUNCH\n\
+    SPOOL 00E PRINTER\nMDISK 191 3330 1 1 SHARED W\nUSER C PW 16K\nSPOOL 00C READER\nSPOOL 10D PUNCH\n\
+    MDISK 190 3330 0 1 SHARED R\nUSER DISKLESS PW 12K\n";
 
 /// The devices that are served.
 const DEVICES: [u32; 7] = [0x009, 0x00C, 0x00C, 0x00D, 0x00E, 0x190, 0x191];
@@ -59,7 +62,7 @@ fn booted(alloc: Global, sequence: &mut Sequence) -> Result<SideBySide> {
         bail!("too many frames");
     };
     let volumes = vec![in alloc; volume(alloc)?]?;
-    let mut machines = SideBySide::boot_on(alloc, DIRECTORY, volumes, sizes)?;
+    let mut machines = SideBySide::boot_on(alloc, DIRECTORY.as_bytes(), volumes, sizes)?;
     for number in 0..4u8 {
         let lines = sequence.below(7) as usize;
         for line in READY.iter().take(lines) {

@@ -53,25 +53,23 @@ pub const DATA: u32 = 0x4000;
 /// How many bytes of storage the user has.
 pub const STORAGE: u32 = 0x8000;
 
-/// Bytes that stand in storage from an address on.
-#[derive(Clone, Copy)]
-pub struct Fixed {
-    pub address: u32,
-    pub bytes: &'static [u8],
-}
-
-/// The code that sets the key of each block, and the arguments of disk commands: eight seeks, of which three are for
-/// tracks that there are not, eight identifiers of five bytes, and eight file masks.
-pub const FIXED: [Fixed; 2] = [
-    Fixed {
-        address: 0x200,
-        // SR 1,1; SR 6,6; LA 5,16; IC 4,300(6); SSK 4,1; LA 6,1(6); LA 1,800(1); BCT 5,208; three times BCR 0,0
-        bytes: b"\x1B\x11\x1B\x66\x41\x50\x00\x10\x43\x46\x03\x00\x08\x41\x41\x66\x00\x01\x41\x11\x08\x00\x46\x50\x02\x08\x07\x00\x07\x00\x07\x00",
-    },
-    Fixed {
-        address: SEEKS,
-        bytes: b"\0\0\0\0\0\0\0\0\0\0\0\0\0\x01\0\0\0\0\0\0\0\x02\0\0\0\0\0\x01\0\0\0\0\0\0\0\x01\0\x12\0\0\0\0\0\x02\0\0\0\0\0\0\0\0\0\x13\0\0\x01\0\0\0\0\0\0\0\0\0\0\0\x01\0\0\0\0\0\0\0\x02\0\0\0\0\0\0\0\x03\0\0\0\0\0\0\x01\x01\0\0\0\0\0\0\x01\x02\0\0\0\0\0\0\x02\x02\0\0\0\0\x01\0\0\x01\0\0\0\0\x01\0\0\x02\0\0\0\0\x01\0\x12\x01\0\0\0\0\x40\x80\xC0\x18\x10\x08\x01",
-    },
+/// What is typed before each program: the code that sets the key of each block, and the arguments of disk commands.
+pub const FIXED: [&str; 11] = [
+    // SR 1,1; SR 6,6; LA 5,16; IC 4,300(6); SSK 4,1; LA 6,1(6); LA 1,800(1); BCT 5,208; three times BCR 0,0
+    "#CP STORE 200 1B111B66415000104346030008414166",
+    "#CP STORE 210 00014111080046500208070007000700",
+    // eight seeks, of which three are for tracks that there are not
+    "#CP STORE 700 00000000000000000000000000010000",
+    "#CP STORE 710 00000000000200000000000100000000",
+    "#CP STORE 720 00000001001200000000000200000000",
+    "#CP STORE 730 00000000001300000001000000000000",
+    // eight identifiers
+    "#CP STORE 740 00000000010000000000000002000000",
+    "#CP STORE 750 00000000030000000000000101000000",
+    "#CP STORE 760 00000002020000000001000001000000",
+    "#CP STORE 770 00010000020000000001001201000000",
+    // eight file masks
+    "#CP STORE 780 004080C018100801",
 ];
 
 /// Where the keys of all blocks stand, a byte each, and how many there are.

@@ -1,6 +1,6 @@
 //! The user and his neighbour, each beside a bare machine, and how a channel program is tried.
 use crate::disks::next_volume;
-use crate::places::{FIXED, Fixed, KEYS, Unit};
+use crate::places::{FIXED, KEYS, Unit};
 use crate::trial::{Start, Trial};
 use anyhow::{Result, bail};
 use bare_installation::Bare;
@@ -12,8 +12,9 @@ use std::alloc::Global;
 use unit_record::Card;
 
 /// The neighbour has the lower number. Together the two have one page more than there are frames.
-const DIRECTORY: &[u8] =
-    b"USER NEIGHBOR PW 36K\nCONSOLE 009 3215\nMDISK 190 3330 0 1 SHARED W\nMDISK 191 3330 3 1 SHARED W\nUSER GUEST PW 32K\nCONSOLE 009 3215\nSPOOL 00C READER\nSPOOL 00D PUNCH\nSPOOL 00E PRINTER\nMDISK 190 3330 1 2 SHARED W\n";
+const DIRECTORY: &str = "USER NEIGHBOR PW 36K\nCONSOLE 009 3215\nMDISK 190 3330 0 1 SHARED W\n\
+    MDISK 191 3330 3 1 SHARED W\nUSER GUEST PW 32K\nCONSOLE 009 3215\nSPOOL 00C READER\nSPOOL 00D PUNCH\n\
+    SPOOL 00E PRINTER\nMDISK 190 3330 1 2 SHARED W\n";
 
 /// How many frames and slots there are.
 pub const FRAMES: u32 = 16;
@@ -96,7 +97,7 @@ impl Stage {
     /// What a directory states on these volumes; the neighbour's machine runs, and the user has typed these lines.
     fn booted(
         alloc: Global,
-        directory: &[u8],
+        directory: &str,
         volumes: Vec<Volume>,
         frames: u32,
         lines: &[&str],
@@ -104,7 +105,7 @@ impl Stage {
         let Some(sizes) = Sizes::new(frames, SLOTS) else {
             bail!("too many frames");
         };
-        let mut machines = SideBySide::boot_on(alloc, directory, volumes, sizes)?;
+        let mut machines = SideBySide::boot_on(alloc, directory.as_bytes(), volumes, sizes)?;
         type_all(alloc, &mut machines, neighbour(), &NEIGHBOUR)?;
         type_all(alloc, &mut machines, guest(), lines)?;
         Ok(Stage {
@@ -128,7 +129,7 @@ impl Stage {
         let neighbour = "USER NEIGHBOR PW 64K\nUSER GUEST PW";
         let devices = "CONSOLE 009 3215\nSPOOL 00C READER\nSPOOL 00D PUNCH\nSPOOL 00E PRINTER";
         let directory = format!(in alloc; "{neighbour} {size}K\n{devices}\n")?;
-        Stage::booted(alloc, directory.as_bytes(), Vec::new(alloc), frames, &PLAIN)
+        Stage::booted(alloc, directory.as_str(), Vec::new(alloc), frames, &PLAIN)
     }
 
     /// How many programs were served.
@@ -258,22 +259,9 @@ impl Stage {
         Ok(())
     }
 
-    /// What programs find in fixed places is stored again, where something was stored over it.
-    fn refresh(&mut self, alloc: Global) -> Result<(), SideError> {
-        for Fixed { address, bytes } in FIXED {
-            let first = address as usize;
-            let end = first.saturating_add(bytes.len());
-            let stands = self.bare()?.storage().get(first..end);
-            if stands != Some(bytes) {
-                self.store(alloc, address, bytes)?;
-            }
-        }
-        Ok(())
-    }
-
-    /// Cards, words, keys and indirect words are made ready.
+    /// Code, arguments, cards, words, keys and indirect words are made ready.
     fn prepare(&mut self, alloc: Global, trial: &Trial) -> Result<(), SideError> {
-        self.refresh(alloc)?;
+        type_all(alloc, &mut self.machines, guest(), &FIXED)?;
         self.give_cards(alloc, &trial.cards)?;
         self.store(alloc, KEYS, &trial.keys)?;
         self.store(alloc, trial.list_address, &trial.list)?;
