@@ -79,10 +79,10 @@ impl SideBySide {
     /// Compares the disks: their arms with the sense, and all their tracks.
     pub fn compare_disks(&self, user: UserNo) -> Result<(), SideError> {
         for disk in self.bare(user)?.disks() {
-            let Some(seen) = self.system.minidisk(user, disk.address()) else {
-                return Err(SideError::Differs(View::Arm));
-            };
-            compare_disk(seen, disk.unit())?;
+            match self.system.minidisk(user, disk.address()) {
+                Some(seen) => compare_disk(&seen, disk.unit())?,
+                None => return Err(SideError::Differs(View::Arm)),
+            }
         }
         Ok(())
     }

@@ -97,17 +97,22 @@ fn has_part(volume: &Volume, start: usize, part: &Volume) -> bool {
     true
 }
 
-/// Compares a minidisk with the disk of a bare machine: arm and sense, and each track.
-pub(crate) fn compare_disk(seen: SeenDisk<'_>, unit: &Unit) -> Result<(), SideError> {
-    same(seen.arm() == unit.arm(), View::Arm)?;
+/// Whether a minidisk has the tracks of the disk of a bare machine.
+fn has_tracks(seen: &SeenDisk<'_>, part: &Volume) -> bool {
     let extent = seen.extent();
-    let part = unit.volume();
-    let is_same = match seen.volume() {
-        Some(volume) => has_part(volume, usize::from(extent.start()), part),
+    match seen.volume() {
+        Some(volume) => {
+            usize::from(extent.count()) == part.count()
+                && has_part(volume, usize::from(extent.start()), part)
+        }
         None => false,
-    };
-    same(
-        is_same && usize::from(extent.count()) == part.count(),
-        View::Tracks,
-    )
+    }
+}
+
+/// Compares a minidisk with the disk of a bare machine: arm and sense, and each track.
+pub(crate) fn compare_disk(seen: &SeenDisk<'_>, unit: &Unit) -> Result<(), SideError> {
+    let is_same_arm = seen.arm() == unit.arm();
+    let is_same_content = has_tracks(seen, unit.volume());
+    same(is_same_arm, View::Arm)?;
+    same(is_same_content, View::Tracks)
 }
