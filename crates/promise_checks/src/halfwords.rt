@@ -1,17 +1,25 @@
 //! Each first halfword of an instruction, followed by zeros, is carried out in the supervisor state and in the problem
-//! state, on a bare machine and by a user of the control program who has a neighbour.
+//! state, on a bare machine and by a user of the control program who has a neighbour. Both have devices; that of the
+//! address of zeros is the user's reader, which is served after it.
 //!
 //! After each unit all views of the user have to be those of the bare machine, and those of the neighbour have to stay.
 use crate::setting::{FILLING, SETTING};
 use anyhow::{Result, bail};
 use cp_core::Sizes;
 use cp_users::UserNo;
+use s370_num::DevAddr;
 use side_by_side::{SideBySide, SideError};
 use std::alloc::Global;
 use std::fmt;
 
 /// The users: the neighbour has the lower number.
-const DIRECTORY: &[u8] = b"USER NEIGHBOR PW 8K\nUSER GUEST PW 8K\n";
+const DIRECTORY: &[u8] =
+    b"USER NEIGHBOR PW 8K\nCONSOLE 009 3215\nSPOOL 00D PUNCH\nUSER GUEST PW 8K\nCONSOLE 009 3215\nSPOOL 000 READER\nSPOOL 00D PUNCH\nSPOOL 00E PRINTER\n";
+
+/// The reader, which SIO and the like name where zeros follow.
+fn reader() -> DevAddr {
+    DevAddr::new(0)
+}
 
 /// How many units follow each setting: the load of the registers, and the instruction.
 const UNITS: u32 = 2;
@@ -91,6 +99,7 @@ fn two_users(alloc: Global) -> Result<SideBySide> {
         neighbour(),
         &["STORE G7 00ABCDEF", "BEGIN 700"],
     )?;
+    machines.deck(alloc, guest(), &[[0xC1; 80], [0xC2; 80], [0xC3; 80]])?;
     Ok(machines)
 }
 
@@ -111,6 +120,14 @@ fn set(
     )
 }
 
+/// Compares all views of the user, but for the lines that his console had printed.
+fn look(machines: &mut SideBySide, printed: usize) -> Result<(), SideError> {
+    machines.compare_registers(guest())?;
+    machines.compare_pages(guest())?;
+    machines.compare_devices(guest())?;
+    machines.compare_console(guest(), printed)
+}
+
 /// Carries out an instruction, and tells how many units were done. All views of the user are compared after each of
 /// them, and at the end those of the neighbour.
 fn carry_out(
@@ -124,9 +141,10 @@ fn carry_out(
     let mut units = 0u32;
     for _ in 0..UNITS {
         units = units.wrapping_add(machines.run(guest(), 1)?.units);
-        machines.compare_registers(guest())?;
-        machines.compare_storage(guest())?;
-        machines.compare_console(guest(), printed)?;
+        look(machines, printed)?;
+    }
+    if machines.serve(guest(), reader())? {
+        look(machines, printed)?;
     }
     machines.compare(neighbour())?;
     Ok(units)

@@ -1,7 +1,7 @@
 //! What is set before an instruction, and what stands in storage from the start.
 
 /// What is typed once: bytes that instructions come to.
-pub const FILLING: [&str; 12] = [
+pub const FILLING: [&str; 13] = [
     "STORE 0 000000000012345C8142C3D4F1F2F3F4",
     "STORE 10 F5F6F7F8F9D1C9E25AA55AA500FF00FF",
     "STORE 80 0123456789ABCDEFFEDCBA9876543210",
@@ -11,6 +11,8 @@ pub const FILLING: [&str; 12] = [
     "STORE 7F8 A1B2C3D4E5F60718293A4B5C6D7E8F90",
     "STORE A00 000000000000001C000000000000002D",
     "STORE C00 00010203040506070809101112131415",
+    // a card is read over the end of a page; the sense behind it is refused
+    "STORE C40 02000FC06000005004000FBF20000001",
     "STORE FF8 112233445566778899AABBCCDDEEFF00",
     "STORE 1800 C1C2C3C4C5C6C7C8C9D1D2D3D4D5D6D7",
     "STORE 1FF0 F0F1F2F3F4F5F6F7F8F9C0D0A0B0E0F0",
@@ -18,8 +20,9 @@ pub const FILLING: [&str; 12] = [
 
 /// What is typed before each instruction: the first bytes of storage, the PSWs that a supervisor call and a program
 /// interruption load, and at 400 what the registers are loaded from.
-pub const SETTING: [&str; 6] = [
+pub const SETTING: [&str; 7] = [
     "#CP STORE 0 000000000012345C8142C3D4F1F2F3F4",
+    "#CP STORE 48 00000C40",
     "#CP STORE 60 00000000000007000004000000000780",
     "#CP STORE 400 00000800000001230000100040000100",
     "#CP STORE 410 00001FF00000001000001FFE7FFFFFFF",

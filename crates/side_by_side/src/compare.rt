@@ -1,5 +1,6 @@
 //! What is compared of a user and his bare machine.
 use crate::devices::{compare_console_device, compare_printer, compare_punch, compare_reader};
+use crate::disks::compare_disk;
 use crate::machines::{SideBySide, same};
 use crate::view::{SideError, View};
 use cp_users::UserNo;
@@ -11,7 +12,8 @@ impl SideBySide {
         self.compare_registers(user)?;
         self.compare_console(user, 0)?;
         self.compare_storage(user)?;
-        self.compare_devices(user)
+        self.compare_devices(user)?;
+        self.compare_disks(user)
     }
 
     /// Compares the registers, the PSW, the mode, what is pending, and how many lines were printed.
@@ -52,10 +54,7 @@ impl SideBySide {
             address = address.wrapping_add(1);
         }
         same(self.system.storage(user, address).is_none(), View::Storage)?;
-        for block in 0..=address / BLOCK_SIZE {
-            same(self.system.key(user, block) == bare.key(block), View::Keys)?;
-        }
-        Ok(())
+        self.compare_keys(user, address / BLOCK_SIZE)
     }
 
     /// Compares the subchannels, the devices with their lines, decks and files, and what was delivered.
@@ -75,6 +74,17 @@ impl SideBySide {
         let target = devices.target() == bare.devices().target();
         same(target, View::Punch)?;
         self.compare_deliveries(user)
+    }
+
+    /// Compares the disks: their arms with the sense, and all their tracks.
+    pub fn compare_disks(&self, user: UserNo) -> Result<(), SideError> {
+        for disk in self.bare(user)?.disks() {
+            match self.system.minidisk(user, disk.address()) {
+                Some(seen) => compare_disk(&seen, disk.unit())?,
+                None => return Err(SideError::Differs(View::Arm)),
+            }
+        }
+        Ok(())
     }
 
     /// Compares what replies told as delivered with what came to the bare machine.

@@ -15,8 +15,10 @@
 
 mod compare;
 mod devices;
+mod disks;
 mod lines;
 mod machines;
+mod pages;
 mod sequence;
 mod view;
 mod world;

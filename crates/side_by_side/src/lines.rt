@@ -57,7 +57,7 @@ fn on_of(alloc: Global, machines: &[Beside]) -> Result<Vec<bool>, AllocError> {
 }
 
 impl SideBySide {
-    /// Types a line at both, which does not ask for an IPL, and tells the response of both.
+    /// Types a line at both, and tells the response of both.
     pub fn line(
         &mut self,
         alloc: Global,

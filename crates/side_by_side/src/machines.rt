@@ -1,8 +1,10 @@
 //! The machines, and the events that are for one of them alone.
+use crate::disks::disks_of;
 use crate::view::{SideError, View};
 use bare_installation::Bare;
+use ckd_volume::Volume;
 use cp_core::{Delivered, Delivery, Ended, Event, Reply, Sizes, System};
-use cp_devices::{AttachError, Devices, Places, Told};
+use cp_devices::{Devices, Places, Told};
 use cp_directory::{User, UserDevices, read_directory};
 use cp_users::UserNo;
 use s370_intr::{Ran, Reason};
@@ -38,21 +40,24 @@ fn places_in(devices: UserDevices) -> Places {
     }
 }
 
-/// The bare machine of a user.
-fn machine_of(alloc: Global, user: &User) -> Result<Bare, AttachError> {
-    let Ok(storage) = PlainStorage::new(alloc, user.storage().blocks()) else {
-        return Err(AttachError::Memory);
-    };
+/// The bare machine of a user, with disks that have the cylinders of his minidisks on these volumes.
+fn machine_of(alloc: Global, user: &User, volumes: &[Volume]) -> Result<Bare, SideError> {
+    let storage = PlainStorage::new(alloc, user.storage().blocks())?;
     let devices = Devices::new(alloc, places_in(user.devices()));
-    Bare::new(alloc, storage, devices, Vec::new(alloc))
+    let disks = disks_of(alloc, user, volumes)?;
+    Ok(Bare::new(alloc, storage, devices, disks)?)
 }
 
 /// A bare machine for each user.
-fn machines_of(alloc: Global, users: &[User]) -> Result<Vec<Beside>, SideError> {
+fn machines_of(
+    alloc: Global,
+    users: &[User],
+    volumes: &[Volume],
+) -> Result<Vec<Beside>, SideError> {
     let mut machines = Vec::new(alloc);
     for user in users {
         machines.push(Beside {
-            bare: machine_of(alloc, user)?,
+            bare: machine_of(alloc, user, volumes)?,
             came: Vec::new(alloc),
         })?;
     }
@@ -87,11 +92,21 @@ fn units_of(asked: u32, ended: Ended) -> u32 {
 }
 
 impl SideBySide {
-    /// What a directory states, with all machines off.
+    /// What a directory without minidisks states, with all machines off.
     pub fn boot(alloc: Global, directory: &[u8], sizes: Sizes) -> Result<SideBySide, SideError> {
+        SideBySide::boot_on(alloc, directory, Vec::new(alloc), sizes)
+    }
+
+    /// What a directory states whose minidisks are on these volumes, with all machines off.
+    pub fn boot_on(
+        alloc: Global,
+        directory: &[u8],
+        volumes: Vec<Volume>,
+        sizes: Sizes,
+    ) -> Result<SideBySide, SideError> {
         let directory = read_directory(alloc, directory)?;
-        let machines = machines_of(alloc, directory.users())?;
-        let Ok(system) = System::boot(alloc, directory, Vec::new(alloc), sizes) else {
+        let machines = machines_of(alloc, directory.users(), &volumes)?;
+        let Ok(system) = System::boot(alloc, directory, volumes, sizes) else {
             return Err(SideError::NotBooted);
         };
         Ok(SideBySide {

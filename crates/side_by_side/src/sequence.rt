@@ -1,4 +1,5 @@
 //! A fixed sequence of numbers that look as if they were drawn.
+ghost use Rattle.std.specs.Prelude.{◌<◌};
 
 /// A linear congruential generator, with the factor and the increment of Knuth's MMIX.
 #[derive(Drop)]
@@ -19,6 +20,20 @@ impl Sequence {
             .wrapping_mul(6_364_136_223_846_793_005)
             .wrapping_add(1_442_695_040_888_963_407);
         (self.state >> 33) as u32
+    }
+
+    /// The next number below this one.
+    pub fn below(&mut self, limit: u32) -> u32
+        requires { 0 < limit }
+        ensures { result < limit }
+    {
+        self.next_number() % limit
+    }
+
+    /// The next of these numbers, of which there is at least one.
+    pub fn one_of(&mut self, numbers: &[u32]) -> u32 {
+        let place = self.next_number() as usize % numbers.len().max(1);
+        numbers.get(place).copied().unwrap_or(0)
     }
 
     /// The next of these texts, of which there is at least one.

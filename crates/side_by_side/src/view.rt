@@ -41,6 +41,10 @@ pub enum View {
     Sense,
     /// What was delivered.
     Deliveries,
+    /// The arm of a disk, and its sense.
+    Arm,
+    /// The tracks of a disk.
+    Tracks,
 }
 
 impl fmt::Display for View {
@@ -62,6 +66,8 @@ impl fmt::Display for View {
             View::Printer => "what the printer printed",
             View::Sense => "a sense byte",
             View::Deliveries => "what was delivered",
+            View::Arm => "the arm of a disk",
+            View::Tracks => "the tracks of a disk",
         };
         write!(f, "{name}")
     }

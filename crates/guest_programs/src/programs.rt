@@ -1,0 +1,77 @@
+//! The parts that try channel programs.
+use crate::stage::Stage;
+use crate::trial::{Trial, next_chain, next_loading, next_random};
+use anyhow::Result;
+use side_by_side::{Sequence, SideError};
+use std::alloc::{AllocError, Global};
+use std::fmt;
+
+/// Which channel programs are tried.
+#[derive(Clone, Copy, PartialEq, Eq)]
+pub enum Kind {
+    /// Chained words.
+    Chains,
+    /// Words that are read over.
+    Changing,
+    /// Random bytes.
+    Random,
+}
+
+impl fmt::Display for Kind {
+    fn fmt<W: fmt::Write>(&self, f: &mut fmt::Formatter<W>) -> fmt::Result {
+        match self {
+            Kind::Chains => write!(f, "chains"),
+            Kind::Changing => write!(f, "changing"),
+            Kind::Random => write!(f, "random"),
+        }
+    }
+}
+
+impl Kind {
+    /// How many are tried.
+    fn count(self) -> u32 {
+        match self {
+            Kind::Chains | Kind::Changing => 2000,
+            Kind::Random => 5000,
+        }
+    }
+
+    /// The next one.
+    fn next_trial(self, alloc: Global, sequence: &mut Sequence) -> Result<Trial, AllocError> {
+        match self {
+            Kind::Chains => next_chain(alloc, sequence, false),
+            Kind::Changing if sequence.below(4) == 0 => next_loading(alloc, sequence),
+            Kind::Changing => next_chain(alloc, sequence, true),
+            Kind::Random => next_random(alloc, sequence),
+        }
+    }
+}
+
+/// Tries all of a kind, and prints those that do not agree, by their number and what differs, and how many do.
+pub fn try_all<R: AllocGlobal + Print>(rt: &R, kind: Kind) -> Result<()> {
+    let alloc = rt.alloc();
+    let mut sequence = Sequence::new(370);
+    let mut stage = Stage::boot(alloc, &mut sequence)?;
+    let mut agreed = 0u32;
+    let mut served = 0u32;
+    for number in 1..=kind.count() {
+        let trial = kind.next_trial(alloc, &mut sequence)?;
+        let is_same = match stage.try_program(alloc, &trial) {
+            Ok(()) => true,
+            Err(SideError::Differs(view)) => {
+                println!(rt; "{kind} {number}: not the same: {view}")?;
+                false
+            }
+            Err(error) => return Err(error.into()),
+        };
+        agreed = agreed.wrapping_add(u32::from(is_same));
+        if !is_same || stage.is_worn()? {
+            served = served.wrapping_add(stage.served());
+            stage = Stage::boot(alloc, &mut sequence)?;
+        }
+    }
+    let served = served.wrapping_add(stage.served());
+    let count = kind.count();
+    println!(rt; "{kind}: {agreed} of {count} agree, {served} served")?;
+    Ok(())
+}

@@ -1,0 +1,77 @@
+//! A quick comparison of storage, page by page.
+use crate::machines::{SideBySide, same};
+use crate::view::{SideError, View};
+use cp_core::{FRAME_SIZE, System};
+use cp_users::UserNo;
+use s370_store::Page;
+
+/// A page of zeros.
+const ZEROS: [u8; FRAME_SIZE] = [0; FRAME_SIZE];
+
+/// Whether two lists of bytes are the same; eight are compared at a time, and all of them, which takes less time than to
+/// look for the first that differs.
+fn are_same_bytes(one: &[u8], other: &[u8]) -> bool {
+    let (words, rest) = one.as_chunks::<8>();
+    let (other_words, other_rest) = other.as_chunks::<8>();
+    let mut differing = 0u64;
+    for (word, other_word) in words.iter().zip(other_words.iter()) {
+        differing |= u64::from_be_bytes(*word) ^ u64::from_be_bytes(*other_word);
+    }
+    differing == 0 && one.len() == other.len() && rest == other_rest
+}
+
+/// Whether each byte of a page is that of these, as the views of storage show it.
+fn shows_page(system: &System, user: UserNo, page: u32, wanted: &[u8]) -> bool {
+    let mut address = page.wrapping_mul(FRAME_SIZE as u32);
+    for byte in wanted {
+        if system.storage(user, address) != Some(*byte) {
+            return false;
+        }
+        address = address.wrapping_add(1);
+    }
+    true
+}
+
+/// Whether a page has these bytes: in its frame, in its slot, or, where it stands nowhere, zeros.
+fn has_page(system: &mut System, user: UserNo, page: u32, wanted: &[u8]) -> bool {
+    if let Some(frame) = system.frame_of(user, Page(page)) {
+        return match system.frame_mut(frame) {
+            Some(bytes) => are_same_bytes(bytes.as_slice(), wanted),
+            None => false,
+        };
+    }
+    match system.slot_of(user, Page(page)) {
+        Some(_) => shows_page(system, user, page, wanted),
+        None => are_same_bytes(wanted, &ZEROS),
+    }
+}
+
+impl SideBySide {
+    /// Compares the bytes of storage and the keys, as [`SideBySide::compare_storage`] does, but those of a page that
+    /// stands in a frame at once.
+    pub fn compare_pages(&mut self, user: UserNo) -> Result<(), SideError> {
+        let Some(beside) = self.machines.get(user.index()) else {
+            return Err(SideError::NoSuchUser);
+        };
+        let mut page = 0u32;
+        for wanted in beside.bare.storage().chunks(FRAME_SIZE) {
+            same(
+                has_page(&mut self.system, user, page, wanted),
+                View::Storage,
+            )?;
+            page = page.wrapping_add(1);
+        }
+        let end = page.wrapping_mul(FRAME_SIZE as u32);
+        same(self.system.storage(user, end).is_none(), View::Storage)?;
+        self.compare_keys(user, page.wrapping_mul(2))
+    }
+
+    /// Compares the keys of so many blocks, and that there are no more.
+    pub(crate) fn compare_keys(&self, user: UserNo, blocks: u32) -> Result<(), SideError> {
+        let bare = self.bare(user)?;
+        for block in 0..=blocks {
+            same(self.system.key(user, block) == bare.key(block), View::Keys)?;
+        }
+        Ok(())
+    }
+}
