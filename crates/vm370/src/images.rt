@@ -55,6 +55,11 @@ pub fn save_volume<R: AllocGlobal + Files>(
     }
 }
 
+/// What is told of a path to which no volume of the system belongs: its image is not saved.
+pub fn without_volume(path: String) -> Failure {
+    Failure::Unsaved(FAILED, path)
+}
+
 /// Puts the image of a volume to a path.
 fn put<R: AllocGlobal + Files>(rt: &R, volume: &Volume, path: &str) -> Result<(), ImageError> {
     let place = place_of(rt, path)?;

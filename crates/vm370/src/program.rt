@@ -11,7 +11,7 @@ use crate::arguments::{Options, UsageError, arguments};
 use crate::boot_faults::{boot_failure, names_of};
 use crate::faults::{Failure, fault_line, outcome};
 use crate::follow_arguments::{asks_to_follow, follow_arguments};
-use crate::images::{owned, read_volumes, save_volume};
+use crate::images::{owned, read_volumes, save_volume, without_volume};
 use crate::parts::follow_parts;
 use crate::session::session;
 use cp_core::{Sizes, System};
@@ -245,8 +245,9 @@ fn save_volumes<R: AllocGlobal + Files>(
 ) -> Result<(), Failure> {
     let paths = owned(rt.alloc(), paths)?;
     for (index, path) in paths.into_iter().enumerate() {
-        if let Some(volume) = system.volume(index) {
-            save_volume(rt, volume, path)?;
+        match system.volume(index) {
+            Some(volume) => save_volume(rt, volume, path)?,
+            None => return Err(without_volume(path)),
         }
     }
     Ok(())
