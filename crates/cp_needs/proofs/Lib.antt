@@ -2,8 +2,8 @@ pub mod Keeping
 pub mod Walking
 pub mod Finding
 pub mod Blocks
-pub mod Lists
 pub mod Programs
 pub mod Clearing
+pub mod Lists
 pub mod Sizes
 pub mod Enough

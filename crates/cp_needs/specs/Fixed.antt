@@ -14,6 +14,13 @@ IsApart m address start count = (a : ℕ) → IsTextByte m address a → start �
 abbrev pub AreApart : Memory → List ℕ → ℕ → ℕ → Type 0
 AreApart m words start count = (i : ℕ) → i < length words → IsApart m (slice_index words i) start count
 
+-- each byte of the word at an address, and of its list, lies from a start on and before an end
+abbrev pub IsWithin : Memory → ℕ → ℕ → ℕ → Type 0
+IsWithin m start end address = (a : ℕ) → IsTextByte m address a → (start ≤ a) × (a < end)
+
+abbrev pub AreWithin : Memory → ℕ → ℕ → List ℕ → Type 0
+AreWithin m start end words = (i : ℕ) → i < length words → IsWithin m start end (slice_index words i)
+
 -- no byte of these words, or of their lists, is one of the first n of the area of a word
 abbrev pub IsClear : Memory → List ℕ → Word → ℕ → Type 0
 IsClear m words w n =

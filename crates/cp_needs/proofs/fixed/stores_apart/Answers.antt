@@ -9,10 +9,10 @@ pub returns-then-has-2 : goal.returns-then-has-2
 returns-then-has-2 g c = λ yes.
     let m = memory_of (g.S.Storage.bytes c.args.storage.now) (g.S.Storage.keys c.args.storage.now) in
     let text : guest_text m c.args.address ≡ Some c.in-Some.word = sym c.in-Ok.ensures.word ∙ c.in-Some.is in
-    stores_clear m c.args.words.now c.args.address c.in-Some.word text (c.is_area_apart.ensures yes)
+    stores_clear m c.args.words.now c.args.address c.in-Some.word text (c.is_area_clear.ensures yes)
 
 pub returns : goal.returns
 returns g c = λ yes.
     let m = memory_of (g.S.Storage.bytes c.args.storage.now) (g.S.Storage.keys c.args.storage.now) in
     let text : guest_text m c.args.address ≡ Some c.in-Some.word = sym c.in-Ok.ensures.word ∙ c.in-Some.is in
-    stores_piece m c.args.words.now c.args.address c.from.result c.in-Some.word text (sym c.has-2.ensures ∙ c.if-has-2.false) c.from.ensures (c.are_apart.ensures yes)
+    stores_piece m c.args.words.now c.args.address c.from.result c.in-Some.word text (sym c.has-2.ensures ∙ c.if-has-2.false) c.from.ensures (c.is_clear.ensures yes)

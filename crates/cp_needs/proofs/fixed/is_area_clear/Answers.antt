@@ -3,7 +3,7 @@ use Rattle.s370_channel.specs.Guest.{area_block}
 use Rattle.s370_walk.specs.Hardware.{memory_of}
 use Rattle.cp_needs.proofs.Blocks.{begun_on}
 use Rattle.cp_needs.proofs.Lists.{clear_on, clear_past}
-use Rattle.cp_needs.proofs.fixed.is_area_apart.Goals as goal
+use Rattle.cp_needs.proofs.fixed.is_area_clear.Goals as goal
 
 pub returns-in-Ok-None : goal.returns-in-Ok-None
 returns-in-Ok-None g c = λ yes.
@@ -23,7 +23,7 @@ blocks-2-preserved g c =
       counted = c.blocks-2.invariant.counted;
       within = omega (arith, part.within, c.blocks-2-test.true);
       begun = λ more. begun_on (area_block m w) c.blocks-2.byte c.in-Ok-Some.start c.bytes_in_block-bytes.result begun said low part.some (part.whole (omega (arith, more)));
-      clear = clear_on m c.args.words.now w c.blocks-2.byte c.in-Ok-Some.start c.bytes_in_block-bytes.result c.blocks-2.invariant.clear begun said low part.block (c.are_apart.ensures c.if-not-are_apart.false);
+      clear = clear_on m c.args.words.now w c.blocks-2.byte c.in-Ok-Some.start c.bytes_in_block-bytes.result c.blocks-2.invariant.clear begun said low part.block (c.is_clear.ensures c.if-not-is_clear.false);
     }
 
 pub returns : goal.returns

@@ -3,7 +3,7 @@ use Rattle.s370_channel.specs.Guest.{area_block}
 use Rattle.s370_walk.specs.Hardware.{memory_of}
 use Rattle.cp_needs.specs.Areas.{IsBegun}
 use Rattle.cp_needs.specs.Fixed.{IsClear}
-use Rattle.cp_needs.proofs.fixed.is_area_apart.Given as goal
+use Rattle.cp_needs.proofs.fixed.is_area_clear.Given as goal
 
 abbrev pub invariant-blocks-2 : goal.invariant-blocks-2
 invariant-blocks-2 g l = record {
