@@ -158,9 +158,10 @@ fn next_words(alloc: Global, sequence: &mut Sequence, plan: Plan) -> Result<Vec<
 fn next_search(alloc: Global, sequence: &mut Sequence, plan: Plan) -> Result<Vec<u8>, AllocError> {
     let mut program = Vec::new(alloc);
     program.extend_from_slice(&random_word(sequence))?;
-    for step in approach(plan, sequence) {
-        program.extend_from_slice(&step)?;
-    }
+    let [seek, search, again] = approach(plan, sequence);
+    program.extend_from_slice(&seek)?;
+    program.extend_from_slice(&search)?;
+    program.extend_from_slice(&again)?;
     let first = if plan.is_changing { 4 } else { 3 };
     if plan.is_changing {
         program.extend_from_slice(&plan.next_change(sequence, 3))?;
