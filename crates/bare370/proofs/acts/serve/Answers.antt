@@ -9,14 +9,14 @@ pub returns-in-Some-clause-ok : goal.returns-in-Some-clause-ok
 returns-in-Some-clause-ok g c =
     let contents = g.W.HostWriter.contents in
     let first : IsFirstStarted 0 (subchannels_of c.args.machine.now) (Some c.in-Some.device) = rw c.subchannels.ensures at c.in-Some.ensures in
-    let answered = rw c.get.ensures at c.follow.ensures.ok in
+    let answered = rw (c.get.ensures, c.new.ensures) at c.follow.ensures.ok in
     ok_then c.follow.result (served c.args.had_slice c.in-Some.device c.args.machine.now c.follow.new.machine (contents c.args.writer.now) (contents c.follow.new.writer) first) answered
 
 pub returns-in-Some-clause-err : goal.returns-in-Some-clause-err
 returns-in-Some-clause-err g c =
     let contents = g.W.HostWriter.contents in
     let first : IsFirstStarted 0 (subchannels_of c.args.machine.now) (Some c.in-Some.device) = rw c.subchannels.ensures at c.in-Some.ensures in
-    let failed = rw c.get.ensures at c.follow.ensures.err in
+    let failed = rw (c.get.ensures, c.new.ensures) at c.follow.ensures.err in
     err_then c.follow.result (served_partly c.args.had_slice c.in-Some.device c.args.machine.now c.follow.new.machine (contents c.args.writer.now) (contents c.follow.new.writer) first) failed
 
 pub returns-in-None-clause-ok : goal.returns-in-None-clause-ok

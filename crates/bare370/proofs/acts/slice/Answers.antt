@@ -13,10 +13,12 @@ pub returns-in_err-follow-clause-err : goal.returns-in_err-follow-clause-err
 returns-in_err-follow-clause-err g c =
     let contents = g.W.HostWriter.contents in
     let ready : is_ready c.args.machine.now.equipped.machine ≡ true = sym c.is_ready.ensures ∙ c.if-not-is_ready.false in
-    on_err c.from_residual.result (sliced_partly c.args.machine.now c.follow.new.machine (contents c.args.writer.now) (contents c.follow.new.writer) ready c.in_err-follow.ensures.err)
+    let failed = rw c.new.ensures at c.in_err-follow.ensures.err in
+    on_err c.from_residual.result (sliced_partly c.args.machine.now c.follow.new.machine (contents c.args.writer.now) (contents c.follow.new.writer) ready failed)
 
 pub returns-clause-ok : goal.returns-clause-ok
 returns-clause-ok g c =
     let contents = g.W.HostWriter.contents in
     let ready : is_ready c.args.machine.now.equipped.machine ≡ true = sym c.is_ready.ensures ∙ c.if-not-is_ready.false in
-    sliced c.args.machine.now c.follow.new.machine (contents c.args.writer.now) (contents c.follow.new.writer) ready c.in_ok-follow.ensures.ok
+    let answered = rw c.new.ensures at c.in_ok-follow.ensures.ok in
+    sliced c.args.machine.now c.follow.new.machine (contents c.args.writer.now) (contents c.follow.new.writer) ready answered

@@ -13,4 +13,4 @@ pub returns-in-Tick : goal.returns-in-Tick
 returns-in-Tick c = tick_said (said c.args.event.now) _ (ap said c.in-Tick.is) (whose c.args.event.now c.requires.user)
 
 pub returns-in-Serve : goal.returns-in-Serve
-returns-in-Serve c = serve_said (said c.args.event.now) _ _ (ap said c.in-Serve.is) (whose c.args.event.now c.requires.user)
+returns-in-Serve c = rw c.new.ensures (serve_said (said c.args.event.now) _ _ (ap said c.in-Serve.is) (whose c.args.event.now c.requires.user))

@@ -1,4 +1,4 @@
-use Rattle.std.proofs.Common.{◌≡◌, ℕ, Err, Result, List, inr, map, ap, ◌∙◌}
+use Rattle.std.proofs.Common.{◌≡◌, ℕ, Ok, Err, Result, List, inr, map, ap, ◌∙◌}
 use Rattle.std.specs.Prelude.{IsErrAnd}
 use Rattle.cp_script.specs.Script.{IsRefusal, Said, said}
 use Rattle.cp_script.specs.declared.reader.ScriptError.{ScriptError}
