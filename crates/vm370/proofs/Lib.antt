@@ -9,7 +9,7 @@ pub mod Stated
 pub mod Histories
 pub mod Queues
 pub mod Sessions
-pub mod Parts
+pub mod Joined
 pub mod Told
 pub mod Rules
 pub mod Words

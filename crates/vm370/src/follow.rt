@@ -2,7 +2,7 @@
 //!
 //! What was written since the beginning is the transcript of all that was done, as if it had been one script: parts that
 //! are joined are followed as one, and one that was followed to its end is a session ([`parts_are_a_session`]).
-ghost use Rattle.std.specs.Prelude.{◌≡◌, ◌×◌, ◌⊎◌, ℕ, [], Err, IfOk, Ok, OnErr, OnOk, true};
+ghost use Rattle.std.specs.Prelude.{◌≡◌, ◌⊎◌, ℕ, [], Err, IfOk, Ok, OnErr, OnOk, true};
 ghost use Rattle.std.specs.Io.KnownBytes.{Appends};
 ghost use Rattle.s370_num.specs.Host.{AppendsFront};
 ghost use Rattle.vm370.specs.Files.{closing_lines};

@@ -1,4 +1,4 @@
-use Rattle.vm370.proofs.Parts.{join, nothing, session}
+use Rattle.vm370.proofs.Joined.{join, nothing, session}
 use Rattle.vm370.proofs.follow.parts_are_a_session.Goals as goal
 
 pub returns-clause-nothing : goal.returns-clause-nothing
