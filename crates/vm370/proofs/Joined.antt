@@ -1,5 +1,5 @@
 -- Parts of a script that are joined.
-use Rattle.std.proofs.Common.{◌≡◌, ℕ, zero, suc, Bool, true, false, inl, inr, List, [], ◌∷◌, ◌++◌, Ok, refl, ap, sym, ◌∙◌, subst, append_assoc, append-nil}
+use Rattle.std.proofs.Common.{◌≡◌, ℕ, zero, suc, Bool, true, false, inl, inr, List, [], ◌∷◌, ◌++◌, Ok, refl, ap, ◌∙◌, subst, append_assoc, append-nil}
 use Rattle.std.specs.Prelude.{◌==◌}
 use Rattle.std.proofs.KnownBytes.{Appends-trans}
 use Rattle.cp_text.specs.Lines.{lines_of}
@@ -44,9 +44,18 @@ says_more users line after more (Line user text) h = h
 says_more users line after more (Tick user) h = h
 says_more users line after more (Serve user device) h = h
 says_more users line after more (Auto turns) h = h
-says_more users line after more (Deck user cards) h = record h {
+says_more users line after more (Deck user cards) h = record {
+  name = h.name;
+  digits = h.digits;
+  own = h.own;
   others = h.others ++ more;
+  spelled = h.spelled;
+  named = h.named;
+  number = h.number;
+  least = h.least;
+  most = h.most;
   follow = ap (λ (l : List (List ℕ)). l ++ more) h.follow ∙ append_assoc h.own h.others more;
+  punched = h.punched;
 }
 
 reads_join : (users : List KnownUser) (cards : ℕ) (xs ys : List (List ℕ)) (es fs : List Said) → Reads users cards xs [] es 0 → Reads users 0 ys [] fs 0 → Reads users cards (xs ++ ys) [] (es ++ fs) 0
