@@ -61,6 +61,7 @@ pub system_written : (seats : List UserParts) (volumes : List VolumeFormat) (poo
 system_written seats volumes pool users frame written system = record {
   whole = whole_written seats pool users frame written system.whole;
   disks = system.disks;
+  there = system.there;
   between = between_page pool (get_or pool.supply.owners frame None) written system.between;
 }
 

@@ -8,7 +8,7 @@ use Rattle.cp_panel.specs.Machine.{nothing_pending, reset_cpu}
 use Rattle.cp_panel.specs.declared.machine.Mode.TheVariants.{Off}
 use Rattle.cp_devices.specs.Devices.{devices_new, no_places}
 use Rattle.cp_core.specs.UserMachines.{UserParts, Fits, user_with}
-use Rattle.cp_volumes.specs.Shared.{AllLeaveBe, IsUsers, Stand, stands_of}
+use Rattle.cp_volumes.specs.Shared.{AllLeaveBe, AreThere, IsUsers, Stand, stands_of}
 use Rattle.cp_seating.specs.Seating.{seats_of}
 use Rattle.cp_core.specs.Boot.{IsNewUser}
 
@@ -39,6 +39,7 @@ pub record AreSeated (users : List UserParts) (volumes : List VolumeFormat) : Ty
 pub record IsSystem (users : List UserParts) (volumes : List VolumeFormat) (pool : Pool) (directory : List DirectoryUser) : Type 0 where
   pub whole : IsWhole users pool.storages directory
   pub disks : AreSeated users volumes
+  pub there : AreThere volumes
   pub between : IsBetweenUnits pool.supply
 
 -- a user's machine at boot; a storage has 8K at least

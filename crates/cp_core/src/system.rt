@@ -1,5 +1,5 @@
 //! The system: its users, their machines with their devices, and the frames that they share.
-ghost use Rattle.std.specs.Prelude.{◌≡◌, ◌<◌, ◌≤◌, ◌↔◌, ℕ, [], ◌∷◌, ◌++◌, Err, Some, true, false, IfSome, IsOk, IfOk, OnErr, OnOk, length, slice_get, slice_set};
+ghost use Rattle.std.specs.Prelude.{◌≡◌, ◌<◌, ◌≤◌, ◌↔◌, ℕ, [], ◌∷◌, ◌++◌, Err, Some, true, false, IfSome, IsOk, IfOk, OnErr, OnOk, length, option_copied, slice_get, slice_set};
 ghost use Rattle.s370_channel.specs.Reading.{as_reached};
 ghost use Rattle.cp_dat.specs.Supplied.{IsBetweenUnits};
 ghost use Rattle.cp_devices.specs.Life.{Leaves};
@@ -122,7 +122,7 @@ impl System {
 
     /// The volume of this index, in the order of the boot, as users have written to their minidisks on it.
     pub fn volume(&self, index: usize) -> Option<&Volume>
-        ensures { IfSome result (λ volume. slice_get self.now.volumes index ≡ Some volume.now) }
+        ensures { option_copied result ≡ slice_get self.now.volumes index }
     {
         self.volumes.volume(index)
     }

@@ -1,3 +1,4 @@
 pub mod Marking
 pub mod Tables
 pub mod Closures
+pub mod Slotting

@@ -13,6 +13,7 @@ ghost use Rattle.s370_walk.specs.Walk.{live};
 use crate::index::link;
 use crate::lists::list_for;
 use crate::program::{Copied, CopyError, Node};
+use crate::slots::Slots;
 use channel_laws::Place;
 use s370_channel::fetch_word;
 use s370_store::Storage;
@@ -24,21 +25,21 @@ fn copy_word<S: Storage>(
     alloc: Global,
     storage: &S,
     places: &mut Vec<Place>,
-    index: &mut Vec<u32>,
+    index: &mut Slots,
     place: Place,
 ) -> Result<Node, CopyError>
     requires even { place.address % 8 ≡ 0 }
-    requires room { vec_len index.old ≡ length (S.bytes storage.now) / 8 * 2 }
-    requires known { IsIndexed places.old.items index.old.items }
-    requires few { vec_len places.old + unmarked index.old.items ≤ 2147483648 }
+    requires room { length index.old ≡ length (S.bytes storage.now) / 8 * 2 }
+    requires known { IsIndexed places.old.items index.old }
+    requires few { vec_len places.old + unmarked index.old ≤ 2147483648 }
     ensures row { IfOk result
         (IsRow places.new.items (memory_of (S.bytes storage.now) (S.keys storage.now)) place.address) }
     ensures here { IfOk result (λ node. AreHere (length (S.bytes storage.now)) (S.present storage.now) node.list.items) }
     ensures grown { IfOk result (λ _. Grows places.old.items places.new.items) }
-    ensures known { IfOk result (λ _. IsIndexed places.new.items index.new.items) }
+    ensures known { IfOk result (λ _. IsIndexed places.new.items index.new) }
     ensures count { IfOk result
-        (λ _. vec_len places.new + unmarked index.new.items ≡ vec_len places.old + unmarked index.old.items) }
-    ensures size { vec_len index.new ≡ vec_len index.old }
+        (λ _. vec_len places.new + unmarked index.new ≡ vec_len places.old + unmarked index.old) }
+    ensures size { length index.new ≡ length index.old }
     ensures absent { IfErr result
         (IfAbsent (λ page. IsAway (length (S.bytes storage.now)) (S.present storage.now) page
         × IsWordPage (memory_of (S.bytes storage.now) (S.keys storage.now)) place.address page)) }
@@ -152,10 +153,7 @@ pub fn copy<S: Storage>(alloc: Global, storage: &S, start: u32) -> Result<Copied
         × IsSomeWordPage (memory_of (S.bytes storage.now) (S.keys storage.now)) page)) }
 {
     let mut places = Vec::new(alloc);
-    let mut index = match vec![in alloc; 0u32; storage.size() as usize / 8 * 2] {
-        Ok(index) => index,
-        Err(_) => return Err(CopyError::Memory),
-    };
+    let mut index = Slots::new(alloc, storage.size() as usize / 8 * 2);
     let mut nodes = Vec::new(alloc);
     let first = match link(
         storage,

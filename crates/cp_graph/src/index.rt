@@ -6,6 +6,7 @@ ghost use Rattle.cp_graph.specs.Table.{Grows, IsLinked};
 ghost use Rattle.s370_channel.specs.Guest.{guest_text};
 ghost use Rattle.s370_walk.specs.Hardware.{memory_of};
 
+use crate::slots::Slots;
 use channel_laws::Place;
 use s370_store::Storage;
 use std::alloc::AllocError;
@@ -22,27 +23,27 @@ fn slot(place: Place) -> usize
 }
 
 /// The number of a place, which is added where it is new.
-fn number_of(places: &mut Vec<Place>, index: &mut Vec<u32>, place: Place) -> Result<u32, AllocError>
+fn number_of(places: &mut Vec<Place>, index: &mut Slots, place: Place) -> Result<u32, AllocError>
     requires even { place.address % 8 ≡ 0 }
-    requires room { slot_of place < vec_len index.old }
-    requires known { IsIndexed places.old.items index.old.items }
-    requires few { vec_len places.old + unmarked index.old.items ≤ 2147483648 }
+    requires room { slot_of place < length index.old }
+    requires known { IsIndexed places.old.items index.old }
+    requires few { vec_len places.old + unmarked index.old ≤ 2147483648 }
     ensures within { IfOk result (λ number. number < vec_len places.new) }
     ensures found { IfOk result (λ number. slice_index_or places.new.items number (past number) ≡ place) }
     ensures grown { IfOk result (λ _. Grows places.old.items places.new.items) }
-    ensures known { IfOk result (λ _. IsIndexed places.new.items index.new.items) }
+    ensures known { IfOk result (λ _. IsIndexed places.new.items index.new) }
     ensures count { IfOk result
-        (λ _. vec_len places.new + unmarked index.new.items ≡ vec_len places.old + unmarked index.old.items) }
-    ensures size { vec_len index.new ≡ vec_len index.old }
+        (λ _. vec_len places.new + unmarked index.new ≡ vec_len places.old + unmarked index.old) }
+    ensures size { length index.new ≡ length index.old }
 {
     let slot = slot(place);
-    let known = index[slot];
+    let known = index.get(slot);
     if known != 0 {
         return Ok(known - 1);
     }
     let number = places.len();
     places.push(place)?;
-    index[slot] = number as u32 + 1;
+    index.set(slot, number as u32 + 1)?;
     Ok(number as u32)
 }
 
@@ -51,22 +52,22 @@ fn number_of(places: &mut Vec<Place>, index: &mut Vec<u32>, place: Place) -> Res
 pub(crate) fn link<S: Storage>(
     storage: &S,
     places: &mut Vec<Place>,
-    index: &mut Vec<u32>,
+    index: &mut Slots,
     leads: bool,
     place: Place,
 ) -> Result<u32, AllocError>
     requires even { leads ≡ true → place.address % 8 ≡ 0 }
     requires low { place.address < 2 ^ 24 }
-    requires room { vec_len index.old ≡ length (S.bytes storage.now) / 8 * 2 }
-    requires known { IsIndexed places.old.items index.old.items }
-    requires few { vec_len places.old + unmarked index.old.items ≤ 2147483648 }
+    requires room { length index.old ≡ length (S.bytes storage.now) / 8 * 2 }
+    requires known { IsIndexed places.old.items index.old }
+    requires few { vec_len places.old + unmarked index.old ≤ 2147483648 }
     ensures linked { IfOk result
         (IsLinked places.new.items (guest_text (memory_of (S.bytes storage.now) (S.keys storage.now))) leads place.address) }
     ensures grown { IfOk result (λ _. Grows places.old.items places.new.items) }
-    ensures known { IfOk result (λ _. IsIndexed places.new.items index.new.items) }
+    ensures known { IfOk result (λ _. IsIndexed places.new.items index.new) }
     ensures count { IfOk result
-        (λ _. vec_len places.new + unmarked index.new.items ≡ vec_len places.old + unmarked index.old.items) }
-    ensures size { vec_len index.new ≡ vec_len index.old }
+        (λ _. vec_len places.new + unmarked index.new ≡ vec_len places.old + unmarked index.old) }
+    ensures size { length index.new ≡ length index.old }
 {
     if leads && place.address as u64 + 8 <= storage.size() as u64 {
         return number_of(places, index, place);

@@ -44,7 +44,7 @@ bytes_on list k a (suc i) at inside low =
     rw (one, two) (next_place list (k + i) (a + i) before (omega (arith, inside)) (omega (arith, inside, low)))
 
 -- past the first that lies nowhere none lies anywhere
-none_on : (list : ℕ → Option ℕ) (k i : ℕ) → byte_place list k ≡ None → byte_place list (k + i) ≡ None
+pub none_on : (list : ℕ → Option ℕ) (k i : ℕ) → byte_place list k ≡ None → byte_place list (k + i) ≡ None
 none_on list k zero at = (let one : k + 0 ≡ k = omega arith in rw one at)
 none_on list k (suc i) at =
     let before = none_on list k i at in
@@ -63,10 +63,10 @@ done_first m w present =
 pub begun_first : (list : ℕ → Option ℕ) → IsBegun list 0
 begun_first list = record { before = None; is = refl; begins = refl }
 
-some_same : (r s : ℕ) → Some r ≡ Some s → r ≡ s
+pub some_same : (r s : ℕ) → Some r ≡ Some s → r ≡ s
 some_same r s e = cc
 
-none_some : (r : ℕ) (o : Option ℕ) → o ≡ None → o ≡ Some r → ⊥
+pub none_some : (r : ℕ) (o : Option ℕ) → o ≡ None → o ≡ Some r → ⊥
 none_some r None e f = cc
 none_some r (Some x) e f = cc
 
@@ -93,7 +93,7 @@ past_list list k i at begun = by_before begun.before begun.is begun.begins
         let same : j ≡ k + i = omega (arith, next) in
         none_some b (byte_place list (k + i)) (none_on list k i at) (ap (byte_place list) (sym same) ∙ is)
 
-place_after : (k n : ℕ) → (k < n) ⊎ ((i : ℕ) × (k ≡ n + i))
+pub place_after : (k n : ℕ) → (k < n) ⊎ ((i : ℕ) × (k ≡ n + i))
 place_after k n = elim (low_or k n) [ inl lt ↦ inl lt | inr le ↦ inr (k - n, omega (arith, le)) ]
   where
     low_or : (k n : ℕ) → (k < n) ⊎ (n ≤ k)

@@ -15,7 +15,7 @@ use Rattle.cp_needs.proofs.Finding.{word_same}
 use Rattle.cp_needs.proofs.Programs.{own_low, reached_even, word_fits}
 
 -- where a list's words lie
-list_within : (address k count part a : ℕ) → address + 4 * ((count + 2046) / 2048) < 2 ^ 24 → k < count → part < 4 → a ≡ later address (4 * block_number k) + part → (address ≤ a) × (a < address + (4 * ((count + 2046) / 2048) + 4))
+pub list_within : (address k count part a : ℕ) → address + 4 * ((count + 2046) / 2048) < 2 ^ 24 → k < count → part < 4 → a ≡ later address (4 * block_number k) + part → (address ≤ a) × (a < address + (4 * ((count + 2046) / 2048) + 4))
 list_within address k count part a low lt within at =
     let number : block_number k ≤ (count + 2046) / 2048 = omega (arith, lt) in
     let same : later address (4 * block_number k) ≡ address + 4 * block_number k = plain address (block_number k) (omega (arith, number, low)) in

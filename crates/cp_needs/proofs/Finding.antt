@@ -1,8 +1,7 @@
 -- Lemmas of specs/Words.
-use Rattle.std.specs.Prelude.{ℕ, zero, suc, ◌+◌, ◌/◌, ◌%◌, ◌<◌, ◌≡◌, ◌⊎◌, Bool, true, false, ◌&&◌, ◌||◌, not, ◌==◌, IfNone, IfSome, List, [], ◌∷◌, ◌++◌, Option, None, Some, length, slice_index, slice_index_or, slice_set, refl, if◌then◌else◌}
+use Rattle.std.specs.Prelude.{ℕ, zero, suc, ◌+◌, ◌/◌, ◌%◌, ◌<◌, ◌≡◌, ◌⊎◌, Bool, true, false, ◌&&◌, ◌||◌, not, ◌==◌, IfNone, IfSome, List, [], ◌∷◌, ◌++◌, Option, None, Some, length, slice_index, refl, if◌then◌else◌}
 use Rattle.std.proofs.Common.{sym, subst, ◌∙◌, ap, arith, inl, inr, append_assoc, length-append}
 use Rattle.std.proofs.lemmas.List.{append-nil, get_or_append_left}
-use Rattle.std.proofs.lemmas.List.Sums.{sum_by-set}
 use Rattle.s370_store.specs.declared.Page.{Page}
 use Rattle.s370_channel.specs.Guest.{guest_text}
 use Rattle.s370_walk.specs.declared.parts.Word.{Word}
@@ -13,15 +12,7 @@ use Rattle.cp_graph.specs.Table.{leads_next, leads_skipped}
 use Rattle.cp_needs.specs.Needs.{IsReached}
 use Rattle.cp_needs.proofs.Walking.{leads_of}
 use Rattle.cp_needs.specs.Areas.{IsAreaByte, IsListByte}
-use Rattle.cp_needs.specs.Words.{AreSteps, IsAmong, IsAreaPage, IsFollowed, IsHere, IsPageAt, IsStep, IsVisited, unseen, unseen_one}
-
--- one address more is found
-pub marked : (seen : List Bool) (i : ℕ) → i < length seen → slice_index_or seen i false ≡ false → unseen (slice_set seen i true) + 1 ≡ unseen seen
-unfolding unseen
-marked seen i lt free =
-    let e = sum_by-set unseen_one seen i true false lt in
-    let was : unseen_one (slice_index_or seen i false) ≡ 1 = rw free refl in
-    omega (arith, e, was)
+use Rattle.cp_needs.specs.Words.{AreSteps, IsAmong, IsAreaPage, IsFollowed, IsHere, IsPageAt, IsStep, IsVisited}
 
 -- ---- What is found stays found
 

@@ -4,5 +4,6 @@ pub mod Finding
 pub mod Blocks
 pub mod Programs
 pub mod Clearing
+pub mod Lists
 pub mod Sizes
 pub mod Enough

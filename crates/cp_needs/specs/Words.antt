@@ -1,6 +1,5 @@
 -- The words of a program as they are found, one after the other.
-use Rattle.std.specs.Prelude.{ℕ, ◌*◌, ◌/◌, ◌%◌, ◌<◌, ◌≡◌, ◌⊎◌, Bool, true, false, List, [], ◌∷◌, ◌++◌, if◌then◌else◌, length, slice_index, slice_index_or, Some}
-use Rattle.std.specs.List.{sum_by}
+use Rattle.std.specs.Prelude.{ℕ, ◌*◌, ◌/◌, ◌%◌, ◌<◌, ◌≡◌, ◌≢◌, ◌⊎◌, Bool, true, List, [], ◌∷◌, ◌++◌, length, slice_index, Some}
 use Rattle.cp_graph.specs.Table.{leads_next, leads_skipped}
 use Rattle.cp_needs.specs.Areas.{IsAreaByte, IsListByte}
 use Rattle.cp_needs.specs.Needs.{IsDataByte, IsFixed, IsHeld, IsProgramPage, IsReached, IsTextByte}
@@ -34,17 +33,10 @@ IsAmong words a = (i : ℕ) × (i < length words) × (slice_index words i ≡ a)
 abbrev pub IsFollowed : Bool → ℕ → List ℕ → List ℕ → Type 0
 IsFollowed leads address old new = (new ≡ old) ⊎ ((leads ≡ true) × (new ≡ old ++ address ∷ []))
 
-abbrev pub unseen_one : Bool → ℕ
-unseen_one seen = if seen then 0 else 1
-
--- how many addresses may still be found
-unfoldable pub unseen : List Bool → ℕ
-unseen seen = sum_by unseen_one seen
-
 -- The addresses that are found are those of doublewords, and those that are marked are among them.
-pub record AreSeen (words : List ℕ) (seen : List Bool) : Type 0 where
+pub record AreSeen (words : List ℕ) (seen : List ℕ) : Type 0 where
   pub even : (i : ℕ) → i < length words → slice_index words i % 8 ≡ 0
-  pub marked : (slot : ℕ) → slice_index_or seen slot false ≡ true → IsAmong words (slot * 8)
+  pub marked : (slot : ℕ) → slice_index seen slot ≢ 0 → IsAmong words (slot * 8)
 
 -- Addresses are added that the word at an address may lead to.
 pub record AreSteps (m : Memory) (address : ℕ) (old new : List ℕ) : Type 0 where

@@ -41,7 +41,11 @@ pub(crate) fn bytes_in_block(start: u32, left: u32) -> u32
 }
 
 /// Where a block of a word's area begins, or None where its list does not say; an error is a page that is not present.
-fn block_here<S: Storage>(storage: &S, word: &Word, number: u32) -> Result<Option<u32>, Page>
+pub(crate) fn block_here<S: Storage>(
+    storage: &S,
+    word: &Word,
+    number: u32,
+) -> Result<Option<u32>, Page>
     requires { number ≤ 64 }
     ensures said { IfOk result
         (λ said. said ≡ area_block (memory_of (S.bytes storage.now) (S.keys storage.now)) word.now number) }

@@ -22,6 +22,7 @@ mod fixed;
 mod laws;
 mod pages;
 mod running;
+mod span;
 mod words;
 
 pub use demand::{Wanted, needed};

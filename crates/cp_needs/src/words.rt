@@ -1,13 +1,14 @@
 //! The words of a program, and the first of its pages that is not present.
 ghost use Rattle.std.specs.Prelude.{◌≡◌, ◌+◌, ◌*◌, ◌/◌, ◌%◌, ◌<◌, ◌≤◌, IfErr, IfNone, IfOk, IfSome, OnOk, length, true, vec_len, ℕ};
+ghost use Rattle.cp_graph.specs.Marks.{unmarked};
 ghost use Rattle.cp_needs.specs.Needs.{IsHeld, IsProgramPage};
-ghost use Rattle.cp_needs.specs.Words.{AreSeen, AreSteps, AreWords, IsAmong, IsFollowed, IsPageAt, IsVisited, unseen};
+ghost use Rattle.cp_needs.specs.Words.{AreSeen, AreSteps, AreWords, IsAmong, IsFollowed, IsPageAt, IsVisited};
 ghost use Rattle.s370_store.specs.Access.{IsAway};
 ghost use Rattle.s370_walk.specs.Hardware.{memory_of};
 
 use crate::areas::absent_in_area;
 use crate::pages::absent_at;
-use cp_graph::{leads_on, may_skip};
+use cp_graph::{Slots, leads_on, may_skip};
 use s370_channel::fetch_word;
 use s370_store::{Page, Storage};
 use std::alloc::{AllocError, Global};
@@ -15,25 +16,25 @@ use std::alloc::{AllocError, Global};
 /// Adds an address to those that are found, where a word leads there, a page of storage has it and it is new.
 fn follow(
     words: &mut Vec<u32>,
-    seen: &mut Vec<bool>,
+    seen: &mut Slots,
     leads: bool,
     address: u32,
 ) -> Result<(), AllocError>
     requires even { leads ≡ true → address % 8 ≡ 0 }
-    requires known { AreSeen words.old.items seen.old.items }
+    requires known { AreSeen words.old.items seen.old }
     ensures words { OnOk result (IsFollowed leads address words.old.items words.new.items) }
-    ensures found { OnOk result (leads ≡ true → address / 8 < vec_len seen.new → IsAmong words.new.items address) }
-    ensures known { OnOk result (AreSeen words.new.items seen.new.items) }
+    ensures found { OnOk result (leads ≡ true → address / 8 < length seen.new → IsAmong words.new.items address) }
+    ensures known { OnOk result (AreSeen words.new.items seen.new) }
     ensures count { OnOk result
-        (vec_len words.new + unseen seen.new.items ≡ vec_len words.old + unseen seen.old.items) }
-    ensures size { vec_len seen.new ≡ vec_len seen.old }
+        (vec_len words.new + unmarked seen.new ≡ vec_len words.old + unmarked seen.old) }
+    ensures size { length seen.new ≡ length seen.old }
 {
     let slot = address as usize / 8;
-    if !leads || slot >= seen.len() || seen[slot] {
+    if !leads || slot >= seen.count() || seen.get(slot) != 0 {
         return Ok(());
     }
     words.push(address)?;
-    seen[slot] = true;
+    seen.set(slot, 1)?;
     Ok(())
 }
 
@@ -41,11 +42,11 @@ fn follow(
 fn visit<S: Storage>(
     storage: &S,
     words: &mut Vec<u32>,
-    seen: &mut Vec<bool>,
+    seen: &mut Slots,
     address: u32,
 ) -> Result<Option<Page>, AllocError>
     requires even { address % 8 ≡ 0 }
-    requires known { AreSeen words.old.items seen.old.items }
+    requires known { AreSeen words.old.items seen.old }
     ensures away { IfOk result
         (λ found. IfSome found (λ page. IsAway (length (S.bytes storage.now)) (S.present storage.now) page.0)) }
     ensures asked { IfOk result (λ found. IfSome found
@@ -53,12 +54,12 @@ fn visit<S: Storage>(
     ensures steps { IfOk result (λ found. IfNone found
         (AreSteps (memory_of (S.bytes storage.now) (S.keys storage.now)) address words.old.items words.new.items)) }
     ensures visited { IfOk result (λ found. IfNone found
-        (IsVisited (memory_of (S.bytes storage.now) (S.keys storage.now)) (S.present storage.now) (vec_len seen.new)
+        (IsVisited (memory_of (S.bytes storage.now) (S.keys storage.now)) (S.present storage.now) (length seen.new)
         words.new.items address)) }
-    ensures known { IfOk result (λ found. IfNone found (AreSeen words.new.items seen.new.items)) }
+    ensures known { IfOk result (λ found. IfNone found (AreSeen words.new.items seen.new)) }
     ensures count { IfOk result (λ found. IfNone found
-        (vec_len words.new + unseen seen.new.items ≡ vec_len words.old + unseen seen.old.items)) }
-    ensures size { vec_len seen.new ≡ vec_len seen.old }
+        (vec_len words.new + unmarked seen.new ≡ vec_len words.old + unmarked seen.old)) }
+    ensures size { length seen.new ≡ length seen.old }
 {
     if let Some(page) = absent_at(storage, address) {
         return Ok(Some(page));
@@ -92,7 +93,7 @@ pub(crate) fn words_of<S: Storage>(
     ensures needed { IfOk result (λ found. IfErr found
         (λ page. IsProgramPage (memory_of (S.bytes storage.now) (S.keys storage.now)) start page.0)) }
 {
-    let mut seen = vec![in alloc; false; (storage.size() as usize + 4095) / 4096 * 512]?;
+    let mut seen = Slots::new(alloc, (storage.size() as usize + 4095) / 4096 * 512);
     let mut words = Vec::new(alloc);
     follow(&mut words, &mut seen, true, start)?;
     let mut done = 0usize;

@@ -1,6 +1,6 @@
 -- What changes on a volume when a minidisk on it changes.
-use Rattle.std.specs.Prelude.{ℕ, zero, suc, ◌+◌, ◌-◌, ◌≡◌, ◌≤◌, ◌<◌, ◌⊎◌, refl, Bool, true, false, List, [], ◌∷◌, ◌++◌, length, take, drop, slice_get, slice_set, slice_index_or, Option, Some, None}
-use Rattle.std.proofs.Common.{sym, ◌∙◌, ap, subst, inl, inr, arith, get_or, set, ◌==◌, get_or-set_same, get_or-set_other, length-append, length-set}
+use Rattle.std.specs.Prelude.{ℕ, zero, suc, ◌+◌, ◌-◌, ◌≡◌, ◌≤◌, ◌<◌, ◌⊎◌, refl, Bool, true, false, List, [], ◌∷◌, ◌++◌, length, take, drop}
+use Rattle.std.proofs.Common.{sym, ◌∙◌, ap, subst, inl, inr, arith, set, ◌==◌, get_or-set_same, get_or-set_other, length-append, length-set}
 use Rattle.std.proofs.lemmas.Bool.Decides.{nat_tests}
 use Rattle.std.proofs.lemmas.List.{take-append-le, drop-append-le, length-drop}
 use Rattle.std.proofs.Math.Seq.{drop-append-add}
@@ -14,7 +14,7 @@ use Rattle.cp_minidisk.specs.Part.{Part, part_on, unit_of}
 use Rattle.cp_minidisk.proofs.Serving.{before_size, slice_size}
 use Rattle.cp_minidisk.proofs.Slicing.{in_parts}
 use Rattle.cp_volumes.specs.Running.{KeepsVolume}
-use Rattle.cp_volumes.specs.Shared.{AllLeaveBe, AreApart, IsConfined, IsSeated, LeavesBe, SharedMinidisk, Stand, no_volume, stand_of, volume_at}
+use Rattle.cp_volumes.specs.Shared.{AreApart, IsConfined, IsSeated, LeavesBe, SharedMinidisk, Stand, no_volume, stand_of, volume_at}
 
 -- ---- parts of lists
 

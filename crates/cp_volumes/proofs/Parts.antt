@@ -1,32 +1,28 @@
 -- What a program leaves of a minidisk that is mounted on the unit of its volume.
-use Rattle.std.specs.Prelude.{ℕ, ◌≡◌, refl, Bool, List, Option, None, Some, length}
-use Rattle.std.proofs.Common.{sym, ◌∙◌, ap, subst, inl, inr}
+use Rattle.std.specs.Prelude.{ℕ, ◌≡◌, refl, Bool, None, length}
+use Rattle.std.proofs.Common.{sym, ◌∙◌, subst, inl, inr}
 use Rattle.std.proofs.lemmas.Bool.{false≢true, true≢false}
 use Rattle.s370_store.specs.Access.{IsAway}
 use Rattle.s370_walk.specs.declared.parts.Ending.{Ending}
-use Rattle.s370_walk.specs.declared.parts.Order.{Order}
-use Rattle.s370_walk.specs.declared.parts.Spot.{Spot}
-use Rattle.s370_walk.specs.declared.parts.Word.{Word}
-use Rattle.s370_walk.specs.Hardware.{Machine, Memory}
+use Rattle.s370_walk.specs.Hardware.{Memory}
 use Rattle.s370_walk.specs.Short.{nothing_needed}
-use Rattle.s370_walk.specs.Walk.{Form, Setting, State, Fetching, Over, Reaches, Written, entered, live, start_spot}
+use Rattle.s370_walk.specs.Walk.{Setting, State, Over, Reaches, live, start_spot}
 use Rattle.s370_channel.specs.declared.running.ChannelError.{ChannelError}
 use Rattle.s370_channel.specs.declared.running.ChannelError.TheVariants as errors
 use Rattle.s370_channel.specs.declared.words.Caw.{Caw}
 use Rattle.s370_channel.specs.Guest.{guest_written}
 use Rattle.s370_channel.specs.Loading.{MatchLoading, loading, loading_limits, implied_word}
-use Rattle.s370_channel.specs.Progress.{MatchStuck, setting}
+use Rattle.s370_channel.specs.Progress.{setting}
 use Rattle.s370_channel.specs.Reading.{as_reached}
 use Rattle.s370_channel.specs.Runs.{Walks, limited}
-use Rattle.ckd_volume.specs.Front.{Cylinder}
 use Rattle.ckd_volume.specs.Unit.{disk_machine}
 use Rattle.cp_channels.specs.Channels.{IsAllThere, WalksLoading}
 use Rattle.cp_channels.proofs.Staying.{loading_lacks}
 use Rattle.cp_minidisk.specs.Kept.{Keeps, device_in}
-use Rattle.cp_minidisk.specs.Part.{Part, extent_of, part_machine, unit_of}
+use Rattle.cp_minidisk.specs.Part.{Part, extent_of, part_machine}
 use Rattle.cp_minidisk.specs.PartLaws.{HasSameNeighbours}
 use Rattle.cp_minidisk.specs.Placed.{IsReadOnly}
-use Rattle.cp_minidisk.specs.Projected.{on_device, seen}
+use Rattle.cp_minidisk.specs.Projected.{seen}
 use Rattle.cp_minidisk.proofs.Along as along
 use Rattle.cp_minidisk.proofs.Parting.{HasExtentOf, extent_kept, extent_same, follows, neighbours_kept, read_only_kept}
 use Rattle.cp_minidisk.proofs.Walked as walked

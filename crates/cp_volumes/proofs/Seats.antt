@@ -1,9 +1,9 @@
 -- The minidisks of a user: what each is, and how one changes with its volume.
-use Rattle.std.specs.Prelude.{ℕ, zero, suc, ◌≡◌, ◌==◌, ◌<◌, refl, Bool, true, false, if◌then◌else◌, List, [], ◌∷◌, length, map, slice_get, Option, Some, None}
+use Rattle.std.specs.Prelude.{ℕ, zero, suc, ◌≡◌, ◌==◌, ◌<◌, refl, Bool, true, false, if◌then◌else◌, List, [], ◌∷◌, ◌++◌, length, map, slice_get, Option, Some}
 use Rattle.std.specs.List.{find, position, position_or_len}
 use Rattle.std.specs.Option.{option_map}
 use Rattle.std.proofs.Common.{sym, ◌∙◌, ap, subst, set, get_or, arith}
-use Rattle.std.proofs.lemmas.List.{map-set, length-map}
+use Rattle.std.proofs.lemmas.List.{length-map}
 use Rattle.std.proofs.lemmas.Option.{slice_get-map}
 use Rattle.std.proofs.Math.Seq.{map-set_same}
 use Rattle.ckd_volume.specs.Volume.{VolumeFormat}
@@ -17,7 +17,7 @@ use Rattle.cp_minidisk.specs.Minidisk.{slice}
 use Rattle.ckd_volume.specs.Unit.{idle}
 use Rattle.cp_minidisk.specs.Minidisk.{own_arm}
 use Rattle.cp_volumes.specs.Keeping.{confined_same}
-use Rattle.cp_volumes.specs.Shared.{AllLeaveBe, DisksValue, IsConfined, IsSeated, IsUsers, KeepsNeighbours, LeavesBe, SharedMinidisk, Stand, cleared_minidisk, disk_on, disks_on, reset_minidisk, seen, stand_of, stands_of, volume_at}
+use Rattle.cp_volumes.specs.Shared.{AllLeaveBe, AreThere, DisksValue, IsConfined, IsSeated, IsUsers, KeepsNeighbours, LeavesBe, SharedMinidisk, Stand, cleared_minidisk, disk_on, disks_on, reset_minidisk, seen, stand_of, stands_of, volume_at}
 
 -- ---- found by its address
 
@@ -161,3 +161,12 @@ module _ (volumes volumes' : List VolumeFormat) (ds : List SharedMinidisk) (inde
   loads m n end r =
       subst (λ (o : Option DiskAt). LoadsAt m (disks_on volumes ds) index o end n (disks_on volumes' (set ds index d'))) (sym disk_seen)
       (record { left = disk_on volumes' d'; one = r; rest = seen_one })
+
+-- ---- all of them are there
+
+pub there_more : (volumes : List VolumeFormat) (v : VolumeFormat) → AreThere volumes → 0 < length v.cylinders → AreThere (volumes ++ v ∷ [])
+there_more [] v there some zero lt = some
+there_more [] v there some (suc index) lt = absurd (omega (arith, lt))
+there_more (first ∷ volumes) v there some zero lt = there 0 (omega arith)
+there_more (first ∷ volumes) v there some (suc index) lt =
+    there_more volumes v (λ i inside. there (suc i) (omega (arith, inside))) some index (omega (arith, lt))

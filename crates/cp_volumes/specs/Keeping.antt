@@ -1,8 +1,8 @@
 -- What stands beside a user's minidisks is kept by nothing, and by one thing after another: the laws that whoever lends them owes.
-use Rattle.std.specs.Prelude.{List}
-use Rattle.std.proofs.Common.{◌∙◌, refl, subst}
+use Rattle.std.specs.Prelude.{ℕ, ◌<◌, List}
+use Rattle.std.proofs.Common.{◌∙◌, refl, subst, sym}
 use Rattle.ckd_volume.specs.Volume.{VolumeFormat}
-use Rattle.cp_volumes.specs.Shared.{DisksValue, IsConfined, KeepsNeighbours, Stand, stands_of}
+use Rattle.cp_volumes.specs.Shared.{AreThere, DisksValue, IsConfined, KeepsNeighbours, Stand, stands_of}
 
 pub confined_same : (stands : List Stand) (volumes : List VolumeFormat) → IsConfined stands volumes volumes
 confined_same stands volumes = record { count = refl; sizes = λ index. refl; volsers = λ index. refl; others = λ t be. refl }
@@ -14,6 +14,11 @@ confined_on stands a b c h g = record {
   volsers = λ index. g.volsers index ∙ h.volsers index;
   others = λ t be. g.others t be ∙ h.others t be;
 }
+
+-- no volume goes away
+pub there_still : (stands : List Stand) (a b : List VolumeFormat) → IsConfined stands a b → AreThere a → AreThere b
+there_still stands a b h there = λ index inside.
+    subst (λ (n : ℕ). 0 < n) (sym (h.sizes index)) (there index (subst (λ (n : ℕ). index < n) h.count inside))
 
 pub neighbours_same : (d : DisksValue) → KeepsNeighbours d d
 neighbours_same d = record { stands = refl; confined = confined_same (stands_of d.minidisks) d.volumes }

@@ -1,7 +1,6 @@
 -- A minidisk as its user sees it.
-use Rattle.std.specs.Prelude.{Option, option_copied}
+use Rattle.std.specs.Prelude.{option_copied}
 use Rattle.ckd_volume.specs.Unit.{Disk}
-use Rattle.ckd_volume.specs.Volume.{VolumeFormat}
 use Rattle.cp_minidisk.specs.Minidisk.{users_disk}
 use Rattle.cp_volumes.specs.Shared.{volume_or_none}
 use Rattle.cp_volumes.specs.declared.seen.SeenDisk.{SeenDisk}

@@ -1,5 +1,5 @@
 -- Volumes that users share: each minidisk is an extent of one of them (docs/MACHINE.md, "Disks").
-use Rattle.std.specs.Prelude.{ℕ, ◌≡◌, ◌+◌, ◌≤◌, ◌⊎◌, true, List, [], map, length, slice_get, slice_index_or, slice_set, Option, Some, None}
+use Rattle.std.specs.Prelude.{ℕ, ◌≡◌, ◌+◌, ◌<◌, ◌≤◌, ◌⊎◌, true, List, [], map, length, slice_get, slice_index_or, Option, Some, None}
 use Rattle.ckd_volume.specs.Volume.{VolumeFormat}
 use Rattle.ckd_volume.specs.Unit.{Disk, volume_of}
 use Rattle.cp_channels.specs.Disks.{DiskAt}
@@ -23,6 +23,10 @@ volume_in (Some unit) = volume_of unit
 
 abbrev pub volume_at : List VolumeFormat → ℕ → VolumeFormat
 volume_at volumes index = slice_index_or volumes index no_volume
+
+-- a volume stands on each unit: none is away
+abbrev pub AreThere : List VolumeFormat → Type 0
+AreThere volumes = (index : ℕ) → index < length volumes → 0 < length (volume_at volumes index).cylinders
 
 -- ---- minidisks
 

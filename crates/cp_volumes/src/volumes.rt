@@ -1,5 +1,5 @@
 //! The volumes of a system, each once and on a unit of its own.
-ghost use Rattle.std.specs.Prelude.{◌≡◌, ◌<◌, [], ◌∷◌, IfOk, IfSome, length, slice_get, slice_set, Some, option_copied};
+ghost use Rattle.std.specs.Prelude.{◌≡◌, ◌<◌, [], ◌∷◌, IfOk, IfSome, OnOk, length, slice_get, slice_set, Some, option_copied};
 ghost use Rattle.s370_channel.specs.Reading.{as_reached};
 ghost use Rattle.s370_walk.specs.Hardware.{memory_of};
 ghost use Rattle.ckd_volume.specs.Unit.{rested, volume_of};
@@ -7,7 +7,7 @@ ghost use Rattle.cp_channels.specs.Channels.{IsAllThere, RestsAfter, RestsLoaded
 ghost use Rattle.cp_minidisk.specs.Minidisk.{users_disk};
 ghost use Rattle.cp_minidisk.specs.Part.{minidisk_of, part_on, unit_of};
 ghost use Rattle.cp_needs.specs.Words.{IsEnough};
-ghost use Rattle.cp_volumes.specs.Shared.{IsConfined, IsSeated, disk_on, no_volume, stand_of, volume_at, volume_or_none};
+ghost use Rattle.cp_volumes.specs.Shared.{AreThere, IsConfined, IsSeated, disk_on, no_volume, stand_of, volume_at, volume_or_none};
 
 use crate::running::{load_mounted, run_mounted};
 use crate::shared_disk::SharedDisk;
@@ -51,10 +51,13 @@ const RESTING: Arm = Arm {
 impl Volumes {
     /// These volumes, in their order.
     pub fn new(alloc: Global, volumes: Vec<Volume>) -> Result<Volumes, AllocError>
-        ensures { IfOk result (λ made. made ≡ volumes.items) }
+        ensures volumes { IfOk result (λ made. made ≡ volumes.items) }
+        ensures there { OnOk result (AreThere volumes.items) }
     {
         let mut units = Vec::with_capacity(alloc, volumes.len())?;
         for volume in volumes {
+            // Each has a cylinder.
+            let _cylinders = volume.count();
             let unit = Unit::new(alloc, volume, RESTING)?;
             units.push(Some(unit))?;
         }
@@ -81,6 +84,7 @@ impl Volumes {
     pub fn volume(&self, index: usize) -> Option<&Volume>
         ensures volume { IfSome result (λ volume. slice_get self.now index ≡ Some volume.now) }
         ensures at { volume_at self.now index ≡ volume_or_none (option_copied result) }
+        ensures there { AreThere self.now → option_copied result ≡ slice_get self.now index }
     {
         match self.units.get(index) {
             Some(Some(unit)) => Some(unit.volume()),

@@ -1,28 +1,30 @@
-use Rattle.std.proofs.Common.{◌≡◌, ◌≤◌, ◌<◌, ◌%◌, ◌∙◌, ap, arith, length, slice_index_or}
-use Rattle.std.proofs.lemmas.List.{get_or_read}
+use Rattle.std.proofs.Common.{◌≡◌, ◌≤◌, ◌<◌, ◌%◌, ◌∙◌, List, ap, arith, length, slice_index_or, ℕ}
+use Rattle.std.proofs.lemmas.List.{get_or_read, length-replicate}
 use Rattle.s370_walk.specs.Hardware.{memory_of}
 use Rattle.channel_laws.specs.declared.places.Place.{Place}
 use Rattle.channel_laws.specs.Copy.{guest_of, past}
-use Rattle.cp_graph.proofs.Tables.{copy_of, grown_length, rows_on, rows_none, held_push, held_none, linked_grown}
+use Rattle.cp_graph.proofs.Tables.{copy_of, grown_length, rows_on, rows_none, held_push, held_none, linked_grown, linked_is_place}
 use Rattle.cp_graph.proofs.Closures.{absent_some}
 use Rattle.cp_graph.proofs.Marking.{unmarked_few}
 use Rattle.cp_graph.proofs.copying.copy.Goals as goal
 
 pub link-requires-clause-few : goal.link-requires-clause-few
 link-requires-clause-few g c =
-    let few = unmarked_few c.in-Ok.index.items in
-    omega (arith, few, c.in-Ok.index.ok.0, c.in-Ok.ensures.len, c.new-places.ensures.len, c.size.ensures.bytes)
+    let few = unmarked_few c.new-index.result in
+    let slots = ap (λ (index : List ℕ). length index) c.new-index.ensures ∙ length-replicate _ 0 in
+    omega (arith, few, slots, c.new-places.ensures.len, c.size.ensures.bytes)
 
 pub places-init : goal.places-init
 places-init g c =
+    let slots = ap (λ (index : List ℕ). length index) c.new-index.ensures ∙ length-replicate _ 0 in
     record {
       rows = rw c.new-nodes.ensures.items (rows_none c.link.new.places.items (memory_of (g.S.Storage.bytes c.args.storage.now) (g.S.Storage.keys c.args.storage.now)));
       held = rw c.new-nodes.ensures.items (held_none (length (g.S.Storage.bytes c.args.storage.now)) (g.S.Storage.present c.args.storage.now));
-      known = c.in-Ok-link.ensures.known;
-      few = (let few = unmarked_few c.in-Ok.index.items in omega (arith, few, c.in-Ok-link.ensures.count, c.in-Ok.index.ok.0, c.in-Ok.ensures.len, c.new-places.ensures.len, c.size.ensures.bytes));
-      room = omega (arith, c.in-Ok-link.ensures.size, c.in-Ok.ensures.len, c.size.ensures.bytes);
+      known = c.in-Ok.ensures.known;
+      few = (let few = unmarked_few c.new-index.result in omega (arith, few, c.in-Ok.ensures.count, slots, c.new-places.ensures.len, c.size.ensures.bytes));
+      room = omega (arith, c.in-Ok.ensures.size, slots, c.size.ensures.bytes);
       behind = omega (arith, c.new-nodes.ensures.len);
-      linked = c.in-Ok-link.ensures.linked;
+      linked = c.in-Ok.ensures.linked;
     }
 
 pub copy_word-requires-clause-even : goal.copy_word-requires-clause-even
@@ -61,6 +63,10 @@ returns-clause-copy g c =
     let few : length c.places.places.items ≤ 2147483648 = omega (arith, c.places.invariant.few, c.places.places.ok.0) in
     copy_of c.places.places.items c.places.nodes.items (memory_of (g.S.Storage.bytes c.args.storage.now) (g.S.Storage.keys c.args.storage.now)) few
     (omega (arith, c.places-test.false, c.places.invariant.behind, c.places.places.ok.0, c.places.nodes.ok.0)) c.places.invariant.rows
+
+pub returns-clause-place : goal.returns-clause-place
+returns-clause-place g c =
+    linked_is_place c.places.places.items (memory_of (g.S.Storage.bytes c.args.storage.now) (g.S.Storage.keys c.args.storage.now)) c.args.start c.in-Ok.first (omega (arith, c.places.invariant.few, c.places.places.ok.0)) c.places.invariant.linked
 
 pub returns-in-Err-copy_word-clause-absent : goal.returns-in-Err-copy_word-clause-absent
 returns-in-Err-copy_word-clause-absent g c =

@@ -9,9 +9,9 @@ abbrev pub invariant-places : goal.invariant-places
 invariant-places g l = record {
   rows : AreRows l.places.items l.nodes.items (memory_of (g.S.Storage.bytes l.storage) (g.S.Storage.keys l.storage));
   held : AreHeldRows l.nodes.items (length (g.S.Storage.bytes l.storage)) (g.S.Storage.present l.storage);
-  known : IsIndexed l.places.items l.index.items;
-  few : vec_len l.places + unmarked l.index.items ≤ 2147483648;
-  room : vec_len l.index ≡ length (g.S.Storage.bytes l.storage) / 8 * 2;
+  known : IsIndexed l.places.items l.index;
+  few : vec_len l.places + unmarked l.index ≤ 2147483648;
+  room : length l.index ≡ length (g.S.Storage.bytes l.storage) / 8 * 2;
   behind : vec_len l.nodes ≤ vec_len l.places;
   linked : IsLinked l.places.items (guest_text (memory_of (g.S.Storage.bytes l.storage) (g.S.Storage.keys l.storage))) true l.start l.first;
 }

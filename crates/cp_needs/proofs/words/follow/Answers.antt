@@ -1,13 +1,16 @@
-use Rattle.std.proofs.Common.{◌≡◌, ◌/◌, ◌<◌, ◌∙◌, sym, arith, false, length, slice_index_or}
-use Rattle.std.proofs.lemmas.List.{get_or_read}
-use Rattle.cp_needs.proofs.Finding.{marked}
+use Rattle.std.proofs.Common.{◌≡◌, ◌≢◌, ◌/◌, ◌<◌, ◌∙◌, ap, sym, arith, length, slice_index}
+use Rattle.std.specs.Prelude.{slice_set}
+use Rattle.cp_graph.specs.Marks.{unmarked}
+use Rattle.cp_graph.proofs.Marking.{marked}
 use Rattle.cp_needs.proofs.words.follow.Goals as goal
 
 pub returns-clause-count : goal.returns-clause-count
 returns-clause-count c =
-    let seen = c.args.seen.now.items in
+    let seen = c.args.seen.now in
     let slot = c.args.address / 8 in
-    let room : slot < length seen = omega (arith, c.if-slot-len.false, c.len.ensures, c.args.seen.now.ok.0) in
-    let read : c.index.result.now ≡ slice_index_or seen slot false = get_or_read seen slot _ room c.index.ensures false in
-    let fewer = marked seen slot room (sym read ∙ c.if-index.false) in
-    omega (arith, fewer, c.in_ok-push.ensures.len)
+    let room : slot < length seen = omega (arith, c.if-slot-count.false, c.count.ensures) in
+    let free : slice_index seen slot ≡ 0 = sym c.get.ensures ∙ c.if-get-ne0.false in
+    let one : 1 ≢ 0 = λ e. omega (arith, e) in
+    let fewer = marked seen slot 1 room free one in
+    let kept : unmarked c.set.new.self ≡ unmarked (slice_set seen slot 1) = ap unmarked c.in_ok-set.ensures.ok in
+    omega (arith, fewer, kept, c.in_ok-push.ensures.len)

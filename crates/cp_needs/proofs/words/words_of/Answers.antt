@@ -1,5 +1,5 @@
-use Rattle.std.proofs.Common.{◌≡◌, ◌+◌, ◌*◌, ◌/◌, ◌<◌, ◌≤◌, ◌∙◌, ap, arith, length, refl, slice_index, sym}
-use Rattle.std.proofs.lemmas.List.{get_or_read}
+use Rattle.std.proofs.Common.{◌≡◌, ◌+◌, ◌*◌, ◌/◌, ◌<◌, ◌≤◌, ◌∙◌, List, ap, arith, length, refl, slice_index, sym, ℕ}
+use Rattle.std.proofs.lemmas.List.{get_or_read, length-replicate}
 use Rattle.s370_walk.specs.Hardware.{memory_of}
 use Rattle.cp_needs.specs.Words.{AreSteps}
 use Rattle.cp_needs.proofs.Programs.{first_size, needed_at, none_of, reached_at, reached_first, steps_length, visited_size, visited_steps, words_all, words_held}
@@ -14,7 +14,7 @@ words-init g c =
       visited = λ i lt. (let no : ⊥ = omega (arith, lt) in absurd no);
       first = c.in_ok-follow.ensures.found refl;
       behind = omega arith;
-      room = c.in_ok-follow.ensures.size ∙ c.in_ok-seen.ensures.len ∙ ap (λ n. (n + 4095) / 4096 * 512) c.size.ensures.bytes;
+      room = c.in_ok-follow.ensures.size ∙ ap (λ (seen : List ℕ). length seen) c.new-seen.ensures ∙ length-replicate _ 0 ∙ ap (λ n. (n + 4095) / 4096 * 512) c.size.ensures.bytes;
     }
 
 pub returns-clause-words : goal.returns-clause-words

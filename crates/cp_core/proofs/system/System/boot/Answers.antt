@@ -3,6 +3,7 @@ use Rattle.std.specs.List.{find, position}
 use Rattle.ckd_volume.specs.Volume.{VolumeFormat}
 use Rattle.cp_directory.specs.Users.{AreApart, DirectoryUser}
 use Rattle.cp_seating.specs.Seating.{AreLawful, minidisks_at, user_is_past, user_lacks}
+use Rattle.cp_volumes.specs.Shared.{AreThere}
 use Rattle.cp_core.specs.Boot.{AreNewUsers, free_supply}
 use Rattle.cp_core.specs.System.{stands_among, users_of}
 use Rattle.cp_core.specs.Whole.{AreNew, AreSeated}
@@ -27,7 +28,8 @@ invariant_of-result c =
     let stored : c.in-Ok-new-2.frames.storages ≡ blank users = c.in-Ok-new-2.ensures.storages ∙ ap (λ (ps : List ℕ). map (λ pages. replicate (pages * 4096) 0) ps) pages in
     record {
       whole = rw stored (whole_new volumes seats users new c.requires);
-      disks = subst (AreSeated seats) (sym c.in-Ok-new.ensures) (seated_new volumes seats users new apart lawful there inside);
+      disks = subst (AreSeated seats) (sym c.in-Ok-new.ensures.volumes) (seated_new volumes seats users new apart lawful there inside);
+      there = subst AreThere (sym c.in-Ok-new.ensures.volumes) c.in-Ok-new.ensures.there;
       between = between_new c.in-Ok-new-2.frames.supply c.frames-2.result c.slots.result (new_supply c.in-Ok-new-2.frames.supply c.frames-2.result c.slots.result c.in-Ok-new-2.ensures.owners c.in-Ok-new-2.ensures.slots c.in-Ok-new-2.ensures.pins c.in-Ok-new-2.ensures.order c.in-Ok-new-2.ensures.page_ins) (omega (arith, c.if-frames-lt16.false, c.frames.ensures.value, c.frames-2.ensures.value));
     }
 
@@ -40,7 +42,7 @@ returns-in-Ok-new-2-clause-ok c =
     let pages = c.in-Ok-pages_of.ensures.pages ∙ ap (λ (us : List DirectoryUser). map (λ (user : DirectoryUser). user.pages) us) c.users-4.ensures.users in
     let stored : c.in-Ok-new-2.frames.storages ≡ blank users = c.in-Ok-new-2.ensures.storages ∙ ap (λ (ps : List ℕ). map (λ pages. replicate (pages * 4096) 0) ps) pages in
     let supply = new_supply c.in-Ok-new-2.frames.supply c.frames-2.result c.slots.result c.in-Ok-new-2.ensures.owners c.in-Ok-new-2.ensures.slots c.in-Ok-new-2.ensures.pins c.in-Ok-new-2.ensures.order c.in-Ok-new-2.ensures.page_ins in
-    rw c.in-Ok-new.ensures (record {
+    rw c.in-Ok-new.ensures.volumes (record {
       users = rw stored (new_users volumes seats users new);
       stands = stands_new volumes seats users new;
       rest = rw c.new-in-Ok-new-2.ensures.items (boot_seen _ users volumes (stands_among seats) _ _ _ _

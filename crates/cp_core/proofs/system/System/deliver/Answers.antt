@@ -30,6 +30,7 @@ invariant_of-self c =
     record {
       whole = whole_on c.self.inside.users.items c.self.inside.frames.storages c.self.inside.frames.storages c.self.inside.directory user c.receive.new.self c.self.invariant.whole (set_own c.self.inside.frames.storages user []) fits;
       disks = seated_on c.self.inside.users.items c.self.inside.volumes c.self.inside.volumes user c.receive.new.self c.self.invariant.disks (neighbours_still c.self.inside.volumes (get_or c.self.inside.users.items user no_user).minidisks c.receive.new.self.minidisks (ap (λ (m : List SharedMinidisk). stands_of m) stay));
+      there = c.self.invariant.there;
       between = c.self.invariant.between;
     }
 

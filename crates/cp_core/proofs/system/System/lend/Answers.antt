@@ -1,5 +1,6 @@
 use Rattle.std.proofs.Common.{◌≡◌, ◌∙◌, ◌<◌, [], ap, arith, get_or, length, set, subst, sym, List, ℕ}
 use Rattle.std.proofs.lemmas.List.{get_or_default}
+use Rattle.cp_volumes.specs.Keeping.{there_still}
 use Rattle.cp_volumes.specs.Shared.{IsConfined, IsUsers, KeepsNeighbours, Stand, stands_of}
 use Rattle.cp_core.specs.System.{SystemView, nobody, stands_at, user_at, users_of}
 use Rattle.cp_core.specs.UserMachines.{Fits, UserParts, user_with}
@@ -33,6 +34,7 @@ invariant_of-self g c =
     record {
       whole = whole_on c.self.inside.users.items c.self.inside.frames.storages c.lend.new.frames.storages c.self.inside.directory c.args.user c.lend.new.self c.self.invariant.whole others (subst (λ (u : ℕ). Fits c.lend.new.self (get_or c.lend.new.frames.storages u [])) c.number_of-number.ensures c.lend.ensures.fits);
       disks = seated_on c.self.inside.users.items c.self.inside.volumes c.lend.new.volumes c.args.user c.lend.new.self c.self.invariant.disks kept;
+      there = there_still (stands_of (get_or c.self.inside.users.items c.args.user no_user).minidisks) c.self.inside.volumes c.lend.new.volumes kept.confined c.self.invariant.there;
       between = c.lend.ensures.between;
     }
 

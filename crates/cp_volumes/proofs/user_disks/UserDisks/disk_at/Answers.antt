@@ -1,9 +1,8 @@
-use Rattle.std.proofs.Common.{◌∙◌, ◌==◌, ap, List, ℕ, Option, length, ◌<◌, arith, subst}
-use Rattle.std.specs.Prelude.{IfSome}
+use Rattle.std.proofs.Common.{◌∙◌, ◌==◌, ap, List}
 use Rattle.std.specs.List.{position}
 use Rattle.cp_channels.specs.Disks.{is_disk_at}
 use Rattle.cp_volumes.specs.Shared.{DisksValue, SharedMinidisk, seen}
-use Rattle.cp_volumes.proofs.Seats.{as_many, found_at}
+use Rattle.cp_volumes.proofs.Seats.{found_at}
 use Rattle.cp_volumes.proofs.user_disks.UserDisks.disk_at.Goals as goal
 
 pub returns-clause-index : goal.returns-clause-index

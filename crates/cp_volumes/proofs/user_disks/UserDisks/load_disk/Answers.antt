@@ -1,9 +1,9 @@
-use Rattle.std.proofs.Common.{◌≡◌, ◌<◌, ◌∙◌, ap, arith, length, set, subst, refl, Some}
+use Rattle.std.proofs.Common.{◌≡◌, ◌<◌, ap, arith, length, set, subst, refl, Some}
 use Rattle.std.specs.Prelude.{slice_get}
 use Rattle.std.proofs.lemmas.Option.{slice_get_read}
 use Rattle.s370_walk.specs.Hardware.{memory_of}
 use Rattle.cp_channels.specs.Channels.{LoadsDisk}
-use Rattle.cp_volumes.specs.Shared.{DisksValue, IsUsers, KeepsNeighbours, seen, stands_of}
+use Rattle.cp_volumes.specs.Shared.{DisksValue, KeepsNeighbours, seen}
 use Rattle.cp_volumes.proofs.Seats.{as_many, kept_one, seated_at, users_kept, loads}
 use Rattle.cp_volumes.proofs.user_disks.UserDisks.load_disk.Goals as goal
 
