@@ -50,10 +50,16 @@ pub fn type_line(system: &mut System, line: &str) -> Result<()> {
     }
 }
 
-/// Serves a device, which has a program.
-pub fn serve(system: &mut System, device: u16) -> Result<()> {
+/// Serves a device, which has a program: whether there are frames for what that needs, without which nothing is done.
+pub fn serve(system: &mut System, device: u16) -> Result<bool> {
     match system.apply(Event::Serve(user(), DevAddr::new(device))) {
-        Ok(reply) => has_ended(reply.ended, Ended::Served(true)),
+        Ok(reply) => {
+            if reply.ended == Ended::FramesOut {
+                return Ok(false);
+            }
+            has_ended(reply.ended, Ended::Served(true))?;
+            Ok(true)
+        }
         Err(error) => Err(error)?,
     }
 }

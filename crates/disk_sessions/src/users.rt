@@ -4,7 +4,7 @@ use crate::case::Case;
 use crate::guest::{booted, has_byte, has_volume, run, serve, type_line, user};
 use crate::outcome::{arm_difference, is_same_status};
 use crate::tracks::write_tracks;
-use anyhow::{Context, Result};
+use anyhow::{Context, Result, bail};
 use ckd_volume::Arm;
 use cp_core::System;
 use s370_num::DevAddr;
@@ -15,8 +15,12 @@ use step_table::lists::addressed;
 /// The storage of the user: that of the machine on which the programs ran.
 const STORAGE: &str = "4M";
 
-/// The frames: no program needs more pages.
+/// How many frames the machine of the program `vm370` has.
 const FRAMES: u32 = 64;
+
+/// Frames for all pages of that storage, which a program needs of which it is not known that it leaves its own words; and
+/// a few more.
+const MANY_FRAMES: u32 = 1040;
 
 /// The address of the disk.
 const DISK: u16 = 0x190;
@@ -42,9 +46,13 @@ pub fn difference_of_user(
     image: &mut PlainStorage,
     case: &Case<'_>,
 ) -> Result<Option<&'static str>> {
-    let mut system = booted_with(alloc, case)?;
-    prepare(alloc, &mut system, case)?;
-    run_program(alloc, &mut system, case.caw)?;
+    let system = match played(alloc, case, FRAMES)? {
+        Some(system) => system,
+        None => match played(alloc, case, MANY_FRAMES)? {
+            Some(system) => system,
+            None => return Ok(Some("the frames of a user")),
+        },
+    };
     if !is_same_status(status(&system), case.csw) {
         return Ok(Some("the status word of a user"));
     }
@@ -52,6 +60,17 @@ pub fn difference_of_user(
         return Ok(Some("storage of a user"));
     }
     disk_difference(alloc, &system, case)
+}
+
+/// The system after a user has run the program of a line on so many frames; none where it needs more.
+fn played(alloc: Global, case: &Case<'_>, frames: u32) -> Result<Option<System>> {
+    let mut system = booted_with(alloc, case, frames)?;
+    prepare(alloc, &mut system, case)?;
+    if run_program(alloc, &mut system, case.caw)? {
+        Ok(Some(system))
+    } else {
+        Ok(None)
+    }
 }
 
 /// What differs first of the disk and of the cylinders beside it.
@@ -81,12 +100,12 @@ fn arm_of(system: &System) -> Option<Arm> {
 }
 
 /// The system of a line: the user with the disk, and the neighbour.
-fn booted_with(alloc: Global, case: &Case<'_>) -> Result<System> {
+fn booted_with(alloc: Global, case: &Case<'_>, frames: u32) -> Result<System> {
     let mode = if case.writable { "W" } else { "R" };
     let directory = directory_between(alloc, STORAGE, case.cylinders, mode)?;
     let volume = volume_between(alloc, case.cylinders, case.tracks)?;
     let volumes = vec![in alloc; volume]?;
-    booted(alloc, directory.as_bytes(), volumes, FRAMES, 0)
+    booted(alloc, directory.as_bytes(), volumes, frames, 0)
 }
 
 /// The machine runs, its disk has its arm where a line has it, and storage and keys are those of the line.
@@ -98,7 +117,9 @@ fn prepare(alloc: Global, system: &mut System, case: &Case<'_>) -> Result<()> {
     let argument = format!(in alloc; "STORE 128 0000{cylinder:04X}{head:04X}")?;
     type_line(system, &argument)?;
     type_line(system, "BEGIN")?;
-    run_program(alloc, system, 0x120)?;
+    if !run_program(alloc, system, 0x120)? {
+        bail!("a seek needs more frames");
+    }
     set_keys(alloc, system, case.keys)?;
     set_bytes(alloc, system, case.storage)
 }
@@ -142,13 +163,17 @@ fn store(alloc: Global, system: &mut System, at: u32, digits: &[u8]) -> Result<(
     Ok(())
 }
 
-/// Starts the program that a word of this address and key names, serves the disk, and takes the status.
-fn run_program(alloc: Global, system: &mut System, caw: u32) -> Result<()> {
+/// Starts the program that a word of this address and key names, serves the disk, and takes the status; or tells that the
+/// program needs more frames.
+fn run_program(alloc: Global, system: &mut System, caw: u32) -> Result<bool> {
     type_line(system, &format!(in alloc; "#CP STORE 48 {caw:08X}")?)?;
     type_line(system, "#CP STORE PSW 00000000 00000100")?;
     run(system)?;
-    serve(system, DISK)?;
-    run(system)
+    if !serve(system, DISK)? {
+        return Ok(false);
+    }
+    run(system)?;
+    Ok(true)
 }
 
 /// The status word.
