@@ -173,7 +173,7 @@ impl Stage {
         self.look_beside()
     }
 
-    /// Compares the views of the neighbour.
+    /// Compares all views of the neighbour but those of disks.
     fn look_beside(&mut self) -> Result<(), SideError> {
         self.machines.compare_registers(neighbour())?;
         self.machines.compare_devices(neighbour())?;
@@ -288,7 +288,7 @@ impl Stage {
         }
     }
 
-    /// Tries a program: both machines are compared after each event.
+    /// Tries a program: the machines are compared once it is ready, and after each event from then on.
     pub fn try_program(&mut self, alloc: Global, trial: &Trial) -> Result<(), SideError> {
         self.trials = self.trials.saturating_add(1);
         self.prepare(alloc, trial)?;
