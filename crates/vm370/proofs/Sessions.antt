@@ -15,7 +15,7 @@ use Rattle.vm370.specs.Session.{IsCut, IsPartly, IsPlayed, IsRead, IsSession, at
 use Rattle.vm370.specs.Transcript.{ended}
 use Rattle.vm370.proofs.Histories.{front_after, history}
 
-pub first_scene : (s : SystemView) (first : Lines) → first.users ≡ first_queue s (length s.directory) → first.programs ≡ first_line s (length s.directory) → scene s first ≡ at_first s
+first_scene : (s : SystemView) (first : Lines) → first.users ≡ first_queue s (length s.directory) → first.programs ≡ first_line s (length s.directory) → scene s first ≡ at_first s
 first_scene s first q l =
     let with_queue = ap (λ (x : List ℕ). let one : Scene = record { system = s; queue = x; line = first.programs; had_slice = false } in one) q in
     let with_line = ap (λ (x : List Program). let one : Scene = record { system = s; queue = first_queue s (length s.directory); line = x; had_slice = false } in one) l in
