@@ -7,32 +7,34 @@ use cp_users::UserNo;
 use s370_num::DevAddr;
 use unit_record::Card;
 
-/// How an event ends that is no run.
-fn end_of(system: &mut System, event: Event<'_>) -> Result<Ended> {
-    let reply = system.apply(event)?;
+/// A user types a line.
+pub fn type_line(system: &mut System, user: UserNo, typed: &[u8]) -> Result<()> {
+    let reply = system.apply(Event::Line(user, typed))?;
     // The prover finds what a reply may hold only where a function names it.
     let _device = DevAddr::new(0);
     let _response = Response::Sent;
     let _delivered: Option<Delivered> = reply.delivered;
     let _said: Told = reply.said;
-    Ok(reply.ended)
-}
-
-/// A user types a line.
-pub fn type_line(system: &mut System, user: UserNo, typed: &[u8]) -> Result<()> {
-    let _ended = end_of(system, Event::Line(user, typed))?;
     Ok(())
 }
 
 /// The operator gives a deck to a user's reader.
 pub fn give_deck(system: &mut System, user: UserNo, cards: &[Card]) -> Result<()> {
-    let _ended = end_of(system, Event::Deck(user, cards))?;
+    let reply = system.apply(Event::Deck(user, cards))?;
+    let _device = DevAddr::new(0);
+    let _response = Response::Sent;
+    let _delivered: Option<Delivered> = reply.delivered;
+    let _said: Told = reply.said;
     Ok(())
 }
 
 /// A device of a user is served: whether it had a program.
 pub fn serve(system: &mut System, user: UserNo, device: DevAddr) -> Result<bool> {
-    match end_of(system, Event::Serve(user, device))? {
+    let reply = system.apply(Event::Serve(user, device))?;
+    let _response = Response::Sent;
+    let _delivered: Option<Delivered> = reply.delivered;
+    let _said: Told = reply.said;
+    match reply.ended {
         Ended::Served(done) => Ok(done),
         Ended::Ran(_) | Ended::Done | Ended::FramesOut => bail!("no room for a program's pages"),
     }
