@@ -5,7 +5,7 @@ use Rattle.vm370.proofs.Stated.{first_stated}
 use Rattle.vm370.proofs.follow.Follower.begin.Goals as goal
 
 pub invariant_of-result : goal.invariant_of-result
-invariant_of-result c = (
-    c.in_ok-policy.ensures.seats,
-    subst (λ (l : List Program). IsLineStated c.args.system l) (sym c.in_ok-policy.ensures.programs) (first_stated c.args.system (length c.args.system.directory)),
-  )
+invariant_of-result c =
+    let policy = c.in_ok-policy.ensures in
+    let stated = first_stated c.args.system (length c.args.system.directory) in
+    (policy.seats, subst (λ (line : List Program). IsLineStated c.args.system line) (sym policy.programs) stated)
