@@ -42,11 +42,14 @@ fn tell<R: Print>(rt: &R, machine: &Bare) -> Result<()> {
 /// Whether storage, keys, general registers, control registers but the first, and the address of the next instruction
 /// are zero, and whether there is no fifth key.
 fn has_zeros(machine: &Bare) -> bool {
-    let [_, control @ ..] = machine.control();
     is_zero(machine.storage())
         && has_zero_keys(machine)
-        && *machine.general() == [0; 16]
-        && *control == [0; 15]
+        && machine.general().iter().all(|register| *register == 0)
+        && machine
+            .control()
+            .iter()
+            .skip(1)
+            .all(|register| *register == 0)
         && machine.psw().address().get() == 0
 }
 
