@@ -177,15 +177,15 @@ fn try_on(alloc: Global, line: &str, unit: Unit) -> Result<Option<String>> {
     let (given, _) = line.split_once(" | ").context("a line has a mark")?;
     let mut stage = Stage::boot_plain(alloc, BY_HAND, FRAMES)?;
     stage.give_cards(alloc, &[[0xC1; 80], [0xC2; 80], [0xC3; 80]])?;
-    let mut caw = "00000008";
+    let mut caw = 8;
     for word in given.split_whitespace().skip(1) {
-        if word.len() == 8 && hexadecimal_of(8, 8, word.as_bytes()).is_some() {
-            caw = word;
-        } else {
-            store_item(alloc, &mut stage, unit, word)?;
+        match hexadecimal_of(8, 8, word.as_bytes()) {
+            Some(address) => caw = address,
+            None => store_item(alloc, &mut stage, unit, word)?,
         }
     }
-    differs(alloc, stage.try_words(alloc, unit, caw))
+    let caw = format!(in alloc; "{caw:08X}")?;
+    differs(alloc, stage.try_words(alloc, unit, caw.as_str()))
 }
 
 /// What differs first, of a line by hand.

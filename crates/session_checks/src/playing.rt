@@ -5,7 +5,7 @@ use cp_core::{Sizes, System};
 use cp_directory::read_directory;
 use cp_text::lines::numbered_lines;
 use s370_num::host::failing::Failing;
-use s370_num::host::{Bytes, Counted, HostReader, HostWriter};
+use s370_num::host::{Bytes, Counted};
 use std::alloc::Global;
 use std::io::BufWriter;
 use vm370::session::{SessionError, session};
@@ -43,44 +43,26 @@ fn booted(alloc: Global) -> Result<System> {
     Ok(System::boot(alloc, directory, Vec::new(alloc), sizes)?)
 }
 
-/// How a session ends. This alone calls it, whose contract says far more than is looked at here; whoever calls this is
-/// not told of it.
-fn ended<R: HostReader, W: HostWriter>(
-    alloc: Global,
-    system: &mut System,
-    reader: &mut R,
-    writer: &mut W,
-) -> Result<(), SessionError> {
-    session(alloc, system, reader, writer)
-}
-
-/// How the session of a script ends on a system that was just booted.
-fn played<W: HostWriter>(
-    alloc: Global,
-    script: &[u8],
-    writer: &mut W,
-) -> Result<Result<(), SessionError>> {
-    let mut system = booted(alloc)?;
-    Ok(ended(alloc, &mut system, &mut Bytes::new(script), writer))
-}
-
 /// Whether a block's session is as it says.
 fn play(alloc: Global, block: &Block) -> Result<bool> {
     match block.refused {
         Some(line) => is_refused(alloc, block, line),
         None => Ok(
-            is_told(alloc, block)?
-                && writes_fail(alloc, block)?
-                && calls_fail(alloc, block)?
-                && reads_fail(alloc, block)?,
+            is_told(alloc, block)? && writes_fail(alloc, block)? && calls_fail(alloc, block)?,
         ),
     }
 }
 
 /// Whether a session has the transcript of its block.
 fn is_told(alloc: Global, block: &Block) -> Result<bool> {
+    let mut system = booted(alloc)?;
     let mut told = Vec::new(alloc);
-    played(alloc, &block.script, &mut told)??;
+    session(
+        alloc,
+        &mut system,
+        &mut Bytes::new(&block.script),
+        &mut told,
+    )?;
     Ok(told.as_slice() == block.told.as_slice())
 }
 
@@ -88,28 +70,30 @@ fn is_told(alloc: Global, block: &Block) -> Result<bool> {
 /// then dealt slices.
 fn is_refused(alloc: Global, block: &Block, line: u64) -> Result<bool> {
     let mut system = booted(alloc)?;
-    if !is_refused_at(alloc, &mut system, &block.script, line)? {
+    let mut told = Vec::new(alloc);
+    match session(
+        alloc,
+        &mut system,
+        &mut Bytes::new(&block.script),
+        &mut told,
+    ) {
+        Err(SessionError::Line(number)) => if number != line {
+            return Ok(false);
+        },
+        Err(error) => Err(error)?,
+        Ok(()) => return Ok(false),
+    }
+    if !told.is_empty() {
         return Ok(false);
     }
-    can_go_on(alloc, &mut system)
-}
-
-/// Whether a script is refused at this line, with nothing told.
-fn is_refused_at(alloc: Global, system: &mut System, script: &[u8], line: u64) -> Result<bool> {
-    let mut told = Vec::new(alloc);
-    match ended(alloc, system, &mut Bytes::new(script), &mut told) {
-        Err(SessionError::Line(number)) => Ok(number == line && told.is_empty()),
-        Err(error) => Err(error)?,
-        Ok(()) => Ok(false),
-    }
-}
-
-/// Whether user A can log on, and is then dealt slices.
-fn can_go_on(alloc: Global, system: &mut System) -> Result<bool> {
-    let mut told = Vec::new(alloc);
-    for script in ["LINE A LOGON", "LINE A BEGIN\nAUTO 1"] {
-        ended(alloc, system, &mut Bytes::new(script.as_bytes()), &mut told)?;
-    }
+    session(
+        alloc,
+        &mut system,
+        &mut Bytes::new(b"LINE A LOGON"),
+        &mut told,
+    )?;
+    let turn = b"LINE A BEGIN\nAUTO 1";
+    session(alloc, &mut system, &mut Bytes::new(turn), &mut told)?;
     Ok(told.as_slice() == b"A: LOGON OK\n= A 100 COUNT\n".as_slice())
 }
 
@@ -127,55 +111,51 @@ fn writes_fail(alloc: Global, block: &Block) -> Result<bool> {
     if block.calls == 0 || block.told.len() > ROOM {
         return Ok(true);
     }
+    let mut room = [0u8; ROOM];
     for size in 0..block.told.len() {
-        if !write_fails(alloc, block, size)? {
+        let mut system = booted(alloc)?;
+        let passing = BufWriter::with_capacity(alloc, 0, &mut room[..size])?;
+        let mut writer = Counted::new(passing);
+        let ended = session(
+            alloc,
+            &mut system,
+            &mut Bytes::new(&block.script),
+            &mut writer,
+        );
+        drop(writer);
+        if !has_failed(ended)? || room[..size] != block.told[..size] {
             return Ok(false);
         }
     }
     Ok(true)
 }
 
-/// Whether a write that fails behind so many bytes is told, after those.
-fn write_fails(alloc: Global, block: &Block, size: usize) -> Result<bool> {
-    let mut room = [0u8; ROOM];
-    let size = size.min(ROOM);
-    let passing = BufWriter::with_capacity(alloc, 0, &mut room[..size])?;
-    let mut writer = Counted::new(passing);
-    let ended = played(alloc, &block.script, &mut writer)?;
-    drop(writer);
-    Ok(has_failed(ended)? && block.told.starts_with(&room[..size]))
-}
-
-/// Whether each call that fails is told: every write, and the flush.
+/// Whether each call that fails is told: every write, the flush, and each of the two that read the script.
 fn calls_fail(alloc: Global, block: &Block) -> Result<bool> {
     for left in 0..block.calls {
+        let mut system = booted(alloc)?;
         let mut writer = Failing::new(Vec::new(alloc), left);
-        let ended = played(alloc, &block.script, &mut writer)?;
+        let ended = session(
+            alloc,
+            &mut system,
+            &mut Bytes::new(&block.script),
+            &mut writer,
+        );
         if !has_failed(ended)? || !block.told.starts_with(&writer.file) {
             return Ok(false);
         }
     }
-    Ok(true)
-}
-
-/// Whether each of the two calls that read the script is told where it fails, and nothing else.
-fn reads_fail(alloc: Global, block: &Block) -> Result<bool> {
     if block.calls == 0 {
         return Ok(true);
     }
     for left in 0..2 {
-        if !read_fails(alloc, block, left)? {
+        let mut system = booted(alloc)?;
+        let mut reader = Failing::new(Bytes::new(&block.script), left);
+        let mut told = Vec::new(alloc);
+        let ended = session(alloc, &mut system, &mut reader, &mut told);
+        if !has_failed(ended)? || !told.is_empty() {
             return Ok(false);
         }
     }
     Ok(true)
-}
-
-/// Whether a call that reads the script, behind so many others, is told where it fails, and nothing else.
-fn read_fails(alloc: Global, block: &Block, left: u64) -> Result<bool> {
-    let mut system = booted(alloc)?;
-    let mut reader = Failing::new(Bytes::new(&block.script), left);
-    let mut told = Vec::new(alloc);
-    let outcome = ended(alloc, &mut system, &mut reader, &mut told);
-    Ok(has_failed(outcome)? && told.is_empty())
 }

@@ -5,7 +5,7 @@ use anyhow::{Context, Result, bail};
 use ckd_volume::Volume;
 use cp_console::console_line::ConsoleLine;
 use cp_console::responses::Response;
-use cp_core::{BootError, CpError, Ended, Event, FrameNo, Sizes, System};
+use cp_core::{BootError, CpError, Ended, Event, FrameNo, Reply, Sizes, System};
 use cp_directory::{Volser, read_directory};
 use cp_users::UserNo;
 use s370_num::DevAddr;
@@ -50,11 +50,6 @@ fn booted(alloc: Global, frames: u32) -> Result<Result<System, BootError>> {
     boot_of(alloc, users, Vec::new(alloc), frames)
 }
 
-/// A system of two users, which is booted.
-fn two_users(alloc: Global) -> Result<System> {
-    Ok(booted(alloc, FEWEST_FRAMES)??)
-}
-
 /// The system of a directory, with these volumes and on so many frames.
 fn boot_of(
     alloc: Global,
@@ -69,50 +64,39 @@ fn boot_of(
     Ok(System::boot(alloc, directory, volumes, sizes))
 }
 
-/// Whether each of these holds, or the first that does not is told.
-fn see_all(looks: &[(bool, &str)]) -> Result<()> {
-    for (holds, what) in looks {
-        see(*holds, what)?;
-    }
-    Ok(())
-}
-
-/// What an event gives. This alone calls the system, whose contract says far more than is looked at here; whoever calls
-/// this is not told of it.
-fn applied(system: &mut System, event: Event<'_>) -> Result<Ended, CpError> {
+/// The error of an event that was refused. A system for which memory was refused has to answer nothing else from then
+/// on.
+fn refused(system: &mut System, error: CpError) -> Result<()> {
     // The kit proves a function whose replies may hold the address of a device only where it names one.
     let _device = DevAddr::new(0);
-    match system.apply(event) {
-        Ok(reply) => Ok(reply.ended),
-        Err(error) => Err(error),
-    }
-}
-
-/// Applies an event. A system for which memory was refused has to answer nothing else from then on.
-fn apply(system: &mut System, event: Event<'_>) -> Result<Ended> {
-    let error = match applied(system, event) {
-        Ok(ended) => return Ok(ended),
-        Err(error) => error,
-    };
     if error == CpError::Memory {
         see(system.is_spent(), "want of memory ends the system")?;
-        let later = applied(system, Event::Run(a(), 1));
-        let is_spent = matches!(later, Err(CpError::Spent));
-        see(is_spent, "a system that has ended says so")?;
+        let later = system.apply(Event::Run(a(), 1));
+        see(
+            later == Err(CpError::Spent),
+            "a system that has ended says so",
+        )?;
     }
     Err(error)?
 }
 
 /// Lets a user's machine run.
 fn run(system: &mut System, user: UserNo, units: u32) -> Result<()> {
-    let _ended = apply(system, Event::Run(user, units))?;
-    Ok(())
+    let _device = DevAddr::new(0);
+    match system.apply(Event::Run(user, units)) {
+        Ok(_) => Ok(()),
+        Err(error) => refused(system, error),
+    }
 }
 
 /// Types lines of a user.
 fn type_lines(system: &mut System, user: UserNo, lines: &[&str]) -> Result<()> {
+    let _device = DevAddr::new(0);
     for line in lines {
-        let _ended = apply(system, Event::Line(user, line.as_bytes()))?;
+        match system.apply(Event::Line(user, line.as_bytes())) {
+            Ok(_) => {}
+            Err(error) => refused(system, error)?,
+        }
     }
     Ok(())
 }
@@ -157,60 +141,46 @@ fn is_refused_with(
     Ok(is_refused(booted, reason))
 }
 
-/// A serial number that is one.
-fn volser(text: &[u8]) -> Result<Volser> {
-    Volser::new(text).context("it is a serial number")
-}
-
 fn volumes_that_lack(alloc: Global) -> Result<()> {
-    let twins = [*b"PACK03", *b"PACK03"];
+    let first = Volser::new(b"PACK01").context("it is a serial number")?;
+    let second = Volser::new(b"PACK02").context("it is a serial number")?;
     let past = BootError::ExtentPastEnd(b(), DevAddr::new(0x192));
-    for (serials, frames, reason) in [
-        (
-            [*b"PACK02", *b"PACK03"],
-            FEWEST_FRAMES,
-            BootError::NoVolume(volser(b"PACK01")?),
-        ),
-        (
-            [*b"PACK01", *b"PACK03"],
-            FEWEST_FRAMES,
-            BootError::NoVolume(volser(b"PACK02")?),
-        ),
-        (twins, FEWEST_FRAMES, BootError::DuplicateVolume),
-        ([*b"PACK02", *b"PACK01"], FEWEST_FRAMES, past),
-        // frames are counted before volumes
-        (twins, FEWEST_FRAMES - 1, BootError::TooFewFrames),
+    for (serials, reason) in [
+        ([*b"PACK02", *b"PACK03"], BootError::NoVolume(first)),
+        ([*b"PACK01", *b"PACK03"], BootError::NoVolume(second)),
+        ([*b"PACK03", *b"PACK03"], BootError::DuplicateVolume),
+        ([*b"PACK02", *b"PACK01"], past),
     ] {
-        let refused = is_refused_with(alloc, &serials, frames, reason)?;
+        let refused = is_refused_with(alloc, &serials, FEWEST_FRAMES, reason)?;
         see(refused, "each disk has its cylinders")?;
     }
-    Ok(())
-}
-
-/// Whether an event is refused, since the directory has no such user.
-fn is_nobodys(system: &mut System, event: Event<'_>) -> bool {
-    matches!(applied(system, event), Err(CpError::NoSuchUser))
+    let twins = [*b"PACK03", *b"PACK03"];
+    let refused = is_refused_with(alloc, &twins, FEWEST_FRAMES - 1, BootError::TooFewFrames)?;
+    see(refused, "frames are counted before volumes")
 }
 
 fn machine_of_nobody(system: &mut System) -> Result<()> {
-    let user = nobody();
-    for event in [
-        Event::Run(user, 1),
-        Event::Line(user, b"LOGON"),
-        Event::Tick(user),
+    for answer in [
+        system.apply(Event::Run(nobody(), 1)),
+        system.apply(Event::Line(nobody(), b"LOGON")),
+        system.apply(Event::Tick(nobody())),
     ] {
-        see(is_nobodys(system, event), "nobody has no events")?;
+        see(answer == Err(CpError::NoSuchUser), "nobody has no events")?;
     }
-    see_all(&[
-        (!system.is_spent(), "such an event does not end the system"),
-        (system.registers(user).is_none(), "nobody has no registers"),
-        (system.psw(user).is_none(), "nobody has no PSW"),
-        (system.storage(user, 0).is_none(), "nobody has no storage"),
-        (
-            system.console_output(user, 0).is_none(),
-            "nobody has no console",
-        ),
-    ])
+    see(!system.is_spent(), "such an event does not end the system")?;
+    see(
+        system.registers(nobody()).is_none(),
+        "nobody has no registers",
+    )?;
+    see(system.psw(nobody()).is_none(), "nobody has no PSW")?;
+    see(
+        system.storage(nobody(), 0).is_none(),
+        "nobody has no storage",
+    )?;
+    see(
+        system.console_output(nobody(), 0).is_none(),
+        "nobody has no console",
+    )
 }
 
 /// A's console keeps what its panel shows: the address past storage, the store and the stop.
@@ -225,19 +195,17 @@ fn kept_lines(system: &mut System) -> Result<()> {
     ];
     type_lines(system, a(), &typed)?;
     run(system, a(), 5)?;
-    let last = Some(Response::StoppedDisabledWait);
-    see_all(&[
-        (system.printed(a()) == Some(3), "A has three lines"),
-        (
-            system.console_output(a(), 2) == last,
-            "the last is the stop",
-        ),
-        (
-            system.console_output(a(), 3).is_none(),
-            "there is none after it",
-        ),
-        (system.printed(b()) == Some(0), "B has no lines"),
-    ])
+    see(system.printed(a()) == Some(3), "A has three lines")?;
+    let last = system.console_output(a(), 2);
+    see(
+        last == Some(Response::StoppedDisabledWait),
+        "the last is the stop",
+    )?;
+    see(
+        system.console_output(a(), 3).is_none(),
+        "there is none after it",
+    )?;
+    see(system.printed(b()) == Some(0), "B has no lines")
 }
 
 /// A's first page is lent: what is written to its frame is what A loads, and B's storage stays.
@@ -251,63 +219,29 @@ fn a_lent_frame(system: &mut System) -> Result<()> {
     ];
     type_lines(system, a(), &places)?;
     type_lines(system, b(), &["LOGON", "STORE FFE 99"])?;
-    let pages = [(a(), 1), (a(), 2), (nobody(), 0)];
-    see(
-        !stands_one(system, &pages),
-        "such a page stands in no frame",
-    )?;
+    for (user, page) in [(a(), 1), (a(), 2), (nobody(), 0)] {
+        let frame = system.frame_of(user, Page(page));
+        see(frame.is_none(), "such a page stands in no frame")?;
+    }
     write_to_first_page(system, a(), 0xFFE, 0xEE)?;
     run(system, a(), 1)?;
-    see_all(&[
-        (
-            has_loaded(system, 0xEECD_0000),
-            "A has loaded what was written",
-        ),
-        (has_stored(system, 0xFFE, 0x99), "B has what it stored"),
-    ])
-}
-
-/// Whether one of these pages of users stands in a frame.
-fn stands_one(system: &System, pages: &[(UserNo, u32)]) -> bool {
-    for (user, page) in pages {
-        if system.frame_of(*user, Page(*page)).is_some() {
-            return true;
-        }
-    }
-    false
-}
-
-/// Whether A has this word in its register 1.
-fn has_loaded(system: &System, word: u32) -> bool {
-    match system.registers(a()) {
-        Some([_, general, ..]) => general == word,
-        None => false,
-    }
-}
-
-/// Whether B has this byte at this address, and zeros elsewhere in its storage.
-fn has_stored(system: &System, at: u32, byte: u8) -> bool {
+    let loaded = system.registers(a()).map(|general| general[1]);
+    see(loaded == Some(0xEECD_0000), "A has loaded what was written")?;
     for address in 0..8192 {
-        let wanted = if address == at { byte } else { 0 };
-        if system.storage(b(), address) != Some(wanted) {
-            return false;
-        }
+        let byte = if address == 0xFFE { 0x99 } else { 0 };
+        see(
+            system.storage(b(), address) == Some(byte),
+            "B has what it stored",
+        )?;
     }
-    true
+    Ok(())
 }
 
 /// Writes a byte at this place of a user's first page, in the frame where that stands.
 fn write_to_first_page(system: &mut System, user: UserNo, place: usize, byte: u8) -> Result<()> {
-    let frame = system
-        .frame_of(user, Page(0))
-        .context("the first page stands in no frame")?;
-    set_byte(system, frame, place, byte)?;
-    let past = system.frame_mut(FrameNo(FEWEST_FRAMES as u16));
-    see(past.is_none(), "no frame lies past the last")
-}
-
-/// Sets a byte of a frame.
-fn set_byte(system: &mut System, frame: FrameNo, place: usize, byte: u8) -> Result<()> {
+    let Some(frame) = system.frame_of(user, Page(0)) else {
+        bail!("the first page stands in no frame");
+    };
     match system.frame_mut(frame) {
         Some(bytes) => match bytes.get_mut(place) {
             Some(there) => *there = byte,
@@ -315,7 +249,8 @@ fn set_byte(system: &mut System, frame: FrameNo, place: usize, byte: u8) -> Resu
         },
         None => bail!("the frame is none of the system"),
     }
-    Ok(())
+    let past = system.frame_mut(FrameNo(FEWEST_FRAMES as u16));
+    see(past.is_none(), "no frame lies past the last")
 }
 
 /// A's channel program is to write HELLO; before it is served, the first letter is changed in the frame that is lent.
@@ -332,19 +267,20 @@ fn a_lent_frame_is_written(system: &mut System) -> Result<()> {
     type_lines(system, a(), &places)?;
     run(system, a(), 1)?;
     write_to_first_page(system, a(), 0x840, 0xD1)?;
-    let served = apply(system, Event::Serve(a(), DevAddr::new(0x009)))?;
-    let written = Some(Response::Written(ConsoleLine::of(b"JELLO")));
-    see_all(&[
-        (served == Ended::Served(true), "the console is served"),
-        (
-            system.printed(a()) == Some(6),
-            "the stores and the line are kept",
-        ),
-        (
-            system.console_output(a(), 5) == written,
-            "what was written to the frame is written",
-        ),
-    ])
+    match system.apply(Event::Serve(a(), DevAddr::new(0x009))) {
+        Ok(reply) => see(reply.ended == Ended::Served(true), "the console is served")?,
+        Err(error) => refused(system, error)?,
+    }
+    see(
+        system.printed(a()) == Some(6),
+        "the stores and the line are kept",
+    )?;
+    let line = system.console_output(a(), 5);
+    let wanted = Response::Written(ConsoleLine::of(b"JELLO"));
+    see(
+        line == Some(wanted),
+        "what was written to the frame is written",
+    )
 }
 
 /// Types lines of A, and compares how many pages have come into frames after each.
@@ -382,7 +318,7 @@ fn crowded(alloc: Global) -> Result<System> {
 
 /// Displays the pages 16 to 31 of A, which take all frames; six pages that came before go to slots.
 fn crowd_out(system: &mut System) -> Result<()> {
-    let lines: [(&str, u64); 17] = [
+    let lines = [
         ("DISPLAY 10000", 7),
         ("DISPLAY 11000", 8),
         ("DISPLAY 12000", 9),
@@ -404,259 +340,140 @@ fn crowd_out(system: &mut System) -> Result<()> {
     come(system, &lines)
 }
 
-/// Where a page stands.
-#[derive(Clone, Copy)]
-enum Place {
-    Frame,
-    Slot,
-    Nowhere,
-}
-
-/// Whether a page of A stands there.
-fn stands(system: &System, page: u32, place: Place) -> bool {
-    let has_frame = system.frame_of(a(), Page(page)).is_some();
-    let has_slot = system.slot_of(a(), Page(page)).is_some();
-    match place {
-        Place::Frame => has_frame && !has_slot,
-        Place::Slot => has_slot && !has_frame,
-        Place::Nowhere => !has_frame && !has_slot,
-    }
-}
-
-/// Whether each of these pages of A stands where it has to.
-fn stand(system: &System, places: &[(&[u32], Place)]) -> Result<()> {
-    for (pages, place) in places {
-        see(all_stand(system, pages, *place), "each page stands there")?;
+/// Whether each of these pages of A stands in a frame, or each in a slot, or each nowhere.
+fn stand(system: &System, pages: &[u32], in_frames: bool, in_slots: bool) -> Result<()> {
+    for page in pages {
+        let frame = system.frame_of(a(), Page(*page));
+        let slot = system.slot_of(a(), Page(*page));
+        see(frame.is_some() == in_frames, "a page has a frame, or none")?;
+        see(slot.is_some() == in_slots, "a page has a slot, or none")?;
     }
     Ok(())
 }
 
-/// Whether these pages of A all stand there.
-fn all_stand(system: &System, pages: &[u32], place: Place) -> bool {
-    for page in pages {
-        if !stands(system, *page, place) {
-            return false;
-        }
-    }
-    true
-}
-
-/// What is typed before the move, and how many pages have come after each line.
-const EIGHT_PAGES: [(&str, u64); 8] = [
-    ("LOGON", 0),
-    // EX 0,0(3) in the pages 1 and 2
-    ("STORE 1FFE 44003000", 2),
-    // MVC 0(8,5),0(7) in the pages 3 and 4
-    ("STORE 3FFC D20750007000", 4),
-    // what is moved, in the pages 7 and 8; it goes to the pages 5 and 6
-    ("STORE 7FFC 0102030405060708", 6),
-    ("STORE G3 00003FFC", 6),
-    ("STORE G5 00005FFC", 6),
-    ("STORE G7 00007FFC", 6),
-    ("STORE PSW 00000000 00001FFE", 6),
-];
-
 /// An EX lies across a page end, its target, an MVC, across another, and so do what is moved and where it goes: one
 /// unit brings eight pages, each once, six from slots and two that stood nowhere. Page 0 is not needed.
 fn a_move_of_eight_pages(system: &mut System) -> Result<()> {
-    let before: [(&[u32], Place); 2] = [
-        (&[1, 2, 3, 4, 7, 8], Place::Slot),
-        (&[0, 5, 6], Place::Nowhere),
+    let lines = [
+        ("LOGON", 0),
+        // EX 0,0(3) in the pages 1 and 2
+        ("STORE 1FFE 44003000", 2),
+        // MVC 0(8,5),0(7) in the pages 3 and 4
+        ("STORE 3FFC D20750007000", 4),
+        // what is moved, in the pages 7 and 8; it goes to the pages 5 and 6
+        ("STORE 7FFC 0102030405060708", 6),
+        ("STORE G3 00003FFC", 6),
+        ("STORE G5 00005FFC", 6),
+        ("STORE G7 00007FFC", 6),
+        ("STORE PSW 00000000 00001FFE", 6),
     ];
-    // those that came first were given up
-    let after: [(&[u32], Place); 4] = [
-        (&[1, 2, 3, 4, 5, 6, 7, 8], Place::Frame),
-        (&[16, 17, 18, 19, 20, 21, 22, 23], Place::Slot),
-        (&[24, 25, 26, 27, 28, 29, 30, 31], Place::Frame),
-        (&[0, 9, 15, 32], Place::Nowhere),
-    ];
-    come(system, &EIGHT_PAGES)?;
+    come(system, &lines)?;
     crowd_out(system)?;
-    stand(system, &before)?;
+    stand(system, &[1, 2, 3, 4, 7, 8], false, true)?;
+    stand(system, &[0, 5, 6], false, false)?;
     run(system, a(), 1)?;
     see(system.page_ins() == 30, "the unit has brought eight pages")?;
-    stand(system, &after)?;
-    see(is_moved(system), "each byte is moved")
-}
-
-/// Whether the eight bytes stand where they are moved to.
-fn is_moved(system: &System) -> bool {
+    stand(system, &[1, 2, 3, 4, 5, 6, 7, 8], true, false)?;
+    // those that came first were given up
+    stand(system, &[16, 17, 18, 19, 20, 21, 22, 23], false, true)?;
+    stand(system, &[24, 25, 26, 27, 28, 29, 30, 31], true, false)?;
+    stand(system, &[0, 9, 15, 32], false, false)?;
     for place in 0..8 {
-        if system.storage(a(), 0x5FFC + place) != Some(place as u8 + 1) {
-            return false;
-        }
+        let moved = system.storage(a(), 0x5FFC + place);
+        see(moved == Some(place as u8 + 1), "each byte is moved")?;
     }
-    true
+    Ok(())
 }
-
-/// What is typed before the sum, and how many pages have come after each line.
-const SEVEN_PAGES: [(&str, u64); 8] = [
-    ("LOGON", 0),
-    // EX 0,0(3) in the pages 1 and 2
-    ("STORE 1FFE 44003000", 2),
-    // A 1,0(5) in the pages 3 and 4
-    ("STORE 3FFE 5A105000", 4),
-    // what is added, in the pages 5 and 6
-    ("STORE 5FFE 00000001", 6),
-    ("STORE G1 7FFFFFFF", 6),
-    ("STORE G3 00003FFE", 6),
-    ("STORE G5 00005FFE", 6),
-    ("STORE PSW 00000000 08001FFE", 6),
-];
 
 /// An EX lies across a page end, its target, an A, across another, and its operand across a third; the sum overflows,
 /// so that the unit ends in an interruption, which needs page 0: seven pages.
 fn an_overflow_of_seven_pages(system: &mut System) -> Result<()> {
-    let before: [(&[u32], Place); 2] = [(&[1, 2, 3, 4, 5, 6], Place::Slot), (&[0], Place::Nowhere)];
-    let after: [(&[u32], Place); 3] = [
-        (&[0, 1, 2, 3, 4, 5, 6], Place::Frame),
-        (&[16, 17, 18, 19, 20, 21, 22], Place::Slot),
-        (&[23, 24, 31], Place::Frame),
+    let lines = [
+        ("LOGON", 0),
+        // EX 0,0(3) in the pages 1 and 2
+        ("STORE 1FFE 44003000", 2),
+        // A 1,0(5) in the pages 3 and 4
+        ("STORE 3FFE 5A105000", 4),
+        // what is added, in the pages 5 and 6
+        ("STORE 5FFE 00000001", 6),
+        ("STORE G1 7FFFFFFF", 6),
+        ("STORE G3 00003FFE", 6),
+        ("STORE G5 00005FFE", 6),
+        ("STORE PSW 00000000 08001FFE", 6),
     ];
-    come(system, &SEVEN_PAGES)?;
+    come(system, &lines)?;
     crowd_out(system)?;
-    stand(system, &before)?;
+    stand(system, &[1, 2, 3, 4, 5, 6], false, true)?;
+    stand(system, &[0], false, false)?;
     run(system, a(), 1)?;
     see(system.page_ins() == 29, "the unit has brought seven pages")?;
-    stand(system, &after)?;
+    stand(system, &[0, 1, 2, 3, 4, 5, 6], true, false)?;
+    stand(system, &[16, 17, 18, 19, 20, 21, 22], false, true)?;
+    stand(system, &[23, 24, 31], true, false)?;
     let code = system.storage(a(), 0x2B);
     see(code == Some(8), "the interruption is that of an overflow")
 }
 
 /// How many units a run has done; none where the answer is another.
-fn units_of(answer: Result<Ended, CpError>) -> Option<u32> {
-    match answer {
-        Ok(Ended::Ran(ran)) => Some(ran.units),
+fn units_of(answer: Result<Reply, CpError>) -> Option<u32> {
+    let _device = DevAddr::new(0);
+    let Ok(reply) = answer else {
+        return None;
+    };
+    match reply.ended {
+        Ended::Ran(ran) => Some(ran.units),
         _ => None,
     }
 }
 
-/// What is typed by A, whose machine then loops.
-const LOOP: [&str; 5] = [
-    "LOGON",
-    // L 1,4094 across a page end, and back to it
-    "STORE 100 58100FFE47F00100",
-    // the new PSW for external interruptions, and the external mask of the PSW
-    "STORE 58 0000000000000100",
-    "STORE PSW 01000000 00000100",
-    "BEGIN",
-];
-
-/// What is typed by B, whose machine then stops.
-const STOP: [&str; 3] = ["LOGON", "STORE PSW 00020000 00000000", "BEGIN"];
-
-/// What came of the events for which no memory was granted: whether there was a tick, and the units of the runs.
-#[derive(Clone, Copy)]
-struct Without {
-    has_ticked: bool,
-    units: [Option<u32>; 4],
-}
-
-/// Applies events for which no memory is granted, between the two lines that are printed here.
-fn apply_without<R: Print>(rt: &R, system: &mut System) -> Result<Without> {
-    println!(rt; "refuse")?;
-    let first = applied(system, Event::Run(a(), 10));
-    let tick = applied(system, Event::Tick(a()));
-    let second = applied(system, Event::Run(a(), 10));
-    let stop = applied(system, Event::Run(b(), 5));
-    let stopped = applied(system, Event::Run(b(), 5));
-    println!(rt; "grant")?;
-    Ok(Without {
-        has_ticked: tick.is_ok(),
-        units: [
-            units_of(first),
-            units_of(second),
-            units_of(stop),
-            units_of(stopped),
-        ],
-    })
-}
-
 /// Once machines run, neither runs with their pages and interruptions nor ticks nor the notice of a stop take memory:
-/// `.ci/test-refusals` has none granted to this program.
-fn events_without_memory<R: Print>(rt: &R, system: &mut System) -> Result<()> {
-    type_lines(system, a(), &LOOP)?;
-    type_lines(system, b(), &STOP)?;
-    let done = apply_without(rt, system)?;
-    let stopped = Some(Response::StoppedDisabledWait);
-    see_all(&[
-        (done.has_ticked, "a tick takes no memory"),
-        (
-            done.units == [Some(10), Some(10), Some(0), Some(0)],
-            "a run takes no memory",
-        ),
-        (system.page_ins() == 2, "both pages of A have come"),
-        (
-            has_interrupted(system),
-            "the timer has stepped and interrupted",
-        ),
-        (
-            system.console_output(b(), 1) == stopped,
-            "the notice of the stop is kept",
-        ),
-    ])
-}
-
-/// Whether A's timer, which was zero, has stepped, and interrupted with its code.
-fn has_interrupted(system: &System) -> bool {
-    let bytes = [
+/// between the two lines that are printed here, `.ci/test-refusals` has none granted to this program.
+fn events_without_memory<R: AllocGlobal + Print>(rt: &R) -> Result<()> {
+    let mut system = booted(rt.alloc(), FEWEST_FRAMES)??;
+    let loop_of_a = [
+        "LOGON",
+        // L 1,4094 across a page end, and back to it
+        "STORE 100 58100FFE47F00100",
+        // the new PSW for external interruptions, and the external mask of the PSW
+        "STORE 58 0000000000000100",
+        "STORE PSW 01000000 00000100",
+        "BEGIN",
+    ];
+    type_lines(&mut system, a(), &loop_of_a)?;
+    type_lines(
+        &mut system,
+        b(),
+        &["LOGON", "STORE PSW 00020000 00000000", "BEGIN"],
+    )?;
+    println!(rt; "refuse")?;
+    let first = units_of(system.apply(Event::Run(a(), 10)));
+    let tick = system.apply(Event::Tick(a()));
+    let second = units_of(system.apply(Event::Run(a(), 10)));
+    let stop = units_of(system.apply(Event::Run(b(), 5)));
+    let stopped = units_of(system.apply(Event::Run(b(), 5)));
+    println!(rt; "grant")?;
+    see(tick.is_ok(), "a tick takes no memory")?;
+    for (units, wanted) in [(first, 10), (second, 10), (stop, 0), (stopped, 0)] {
+        see(units == Some(wanted), "a run takes no memory")?;
+    }
+    see(system.page_ins() == 2, "both pages of A have come")?;
+    // the timer, which was zero, and the code of the interruption
+    for (address, byte) in [
         (0x50, 0xFF),
         (0x51, 0xFF),
         (0x52, 0xFF),
         (0x53, 0),
         (0x1B, 0x80),
-    ];
-    for (address, byte) in bytes {
-        if system.storage(a(), address) != Some(byte) {
-            return false;
-        }
+    ] {
+        see(
+            system.storage(a(), address) == Some(byte),
+            "the timer has stepped and interrupted",
+        )?;
     }
-    true
-}
-
-/// What is looked at, each of a system that was just booted.
-#[derive(Clone, Copy)]
-enum Look {
-    Nobody,
-    Lines,
-    LentFrame,
-    WrittenFrame,
-    Pages,
-    EightPages,
-    SevenPages,
-}
-
-/// All that is looked at.
-const LOOKS: [Look; 7] = [
-    Look::Nobody,
-    Look::Lines,
-    Look::LentFrame,
-    Look::WrittenFrame,
-    Look::Pages,
-    Look::EightPages,
-    Look::SevenPages,
-];
-
-/// The system that is looked at.
-fn system_for(alloc: Global, look: Look) -> Result<System> {
-    match look {
-        Look::EightPages | Look::SevenPages => crowded(alloc),
-        Look::WrittenFrame => Ok(boot_of(alloc, CONSOLE, Vec::new(alloc), FEWEST_FRAMES)??),
-        _ => two_users(alloc),
-    }
-}
-
-/// Looks at it.
-fn look_at(system: &mut System, look: Look) -> Result<()> {
-    match look {
-        Look::Nobody => machine_of_nobody(system),
-        Look::Lines => kept_lines(system),
-        Look::LentFrame => a_lent_frame(system),
-        Look::WrittenFrame => a_lent_frame_is_written(system),
-        Look::Pages => pages_that_came(system),
-        Look::EightPages => a_move_of_eight_pages(system),
-        Look::SevenPages => an_overflow_of_seven_pages(system),
-    }
+    see(
+        system.console_output(b(), 1) == Some(Response::StoppedDisabledWait),
+        "the notice of the stop is kept",
+    )
 }
 
 /// Looks at all of it, or fails at the first thing that is otherwise, and tells it.
@@ -664,10 +481,14 @@ pub fn look_at_all<R: AllocGlobal + Print>(rt: &R) -> Result<()> {
     let alloc = rt.alloc();
     too_few_frames(alloc)?;
     volumes_that_lack(alloc)?;
-    for look in LOOKS {
-        look_at(&mut system_for(alloc, look)?, look)?;
-    }
-    events_without_memory(rt, &mut two_users(alloc)?)?;
+    machine_of_nobody(&mut booted(alloc, FEWEST_FRAMES)??)?;
+    kept_lines(&mut booted(alloc, FEWEST_FRAMES)??)?;
+    a_lent_frame(&mut booted(alloc, FEWEST_FRAMES)??)?;
+    a_lent_frame_is_written(&mut boot_of(alloc, CONSOLE, Vec::new(alloc), FEWEST_FRAMES)??)?;
+    pages_that_came(&mut booted(alloc, FEWEST_FRAMES)??)?;
+    a_move_of_eight_pages(&mut crowded(alloc)?)?;
+    an_overflow_of_seven_pages(&mut crowded(alloc)?)?;
+    events_without_memory(rt)?;
     println!(rt;
         "frames, nobody, lines, a lent frame, pages and events without memory are as they have to be"
     )?;
