@@ -63,10 +63,10 @@ LoadsDisk old disks index ending new disks' = LoadsAt old disks index (slice_get
 
 -- ---- why a program is not run to its end
 
--- what holds where a page of storage is not present, which is told, and not where memory was refused
-abbrev pub WhereAbsent : ℕ → (ℕ → Bool) → Type 0 → ChannelError → Type 0
-WhereAbsent size present P errors.Memory = Unit {0}
-WhereAbsent size present P (errors.Absent page) = IsAway size present page.0 × P
+-- what holds where a page of storage is not present that is needed, which is told, and not where memory was refused
+abbrev pub WhereAbsent : ℕ → (ℕ → Bool) → (ℕ → Type 0) → Type 0 → ChannelError → Type 0
+WhereAbsent size present Needs P errors.Memory = Unit {0}
+WhereAbsent size present Needs P (errors.Absent page) = IsAway size present page.0 × Needs page.0 × P
 
 -- a device that is never refused memory stops for want of a page alone
 abbrev pub StopsForPage : {D : Type 0} → Machine D → (ℕ → Bool) → Caw → Memory → D → ChannelError → Type 0

@@ -1,7 +1,7 @@
 //! Who runs the programs of a machine's devices, and has its disks.
-ghost use Rattle.std.specs.Prelude.{◌≡◌, ◌<◌, Bool, true, false, List, length, map, slice_get, IfErr, IfOk, IfSome};
+ghost use Rattle.std.specs.Prelude.{◌≡◌, ◌<◌, ℕ, Bool, true, false, List, length, map, slice_get, IfErr, IfOk, IfSome};
 ghost use Rattle.std.specs.List.{position};
-ghost use Rattle.s370_walk.specs.Hardware.{memory_of};
+ghost use Rattle.s370_walk.specs.Hardware.{Memory, memory_of};
 ghost use Rattle.s370_channel.specs.Reading.{Reading};
 ghost use Rattle.s370_channel.specs.Runs.{IsStopped, TellsAway, Walks};
 ghost use Rattle.cp_channels.specs.Channels.{IsAllThere, LacksPage, LoadsDisk, StopsDisk, WalksDisk, WhereAbsent};
@@ -50,6 +50,9 @@ pub trait Channels<S: Storage>: Disks {
     /// Where it is not so, a program stops at the step that needs the page.
     ghost is_whole: { Bool };
 
+    /// Which pages a program that is run as a whole needs, that begins at an address of this storage.
+    ghost needs: { Memory → ℕ → ℕ → Type 0 };
+
     /// Runs the program with this start, for a device that is no disk. An error is told only where the program comes to
     /// a command that needs memory, or a page is not present that the program names.
     fn run<D: Device>(
@@ -69,6 +72,7 @@ pub trait Channels<S: Storage>: Disks {
             (memory_of (S.bytes storage.old) (S.keys storage.old)) device.old) }
         ensures whole { is_whole ≡ true
             → IfErr result (WhereAbsent (length (S.bytes storage.old)) (S.present storage.old)
+            (needs (memory_of (S.bytes storage.old) (S.keys storage.old)) start.address)
             ((S.bytes storage.new ≡ S.bytes storage.old) × (device.new ≡ device.old)
             × (Self.disks self.new ≡ Self.disks self.old))) }
         ensures others { Self.KeepsOthers self.old self.new }
@@ -92,6 +96,7 @@ pub trait Channels<S: Storage>: Disks {
             (memory_of (S.bytes storage.old) (S.keys storage.old)) (slice_get (Self.disks self.old) index)) }
         ensures whole { is_whole ≡ true
             → IfErr result (WhereAbsent (length (S.bytes storage.old)) (S.present storage.old)
+            (needs (memory_of (S.bytes storage.old) (S.keys storage.old)) start.address)
             ((S.bytes storage.new ≡ S.bytes storage.old) × (Self.disks self.new ≡ Self.disks self.old))) }
         ensures others { Self.KeepsOthers self.old self.new }
         ensures keys { S.keys storage.new ≡ S.keys storage.old }

@@ -87,6 +87,8 @@ impl<S: Storage> Channels<S> for Own {
 
     ghost is_whole = { false };
 
+    ghost needs = { λ _ _ _. Unit {0} };
+
     fn run<D: Device>(
         &mut self,
         storage: &mut S,

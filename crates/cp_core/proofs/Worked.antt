@@ -29,7 +29,7 @@ use Rattle.cp_devices.specs.Serve.{IsServedAt, RunsKind, Serves}
 use Rattle.cp_devices.specs.World.{World}
 use Rattle.cp_core.specs.Supply.{IsGivenBack, IsShort}
 use Rattle.cp_core.specs.Typed.{IsLineLent}
-use Rattle.cp_core.specs.Wants.{LineMay, LineWants, ProgramNeeds, is_ipl}
+use Rattle.cp_core.specs.Wants.{DeviceNeeds, LineMay, LineWants, LoadNeeds, is_ipl}
 use Rattle.cp_core.specs.Work.{HasServed, HasTyped, LineGivesBack, LineLeaves, ServeLeaves}
 use Rattle.cp_core.proofs.Switches.{all_loaded, all_wanted, any_wanted, switch_no_ipl, wanted}
 use Rattle.cp_core.proofs.Kept.{either, given_back, given_for, lengths_left, line_short, marks_left, short_of}
@@ -57,8 +57,8 @@ plainly_lent typed before old between r frames cleared not_cleared supply = reco
 pub loading_lent : (typed : List ℕ) (before : Equipped) (old middle between : Dat) (r : Result Told LineError) → is_ipl (requested typed before) ≡ true
     → (switches typed before.machine ≡ false → (pages : List ℕ) × Supplied old pages middle × AllNeeded (Touches (line_needs typed before.machine)) pages)
     → length (lent_bytes middle) ≡ length before.machine.core.processor.bytes
-    → (r ≡ Err errors.FramesOut → IsLacking ProgramNeeds (length (lent_bytes middle)) (λ page. IsRefused (lent_pool between).supply (user_of between) page))
-    → ((pages : List ℕ) × Supplied middle pages between × AllNeeded ProgramNeeds pages)
+    → (r ≡ Err errors.FramesOut → IsLacking LoadNeeds (length (lent_bytes middle)) (λ page. IsRefused (lent_pool between).supply (user_of between) page))
+    → ((pages : List ℕ) × Supplied middle pages between × AllNeeded LoadNeeds pages)
     → IsLineLent typed before old between r
 loading_lent typed before old middle between r ipl supply size frames brought = record {
   frames = λ failed. (let l = frames failed in record { page = l.page; inside = subst (λ (n : ℕ). l.page * 4096 < n) size l.inside; needed = any_wanted typed before l.page ipl; short = l.short });
@@ -139,7 +139,7 @@ typed_work world user typed before after old between new r u rest h taken ok out
 
 serve_leaves : (device user : ℕ) (before after : Equipped) (r : Result Bool LineError) (supply : FrameSupply)
     → IfOk r (λ done. IsServedAt as_reached device before done after) → (r ≡ Err errors.FramesOut → after ≡ before)
-    → (r ≡ Err errors.FramesOut → IsLacking ProgramNeeds (length before.machine.core.processor.bytes) (IsShort supply user ProgramNeeds))
+    → (r ≡ Err errors.FramesOut → IsLacking (DeviceNeeds device before) (length before.machine.core.processor.bytes) (IsShort supply user (DeviceNeeds device before)))
     → (r ≡ Err errors.Memory → IsSome (program_of device before.machine.core.subchannels))
     → ServeLeaves device user before r after supply
 serve_leaves device user before after (Ok done) supply ok same frames memory = ok
@@ -154,21 +154,21 @@ serve_between old between new pages rest brought taken =
     between_again (lent_pool old).supply (lent_pool between).supply (lent_pool new).supply rest brought.paged.same_frames brought.paged.same_marks taken.supply
 
 pub serve_work : (device user : ℕ) (before after : Equipped) (old between new : Dat) (r : Result Bool LineError) (pages : List ℕ)
-    → user_of old ≡ user → IsBetweenUnits (lent_pool old).supply → Supplied old pages between → AllNeeded ProgramNeeds pages → TakesPins between new
+    → user_of old ≡ user → IsBetweenUnits (lent_pool old).supply → Supplied old pages between → AllNeeded (DeviceNeeds device before) pages → TakesPins between new
     → IfOk r (λ done. IsServedAt as_reached device before done after) → (r ≡ Err errors.FramesOut → after ≡ before)
-    → (r ≡ Err errors.FramesOut → IsLacking ProgramNeeds (length before.machine.core.processor.bytes) (λ page. IsRefused (lent_pool between).supply (user_of between) page))
+    → (r ≡ Err errors.FramesOut → IsLacking (DeviceNeeds device before) (length before.machine.core.processor.bytes) (λ page. IsRefused (lent_pool between).supply (user_of between) page))
     → (r ≡ Err errors.Memory → IsSome (program_of device before.machine.core.subchannels))
     → HasServed device user before (lent_pool old).supply r after (lent_pool new).supply
 serve_work device user before after old between new r pages u rest brought all taken ok same frames memory =
     let paged : IsPagedFor user pages (lent_pool old).supply (lent_pool between).supply =
     subst (λ (n : ℕ). IsPagedFor n pages (lent_pool old).supply (lent_pool between).supply) u brought.paged in
-    let lacking : r ≡ Err errors.FramesOut → IsLacking ProgramNeeds (length before.machine.core.processor.bytes) (IsShort (lent_pool new).supply user ProgramNeeds) =
+    let lacking : r ≡ Err errors.FramesOut → IsLacking (DeviceNeeds device before) (length before.machine.core.processor.bytes) (IsShort (lent_pool new).supply user (DeviceNeeds device before)) =
     λ failed. (let l = frames failed in
     record {
       page = l.page;
       inside = l.inside;
       needed = l.needed;
-      short = short_of user l.page pages ProgramNeeds (lent_pool old).supply (lent_pool between).supply (lent_pool new).supply rest paged all taken.supply (subst (λ (n : ℕ). IsRefused (lent_pool between).supply n l.page) (brought.kept.same_user ∙ u) l.short);
+      short = short_of user l.page pages (DeviceNeeds device before) (lent_pool old).supply (lent_pool between).supply (lent_pool new).supply rest paged all taken.supply (subst (λ (n : ℕ). IsRefused (lent_pool between).supply n l.page) (brought.kept.same_user ∙ u) l.short);
     }) in
     record {
       leaves = serve_leaves device user before after r (lent_pool new).supply ok same lacking memory;

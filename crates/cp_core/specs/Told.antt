@@ -19,7 +19,7 @@ use Rattle.cp_core.specs.Events.{user_of}
 use Rattle.cp_core.specs.Files.{closed_by, next_file}
 use Rattle.cp_core.specs.Local.{Step}
 use Rattle.cp_core.specs.Supply.{IsShort}
-use Rattle.cp_core.specs.Wants.{LineWants, ProgramNeeds}
+use Rattle.cp_core.specs.Wants.{DeviceNeeds, LineWants}
 use Rattle.cp_core.specs.System.{SystemView, deliveries_at, machine_at, user_at, world_of}
 use Rattle.cp_core.specs.declared.delivery.Delivered.{Delivered}
 use Rattle.cp_core.specs.declared.delivery.Delivery.{Delivery}
@@ -133,7 +133,8 @@ abbrev pub TellsOfServe : ℕ → ℕ → SystemView → Reply → Ended → Sys
 TellsOfServe user device old reply (Served done) new =
     IsServedAt as_reached device (user_at old user) done (user_at new user) × (reply.said ≡ Silent) × (reply.delivered ≡ None)
 TellsOfServe user device old reply FramesOut new =
-    IsOut ProgramNeeds (length (machine_at old user).core.processor.bytes) old reply new (IsShort new.supply user ProgramNeeds)
+    let needs = DeviceNeeds device (user_at old user) in
+    IsOut needs (length (machine_at old user).core.processor.bytes) old reply new (IsShort new.supply user needs)
 TellsOfServe user device old reply Done new = ⊥
 TellsOfServe user device old reply (Ran ran) new = ⊥
 

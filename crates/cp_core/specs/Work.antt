@@ -20,7 +20,7 @@ use Rattle.cp_devices.specs.Lines.{IsWholeLine, requested}
 use Rattle.cp_devices.specs.Serve.{IsServedAt}
 use Rattle.cp_devices.specs.World.{World}
 use Rattle.cp_core.specs.Supply.{IsGivenBack, IsShort}
-use Rattle.cp_core.specs.Wants.{LineMay, LineWants, ProgramNeeds, is_ipl}
+use Rattle.cp_core.specs.Wants.{DeviceNeeds, LineMay, LineWants, is_ipl}
 
 -- ---- a run
 
@@ -68,9 +68,9 @@ abbrev pub ServeLeaves : ℕ → ℕ → Equipped → Result Bool LineError → 
 ServeLeaves device user old (Ok done) new after = IsServedAt as_reached device old done new
 ServeLeaves device user old (Err errors.Memory) new after = IsSome (program_of device old.machine.core.subchannels)
 ServeLeaves device user old (Err errors.FramesOut) new after =
-    (new ≡ old) × IsLacking ProgramNeeds (length old.machine.core.processor.bytes) (IsShort after user ProgramNeeds)
+    (new ≡ old) × IsLacking (DeviceNeeds device old) (length old.machine.core.processor.bytes) (IsShort after user (DeviceNeeds device old))
 
 -- it brings pages of the program
 pub record HasServed (device user : ℕ) (old : Equipped) (before : FrameSupply) (result : Result Bool LineError) (new : Equipped) (after : FrameSupply) : Type 0 where
   pub leaves : ServeLeaves device user old result new after
-  pub brought : (pages : List ℕ) × IsBroughtInUnits user (pages ∷ []) before after × AllNeeded ProgramNeeds pages
+  pub brought : (pages : List ℕ) × IsBroughtInUnits user (pages ∷ []) before after × AllNeeded (DeviceNeeds device old) pages

@@ -10,6 +10,7 @@ ghost use Rattle.cp_needs.specs.Needs.{IsFixed, IsHeld};
 ghost use Rattle.cp_needs.specs.Told.{IfFixed, IfPage, IfWhole};
 ghost use Rattle.cp_needs.specs.Words.{IsEnough};
 ghost use Rattle.cp_core.specs.Resident.{IsResident};
+ghost use Rattle.cp_core.specs.Wants.{ProgramNeeds};
 
 use cp_ccw::run_fixed;
 use cp_channels::{Channels, Disks};
@@ -91,10 +92,13 @@ impl Disks for Resident {
 impl<'a> Channels<Dat<'a>> for Resident {
     ghost use Rattle.std.specs.Prelude.{true};
     ghost use Rattle.s370_channel.specs.Reading.{as_reached};
+    ghost use Rattle.cp_core.specs.Wants.{ProgramNeeds};
 
     ghost reads = { as_reached };
 
     ghost is_whole = { true };
+
+    ghost needs = { ProgramNeeds };
 
     fn run<D: Device>(
         &mut self,
@@ -133,6 +137,8 @@ impl<'a> Channels<Dat<'a>> for Resident {
 fn needed_at(alloc: Global, storage: &Dat<'_>, address: u32) -> Result<Wanted, AllocError>
     ensures away { IfOk result
         (λ told. IfPage told (IsAway (length (lent_bytes storage.now)) (is_lent_page storage.now))) }
+    ensures needed { IfOk result
+        (λ told. IfPage told (ProgramNeeds (memory_of (lent_bytes storage.now) (lent_keys storage.now)) address)) }
     ensures fixed { IfOk result
         (λ told. IfFixed told (IsFixed (memory_of (lent_bytes storage.now) (lent_keys storage.now)) address
         × IsHeld (memory_of (lent_bytes storage.now) (lent_keys storage.now)) address (is_lent_page storage.now))) }
@@ -154,6 +160,8 @@ fn needed_at(alloc: Global, storage: &Dat<'_>, address: u32) -> Result<Wanted, A
 fn wanted_page(alloc: Global, storage: &Dat<'_>, address: u32) -> Result<Option<Page>, AllocError>
     ensures away { IfOk result (λ found. IfSome found
         (λ page. IsAway (length (lent_bytes storage.now)) (is_lent_page storage.now) page.0)) }
+    ensures needed { IfOk result (λ found. IfSome found
+        (λ page. ProgramNeeds (memory_of (lent_bytes storage.now) (lent_keys storage.now)) address page.0)) }
     ensures enough { IfOk result (λ found. IfNone found
         (IsEnough (memory_of (lent_bytes storage.now) (lent_keys storage.now)) (is_lent_page storage.now) address)) }
 {

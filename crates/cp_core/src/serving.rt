@@ -3,7 +3,7 @@ ghost use Rattle.std.specs.Prelude.{◌≡◌, ◌≤◌, ℕ, Err, IfOk, IsSome
 ghost use Rattle.s370_intr.specs.Run.{AllNeeded, IsLacking};
 ghost use Rattle.s370_subchannels.specs.Programs.{program_of};
 ghost use Rattle.cp_devices.specs.Equipped.{equipped};
-ghost use Rattle.cp_devices.specs.Serve.{IsServedAt};
+ghost use Rattle.cp_devices.specs.Serve.{IsServedAt, ServeNeeds};
 ghost use Rattle.cp_panel.specs.declared.line.LineError.TheVariants as errors;
 ghost use Rattle.cp_frames.specs.Paging.{IsRefused};
 ghost use Rattle.cp_dat.specs.Lent.{is_lent_page, lent_bytes, lent_keys, lent_pool, user_of};
@@ -11,7 +11,7 @@ ghost use Rattle.cp_dat.specs.Supplied.{Supplied};
 ghost use Rattle.cp_devices.specs.Lines.{IsIpl, IsWholeLine, requested};
 ghost use Rattle.cp_core.specs.Resident.{IsResident, KeepsHung, disks_on};
 ghost use Rattle.cp_core.specs.Typed.{IsLineLent};
-ghost use Rattle.cp_core.specs.Wants.{LineMay, ProgramNeeds, is_ipl};
+ghost use Rattle.cp_core.specs.Wants.{LineMay, LoadNeeds, is_ipl};
 
 use crate::resident::{Resident, absent_page};
 use cp_channels::Channels;
@@ -43,10 +43,14 @@ pub(crate) fn serve_supplied<S: Supply, C: Channels<S>>(
         let after = equipped machine.new devices.new (C.Disks.disks channels.new) (S.Storage.bytes storage.new)
         (S.Storage.keys storage.new) in
         result ≡ Err errors.FramesOut → after ≡ before }
-    ensures frames { result ≡ Err errors.FramesOut
-        → IsLacking ProgramNeeds (length (S.Storage.bytes storage.old)) (S.IsShort storage.new) }
+    ensures frames { let before = equipped machine.old devices.old (C.Disks.disks channels.old)
+        (S.Storage.bytes storage.old) (S.Storage.keys storage.old) in
+        result ≡ Err errors.FramesOut
+        → IsLacking (ServeNeeds C.needs device before) (length (S.Storage.bytes storage.old)) (S.IsShort storage.new) }
     ensures memory { result ≡ Err errors.Memory → IsSome (program_of device machine.old.subchannels) }
-    ensures supply { (pages : List ℕ) × S.Brought storage.old pages storage.new × AllNeeded ProgramNeeds pages }
+    ensures supply { let before = equipped machine.old devices.old (C.Disks.disks channels.old)
+        (S.Storage.bytes storage.old) (S.Storage.keys storage.old) in
+        (pages : List ℕ) × S.Brought storage.old pages storage.new × AllNeeded (ServeNeeds C.needs device before) pages }
     ensures size { length (S.Storage.bytes storage.new) ≡ length (S.Storage.bytes storage.old) }
     ensures others { C.Disks.KeepsOthers channels.old channels.new }
 {
@@ -130,9 +134,9 @@ fn load_supplied(
         (lent_keys storage.new) in
         result ≡ Err errors.FramesOut → after ≡ before }
     ensures frames { result ≡ Err errors.FramesOut
-        → IsLacking ProgramNeeds (length (lent_bytes storage.old))
+        → IsLacking LoadNeeds (length (lent_bytes storage.old))
         (λ page. IsRefused (lent_pool storage.new).supply (user_of storage.new) page) }
-    ensures supply { (pages : List ℕ) × Supplied storage.old pages storage.new × AllNeeded ProgramNeeds pages }
+    ensures supply { (pages : List ℕ) × Supplied storage.old pages storage.new × AllNeeded LoadNeeds pages }
     ensures size { length (lent_bytes storage.new) ≡ length (lent_bytes storage.old) }
     ensures others { KeepsHung channels.old channels.new }
 {
@@ -156,9 +160,9 @@ fn load_supplied(
 /// Brings each page of a storage that stands in no frame.
 fn bring_all(storage: &mut Dat<'_>) -> Result<(), FramesOut>
     ensures resident { OnOk result (IsResident (length (lent_bytes storage.new)) (is_lent_page storage.new)) }
-    ensures short { OnErr result (IsLacking ProgramNeeds (length (lent_bytes storage.old))
+    ensures short { OnErr result (IsLacking LoadNeeds (length (lent_bytes storage.old))
         (λ page. IsRefused (lent_pool storage.new).supply (user_of storage.new) page)) }
-    ensures supply { (pages : List ℕ) × Supplied storage.old pages storage.new × AllNeeded ProgramNeeds pages }
+    ensures supply { (pages : List ℕ) × Supplied storage.old pages storage.new × AllNeeded LoadNeeds pages }
     ensures bytes { lent_bytes storage.new ≡ lent_bytes storage.old }
     ensures keys { lent_keys storage.new ≡ lent_keys storage.old }
 {

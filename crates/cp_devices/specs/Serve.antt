@@ -5,7 +5,7 @@ use Rattle.unit_record.specs.Reader.{reader_machine}
 use Rattle.unit_record.specs.Punch.{punch_machine}
 use Rattle.unit_record.specs.Printer.{printer_machine}
 use Rattle.s370_walk.specs.declared.parts.Ending.{Ending}
-use Rattle.s370_walk.specs.Hardware.{Machine as Device}
+use Rattle.s370_walk.specs.Hardware.{Machine as Device, Memory}
 use Rattle.s370_channel.specs.declared.words.Caw.{Caw}
 use Rattle.s370_channel.specs.Reading.{Reading}
 use Rattle.s370_channel.specs.Runs.{Walks}
@@ -31,6 +31,14 @@ program_over device key ending m bytes =
 abbrev pub console_over : ℕ → ℕ → Ending → ConsoleState → Machine → List ℕ → Machine
 console_over device key ending console m bytes =
     with_lines (with_subchannels (with_bytes m bytes) (program_ended device key ending (with_attention device (wants_attention console) m.core.subchannels))) console.lines
+
+-- which pages the program needs that was started on a device, by what a program needs that begins at an address of a storage
+abbrev pub StartNeeds : (Memory → ℕ → ℕ → Type 0) → Memory → Option Caw → ℕ → Type 0
+StartNeeds needs m None page = ⊥
+StartNeeds needs m (Some start) page = needs m start.address page
+
+abbrev pub ServeNeeds : (Memory → ℕ → ℕ → Type 0) → ℕ → Equipped → ℕ → Type 0
+ServeNeeds needs device e page = StartNeeds needs (storage_in e.machine) (program_of device e.machine.core.subchannels) page
 
 -- programs are read so
 module _ (reads : Reading) where

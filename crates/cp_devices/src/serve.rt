@@ -1,10 +1,11 @@
 //! The devices of a machine are served.
 ghost use Rattle.std.specs.Prelude.{◌≡◌, ◌<◌, ◌++◌, false, true, IfErr, IfOk, OnErr, OnOk, length};
 ghost use Rattle.s370_channel.specs.Runs.{TellsAway};
+ghost use Rattle.s370_walk.specs.Hardware.{memory_of};
 ghost use Rattle.cp_channels.specs.Channels.{WhereAbsent};
 ghost use Rattle.cp_devices.specs.Devices.{IsAttached};
 ghost use Rattle.cp_devices.specs.Equipped.{equipped};
-ghost use Rattle.cp_devices.specs.Serve.{IsServedAt, RunsConsole, RunsKind};
+ghost use Rattle.cp_devices.specs.Serve.{IsServedAt, RunsConsole, RunsKind, ServeNeeds};
 ghost use Rattle.cp_devices.specs.Stopped.{StopsAt, StopsConsole, StopsKind};
 
 use crate::devices::Devices;
@@ -41,7 +42,8 @@ impl Devices {
             let after = equipped machine.new self.new (C.disks channels.new) (S.bytes storage.new)
             (S.keys storage.new) in
             C.is_whole ≡ true
-            → IfErr result (WhereAbsent (length (S.bytes storage.old)) (S.present storage.old) (after ≡ before)) }
+            → IfErr result (WhereAbsent (length (S.bytes storage.old)) (S.present storage.old)
+            (ServeNeeds C.needs device before) (after ≡ before)) }
         ensures stopped { let before = equipped machine.old self.old (C.disks channels.old) (S.bytes storage.old)
             (S.keys storage.old) in
             C.is_whole ≡ false → IfErr result (StopsAt C.reads (S.present storage.old) device before) }
@@ -83,7 +85,8 @@ impl Devices {
             let after = equipped machine.new self.new (C.disks channels.new) (S.bytes storage.new)
             (S.keys storage.new) in
             C.is_whole ≡ true
-            → IfErr result (WhereAbsent (length (S.bytes storage.old)) (S.present storage.old) (after ≡ before)) }
+            → IfErr result (WhereAbsent (length (S.bytes storage.old)) (S.present storage.old)
+            (C.needs (memory_of (S.bytes storage.old) (S.keys storage.old)) start.address) (after ≡ before)) }
         ensures stopped { let before = equipped machine.old self.old (C.disks channels.old) (S.bytes storage.old)
             (S.keys storage.old) in
             C.is_whole ≡ false → IfErr result (StopsKind C.reads (S.present storage.old) kind start before) }
@@ -128,7 +131,8 @@ impl Devices {
             let after = equipped machine.new self.new (C.disks channels.new) (S.bytes storage.new)
             (S.keys storage.new) in
             C.is_whole ≡ true
-            → IfErr result (WhereAbsent (length (S.bytes storage.old)) (S.present storage.old) (after ≡ before)) }
+            → IfErr result (WhereAbsent (length (S.bytes storage.old)) (S.present storage.old)
+            (C.needs (memory_of (S.bytes storage.old) (S.keys storage.old)) start.address) (after ≡ before)) }
         ensures stopped { let before = equipped machine.old self.old (C.disks channels.old) (S.bytes storage.old)
             (S.keys storage.old) in
             C.is_whole ≡ false → IfErr result (StopsConsole C.reads (S.present storage.old) start before) }

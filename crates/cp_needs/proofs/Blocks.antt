@@ -71,7 +71,7 @@ none_some r None e f = cc
 none_some r (Some x) e f = cc
 
 -- no byte within a block begins one
-within_block : (list : ℕ → Option ℕ) (k a i : ℕ) → byte_place list k ≡ Some a → a % 2048 + suc i < 2048 → a < 2 ^ 32 → IsBegun list (k + suc i) → ⊥
+pub within_block : (list : ℕ → Option ℕ) (k a i : ℕ) → byte_place list k ≡ Some a → a % 2048 + suc i < 2048 → a < 2 ^ 32 → IsBegun list (k + suc i) → ⊥
 within_block list k a i at inside low begun = by_before begun.before begun.is begun.begins
   where
     by_before : (before : Option ℕ) → IsBefore list (k + suc i) before → begins_block before ≡ true → ⊥
@@ -84,7 +84,7 @@ within_block list k a i at inside low begun = by_before begun.before begun.is be
         omega (arith, b_is, ends, inside)
 
 -- nor one past the end of the list
-past_list : (list : ℕ → Option ℕ) (k i : ℕ) → byte_place list k ≡ None → IsBegun list (k + suc i) → ⊥
+pub past_list : (list : ℕ → Option ℕ) (k i : ℕ) → byte_place list k ≡ None → IsBegun list (k + suc i) → ⊥
 past_list list k i at begun = by_before begun.before begun.is begun.begins
   where
     by_before : (before : Option ℕ) → IsBefore list (k + suc i) before → begins_block before ≡ true → ⊥
@@ -156,7 +156,7 @@ done_past m w present n most done begun said listed =
 
 -- ---- Pages
 
-on_word : (w : Word) → has_area w ≡ true → is_indirect w ≡ true → w.address % 4 ≡ 0
+pub on_word : (w : Word) → has_area w ≡ true → is_indirect w ≡ true → w.address % 4 ≡ 0
 on_word w has listed = by_test (is_jump w) (w.address % 4 == 0) refl (rw listed at has)
   where
     by_test : (jumps even : Bool) → (w.address % 4 == 0) ≡ even → not jumps && not (true && not even) ≡ true → w.address % 4 ≡ 0

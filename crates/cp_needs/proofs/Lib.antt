@@ -3,7 +3,8 @@ pub mod Walking
 pub mod Finding
 pub mod Blocks
 pub mod Programs
+pub mod Noting
+pub mod Meeting
 pub mod Clearing
-pub mod Lists
 pub mod Sizes
 pub mod Enough

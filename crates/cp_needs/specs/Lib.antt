@@ -1,6 +1,6 @@
 pub mod Areas
 pub mod Needs
 pub mod Words
-pub mod Fixed
+pub mod Noted
 pub mod Laws
 pub mod Told

@@ -2,7 +2,7 @@
 use Rattle.std.specs.Prelude.{ℕ, ◌*◌, ◌/◌, ◌%◌, ◌<◌, ◌≡◌, ◌≢◌, ◌⊎◌, Bool, true, List, [], ◌∷◌, ◌++◌, length, slice_index, Some}
 use Rattle.cp_graph.specs.Table.{leads_next, leads_skipped}
 use Rattle.cp_needs.specs.Areas.{IsAreaByte, IsListByte}
-use Rattle.cp_needs.specs.Needs.{IsDataByte, IsFixed, IsHeld, IsProgramPage, IsReached, IsTextByte}
+use Rattle.cp_needs.specs.Needs.{IsClash, IsDataByte, IsFixed, IsHeld, IsProgramPage, IsReached, IsTextByte}
 use Rattle.s370_channel.specs.Guest.{guest_text}
 use Rattle.s370_walk.specs.declared.parts.Word.{Word}
 use Rattle.s370_walk.specs.Hardware.{Memory}
@@ -54,9 +54,9 @@ pub record AreWords (m : Memory) (start : ℕ) (words : List ℕ) : Type 0 where
   pub reached : (i : ℕ) → i < length words → IsReached m start (slice_index words i)
   pub all : (address : ℕ) → IsReached m start address → address / 4096 * 4096 < length m.bytes → IsAmong words address
 
--- the page is one that the program needs, or all of those are present
-abbrev pub IsNeeded : Memory → (ℕ → Bool) → ℕ → ℕ → Type 0
-IsNeeded m present start page = IsProgramPage m start page ⊎ IsHeld m start present
+-- the page is one that the program needs; or an input could change one of its words or lists, so that any page may be one
+abbrev pub IsNeeded : Memory → ℕ → ℕ → Type 0
+IsNeeded m start page = IsProgramPage m start page ⊎ IsClash m start
 
 -- the pages of a program that is fixed are present, or all pages are
 abbrev pub IsEnough : Memory → (ℕ → Bool) → ℕ → Type 0

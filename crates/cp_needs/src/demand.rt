@@ -6,7 +6,8 @@ ghost use Rattle.cp_needs.specs.Words.{IsHere, IsNeeded};
 ghost use Rattle.s370_store.specs.Access.{IsAway};
 ghost use Rattle.s370_walk.specs.Hardware.{memory_of};
 
-use crate::fixed::are_fixed;
+use crate::fixed::meet;
+use crate::notes::notes_of;
 use crate::pages::absent_at;
 use crate::words::words_of;
 use s370_store::{PAGE_SIZE, Page, Storage};
@@ -32,8 +33,8 @@ fn first_absent<S: Storage>(storage: &S) -> Option<Page>
 /// What has to be so before a program can run.
 #[derive(Clone, Copy, Debug, PartialEq, Eq)]
 pub enum Wanted {
-    /// A page is not present that it needs; or it is not known that no input can change its words, and a page of the
-    /// storage is not present.
+    /// A page is not present that it needs; or an input could change one of its words or lists, and a page of the storage
+    /// is not present.
     Page(Page),
     /// Nothing: the pages that it needs are present, and no input can change one of its words or lists.
     Fixed,
@@ -48,7 +49,7 @@ pub fn needed<S: Storage>(alloc: Global, storage: &S, start: u32) -> Result<Want
         (λ told. IfPage told (IsAway (length (S.bytes storage.now)) (S.present storage.now))) }
     ensures needed { IfOk result
         (λ told. IfPage told
-        (IsNeeded (memory_of (S.bytes storage.now) (S.keys storage.now)) (S.present storage.now) start)) }
+        (IsNeeded (memory_of (S.bytes storage.now) (S.keys storage.now)) start)) }
     ensures fixed { IfOk result
         (λ told. IfFixed told (IsFixed (memory_of (S.bytes storage.now) (S.keys storage.now)) start
         × IsHeld (memory_of (S.bytes storage.now) (S.keys storage.now)) start (S.present storage.now))) }
@@ -60,7 +61,9 @@ pub fn needed<S: Storage>(alloc: Global, storage: &S, start: u32) -> Result<Want
         Ok(words) => words,
         Err(page) => return Ok(Wanted::Page(page)),
     };
-    if are_fixed(storage, &words) {
+    let mut notes = notes_of(alloc, storage, &words)?;
+    notes.text.sort_unstable();
+    if !meet(&notes.text, &notes.filled, storage.size()) {
         return Ok(Wanted::Fixed);
     }
     match first_absent(storage) {

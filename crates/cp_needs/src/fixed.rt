@@ -1,155 +1,67 @@
-//! Programs no input of which can change one of their own words or lists.
-ghost use Rattle.std.specs.Prelude.{◌≡◌, ◌≤◌, ◌<◌, ◌+◌, ◌*◌, ◌/◌, ◌%◌, false, length, slice_index, true, ℕ};
-ghost use Rattle.cp_needs.specs.Areas.{IsAreaByte};
-ghost use Rattle.cp_needs.specs.Fixed.{AreApart, AreWithin, IsApart, IsClear, StoresApart};
-ghost use Rattle.s370_channel.specs.Guest.{guest_text};
-ghost use Rattle.s370_walk.specs.Hardware.{memory_of};
-ghost use Rattle.s370_walk.specs.declared.parts.Word.{Word};
+//! Whether an input could change a program.
+ghost use Rattle.std.specs.Prelude.{◌≡◌, ◌≤◌, ◌<◌, ◌+◌, ◌/◌, Contains, IfNone, IfSome, false, true, ℕ};
+ghost use Rattle.std.specs.List.Sorted.{IsNonDecreasing};
+ghost use Rattle.cp_needs.specs.Noted.{IsFirstFrom, IsInPiece, IsInSome};
 
-use crate::areas::{block_here, bytes_in_block, has_area};
-use crate::span::{Span, span_of};
-use s370_channel::fetch_word;
-use s370_store::{Range, Storage};
-use s370_walk::{Flags, Word};
+use s370_store::Range;
 
-/// Where areas lie between the words of a program, those of more words than this are not looked at.
-const MOST_WORDS: usize = 256;
-
-/// Whether no byte is in both ranges.
-fn are_disjoint(one: Range, other: Range) -> bool
-    ensures { result ≡ true → (a : ℕ) → one.start ≤ a → a < one.start + one.count
-        → other.start ≤ a → a < other.start + other.count → ⊥ }
+/// The first of these numbers, which ascend, from one on.
+fn first_from(numbers: &[u32], from: u32) -> Option<u32>
+    requires { IsNonDecreasing numbers.now }
+    ensures some { IfSome result (IsFirstFrom numbers.now from) }
+    ensures none { IfNone result ((other : ℕ) → Contains numbers.now other → from ≤ other → ⊥) }
 {
-    u64::from(one.start) + u64::from(one.count) <= u64::from(other.start)
-        || u64::from(other.start) + u64::from(other.count) <= u64::from(one.start)
+    let index = match numbers.binary_search(&from) {
+        Ok(_) => return Some(from),
+        Err(index) => index,
+    };
+    if index < numbers.len() {
+        Some(numbers[index])
+    } else {
+        None
+    }
 }
 
-/// Whether no byte of the word at an address, or of its list, lies in an area.
-fn is_apart<S: Storage>(storage: &S, address: u32, area: Range) -> bool
-    ensures { result ≡ true
-        → IsApart (memory_of (S.bytes storage.now) (S.keys storage.now)) address area.start area.count }
+/// Where a piece ends, or an end that comes before.
+fn end_of(piece: Range, end: u32) -> u64
+    ensures end { result ≤ end }
+    ensures piece { result ≤ piece.start + piece.count }
+    ensures last { (a : ℕ) → a < end → a < piece.start + piece.count → a < result }
 {
-    if !are_disjoint(
-        Range {
-            start: address,
-            count: 8,
-        },
-        area,
-    ) {
+    let past = u64::from(piece.start) + u64::from(piece.count);
+    if past < u64::from(end) {
+        past
+    } else {
+        u64::from(end)
+    }
+}
+
+/// Whether a byte of a piece, below an end, lies in one of these fullwords, which ascend.
+fn touches(text: &[u32], piece: Range, end: u32) -> bool
+    requires { IsNonDecreasing text.now }
+    ensures some { result ≡ true → (a : ℕ) × (a < end) × IsInPiece piece a × Contains text.now (a / 4) }
+    ensures none { result ≡ false → (a : ℕ) → a < end → IsInPiece piece a → Contains text.now (a / 4) → ⊥ }
+{
+    let past = end_of(piece, end);
+    if past <= u64::from(piece.start) {
         return false;
     }
-    let found = match fetch_word(storage, address) {
-        Ok(found) => found,
-        Err(_) => return false,
-    };
-    let Some(word) = found else {
-        return true;
-    };
-    if !word.flags.has(Flags::INDIRECT) {
-        return true;
+    match first_from(text, piece.start / 4) {
+        Some(number) => u64::from(number) * 4 < past,
+        None => false,
     }
-    let last = (u32::from(word.count) + 2046) / 2048;
-    u64::from(word.address) + u64::from(4 * last) < 0x100_0000
-        && are_disjoint(
-            Range {
-                start: word.address,
-                count: 4 * last + 4,
-            },
-            area,
-        )
 }
 
-/// Whether no byte of these words, or of their lists, lies in an area.
-fn are_apart<S: Storage>(storage: &S, words: &[u32], area: Range) -> bool
-    ensures { result ≡ true
-        → AreApart (memory_of (S.bytes storage.now) (S.keys storage.now)) words.now area.start area.count }
+/// Whether a byte of these pieces, below an end, lies in one of these fullwords, which ascend.
+pub(crate) fn meet(text: &[u32], pieces: &[Range], end: u32) -> bool
+    requires { IsNonDecreasing text.now }
+    ensures some { result ≡ true → (a : ℕ) × (a < end) × IsInSome pieces.now a × Contains text.now (a / 4) }
+    ensures none { result ≡ false → (a : ℕ) → a < end → IsInSome pieces.now a → Contains text.now (a / 4) → ⊥ }
 {
-    for address in words {
-        if !is_apart(storage, *address, area) {
-            return false;
+    for piece in pieces {
+        if touches(text, *piece, end) {
+            return true;
         }
     }
-    true
-}
-
-/// Whether no byte of these words, or of their lists, which all lie in this span, lies in an area.
-fn is_clear<S: Storage>(storage: &S, words: &[u32], span: Span, area: Range) -> bool
-    requires { AreWithin (memory_of (S.bytes storage.now) (S.keys storage.now)) span.start span.end words.now }
-    ensures { result ≡ true
-        → AreApart (memory_of (S.bytes storage.now) (S.keys storage.now)) words.now area.start area.count }
-{
-    span.is_apart(area) || (words.len() <= MOST_WORDS && are_apart(storage, words, area))
-}
-
-/// Whether no byte of these words, or of their lists, which all lie in this span, lies in the area of a word, block by
-/// block.
-fn is_area_clear<S: Storage>(storage: &S, words: &[u32], span: Span, word: &Word) -> bool
-    requires { AreWithin (memory_of (S.bytes storage.now) (S.keys storage.now)) span.start span.end words.now }
-    ensures { result ≡ true
-        → IsClear (memory_of (S.bytes storage.now) (S.keys storage.now)) words.now word.now word.now.count }
-{
-    let count = u32::from(word.count);
-    let mut byte = 0u32;
-    'blocks: while byte < count {
-        let start = match block_here(storage, word, (byte + 2047) / 2048) {
-            Ok(Some(start)) => start,
-            // The list says nothing more.
-            Ok(None) => return true,
-            Err(_) => return false,
-        };
-        let bytes = bytes_in_block(start, count - byte);
-        let block = Range {
-            start,
-            count: bytes,
-        };
-        if !is_clear(storage, words, span, block) {
-            return false;
-        }
-        byte += bytes;
-    }
-    true
-}
-
-/// Whether no byte of these words, or of their lists, which all lie in this span, lies where the word at an address could
-/// store.
-fn stores_apart<S: Storage>(storage: &S, words: &[u32], span: Span, address: u32) -> bool
-    requires { AreWithin (memory_of (S.bytes storage.now) (S.keys storage.now)) span.start span.end words.now }
-    ensures { result ≡ true
-        → StoresApart (memory_of (S.bytes storage.now) (S.keys storage.now)) words.now address }
-{
-    let found = match fetch_word(storage, address) {
-        Ok(found) => found,
-        Err(_) => return false,
-    };
-    let Some(word) = found else {
-        return true;
-    };
-    if !has_area(&word) || word.flags.has(Flags::SKIP) {
-        return true;
-    }
-    if word.flags.has(Flags::INDIRECT) {
-        return is_area_clear(storage, words, span, &word);
-    }
-    let area = Range {
-        start: word.address,
-        count: u32::from(word.count),
-    };
-    is_clear(storage, words, span, area)
-}
-
-/// Whether no input of these words could change one of them, or of their lists, whatever its device answers. It is not
-/// known of programs with very many words and areas between them.
-pub(crate) fn are_fixed<S: Storage>(storage: &S, words: &[u32]) -> bool
-    ensures { result ≡ true → (i : ℕ) → i < length words.now
-        → StoresApart (memory_of (S.bytes storage.now) (S.keys storage.now)) words.now (slice_index words.now i) }
-{
-    let Some(span) = span_of(storage, words) else {
-        return false;
-    };
-    for address in words {
-        if !stores_apart(storage, words, span, *address) {
-            return false;
-        }
-    }
-    true
+    false
 }

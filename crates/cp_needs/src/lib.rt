@@ -20,9 +20,9 @@ mod areas;
 mod demand;
 mod fixed;
 mod laws;
+mod notes;
 mod pages;
 mod running;
-mod span;
 mod words;
 
 pub use demand::{Wanted, needed};

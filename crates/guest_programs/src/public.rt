@@ -13,13 +13,15 @@ use std::alloc::Global;
 use step_table::{tally, words_of};
 use unit_record::Card;
 
-/// How many kilobytes of storage the programs of the two tables have.
+/// How many kilobytes of storage the programs of the tables have.
 const OF_UNITS: u32 = 4096;
+
+const OF_MOVED: u32 = 60;
 
 const BY_HAND: u32 = 16;
 
-/// How many frames suffice for a program that may change its words: it needs all pages of its user.
-const PLENTY: u32 = 1100;
+/// How many frames suffice for a program whose input could change its words: it needs all pages of its user.
+const PLENTY: u32 = 16;
 
 /// The devices on which the programs by hand run.
 const UNITS: [Unit; 3] = [Unit::Reader, Unit::Punch, Unit::Console];
@@ -123,7 +125,18 @@ fn try_unit(alloc: Global, line: &str) -> Result<Option<String>> {
     if different.is_some() || !stage.lacks_frames() {
         return Ok(different);
     }
-    let mut stage = Stage::boot_plain(alloc, OF_UNITS, PLENTY)?;
+    try_with(alloc, OF_UNITS, PLENTY, line)
+}
+
+/// What differs first, of a line whose program an input could change and that was moved to low storage, all pages of
+/// which have room in 16 frames.
+fn try_moved(alloc: Global, line: &str) -> Result<Option<String>> {
+    try_with(alloc, OF_MOVED, FRAMES, line)
+}
+
+/// What differs first, of a line on a user with so many kilobytes and so many frames, which have to suffice.
+fn try_with(alloc: Global, size: u32, frames: u32, line: &str) -> Result<Option<String>> {
+    let mut stage = Stage::boot_plain(alloc, size, frames)?;
     let different = try_line(alloc, &mut stage, line)?;
     if different.is_none() && stage.lacks_frames() {
         return Ok(Some(String::from_str(alloc, "out of frames")?));
@@ -204,6 +217,14 @@ pub fn try_units<R: AllocGlobal + Print>(rt: &R, table: &str) -> Result<()> {
     let alloc = rt.alloc();
     let agreement = tally(rt, table, |line| try_unit(alloc, line))?;
     println!(rt; "units: {} of {} agree", agreement.agreed, agreement.steps)?;
+    Ok(())
+}
+
+/// Tries those that were moved to low storage, and prints those that do not agree and how many do.
+pub fn try_all_moved<R: AllocGlobal + Print>(rt: &R, table: &str) -> Result<()> {
+    let alloc = rt.alloc();
+    let agreement = tally(rt, table, |line| try_moved(alloc, line))?;
+    println!(rt; "moved: {} of {} agree", agreement.agreed, agreement.steps)?;
     Ok(())
 }
 

@@ -3,14 +3,14 @@ use Rattle.s370_intr.specs.Run.{AllNeeded}
 use Rattle.cp_frames.specs.Paging.{unpinned_count}
 use Rattle.cp_dat.specs.Lent.{lent_bytes, lent_keys, lent_pool}
 use Rattle.cp_dat.specs.Supplied.{Supplied}
-use Rattle.cp_core.specs.Wants.{ProgramNeeds}
+use Rattle.cp_core.specs.Wants.{LoadNeeds}
 use Rattle.cp_core.proofs.serving.bring_all.Given as goal
 
 abbrev pub invariant-loop-page : goal.invariant-loop-page
 invariant-loop-page l = record {
   bytes : lent_bytes l.storage ≡ lent_bytes l.fn.storage;
   keys : lent_keys l.storage ≡ lent_keys l.fn.storage;
-  supply : (pages : List ℕ) × Supplied l.fn.storage pages l.storage × AllNeeded ProgramNeeds pages;
+  supply : (pages : List ℕ) × Supplied l.fn.storage pages l.storage × AllNeeded LoadNeeds pages;
 }
 
 abbrev pub decreases-loop-page : goal.decreases-loop-page

@@ -1,7 +1,8 @@
-use Rattle.std.proofs.Common.{[], ◌∷◌, ◌++◌, ◌∙◌, ap, length, List, ℕ}
+use Rattle.std.proofs.Common.{[], ◌∷◌, ◌++◌, ◌∙◌, ap, subst, length, List, ℕ}
 use Rattle.s370_channel.specs.declared.running.ChannelError.TheVariants as errors
 use Rattle.s370_intr.proofs.Runs.{all_needed}
-use Rattle.cp_core.specs.Wants.{ProgramNeeds}
+use Rattle.cp_devices.specs.Equipped.{Equipped}
+use Rattle.cp_devices.specs.Serve.{ServeNeeds}
 use Rattle.cp_core.proofs.Steps.{error_at}
 use Rattle.cp_core.proofs.serving.serve_supplied.Goals as goal
 
@@ -10,7 +11,7 @@ returns-in-Ok-clause-supply g c =
     let s = c.loop-done.invariant.supply in (
       s.0 ++ [],
       g.met.S.Supply.brought_on _ _ _ s.0 [] s.1 (g.met.S.Supply.brought_none _ _ c.serve.ensures.rest),
-      all_needed ProgramNeeds s.0 [] s.2 tt,
+      all_needed _ s.0 [] s.2 tt,
     )
 
 pub returns-in-Err-Memory-clause-supply : goal.returns-in-Err-Memory-clause-supply
@@ -18,7 +19,7 @@ returns-in-Err-Memory-clause-supply g c =
     let s = c.loop-done.invariant.supply in (
       s.0 ++ [],
       g.met.S.Supply.brought_on _ _ _ s.0 [] s.1 (g.met.S.Supply.brought_none _ _ c.serve.ensures.rest),
-      all_needed ProgramNeeds s.0 [] s.2 tt,
+      all_needed _ s.0 [] s.2 tt,
     )
 
 pub loop-done-preserved : goal.loop-done-preserved
@@ -26,14 +27,15 @@ loop-done-preserved g c =
     let s = c.loop-done.invariant.supply in
     let page = c.in-Err-Absent.page.0 in
     let whole = error_at c.serve.result c.in-Err-Absent.field-0 (errors.Absent c.in-Err-Absent.page) _ c.in-Err-Absent.is c.in-Err-Absent.field-0-is (c.serve.ensures.whole c.requires) in
+    let needed = subst (λ (e : Equipped). ServeNeeds g.C.needs c.args.device e page) c.loop-done.invariant.same whole.1 in
     record {
-      same = rw (c.bring.ensures.bytes, c.bring.ensures.keys) (whole.1 ∙ c.loop-done.invariant.same);
+      same = rw (c.bring.ensures.bytes, c.bring.ensures.keys) (whole.2 ∙ c.loop-done.invariant.same);
       size = ap (λ (bytes : List ℕ). length bytes) c.bring.ensures.bytes ∙ g.met.S.Storage.keeps_size _ _ c.serve.ensures.rest ∙ c.loop-done.invariant.size;
       others = g.met.C.Disks.others_on _ _ _ c.loop-done.invariant.others c.serve.ensures.others;
       supply = (
         (s.0 ++ []) ++ (page ∷ []),
         g.met.S.Supply.brought_on _ _ _ (s.0 ++ []) (page ∷ []) (g.met.S.Supply.brought_on _ _ _ s.0 [] s.1 (g.met.S.Supply.brought_none _ _ c.serve.ensures.rest)) c.in-Ok-bring.ensures.brought,
-        all_needed ProgramNeeds (s.0 ++ []) (page ∷ []) (all_needed ProgramNeeds s.0 [] s.2 tt) (tt, tt),
+        all_needed _ (s.0 ++ []) (page ∷ []) (all_needed _ s.0 [] s.2 tt) (needed, tt),
       );
     }
 
@@ -42,7 +44,7 @@ returns-in-Err-clause-supply g c =
     let s = c.loop-done.invariant.supply in (
       (s.0 ++ []) ++ [],
       g.met.S.Supply.brought_on _ _ _ (s.0 ++ []) [] (g.met.S.Supply.brought_on _ _ _ s.0 [] s.1 (g.met.S.Supply.brought_none _ _ c.serve.ensures.rest)) c.in-Err.ensures.refused,
-      all_needed ProgramNeeds (s.0 ++ []) [] (all_needed ProgramNeeds s.0 [] s.2 tt) tt,
+      all_needed _ (s.0 ++ []) [] (all_needed _ s.0 [] s.2 tt) tt,
     )
 
 pub returns-in-Ok-clause-others : goal.returns-in-Ok-clause-others

@@ -1,7 +1,7 @@
 use Rattle.std.proofs.Common.{◌≡◌, ℕ, List, length}
 use Rattle.s370_intr.specs.Run.{AllNeeded}
 use Rattle.cp_devices.specs.Equipped.{equipped}
-use Rattle.cp_core.specs.Wants.{ProgramNeeds}
+use Rattle.cp_devices.specs.Serve.{ServeNeeds}
 use Rattle.cp_core.proofs.serving.serve_supplied.Given as goal
 
 abbrev pub invariant-loop-done : goal.invariant-loop-done
@@ -9,7 +9,7 @@ invariant-loop-done g l = record {
   same : equipped l.machine l.devices (g.C.Disks.disks l.channels) (g.S.Storage.bytes l.storage) (g.S.Storage.keys l.storage) ≡ equipped l.fn.machine l.fn.devices (g.C.Disks.disks l.fn.channels) (g.S.Storage.bytes l.fn.storage) (g.S.Storage.keys l.fn.storage);
   size : length (g.S.Storage.bytes l.storage) ≡ length (g.S.Storage.bytes l.fn.storage);
   others : g.C.Disks.KeepsOthers l.fn.channels l.channels;
-  supply : (pages : List ℕ) × g.S.Supply.Brought l.fn.storage pages l.storage × AllNeeded ProgramNeeds pages;
+  supply : (pages : List ℕ) × g.S.Supply.Brought l.fn.storage pages l.storage × AllNeeded (ServeNeeds g.C.needs l.device (equipped l.fn.machine l.fn.devices (g.C.Disks.disks l.fn.channels) (g.S.Storage.bytes l.fn.storage) (g.S.Storage.keys l.fn.storage))) pages;
 }
 
 abbrev pub decreases-loop-done : goal.decreases-loop-done

@@ -1,0 +1,15 @@
+use Rattle.std.proofs.Common.{refl}
+use Rattle.s370_walk.specs.Hardware.{memory_of}
+use Rattle.cp_needs.proofs.Noting.{filled_by_on, text_on}
+use Rattle.cp_needs.proofs.notes.notes_of.Goals as goal
+
+pub note_word-requires-clause-here : goal.note_word-requires-clause-here
+note_word-requires-clause-here g c = λ page. c.requires.here c.loop-address.address-index page c.loop-address-test.true
+
+pub loop-address-preserved : goal.loop-address-preserved
+loop-address-preserved g c =
+    let m = memory_of (g.S.Storage.bytes c.args.storage.now) (g.S.Storage.keys c.args.storage.now) in
+    record {
+      marked = text_on m c.args.words.now c.loop-address.address-index _ _ _ _ refl c.loop-address.invariant.marked c.in_ok-note_word.ensures.marked;
+      stored = filled_by_on m c.args.words.now c.loop-address.address-index _ _ _ _ refl c.loop-address.invariant.stored c.in_ok-note_word.ensures.stored;
+    }

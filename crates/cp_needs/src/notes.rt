@@ -1,0 +1,133 @@
+//! What is noted of a program's words, to see whether an input of it could change one of them.
+ghost use Rattle.std.specs.Prelude.{[], ◌≡◌, ◌<◌, ◌≤◌, ◌%◌, IfOk, OnOk, length, slice_index, true, ℕ};
+ghost use Rattle.cp_needs.specs.Areas as specs;
+ghost use Rattle.cp_needs.specs.Areas.{IsListByte};
+ghost use Rattle.cp_needs.specs.Needs.{IsTextByte};
+ghost use Rattle.cp_needs.specs.Noted.{AreMarked, AreStored, IsEntryByte, IsFilled, IsFilledAt, IsFilledBy, IsPieceByte, IsTextOf};
+ghost use Rattle.cp_needs.specs.Words.{IsAreaPage, IsHere, IsPageAt};
+ghost use Rattle.s370_walk.specs.Hardware.{memory_of};
+
+use crate::areas::{block_here, bytes_in_block, has_area, list_address};
+use s370_channel::fetch_word;
+use s370_store::{Range, Storage};
+use s370_walk::{Flags, Word};
+use std::alloc::{AllocError, Global};
+
+/// What words of a program say of storage.
+#[derive(Drop)]
+pub(crate) struct Notes {
+    /// The fullwords in which they and their lists lie, each as a fourth of its address.
+    pub(crate) text: Vec<u32>,
+    /// The pieces that their inputs could fill.
+    pub(crate) filled: Vec<Range>,
+}
+
+/// Notes the word of a word's list that says where a block of its area begins.
+fn note_entry(text: &mut Vec<u32>, word: &Word, number: u32) -> Result<(), AllocError>
+    requires has { specs.has_area word.now ≡ true }
+    ensures marked { OnOk result (AreMarked (IsEntryByte word.now number) text.old.items text.new.items) }
+{
+    if word.flags.has(Flags::INDIRECT) {
+        text.push(list_address(word, number) / 4)?;
+    }
+    Ok(())
+}
+
+/// Notes a piece of a word's area.
+fn note_piece(filled: &mut Vec<Range>, word: &Word, piece: Range) -> Result<(), AllocError>
+    ensures stored { OnOk result (AreStored (IsPieceByte word.now piece) filled.old.items filled.new.items) }
+{
+    if !word.flags.has(Flags::SKIP) {
+        filled.push(piece)?;
+    }
+    Ok(())
+}
+
+/// Notes the list and the area of a word, whose pages are present, block by block.
+fn note_area<S: Storage>(storage: &S, word: &Word, notes: &mut Notes) -> Result<(), AllocError>
+    requires here { (page : ℕ) → IsAreaPage (memory_of (S.bytes storage.now) (S.keys storage.now)) word.now page
+        → IsHere (length (S.bytes storage.now)) (S.present storage.now) page }
+    ensures marked { OnOk result
+        (AreMarked (IsListByte (memory_of (S.bytes storage.now) (S.keys storage.now)) word.now)
+        notes.old.text.items notes.new.text.items) }
+    ensures stored { OnOk result
+        (AreStored (IsFilled (memory_of (S.bytes storage.now) (S.keys storage.now)) word.now)
+        notes.old.filled.items notes.new.filled.items) }
+{
+    if !has_area(word) {
+        return Ok(());
+    }
+    let count = u32::from(word.count);
+    let mut byte = 0u32;
+    'blocks: while byte < count {
+        let number = (byte + 2047) / 2048;
+        note_entry(&mut notes.text, word, number)?;
+        let start = match block_here(storage, word, number) {
+            Ok(Some(start)) => start,
+            // The list says nothing more.
+            Ok(None) => return Ok(()),
+            // Its pages are present.
+            Err(_) => unreachable!(),
+        };
+        let bytes = bytes_in_block(start, count - byte);
+        let piece = Range {
+            start,
+            count: bytes,
+        };
+        note_piece(&mut notes.filled, word, piece)?;
+        byte += bytes;
+    }
+    Ok(())
+}
+
+/// Notes the word at an address, whose pages are present.
+fn note_word<S: Storage>(storage: &S, address: u32, notes: &mut Notes) -> Result<(), AllocError>
+    requires even { address % 8 ≡ 0 }
+    requires here { (page : ℕ) → IsPageAt (memory_of (S.bytes storage.now) (S.keys storage.now)) address page
+        → IsHere (length (S.bytes storage.now)) (S.present storage.now) page }
+    ensures marked { OnOk result
+        (AreMarked (IsTextByte (memory_of (S.bytes storage.now) (S.keys storage.now)) address)
+        notes.old.text.items notes.new.text.items) }
+    ensures stored { OnOk result
+        (AreStored (IsFilledAt (memory_of (S.bytes storage.now) (S.keys storage.now)) address)
+        notes.old.filled.items notes.new.filled.items) }
+{
+    notes.text.push(address / 4)?;
+    notes.text.push(address / 4 + 1)?;
+    let found = match fetch_word(storage, address) {
+        Ok(found) => found,
+        // Its page is present.
+        Err(_) => unreachable!(),
+    };
+    match found {
+        Some(word) => note_area(storage, &word, notes),
+        None => Ok(()),
+    }
+}
+
+/// Notes the words at these addresses, whose pages are present.
+pub(crate) fn notes_of<S: Storage>(
+    alloc: Global,
+    storage: &S,
+    words: &[u32],
+) -> Result<Notes, AllocError>
+    requires even { (i : ℕ) → i < length words.now → slice_index words.now i % 8 ≡ 0 }
+    requires here { (i page : ℕ) → i < length words.now
+        → IsPageAt (memory_of (S.bytes storage.now) (S.keys storage.now)) (slice_index words.now i) page
+        → IsHere (length (S.bytes storage.now)) (S.present storage.now) page }
+    ensures marked { IfOk result
+        (λ notes. AreMarked (IsTextOf (memory_of (S.bytes storage.now) (S.keys storage.now)) words.now (length words.now))
+        [] notes.text.items) }
+    ensures stored { IfOk result
+        (λ notes. AreStored (IsFilledBy (memory_of (S.bytes storage.now) (S.keys storage.now)) words.now (length words.now))
+        [] notes.filled.items) }
+{
+    let mut notes = Notes {
+        text: Vec::new(alloc),
+        filled: Vec::new(alloc),
+    };
+    for address in words {
+        note_word(storage, *address, &mut notes)?;
+    }
+    Ok(notes)
+}
