@@ -21,7 +21,7 @@ const OF_MOVED: u32 = 60;
 const BY_HAND: u32 = 16;
 
 /// How many frames suffice for a program whose input could change its words: it needs all pages of its user.
-const PLENTY: u32 = 16;
+const PLENTY: u32 = 1100;
 
 /// The devices on which the programs by hand run.
 const UNITS: [Unit; 3] = [Unit::Reader, Unit::Punch, Unit::Console];
