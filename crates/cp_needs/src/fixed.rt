@@ -6,8 +6,9 @@ ghost use Rattle.s370_channel.specs.Guest.{guest_text};
 ghost use Rattle.s370_walk.specs.Hardware.{memory_of};
 ghost use Rattle.s370_walk.specs.declared.parts.Word.{Word};
 
-use crate::areas::{block_here, bytes_in_block, has_area};
+use crate::areas::{block_here, bytes_in_block};
 use crate::span::{Span, span_of};
+use cp_graph::has_area;
 use s370_channel::fetch_word;
 use s370_store::{Range, Storage};
 use s370_walk::{Flags, Word};
