@@ -15,10 +15,11 @@ use Rattle.s370_walk.specs.Hardware.{Memory, fault_of, area}
 use Rattle.s370_store.specs.declared.Access.TheVariants.{Fetch, Store}
 use Rattle.s370_store.specs.declared.Fault.{Fault}
 use Rattle.s370_store.specs.declared.Fault.TheVariants.{Addressing, Protection, Absent}
-use Rattle.s370_walk.specs.Walk.{Form, Setting, State, Fetching, Moving, Over, Verdict, Bad, Jump, Good, next, walk, fetched, obeyed, entered, answered, judged, fails, closed, closes, state_of, may_chain, at_command, moved, counted_out, byte_moved, given_to, given_at, taken_from, taken_at, stepped, rest, moving, skips, tells_length, chains_data, chains_command, order_of, ending, is_jump, no_check, no_status}
+use Rattle.s370_walk.specs.Walk.{Form, Setting, State, Fetching, Moving, Over, Verdict, Bad, Jump, Good, next, walk, fetched, obeyed, entered, answered, judged, fails, closed, closes, state_of, may_chain, at_command, moved, counted_out, byte_moved, given_to, given_at, taken_from, taken_at, stepped, rest, moving, skips, tells_length, chains_data, chains_command, order_of, ending, is_bad_word, is_indirect, is_jump, no_check, no_status}
 use Rattle.s370_walk.specs.Stuck.{is_skipped}
 use Rattle.s370_walk.specs.Bits.{has_bits}
 use Rattle.s370_walk.specs.declared.bits.UnitStatus.{UnitStatus}
+use Rattle.channel_laws.specs.Tracks.{has_area}
 use Rattle.channel_laws.specs.Renaming.{renamed, renamed_word, renamed_found, renamed_spot, renamed_position, IsCopy, IsAt, IsInside, Leads, LeadsFrom}
 
 some_left : (count : ℕ) (x y : Bool) → nat_lt 0 count && x && y ≡ true → 0 < count
@@ -29,6 +30,16 @@ not_skipped : (x y : Bool) → x && not y ≡ true → y ≡ false
 not_skipped true false e = refl
 not_skipped true true e = cc
 not_skipped false y e = cc
+
+-- a word that is obeyed has an area
+good_area : (w : Word) → is_jump w ≡ false → is_bad_word w ≡ false → has_area w ≡ true
+good_area w plain good = by_list (w.count == 0) (has_bits w.flags.bits 11) (is_indirect w && not (w.address % 4 == 0)) good
+  where
+    by_list : (empty wrong off : Bool) → empty || wrong || off ≡ false → not (is_jump w) && not off ≡ true
+    by_list false false false e = rw plain refl
+    by_list true wrong off e = cc
+    by_list false true off e = cc
+    by_list false false true e = cc
 
 module _ {D : Type 0} (guest : ℕ → ℕ) (h : Setting D) where
   fails_renamed : (role : Option Transfer) (at : ℕ) (m : Memory) (d : D) → renamed guest (fails h role at m d) ≡ fails h role (guest at) m d
@@ -136,31 +147,33 @@ module _ {D : Type 0} (inside : ℕ → Type 0) (tracks : Position → Type 0) (
       by_chain true true may skips n s = tt
       by_chain false more may skips n s = tt
 
-  begin_at : (guest : ℕ → ℕ) (form : Form) → IsCopy guest inside tracks copied form → (spot : Spot) (started : ℕ) (w : Word) (t : Transfer) → inside spot.at → ((m : Memory) → copied.text m spot.at ≡ Some w) → Leads inside w → is_jump w ≡ false → IsAt inside tracks copied (moving spot started w t)
-  begin_at guest form copy spot started w t there word leads plain = record { there = there; word = word; leads = leads; tracked = copy.begins spot started w t plain }
+  begin_at : (guest : ℕ → ℕ) (form : Form) → IsCopy guest inside tracks copied form → (spot : Spot) (started : ℕ) (w : Word) (t : Transfer) → inside spot.at → ((m : Memory) → copied.text m spot.at ≡ Some w) → Leads inside w → has_area w ≡ true → IsAt inside tracks copied (moving spot started w t)
+  begin_at guest form copy spot started w t there word leads has = record { there = there; word = word; leads = leads; tracked = copy.begins spot started w t has }
 
-  answered_inside : (guest : ℕ → ℕ) (form : Form) → IsCopy guest inside tracks copied form → (spot : Spot) (w : Word) (answer : Answer) (m : Memory) (d : D) → inside spot.at → ((n : Memory) → copied.text n spot.at ≡ Some w) → Leads inside w → is_jump w ≡ false
+  answered_inside : (guest : ℕ → ℕ) (form : Form) → IsCopy guest inside tracks copied form → (spot : Spot) (w : Word) (answer : Answer) (m : Memory) (d : D) → inside spot.at → ((n : Memory) → copied.text n spot.at ≡ Some w) → Leads inside w → has_area w ≡ true
       → IsInside inside tracks copied (answered h.prefix spot w answer m d)
-  answered_inside guest form copy spot w (answers.Refused status) m d there word leads plain = tt
-  answered_inside guest form copy spot w answers.Immediate m d there word leads plain = closed_inside false no_status spot.at (spot.started + 1) w w.count m d leads
-  answered_inside guest form copy spot w (answers.Input n) m d there word leads plain = begin_at guest form copy spot _ w _ there word leads plain
-  answered_inside guest form copy spot w (answers.Output n) m d there word leads plain = begin_at guest form copy spot _ w _ there word leads plain
-  answered_inside guest form copy spot w (answers.OutputUpTo n) m d there word leads plain = begin_at guest form copy spot _ w _ there word leads plain
+  answered_inside guest form copy spot w (answers.Refused status) m d there word leads has = tt
+  answered_inside guest form copy spot w answers.Immediate m d there word leads has = closed_inside false no_status spot.at (spot.started + 1) w w.count m d leads
+  answered_inside guest form copy spot w (answers.Input n) m d there word leads has = begin_at guest form copy spot _ w _ there word leads has
+  answered_inside guest form copy spot w (answers.Output n) m d there word leads has = begin_at guest form copy spot _ w _ there word leads has
+  answered_inside guest form copy spot w (answers.OutputUpTo n) m d there word leads has = begin_at guest form copy spot _ w _ there word leads has
 
-  entered_inside : (guest : ℕ → ℕ) (form : Form) → IsCopy guest inside tracks copied form → (spot : Spot) (w : Word) (role : Option Transfer) (m : Memory) (d : D) → inside spot.at → ((n : Memory) → copied.text n spot.at ≡ Some w) → Leads inside w → is_jump w ≡ false
+  entered_inside : (guest : ℕ → ℕ) (form : Form) → IsCopy guest inside tracks copied form → (spot : Spot) (w : Word) (role : Option Transfer) (m : Memory) (d : D) → inside spot.at → ((n : Memory) → copied.text n spot.at ≡ Some w) → Leads inside w → has_area w ≡ true
       → IsInside inside tracks copied (entered h spot w role m d)
-  entered_inside guest form copy spot w None m d there word leads plain = answered_inside guest form copy spot w (h.machine.answer d (order_of h.prefix spot w)) m (h.machine.started d (order_of h.prefix spot w)) there word leads plain
-  entered_inside guest form copy spot w (Some t) m d there word leads plain = begin_at guest form copy spot _ w _ there word leads plain
+  entered_inside guest form copy spot w None m d there word leads has = answered_inside guest form copy spot w (h.machine.answer d (order_of h.prefix spot w)) m (h.machine.started d (order_of h.prefix spot w)) there word leads has
+  entered_inside guest form copy spot w (Some t) m d there word leads has = begin_at guest form copy spot _ w _ there word leads has
 
   obeyed_inside : (guest : ℕ → ℕ) (form : Form) → IsCopy guest inside tracks copied form → (spot : Spot) (w : Word) (m : Memory) (d : D) → inside spot.at → ((n : Memory) → copied.text n spot.at ≡ Some w) → Leads inside w → IsInside inside tracks copied (obeyed h spot w (judged h.limit spot w) m d)
-  obeyed_inside guest form copy spot w m d there word leads = by_jump (is_jump w) refl spot.jumped (w.address % 8 == 0) _ leads.jump
+  obeyed_inside guest form copy spot w m d there word leads = by_jump (is_jump w) refl spot.jumped (w.address % 8 == 0) (is_bad_word w) refl _ leads.jump
     where
-      by_jump : (jumps : Bool) → is_jump w ≡ jumps → (again even other : Bool) → (jumps ≡ true → even ≡ true → inside w.next) → IsInside inside tracks copied (obeyed h spot w (if jumps then (if again || not even then Bad else Jump) else (if other then Bad else Good)) m d)
-      by_jump true is true even other n = tt
-      by_jump true is false false other n = tt
-      by_jump true is false true other n = n refl refl
-      by_jump false is again even true n = tt
-      by_jump false is again even false n = entered_inside guest form copy spot w spot.role m d there word leads is
+      by_jump : (jumps : Bool) → is_jump w ≡ jumps → (again even bad : Bool) → is_bad_word w ≡ bad → (other : Bool) → (jumps ≡ true → even ≡ true → inside w.next)
+          → IsInside inside tracks copied (obeyed h spot w (if jumps then (if again || not even then Bad else Jump) else (if bad || other then Bad else Good)) m d)
+      by_jump true is true even bad good other n = tt
+      by_jump true is false false bad good other n = tt
+      by_jump true is false true bad good other n = n refl refl
+      by_jump false is again even true good other n = tt
+      by_jump false is again even false good true n = tt
+      by_jump false is again even false good false n = entered_inside guest form copy spot w spot.role m d there word leads (good_area w is good)
 
   fetched_inside : (guest : ℕ → ℕ) (form : Form) → IsCopy guest inside tracks copied form → (spot : Spot) (found : Option Word) (m : Memory) (d : D) → inside spot.at → ((n : Memory) → copied.text n spot.at ≡ found) → LeadsFrom inside found → IsInside inside tracks copied (fetched h spot found m d)
   fetched_inside guest form copy spot None m d there word leads = tt

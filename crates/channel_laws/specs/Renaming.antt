@@ -8,6 +8,7 @@ use Rattle.s370_walk.specs.declared.parts.Word.{Word}
 use Rattle.s370_walk.specs.Hardware.{Memory}
 use Rattle.s370_walk.specs.Walk.{Form, State, Fetching, Moving, Over, is_jump, chains_data, chains_command, moving, stepped}
 use Rattle.s370_walk.specs.Stuck.{is_skipped}
+use Rattle.channel_laws.specs.Tracks.{has_area}
 
 abbrev pub renamed_word : (ℕ → ℕ) → Word → Word
 renamed_word guest w =
@@ -66,7 +67,7 @@ pub record IsCopy (guest : ℕ → ℕ) (inside : ℕ → Type 0) (tracks : Posi
   pub places : (m : Memory) (p : Position) → inside p.at → ((n : Memory) → copied.text n p.at ≡ Some p.word) → tracks p
       → 0 < p.count → is_skipped p p.transfer.kind ≡ false
       → form.place m (renamed_position guest p) ≡ copied.place m p
-  pub begins : (spot : Spot) (started : ℕ) (w : Word) (t : Transfer) → is_jump w ≡ false
+  pub begins : (spot : Spot) (started : ℕ) (w : Word) (t : Transfer) → has_area w ≡ true
       → tracks (moving spot started w t)
   pub skips : (p : Position) → tracks p → 0 < p.count → is_skipped p p.transfer.kind ≡ true
       → tracks (stepped p p.before)

@@ -1,8 +1,13 @@
 -- To which positions the obeying of a word comes: the byte before the next one lies where a list of addresses has it.
-use Rattle.std.specs.Prelude.{ℕ, ◌+◌, ◌*◌, ◌%◌, ◌<◌, ◌≤◌, ◌≡◌, true, false, Option, None, Some, is_some}
+use Rattle.std.specs.Prelude.{ℕ, ◌+◌, ◌*◌, ◌%◌, ◌<◌, ◌≤◌, ◌≡◌, ◌==◌, Bool, true, false, ◌&&◌, not, Option, None, Some, is_some}
 use Rattle.s370_walk.specs.declared.parts.Position.{Position}
-use Rattle.s370_walk.specs.Walk.{index_of, is_jump}
+use Rattle.s370_walk.specs.declared.parts.Word.{Word}
+use Rattle.s370_walk.specs.Walk.{index_of, is_indirect, is_jump}
 use Rattle.s370_walk.specs.Stuck.{is_skipped}
+
+-- a transfer in channel has no area, and a list off a word boundary has no words
+abbrev pub has_area : Word → Bool
+has_area w = not (is_jump w) && not (is_indirect w && not (w.address % 4 == 0))
 
 -- the byte before the one of index k lies at b, as this list has it
 pub record IsPast (list : ℕ → Option ℕ) (b k : ℕ) : Type 0 where
@@ -19,7 +24,7 @@ IsTrackedBefore list p (Some b) = IsPast list b (index_of p)
 
 pub record IsTracked (lists : ℕ → ℕ → Option ℕ) (p : Position) : Type 0 where
   pub within : p.count ≤ p.word.count
-  pub obeyed : is_jump p.word ≡ false
+  pub has : has_area p.word ≡ true
   pub before : is_skipped p p.transfer.kind ≡ false → IsTrackedBefore (lists p.at) p p.before
 
 -- a list has what is asked of it: where each word before one says an address, and a byte of its block is counted

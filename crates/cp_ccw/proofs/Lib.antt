@@ -1,3 +1,4 @@
 pub mod Moving
 pub mod Runs
 pub mod Steady
+pub mod Served

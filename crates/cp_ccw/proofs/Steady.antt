@@ -3,7 +3,7 @@ use Rattle.std.specs.Prelude.{ℕ, zero, suc, ◌≡◌, List, IfErr, IfOk, Resu
 use Rattle.std.proofs.Common.{ap, ◌∙◌, subst}
 use Rattle.s370_walk.specs.declared.parts.Ending.{Ending}
 use Rattle.s370_walk.specs.Hardware.{Memory}
-use Rattle.s370_walk.specs.Walk.{Setting, State, Fetching, Moving, Over, Reaches, live, next, walk, fetched, rest, start_spot}
+use Rattle.s370_walk.specs.Walk.{Setting, State, Fetching, Moving, Over, live, next, walk, fetched, rest, start_spot}
 use Rattle.s370_walk.proofs.Freezing.{moved_same}
 use Rattle.s370_channel.specs.declared.limits.Limits.{Limits}
 use Rattle.s370_channel.specs.declared.running.ChannelError.{ChannelError}

@@ -14,7 +14,6 @@ ghost use Rattle.cp_ccw.specs.Runs.{dat_of, lent_memory, IsGuestsRun, IsRunOf};
 use crate::table::{Table, translate};
 use cp_dat::Dat;
 use cp_graph::CopyError;
-use cp_needs::run_held;
 use cp_real::Real;
 use s370_channel::{ChannelError, Limits, run};
 use s370_store::Storage;
@@ -122,7 +121,7 @@ pub fn run_fixed<D: Device>(
     match translate(alloc, storage, start) {
         Ok(table) => run_lent(&table, storage, limits, device),
         Err(CopyError::Memory) => Err(ChannelError::Memory),
-        // Of the page that is told it is not promised that the program needs it.
-        Err(CopyError::Absent(_)) => run_held(storage, start, limits, device),
+        // The program would need the page, and those that it needs stand in frames.
+        Err(CopyError::Absent(_)) => unreachable!(),
     }
 }

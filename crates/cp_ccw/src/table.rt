@@ -5,7 +5,7 @@ ghost use Rattle.s370_walk.specs.Hardware.{memory_of};
 ghost use Rattle.s370_channel.specs.Guest.{guest_text};
 ghost use Rattle.channel_laws.specs.Mapped.{real_place};
 ghost use Rattle.channel_laws.specs.Copy.{guest_of, IsPlace};
-ghost use Rattle.cp_graph.specs.Closure.{IfAbsent, IsSomeWordPage};
+ghost use Rattle.cp_graph.specs.Closure.{IfAbsent, IsServed};
 ghost use Rattle.s370_store.specs.Access.{IsAway};
 ghost use Rattle.cp_real.specs.Layout.{real_in};
 ghost use Rattle.cp_ccw.specs.Moved.{AreReal, AreRealNodes};
@@ -104,7 +104,7 @@ impl WordForm for Table {
 /// Copies the program from an address on, and gives it the addresses of the frames in which its pages stand.
 ///
 /// `start` is the guest's address of a doubleword. Each page that the program names stands in a frame; where one does
-/// not, it is told as [`CopyError::Absent`].
+/// not, it is told as [`CopyError::Absent`], and the program needs it.
 pub fn translate(alloc: Global, dat: &Dat, start: u32) -> Result<Table, CopyError>
     requires even { start % 8 ≡ 0 }
     requires low { start < 2 ^ 24 }
@@ -116,7 +116,7 @@ pub fn translate(alloc: Global, dat: &Dat, start: u32) -> Result<Table, CopyErro
         (λ t. IsPlace t.places.items (guest_text (memory_of (lent_bytes dat.now) (lent_keys dat.now))) t.start) }
     ensures away { IfErr result
         (IfAbsent (λ page. IsAway (length (lent_bytes dat.now)) (is_lent_page dat.now) page
-        × IsSomeWordPage (memory_of (lent_bytes dat.now) (lent_keys dat.now)) page)) }
+        × IsServed (memory_of (lent_bytes dat.now) (lent_keys dat.now)) start page)) }
 {
     let Copied {
         start,

@@ -1,35 +1,39 @@
 -- Lemmas of specs/Closure.
-use Rattle.std.specs.Prelude.{List, [], ◌∷◌, ℕ, ◌+◌, ◌/◌, ◌%◌, ◌<◌, ◌≡◌, Bool, true, false, Option, None, Some, is_some}
+use Rattle.std.specs.Prelude.{List, [], ◌∷◌, ℕ, ◌+◌, ◌/◌, ◌%◌, ◌<◌, ◌≡◌, ◌==◌, Bool, true, false, ◌||◌, ◌&&◌, not, Option, None, Some, is_some, refl, if◌then◌else◌}
+use Rattle.std.specs.List.{All}
 use Rattle.s370_store.specs.declared.Access.TheVariants.{Fetch}
 use Rattle.s370_store.specs.Access.{Touches, IsAway}
 use Rattle.s370_walk.specs.declared.parts.Word.{Word}
 use Rattle.s370_walk.specs.Hardware.{Memory, area}
-use Rattle.s370_walk.specs.Walk.{is_jump}
-use Rattle.s370_channel.specs.Guest.{area_block}
+use Rattle.s370_walk.specs.Walk.{is_jump, chains_command, chains_data}
+use Rattle.s370_channel.specs.Guest.{area_block, guest_text}
+use Rattle.channel_laws.specs.declared.places.Place.{Place}
+use Rattle.channel_laws.specs.Tracks.{has_area}
 use Rattle.std.specs.Prelude.{◌≤◌, ◌-◌, ◌≢◌, ◌++◌, length, slice_index_or}
 use Rattle.std.proofs.Common.{sym, ◌∙◌, ap, arith, inl, inr, length-append}
 use Rattle.std.proofs.Math.Seq.{get_or-append_seam}
 use Rattle.std.proofs.lemmas.List.{get_or_append_left}
+use Rattle.std.proofs.lemmas.List.Elements.{All-nil, All-push}
 use Rattle.cp_graph.specs.declared.program.CopyError.{CopyError}
 use Rattle.cp_graph.specs.declared.program.CopyError.TheVariants as errors
-use Rattle.cp_graph.specs.Table.{IsPart}
+use Rattle.cp_graph.specs.Table.{IsFollowed, IsPart, leads_next, leads_skipped, role_after}
 use Rattle.cp_graph.proofs.Tables.{at_or_before}
-use Rattle.cp_graph.specs.Closure.{IsDataPage, IfAbsent, IsWordPage, IsEntryPage, IsSomeWordPage}
+use Rattle.cp_graph.specs.Closure.{InProgram, starts, jumps, continues_at, commands_at, skips_to, IsReachedPlace, IsDataPage, IsServed, IfAbsent, IsWordPage, IsEntryPage}
 
 pub entry_page : (m : Memory) (w : Word) (a page : ℕ) (j : ℕ) → area_block m w j ≡ Some a → Touches (area Fetch a 1 ∷ []) page → IsEntryPage m w j page
 entry_page m w a page j is (inl (k, lt, at)) = (let same : page ≡ a / 4096 = omega (arith, lt, at) in inr (a, is, same))
 entry_page m w a page j is (inr none) = absurd none
 
-pub first_page : (m : Memory) (w : Word) (page : ℕ) → is_jump w ≡ false → w.count ≢ 0 → IsEntryPage m w 0 page → IsDataPage m w page
-first_page m w page plain some touched =
-    record { index = 0; plain = plain; used = record { some = omega (arith, some); before = λ i lt. (let no : ⊥ = omega (arith, lt) in absurd no); counted = λ first lt e. (let no : ⊥ = omega (arith, lt) in absurd no) }; touched = touched }
+pub first_page : (m : Memory) (w : Word) (page : ℕ) → has_area w ≡ true → w.count ≢ 0 → IsEntryPage m w 0 page → IsDataPage m w page
+first_page m w page has some touched =
+    record { index = 0; has = has; used = record { some = omega (arith, some); before = λ i lt. (let no : ⊥ = omega (arith, lt) in absurd no); counted = λ first lt e. (let no : ⊥ = omega (arith, lt) in absurd no) }; touched = touched }
 
-pub later_page : (m : Memory) (w : Word) (list : List (Option ℕ)) (start page j : ℕ) → is_jump w ≡ false → w.count ≢ 0 → IsPart list (area_block m w) → ((i : ℕ) → i < length list → is_some (slice_index_or list i None) ≡ true)
+pub later_page : (m : Memory) (w : Word) (list : List (Option ℕ)) (start page j : ℕ) → has_area w ≡ true → w.count ≢ 0 → IsPart list (area_block m w) → ((i : ℕ) → i < length list → is_some (slice_index_or list i None) ≡ true)
     → slice_index_or list 0 None ≡ Some start → 0 < length list → j ≡ length list → j ≤ (start % 2048 + (w.count - 1)) / 2048 → IsEntryPage m w j page → IsDataPage m w page
-later_page m w list start page j plain some part begun first long at last touched =
+later_page m w list start page j has some part begun first long at last touched =
     record {
       index = j;
-      plain = plain;
+      has = has;
       used =
           record {
             some = omega (arith, some);
@@ -48,6 +52,38 @@ begun_on list new o is begun some = rw is (λ i lt. elim (at_or_before i (length
   | inr at ↦ rw (at, get_or-append_seam list o [] None) some
 ])
 
-pub absent_some : (m : Memory) (size : ℕ) (present : ℕ → Bool) (address : ℕ) (e : CopyError) → address % 8 ≡ 0 → IfAbsent (λ page. IsAway size present page × IsWordPage m address page) e → IfAbsent (λ page. IsAway size present page × IsSomeWordPage m page) e
-absent_some m size present address errors.Memory even x = tt
-absent_some m size present address (errors.Absent page) even x = (x.0, (address, even, x.1))
+-- ---- What the program can reach
+
+module _ (m : Memory) (start : ℕ) (place : Place) (w : Word) (text : guest_text m place.address ≡ Some w) (reached : IsReachedPlace m start place) where
+  pub next_reached : (next : Place) → next.address ≡ w.next → next.continues ≡ role_after w place.continues → leads_next w ≡ true → IsReachedPlace m start next
+  next_reached next at role leads = rw (at, role) (by_jump (is_jump w) (chains_data w) (chains_command w) refl refl refl leads)
+    where
+      by_jump : (goes more command : Bool) → is_jump w ≡ goes → chains_data w ≡ more → chains_command w ≡ command → (if goes then (w.address % 8 == 0) else (more || command)) ≡ true
+          → InProgram (guest_text m) start w.next (if goes then place.continues else more)
+      by_jump true more command j d c even = jumps place.address place.continues w reached text j even
+      by_jump false true command j d c on = continues_at place.address place.continues w reached text j d
+      by_jump false false true j d c on = commands_at place.address place.continues w reached text j c d
+      by_jump false false false j d c on = cc
+
+  pub skipped_reached : leads_skipped w ≡ true → IsReachedPlace m start (record { address = w.skipped; continues = false })
+  skipped_reached leads = by_jump (is_jump w) (chains_command w) (chains_data w) refl refl refl leads
+    where
+      by_jump : (goes command more : Bool) → is_jump w ≡ goes → chains_command w ≡ command → chains_data w ≡ more → (not goes && (command && not more)) ≡ true → InProgram (guest_text m) start w.skipped false
+      by_jump false true false j c d on = skips_to place.address place.continues w reached text j c d
+      by_jump false true true j c d on = cc
+      by_jump false false more j c d on = cc
+      by_jump true command more j c d on = cc
+
+-- where a word leads there, each place that is added is reached
+pub followed_reached : (m : Memory) (start : ℕ) (leads : Bool) (place : Place) (old new : List Place) → IsFollowed leads place old new → (leads ≡ true → IsReachedPlace m start place) → All (IsReachedPlace m start) old
+    → All (IsReachedPlace m start) new
+followed_reached m start leads place old new (inl same) there all = rw same all
+followed_reached m start leads place old new (inr (on, is)) there all = rw is (All-push (IsReachedPlace m start) old place all (there on))
+
+pub first_reached : (m : Memory) (start : ℕ) (old new : List Place) → old ≡ [] → IsFollowed true (record { address = start; continues = false }) old new → All (IsReachedPlace m start) new
+first_reached m start old new none followed = followed_reached m start true _ old new followed (λ e. starts) (rw none (All-nil (IsReachedPlace m start)))
+
+pub absent_served : (m : Memory) (size : ℕ) (present : ℕ → Bool) (start : ℕ) (place : Place) (e : CopyError) → IsReachedPlace m start place → IfAbsent (λ page. IsAway size present page × IsWordPage m place.address page) e
+    → IfAbsent (λ page. IsAway size present page × IsServed m start page) e
+absent_served m size present start place errors.Memory reached x = tt
+absent_served m size present start place (errors.Absent page) reached x = (x.0, record { place = place; reached = reached; touched = x.1 })

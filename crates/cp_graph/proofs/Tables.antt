@@ -3,7 +3,7 @@ use Rattle.std.specs.Prelude.{ℕ, zero, suc, ◌+◌, ◌-◌, ◌*◌, ◌/◌
 use Rattle.std.specs.List.{slice_get}
 use Rattle.std.proofs.Common.{sym, ◌∙◌, ap, subst, arith, inl, inr, length-append}
 use Rattle.std.proofs.Math.Seq.{get_or-append_seam}
-use Rattle.std.proofs.lemmas.List.{get_or_append_left, get_or_past, append_assoc}
+use Rattle.std.proofs.lemmas.List.{append-nil, get_or_append_left, get_or_past, append_assoc}
 use Rattle.std.proofs.lemmas.Option.{slice_get_past, slice_get_within}
 use Rattle.s370_walk.specs.declared.parts.Word.{Word}
 use Rattle.s370_walk.specs.declared.parts.Position.{Position}
@@ -25,11 +25,11 @@ use Rattle.channel_laws.specs.declared.places.Place.{Place}
 use Rattle.channel_laws.specs.Renaming.{renamed_found, LeadsFrom}
 use Rattle.channel_laws.specs.Mapped.{Named}
 use Rattle.s370_walk.specs.Blocks.{straight}
-use Rattle.channel_laws.specs.Tracks.{IsListOf}
+use Rattle.channel_laws.specs.Tracks.{has_area, IsListOf}
 use Rattle.channel_laws.proofs.Tracked.{tracks_begin, tracks_skip, tracks_on, tracks_place}
 use Rattle.channel_laws.specs.Copy.{past, guest_of, IsPlace, IsCopyOf}
 use Rattle.cp_graph.specs.declared.program.Node.{Node}
-use Rattle.cp_graph.specs.Table.{word_in, entry_in, program_of, IsLink, HasLinks, IsGood, IsCopied, HasListOf, IsRow, AreRows, Grows, IsLinked, leads_next, leads_skipped, IsJumpPlain, IsPart, IsHere, AreHere, AreHeldRows}
+use Rattle.cp_graph.specs.Table.{word_in, entry_in, program_of, IsLink, HasLinks, IsGood, IsCopied, HasListOf, IsRow, AreRows, Grows, IsFollowed, IsLinked, leads_next, leads_skipped, IsJumpPlain, IsPart, IsHere, AreHere, AreHeldRows}
 
 module _ (old rest : List Place) (room : length (old ++ rest) ≤ 2147483648) where
   longer : length old ≤ length (old ++ rest)
@@ -86,6 +86,10 @@ guest_grown old new i grown lt = rw grown.is (ap (λ (p : Place). p.address) (ge
 
 pub grown_length : (old new : List Place) → Grows old new → length old ≤ length new
 grown_length old new grown = rw grown.is (omega (arith, length-append old grown.rest))
+
+pub followed_grows : (leads : Bool) (place : Place) (old new : List Place) → IsFollowed leads place old new → Grows old new
+followed_grows leads place old new (inl same) = record { rest = []; is = same ∙ sym (append-nil old) }
+followed_grows leads place old new (inr (on, is)) = record { rest = place ∷ []; is = is }
 
 pub grown_on : (a b c : List Place) → Grows a b → Grows b c → Grows a c
 grown_on a b c one two = record { rest = one.rest ++ two.rest; is = two.is ∙ ap (λ xs. xs ++ two.rest) one.is ∙ append_assoc a one.rest two.rest }
@@ -193,10 +197,10 @@ pub copy_of : (places : List Place) (nodes : List Node) (m : Memory) → length 
 copy_of places nodes m room whole all =
     record {
       words = λ n a there. by_place a there;
-      places = λ n p there word tracked some plain. tracks_place (program_of nodes).lists p (area_block m p.word) (list_at p word tracked.obeyed) tracked some plain;
-      begins = λ spot started w t plain. tracks_begin (program_of nodes).lists spot started w t plain;
+      places = λ n p there word tracked some plain. tracks_place (program_of nodes).lists p (area_block m p.word) (list_at p word tracked.has) tracked some plain;
+      begins = λ spot started w t has. tracks_begin (program_of nodes).lists spot started w t has;
       skips = λ p t some skip. tracks_skip (program_of nodes).lists p t some skip;
-      moves_on = λ n p a there word tracked some plain is. tracks_on (program_of nodes).lists p a ((list_at p word tracked.obeyed).aligned) tracked some plain is;
+      moves_on = λ n p a there word tracked some plain is. tracks_on (program_of nodes).lists p a ((list_at p word tracked.has).aligned) tracked some plain is;
       loads = λ n p. refl;
       same = λ n o a. refl;
       closed = λ n a there. closed_at a (slice_get nodes a) refl;
@@ -224,12 +228,12 @@ copy_of places nodes m room whole all =
               skipped = λ e f. good_place places (guest_text m) w.skipped room (leads.skipped e f);
             }
 
-    list_at : (p : Position) → ((n : Memory) → word_in (slice_get nodes p.at) ≡ Some p.word) → is_jump p.word ≡ false → IsListOf ((program_of nodes).lists p.at) (area_block m p.word) p.word.count
-    list_at p word plain = by_node (slice_get nodes p.at) refl (word m)
+    list_at : (p : Position) → ((n : Memory) → word_in (slice_get nodes p.at) ≡ Some p.word) → has_area p.word ≡ true → IsListOf ((program_of nodes).lists p.at) (area_block m p.word) p.word.count
+    list_at p word has = by_node (slice_get nodes p.at) refl (word m)
       where
         by_word : (node : Node) (found : Option Word) → found ≡ Some p.word → HasListOf m found node.list.items → IsListOf (λ j. slice_index_or node.list.items j None) (area_block m p.word) p.word.count
         by_word node None e list = cc
-        by_word node (Some w) e list = (let same : w ≡ p.word = cc in (rw same at list) plain)
+        by_word node (Some w) e list = (let same : w ≡ p.word = cc in (rw same at list) has)
 
         by_node : (o : Option Node) → slice_get nodes p.at ≡ o → word_in o ≡ Some p.word → IsListOf (λ j. entry_in o j) (area_block m p.word) p.word.count
         by_node None e is = cc

@@ -6,6 +6,8 @@ use Rattle.s370_walk.specs.declared.parts.Word.{Word}
 use Rattle.s370_walk.specs.Hardware.{Memory, area}
 use Rattle.s370_walk.specs.Walk.{is_jump, chains_data, chains_command}
 use Rattle.s370_channel.specs.Guest.{guest_text, area_block, block_asks}
+use Rattle.channel_laws.specs.declared.places.Place.{Place}
+use Rattle.channel_laws.specs.Tracks.{has_area}
 use Rattle.cp_graph.specs.declared.program.CopyError.{CopyError}
 use Rattle.cp_graph.specs.declared.program.CopyError.TheVariants as errors
 
@@ -19,39 +21,38 @@ pub data InProgram (text : ℕ → Option Word) (start : ℕ) : ℕ → Bool →
   commands_at : (a : ℕ) (continues : Bool) (w : Word) → InProgram text start a continues → text a ≡ Some w → is_jump w ≡ false → chains_command w ≡ true → chains_data w ≡ false → InProgram text start w.next false
   skips_to : (a : ℕ) (continues : Bool) (w : Word) → InProgram text start a continues → text a ≡ Some w → is_jump w ≡ false → chains_command w ≡ true → chains_data w ≡ false → InProgram text start w.skipped false
 
+-- a place whose word the program that starts at an address can reach, in the role of the place
+abbrev pub IsReachedPlace : Memory → ℕ → Place → Type 0
+IsReachedPlace m start place = InProgram (guest_text m) start place.address place.continues
+
 -- Word j of a list is used by so many bytes: a byte of its block is counted, and each word before it says an address.
 pub record IsUsed (f : ℕ → Option ℕ) (count j : ℕ) : Type 0 where
   pub some : 0 < count
   pub before : (i : ℕ) → i < j → is_some (f i) ≡ true
   pub counted : (first : ℕ) → 0 < j → f 0 ≡ Some first → j * 2048 < first % 2048 + count
 
+-- what word j of a word's list needs
+abbrev pub IsEntryPage : Memory → Word → ℕ → ℕ → Type 0
+IsEntryPage m w j page = Touches (block_asks w j) page ⊎ ((a : ℕ) × (area_block m w j ≡ Some a) × (page ≡ a / 4096))
+
 -- a page with a byte of a word's data area, or of the words of its list
 pub record IsDataPage (m : Memory) (w : Word) (page : ℕ) : Type 0 where
   pub index : ℕ
-  pub plain : is_jump w ≡ false
+  pub has : has_area w ≡ true
   pub used : IsUsed (area_block m w) w.count index
-  pub touched : Touches (block_asks w index) page ⊎ ((a : ℕ) × (area_block m w index ≡ Some a) × (page ≡ a / 4096))
-
--- A page that the program from an address on needs.
-pub record IsServed (m : Memory) (start page : ℕ) : Type 0 where
-  pub address : ℕ
-  pub continues : Bool
-  pub reached : InProgram (guest_text m) start address continues
-  pub touched : Touches (area Fetch address 8 ∷ []) page ⊎ ((w : Word) × (guest_text m address ≡ Some w) × IsDataPage m w page)
-
--- a page that is missing, of those that are asked for
-abbrev pub IfAbsent : (ℕ → Type 0) → CopyError → Type 0
-IfAbsent P errors.Memory = Unit {0}
-IfAbsent P (errors.Absent page) = P page.0
+  pub touched : IsEntryPage m w index page
 
 -- what one word needs
 abbrev pub IsWordPage : Memory → ℕ → ℕ → Type 0
 IsWordPage m address page = Touches (area Fetch address 8 ∷ []) page ⊎ ((w : Word) × (guest_text m address ≡ Some w) × IsDataPage m w page)
 
--- what word j of a word's list needs
-abbrev pub IsEntryPage : Memory → Word → ℕ → ℕ → Type 0
-IsEntryPage m w j page = Touches (block_asks w j) page ⊎ ((a : ℕ) × (area_block m w j ≡ Some a) × (page ≡ a / 4096))
+-- A page that the program from an address on needs.
+pub record IsServed (m : Memory) (start page : ℕ) : Type 0 where
+  pub place : Place
+  pub reached : IsReachedPlace m start place
+  pub touched : IsWordPage m place.address page
 
--- what the word at some doubleword needs
-abbrev pub IsSomeWordPage : Memory → ℕ → Type 0
-IsSomeWordPage m page = (address : ℕ) × (address % 8 ≡ 0) × IsWordPage m address page
+-- a page that is missing, of those that are asked for
+abbrev pub IfAbsent : (ℕ → Type 0) → CopyError → Type 0
+IfAbsent P errors.Memory = Unit {0}
+IfAbsent P (errors.Absent page) = P page.0

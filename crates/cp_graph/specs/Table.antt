@@ -1,5 +1,5 @@
 -- A copied program: the guest's address and the role of each place, the word that stands there, and its list.
-use Rattle.std.specs.Prelude.{ℕ, ◌-◌, ◌/◌, ◌%◌, ◌<◌, ◌≤◌, ◌≡◌, ◌==◌, List, ◌++◌, length, slice_index_or, Option, None, Some, ◌⊎◌, Bool, true, false, ◌||◌, ◌&&◌, not, if◌then◌else◌}
+use Rattle.std.specs.Prelude.{ℕ, ◌-◌, ◌/◌, ◌%◌, ◌<◌, ◌≤◌, ◌≡◌, ◌==◌, List, [], ◌∷◌, ◌++◌, length, slice_index_or, Option, None, Some, ◌⊎◌, Bool, true, false, ◌||◌, ◌&&◌, not, if◌then◌else◌}
 use Rattle.std.specs.List.{slice_get}
 use Rattle.s370_walk.specs.declared.parts.Word.{Word}
 use Rattle.s370_walk.specs.Hardware.{Memory}
@@ -8,7 +8,7 @@ use Rattle.s370_channel.specs.Guest.{guest_text, area_block}
 use Rattle.channel_laws.specs.declared.places.Place.{Place}
 use Rattle.channel_laws.specs.Renaming.{renamed_found, LeadsFrom}
 use Rattle.channel_laws.specs.Mapped.{Program}
-use Rattle.channel_laws.specs.Tracks.{IsListOf}
+use Rattle.channel_laws.specs.Tracks.{has_area, IsListOf}
 use Rattle.channel_laws.specs.Copy.{guest_of}
 use Rattle.cp_graph.specs.declared.program.Node.{Node}
 
@@ -44,7 +44,7 @@ pub record IsCopied (places : List Place) (text : ℕ → Option Word) (address 
 
 abbrev pub HasListOf : Memory → Option Word → List (Option ℕ) → Type 0
 HasListOf m None list = Unit {0}
-HasListOf m (Some w) list = is_jump w ≡ false → IsListOf (λ j. slice_index_or list j None) (area_block m w) w.count
+HasListOf m (Some w) list = has_area w ≡ true → IsListOf (λ j. slice_index_or list j None) (area_block m w) w.count
 
 pub record IsRow (places : List Place) (m : Memory) (address : ℕ) (node : Node) : Type 0 where
   pub copied : IsCopied places (guest_text m) address node.word
@@ -57,6 +57,10 @@ AreRows places nodes m = (i : ℕ) (node : Node) → slice_get nodes i ≡ Some 
 pub record Grows (old new : List Place) : Type 0 where
   pub rest : List Place
   pub is : new ≡ old ++ rest
+
+-- a place is added, if at all, only where a word leads there
+abbrev pub IsFollowed : Bool → Place → List Place → List Place → Type 0
+IsFollowed leads place old new = (new ≡ old) ⊎ ((leads ≡ true) × (new ≡ old ++ place ∷ []))
 
 -- A link that was made: where the word leads on, it is good.
 pub record IsLinked (places : List Place) (text : ℕ → Option Word) (leads : Bool) (address number : ℕ) : Type 0 where

@@ -1,8 +1,9 @@
 //! Copies the words that a program can reach.
+ghost use Rattle.std.specs.List.{All};
 ghost use Rattle.std.specs.Prelude.{◌≡◌, ℕ, ◌+◌, ◌*◌, ◌/◌, ◌%◌, ◌<◌, ◌≤◌, ◌^◌, IfErr, IfOk, length, true, vec_len};
 ghost use Rattle.channel_laws.specs.Copy.{IsCopyOf, IsPlace, guest_of};
 ghost use Rattle.channel_laws.specs.Mapped.{Named};
-ghost use Rattle.cp_graph.specs.Closure.{IfAbsent, IsSomeWordPage, IsWordPage};
+ghost use Rattle.cp_graph.specs.Closure.{IfAbsent, IsReachedPlace, IsServed, IsWordPage};
 ghost use Rattle.cp_graph.specs.Marks.{IsIndexed, unmarked};
 ghost use Rattle.cp_graph.specs.Table.{AreHere, Grows, IsRow, leads_next, leads_skipped, program_of, role_after};
 ghost use Rattle.s370_channel.specs.Guest.{guest_text, guest_written};
@@ -36,6 +37,10 @@ fn copy_word<S: Storage>(
         (IsRow places.new.items (memory_of (S.bytes storage.now) (S.keys storage.now)) place.address) }
     ensures here { IfOk result (λ node. AreHere (length (S.bytes storage.now)) (S.present storage.now) node.list.items) }
     ensures grown { IfOk result (λ _. Grows places.old.items places.new.items) }
+    ensures reached { IfOk result (λ _. (start : ℕ)
+        → IsReachedPlace (memory_of (S.bytes storage.now) (S.keys storage.now)) start place
+        → All (IsReachedPlace (memory_of (S.bytes storage.now) (S.keys storage.now)) start) places.old.items
+        → All (IsReachedPlace (memory_of (S.bytes storage.now) (S.keys storage.now)) start) places.new.items) }
     ensures known { IfOk result (λ _. IsIndexed places.new.items index.new) }
     ensures count { IfOk result
         (λ _. vec_len places.new + unmarked index.new ≡ vec_len places.old + unmarked index.old) }
@@ -134,8 +139,8 @@ fn next_of(word: &Word, place: Place) -> Place
 /// serve their bytes.
 ///
 /// `start` is the address of a doubleword of storage, in bytes. Each address of storage that the copy names lies on a
-/// page that is present; where one does not, its page is told as [`CopyError::Absent`]. A bad word is copied as it is:
-/// it fails when it is reached, and never before.
+/// page that is present; where one does not, its page, which the program needs, is told as [`CopyError::Absent`]. A bad
+/// word is copied as it is: it fails when it is reached, and never before.
 pub fn copy<S: Storage>(alloc: Global, storage: &S, start: u32) -> Result<Copied, CopyError>
     requires even { start % 8 ≡ 0 }
     requires low { start < 2 ^ 24 }
@@ -150,7 +155,7 @@ pub fn copy<S: Storage>(alloc: Global, storage: &S, start: u32) -> Result<Copied
         → S.present storage.now (a / 4096) ≡ true) }
     ensures absent { IfErr result
         (IfAbsent (λ page. IsAway (length (S.bytes storage.now)) (S.present storage.now) page
-        × IsSomeWordPage (memory_of (S.bytes storage.now) (S.keys storage.now)) page)) }
+        × IsServed (memory_of (S.bytes storage.now) (S.keys storage.now)) start page)) }
 {
     let mut places = Vec::new(alloc);
     let mut index = Slots::new(alloc, storage.size() as usize / 8 * 2);

@@ -2,7 +2,7 @@
 ghost use Rattle.std.specs.Prelude.{◌≡◌, ◌+◌, ◌*◌, ◌/◌, ◌%◌, ◌<◌, ◌≤◌, ◌^◌, IfOk, length, slice_index_or, true, vec_len};
 ghost use Rattle.channel_laws.specs.Copy.{past};
 ghost use Rattle.cp_graph.specs.Marks.{IsIndexed, slot_of, unmarked};
-ghost use Rattle.cp_graph.specs.Table.{Grows, IsLinked};
+ghost use Rattle.cp_graph.specs.Table.{IsFollowed, IsLinked};
 ghost use Rattle.s370_channel.specs.Guest.{guest_text};
 ghost use Rattle.s370_walk.specs.Hardware.{memory_of};
 
@@ -30,7 +30,7 @@ fn number_of(places: &mut Vec<Place>, index: &mut Slots, place: Place) -> Result
     requires few { vec_len places.old + unmarked index.old ≤ 2147483648 }
     ensures within { IfOk result (λ number. number < vec_len places.new) }
     ensures found { IfOk result (λ number. slice_index_or places.new.items number (past number) ≡ place) }
-    ensures grown { IfOk result (λ _. Grows places.old.items places.new.items) }
+    ensures followed { IfOk result (λ _. IsFollowed true place places.old.items places.new.items) }
     ensures known { IfOk result (λ _. IsIndexed places.new.items index.new) }
     ensures count { IfOk result
         (λ _. vec_len places.new + unmarked index.new ≡ vec_len places.old + unmarked index.old) }
@@ -63,7 +63,7 @@ pub(crate) fn link<S: Storage>(
     requires few { vec_len places.old + unmarked index.old ≤ 2147483648 }
     ensures linked { IfOk result
         (IsLinked places.new.items (guest_text (memory_of (S.bytes storage.now) (S.keys storage.now))) leads place.address) }
-    ensures grown { IfOk result (λ _. Grows places.old.items places.new.items) }
+    ensures followed { IfOk result (λ _. IsFollowed leads place places.old.items places.new.items) }
     ensures known { IfOk result (λ _. IsIndexed places.new.items index.new) }
     ensures count { IfOk result
         (λ _. vec_len places.new + unmarked index.new ≡ vec_len places.old + unmarked index.old) }

@@ -1,5 +1,6 @@
 //! The addresses that serve the bytes of a word (GA22-7000, "Channel Indirect Data Addressing").
 ghost use Rattle.std.specs.Prelude.{◌≡◌, ◌≤◌, IfErr, IfOk, Some, length};
+ghost use Rattle.channel_laws.specs.Tracks as tracks;
 ghost use Rattle.cp_graph.specs.Closure.{IfAbsent, IsDataPage, IsEntryPage};
 ghost use Rattle.cp_graph.specs.Table.{AreHere, HasListOf, IsHere};
 ghost use Rattle.s370_channel.specs.Guest.{area_block};
@@ -10,8 +11,16 @@ use crate::program::CopyError;
 use s370_channel::fetch_block;
 use s370_num::AccessKey;
 use s370_store::{Access, Fault, Page, Range, Storage};
-use s370_walk::Word;
+use s370_walk::{Flags, Word};
 use std::alloc::Global;
+
+/// Whether a word has an area: a transfer in channel has none, and a list off a word boundary has no words.
+pub fn has_area(word: &Word) -> bool
+    ensures { result ≡ tracks.has_area word.now }
+{
+    !word.command.is_transfer_in_channel()
+        && !(word.flags.has(Flags::INDIRECT) && word.address % 4 != 0)
+}
 
 /// What word `number` says of the list that serves a word's bytes; where that is an address in storage, its page is
 /// present.
@@ -42,7 +51,8 @@ fn entry<S: Storage>(storage: &S, word: &Word, number: u32) -> Result<Option<u32
     }
 }
 
-/// The addresses that serve the bytes of a word, up to the first word of its list that says none.
+/// The addresses that serve the bytes of a word, up to the first word of its list that says none. A word of which no
+/// byte can move has none, so that no page is asked for which the program does not need.
 pub(crate) fn list_for<S: Storage>(
     alloc: Global,
     storage: &S,
@@ -56,7 +66,7 @@ pub(crate) fn list_for<S: Storage>(
         × IsDataPage (memory_of (S.bytes storage.now) (S.keys storage.now)) word.now page)) }
 {
     let mut list = Vec::new(alloc);
-    if word.command.is_transfer_in_channel() || word.count == 0 {
+    if !has_area(word) || word.count == 0 {
         return Ok(list);
     }
     let first = match entry(storage, word, 0) {

@@ -11,7 +11,8 @@ use Rattle.s370_walk.specs.Blocks.{after, begins_block, block_number}
 use Rattle.s370_walk.specs.Hardware.{Memory, area}
 use Rattle.s370_walk.specs.Walk.{is_indirect, is_jump}
 use Rattle.cp_graph.specs.Closure.{IsEntryPage}
-use Rattle.cp_needs.specs.Areas.{IsBefore, IsBegun, byte_place, has_area}
+use Rattle.channel_laws.specs.Tracks.{has_area}
+use Rattle.cp_needs.specs.Areas.{IsBefore, IsBegun, byte_place}
 use Rattle.cp_needs.specs.Words.{IsAreaPage, IsHere}
 use Rattle.cp_needs.proofs.Walking.{place_first, place_next}
 

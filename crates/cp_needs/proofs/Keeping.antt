@@ -13,7 +13,8 @@ use Rattle.s370_walk.specs.Blocks.{block_number, straight}
 use Rattle.s370_walk.specs.Hardware.{Memory, area, byte_at, fault_of, is_in, put_byte}
 use Rattle.s370_walk.specs.Walk.{is_indirect}
 use Rattle.channel_laws.proofs.Mapping.{get_other}
-use Rattle.cp_needs.specs.Areas.{has_area, IsBegun}
+use Rattle.channel_laws.specs.Tracks.{has_area}
+use Rattle.cp_needs.specs.Areas.{IsBegun}
 use Rattle.cp_needs.specs.Needs.{IsReached, IsTextByte}
 
 -- The words and lists of the program stand as they stood in m0.

@@ -9,7 +9,8 @@ use Rattle.s370_walk.specs.declared.parts.Word.{Word}
 use Rattle.s370_walk.specs.Blocks.{block_number}
 use Rattle.s370_walk.specs.Hardware.{Memory}
 use Rattle.s370_walk.specs.Walk.{is_indirect, skips}
-use Rattle.cp_needs.specs.Areas.{IsAreaByte, IsBegun, IsListByte, byte_place, has_area}
+use Rattle.cp_needs.specs.Areas.{IsAreaByte, IsBegun, IsListByte, byte_place}
+use Rattle.channel_laws.specs.Tracks.{has_area}
 use Rattle.cp_needs.specs.Needs.{IsTextByte}
 use Rattle.cp_needs.specs.Noted.{AreMarked, AreStored, IsEntryByte, IsFilled, IsFilledAt, IsFilledBy, IsInPiece, IsInSome, IsPieceByte, IsTextOf}
 use Rattle.cp_needs.proofs.Blocks.{begun_place, bytes_on, none_on, none_some, on_word, past_list, place_after, some_same, within_block}

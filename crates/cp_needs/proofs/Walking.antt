@@ -26,7 +26,8 @@ use Rattle.s370_channel.specs.Guest.{area_block, block_asks, guest_text, guest_w
 use Rattle.channel_laws.specs.Renaming.{Leads}
 use Rattle.cp_graph.specs.Closure.{starts, jumps, continues_at, commands_at, skips_to}
 use Rattle.cp_graph.proofs.Tables.{text_plain}
-use Rattle.cp_needs.specs.Areas.{has_area, byte_place, IsBefore}
+use Rattle.channel_laws.specs.Tracks.{has_area}
+use Rattle.cp_needs.specs.Areas.{byte_place, IsBefore}
 use Rattle.cp_needs.specs.Needs.{IsFixed, IsHeld, IsProgramPage, IsReached}
 use Rattle.cp_needs.specs.Laws.{IsSteadyInWords}
 use Rattle.cp_needs.proofs.Keeping.{IsKept, kept_block, kept_first, kept_put, kept_word}

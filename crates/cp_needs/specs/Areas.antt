@@ -1,10 +1,11 @@
 -- Where the bytes of a word's area lie, and which words of its list say so (GA22-7000, "Channel Indirect Data Addressing").
-use Rattle.std.specs.Prelude.{ℕ, zero, suc, ◌+◌, ◌*◌, ◌%◌, ◌<◌, ◌≡◌, ◌==◌, Bool, true, ◌&&◌, not, Option, None, Some}
+use Rattle.std.specs.Prelude.{ℕ, zero, suc, ◌+◌, ◌*◌, ◌<◌, ◌≡◌, true, Option, None, Some}
+use Rattle.channel_laws.specs.Tracks.{has_area}
 use Rattle.s370_channel.specs.Guest.{area_block, later}
 use Rattle.s370_walk.specs.declared.parts.Word.{Word}
 use Rattle.s370_walk.specs.Blocks.{begins_block, block_number, served}
 use Rattle.s370_walk.specs.Hardware.{Memory}
-use Rattle.s370_walk.specs.Walk.{is_indirect, is_jump}
+use Rattle.s370_walk.specs.Walk.{is_indirect}
 
 -- where byte k of an area lies, by where the byte before it lies
 abbrev pub byte_after : (ℕ → Option ℕ) → ℕ → Option ℕ → Option ℕ
@@ -26,10 +27,6 @@ pub record IsBegun (list : ℕ → Option ℕ) (k : ℕ) : Type 0 where
   pub before : Option ℕ
   pub is : IsBefore list k before
   pub begins : begins_block before ≡ true
-
--- a transfer in channel has no area, and a list off a word boundary has no words
-abbrev pub has_area : Word → Bool
-has_area w = not (is_jump w) && not (is_indirect w && not (w.address % 4 == 0))
 
 -- A byte of the area of a word.
 pub record IsAreaByte (m : Memory) (w : Word) (a : ℕ) : Type 0 where

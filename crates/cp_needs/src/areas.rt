@@ -1,7 +1,6 @@
 //! The pages of a word's list and area (GA22-7000, "Channel Indirect Data Addressing").
 ghost use Rattle.std.specs.Prelude.{◌≡◌, ◌≤◌, ◌<◌, ◌+◌, ◌*◌, ◌/◌, ◌%◌, ◌^◌, IfErr, IfNone, IfOk, IfSome, length, true, ℕ};
 ghost use Rattle.cp_graph.specs.Closure.{IsEntryPage};
-ghost use Rattle.cp_needs.specs.Areas as specs;
 ghost use Rattle.cp_needs.specs.Words.{IsAreaPage, IsHere};
 ghost use Rattle.s370_channel.specs.Guest.{area_block, later};
 ghost use Rattle.s370_store.specs.Access.{IsAway};
@@ -9,17 +8,10 @@ ghost use Rattle.s370_walk.specs.Hardware.{memory_of};
 ghost use Rattle.s370_walk.specs.Walk.{is_indirect};
 
 use crate::pages::absent_at;
+use cp_graph::has_area;
 use s370_channel::fetch_block;
 use s370_store::{Page, Storage};
 use s370_walk::{Flags, Word};
-
-/// Whether a word has an area: a transfer in channel has none, and a list off a word boundary has no words.
-pub(crate) fn has_area(word: &Word) -> bool
-    ensures { result ≡ specs.has_area word.now }
-{
-    !word.command.is_transfer_in_channel()
-        && !(word.flags.has(Flags::INDIRECT) && word.address % 4 != 0)
-}
 
 /// Where a word of a word's list stands.
 pub(crate) fn list_address(word: &Word, number: u32) -> u32

@@ -1,13 +1,14 @@
 //! What is noted of a program's words, to see whether an input of it could change one of them.
 ghost use Rattle.std.specs.Prelude.{[], ◌≡◌, ◌<◌, ◌≤◌, ◌%◌, IfOk, OnOk, length, slice_index, true, ℕ};
-ghost use Rattle.cp_needs.specs.Areas as specs;
+ghost use Rattle.channel_laws.specs.Tracks as tracks;
 ghost use Rattle.cp_needs.specs.Areas.{IsListByte};
 ghost use Rattle.cp_needs.specs.Needs.{IsTextByte};
 ghost use Rattle.cp_needs.specs.Noted.{AreMarked, AreStored, IsEntryByte, IsFilled, IsFilledAt, IsFilledBy, IsPieceByte, IsTextOf};
 ghost use Rattle.cp_needs.specs.Words.{IsAreaPage, IsHere, IsPageAt};
 ghost use Rattle.s370_walk.specs.Hardware.{memory_of};
 
-use crate::areas::{block_here, bytes_in_block, has_area, list_address};
+use crate::areas::{block_here, bytes_in_block, list_address};
+use cp_graph::has_area;
 use s370_channel::fetch_word;
 use s370_store::{Range, Storage};
 use s370_walk::{Flags, Word};
@@ -24,7 +25,7 @@ pub(crate) struct Notes {
 
 /// Notes the word of a word's list that says where a block of its area begins.
 fn note_entry(text: &mut Vec<u32>, word: &Word, number: u32) -> Result<(), AllocError>
-    requires has { specs.has_area word.now ≡ true }
+    requires has { tracks.has_area word.now ≡ true }
     ensures marked { OnOk result (AreMarked (IsEntryByte word.now number) text.old.items text.new.items) }
 {
     if word.flags.has(Flags::INDIRECT) {

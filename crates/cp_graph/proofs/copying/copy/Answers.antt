@@ -1,10 +1,11 @@
-use Rattle.std.proofs.Common.{◌≡◌, ◌≤◌, ◌<◌, ◌%◌, ◌∙◌, List, ap, arith, length, slice_index_or, ℕ}
+use Rattle.std.proofs.Common.{◌≡◌, ◌≤◌, ◌<◌, ◌%◌, ◌∙◌, List, ap, arith, length, slice_index_or, subst, sym, ℕ}
 use Rattle.std.proofs.lemmas.List.{get_or_read, length-replicate}
 use Rattle.s370_walk.specs.Hardware.{memory_of}
 use Rattle.channel_laws.specs.declared.places.Place.{Place}
 use Rattle.channel_laws.specs.Copy.{guest_of, past}
+use Rattle.cp_graph.specs.Closure.{IsReachedPlace}
 use Rattle.cp_graph.proofs.Tables.{copy_of, grown_length, rows_on, rows_none, held_push, held_none, linked_grown, linked_is_place}
-use Rattle.cp_graph.proofs.Closures.{absent_some}
+use Rattle.cp_graph.proofs.Closures.{absent_served, first_reached}
 use Rattle.cp_graph.proofs.Marking.{unmarked_few}
 use Rattle.cp_graph.proofs.copying.copy.Goals as goal
 
@@ -20,6 +21,7 @@ places-init g c =
     record {
       rows = rw c.new-nodes.ensures.items (rows_none c.link.new.places.items (memory_of (g.S.Storage.bytes c.args.storage.now) (g.S.Storage.keys c.args.storage.now)));
       held = rw c.new-nodes.ensures.items (held_none (length (g.S.Storage.bytes c.args.storage.now)) (g.S.Storage.present c.args.storage.now));
+      reached = first_reached (memory_of (g.S.Storage.bytes c.args.storage.now) (g.S.Storage.keys c.args.storage.now)) c.args.start _ c.link.new.places.items c.new-places.ensures.items c.in-Ok.ensures.followed;
       known = c.in-Ok.ensures.known;
       few = (let few = unmarked_few c.new-index.result in omega (arith, few, c.in-Ok.ensures.count, slots, c.new-places.ensures.len, c.size.ensures.bytes));
       room = omega (arith, c.in-Ok.ensures.size, slots, c.size.ensures.bytes);
@@ -51,6 +53,7 @@ places-preserved g c =
     record {
       rows = rows_on places new nodes c.push.new.self.items m c.index-place.result.now.address c.in-Ok-copy_word.node c.in-Ok-push.ensures.items c.in-Ok-copy_word.ensures.grown room behind address c.places.invariant.rows c.in-Ok-copy_word.ensures.row;
       held = held_push nodes c.push.new.self.items c.in-Ok-copy_word.node _ _ c.in-Ok-push.ensures.items c.places.invariant.held c.in-Ok-copy_word.ensures.here;
+      reached = c.in-Ok-copy_word.ensures.reached c.args.start (subst (IsReachedPlace m c.args.start) (sym is) (c.places.invariant.reached at (past at) lt)) c.places.invariant.reached;
       known = c.in-Ok-copy_word.ensures.known;
       few = omega (arith, c.in-Ok-copy_word.ensures.count, c.places.invariant.few);
       room = c.in-Ok-copy_word.ensures.size ∙ c.places.invariant.room;
@@ -74,5 +77,5 @@ returns-in-Err-copy_word-clause-absent g c =
     let at = c.len-in-places-2.result in
     let lt : at < length places = omega (arith, c.places-test.true, c.places.places.ok.0, c.places.nodes.ok.0) in
     let is : c.index-place.result.now ≡ slice_index_or places at (past at) = get_or_read places at _ lt c.index-place.ensures (past at) in
-    let even : c.index-place.result.now.address % 8 ≡ 0 = ap (λ (p : Place). p.address % 8) is ∙ c.places.invariant.known.even at lt in
-    absent_some _ _ _ c.index-place.result.now.address c.in-Err-copy_word.error even c.in-Err-copy_word.ensures.absent
+    let m = memory_of (g.S.Storage.bytes c.args.storage.now) (g.S.Storage.keys c.args.storage.now) in
+    absent_served m _ _ c.args.start c.index-place.result.now c.in-Err-copy_word.error (subst (IsReachedPlace m c.args.start) (sym is) (c.places.invariant.reached at (past at) lt)) c.in-Err-copy_word.ensures.absent

@@ -1,6 +1,8 @@
 use Rattle.std.proofs.Common.{◌≡◌, ◌+◌, ◌-◌, ◌*◌, ◌/◌, ◌≤◌, length, vec_len, true}
+use Rattle.std.specs.List.{All}
 use Rattle.s370_walk.specs.Hardware.{memory_of}
 use Rattle.s370_channel.specs.Guest.{guest_text}
+use Rattle.cp_graph.specs.Closure.{IsReachedPlace}
 use Rattle.cp_graph.specs.Table.{AreRows, AreHeldRows, IsLinked}
 use Rattle.cp_graph.specs.Marks.{IsIndexed, unmarked}
 use Rattle.cp_graph.proofs.copying.copy.Given as goal
@@ -9,6 +11,7 @@ abbrev pub invariant-places : goal.invariant-places
 invariant-places g l = record {
   rows : AreRows l.places.items l.nodes.items (memory_of (g.S.Storage.bytes l.storage) (g.S.Storage.keys l.storage));
   held : AreHeldRows l.nodes.items (length (g.S.Storage.bytes l.storage)) (g.S.Storage.present l.storage);
+  reached : All (IsReachedPlace (memory_of (g.S.Storage.bytes l.storage) (g.S.Storage.keys l.storage)) l.start) l.places.items;
   known : IsIndexed l.places.items l.index;
   few : vec_len l.places + unmarked l.index ≤ 2147483648;
   room : length l.index ≡ length (g.S.Storage.bytes l.storage) / 8 * 2;

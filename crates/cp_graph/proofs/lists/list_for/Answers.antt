@@ -6,7 +6,7 @@ use Rattle.cp_graph.proofs.Closures.{begun_on}
 use Rattle.cp_graph.proofs.lists.list_for.Goals as goal
 
 pub returns-then-is_none-clause-list : goal.returns-then-is_none-clause-list
-returns-then-is_none-clause-list g c = λ plain.
+returns-then-is_none-clause-list g c = λ has.
     let f = area_block (memory_of (g.S.Storage.bytes c.args.storage.now) (g.S.Storage.keys c.args.storage.now)) c.args.word.now in
     let at : c.len-in-blocks-2.result ≡ length c.blocks-2.list.items = omega (arith, c.blocks-2.list.ok.0) in
     failed_on _ c.args.word.now c.blocks-2.list.items _ c.in-Ok-entry.said c.in-Ok-push-2.ensures.items c.blocks-2.invariant.part (c.in-Ok-entry.ensures.said ∙ ap f at) (none_is c.in-Ok-entry.said c.is_none.result c.is_none.ensures c.if-is_none.true)
@@ -28,4 +28,4 @@ blocks-2-preserved g c =
     }
 
 pub returns-clause-list : goal.returns-clause-list
-returns-clause-list g c = λ plain. list_whole _ c.args.word.now c.blocks-2.list.items c.in-Some.start c.blocks-2.invariant.part c.blocks-2.invariant.first (omega (arith, c.blocks-2-test.false, c.blocks-2.list.ok.0))
+returns-clause-list g c = λ has. list_whole _ c.args.word.now c.blocks-2.list.items c.in-Some.start c.blocks-2.invariant.part c.blocks-2.invariant.first (omega (arith, c.blocks-2-test.false, c.blocks-2.list.ok.0))

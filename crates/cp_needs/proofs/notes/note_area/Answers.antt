@@ -1,7 +1,7 @@
 use Rattle.std.proofs.Common.{◌≡◌, ◌∙◌, sym, arith, true}
 use Rattle.s370_channel.specs.Guest.{area_block}
 use Rattle.s370_walk.specs.Hardware.{memory_of}
-use Rattle.cp_needs.specs.Areas as specs
+use Rattle.channel_laws.specs.Tracks as tracks
 use Rattle.cp_needs.proofs.Blocks.{asked_of, begun_on}
 use Rattle.cp_needs.proofs.Noting.{filled_done, filled_on, filled_past, list_done, list_on, list_past, not_away}
 use Rattle.cp_needs.proofs.notes.note_area.Goals as goal
@@ -10,7 +10,7 @@ pub returns-in-Ok-None-clause-marked : goal.returns-in-Ok-None-clause-marked
 returns-in-Ok-None-clause-marked g c =
     let m = memory_of (g.S.Storage.bytes c.args.storage.now) (g.S.Storage.keys c.args.storage.now) in
     let w = c.args.word.now in
-    let has : specs.has_area w ≡ true = sym c.has_area.ensures ∙ c.if-not-has_area.false in
+    let has : tracks.has_area w ≡ true = sym c.has_area.ensures ∙ c.if-not-has_area.false in
     list_past m w c.blocks-2.byte _ _ _ has (omega (arith, c.blocks-2-test.true, c.blocks-2.invariant.counted)) (c.blocks-2.invariant.begun c.blocks-2-test.true) (sym c.in-Ok-None.ensures.said ∙ c.in-Ok-None.field-0-is)
     c.blocks-2.invariant.marked c.in_ok-note_entry.ensures.marked
 
@@ -24,7 +24,7 @@ pub unreachable-requires : goal.unreachable-requires
 unreachable-requires g c =
     let m = memory_of (g.S.Storage.bytes c.args.storage.now) (g.S.Storage.keys c.args.storage.now) in
     let w = c.args.word.now in
-    let has : specs.has_area w ≡ true = sym c.has_area.ensures ∙ c.if-not-has_area.false in
+    let has : tracks.has_area w ≡ true = sym c.has_area.ensures ∙ c.if-not-has_area.false in
     let page = c.in-Err.field-0.0 in
     let asked = asked_of m w c.blocks-2.byte page has (omega (arith, c.blocks-2-test.true, c.blocks-2.invariant.counted)) (c.blocks-2.invariant.begun c.blocks-2-test.true) c.in-Err.ensures.asked in
     not_away _ (g.S.Storage.present c.args.storage.now) page (c.requires.here page asked) c.in-Err.ensures.away
@@ -33,7 +33,7 @@ pub blocks-2-preserved : goal.blocks-2-preserved
 blocks-2-preserved g c =
     let m = memory_of (g.S.Storage.bytes c.args.storage.now) (g.S.Storage.keys c.args.storage.now) in
     let w = c.args.word.now in
-    let has : specs.has_area w ≡ true = sym c.has_area.ensures ∙ c.if-not-has_area.false in
+    let has : tracks.has_area w ≡ true = sym c.has_area.ensures ∙ c.if-not-has_area.false in
     let part = c.bytes_in_block-bytes.ensures in
     let said = sym c.in-Ok-Some.ensures.said ∙ c.in-Ok-Some.field-0-is in
     let low = rw c.in-Ok-Some.field-0-is at c.in-Ok-Some.ensures.low in
