@@ -1,4 +1,4 @@
-use Rattle.std.proofs.Common.{[], ◌∷◌, ◌++◌, ◌∙◌, ap, subst, length, List, ℕ}
+use Rattle.std.proofs.Common.{[], ◌∷◌, ◌++◌, ◌*◌, ◌<◌, ◌∙◌, ap, subst, length, List, ℕ}
 use Rattle.s370_channel.specs.declared.running.ChannelError.TheVariants as errors
 use Rattle.s370_intr.proofs.Runs.{all_needed}
 use Rattle.cp_devices.specs.Equipped.{Equipped}
@@ -55,3 +55,14 @@ returns-in-Err-Memory-clause-others g c = g.met.C.Disks.others_on _ _ _ c.loop-d
 
 pub returns-in-Err-clause-others : goal.returns-in-Err-clause-others
 returns-in-Err-clause-others g c = g.met.C.Disks.others_on _ _ _ c.loop-done.invariant.others c.serve.ensures.others
+
+pub returns-in-Err-clause-frames : goal.returns-in-Err-clause-frames
+returns-in-Err-clause-frames g c = λ out.
+    let page = c.in-Err-Absent.page.0 in
+    let whole = error_at c.serve.result c.in-Err-Absent.field-0 (errors.Absent c.in-Err-Absent.page) _ c.in-Err-Absent.is c.in-Err-Absent.field-0-is (c.serve.ensures.whole c.requires) in
+    record {
+      page = page;
+      inside = subst (λ (n : ℕ). page * 4096 < n) c.loop-done.invariant.size whole.0.inside;
+      needed = subst (λ (e : Equipped). ServeNeeds g.C.needs c.args.device e page) c.loop-done.invariant.same whole.1;
+      short = c.in-Err.ensures.short;
+    }
