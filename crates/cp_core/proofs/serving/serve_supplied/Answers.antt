@@ -27,7 +27,7 @@ loop-done-preserved g c =
     let s = c.loop-done.invariant.supply in
     let page = c.in-Err-Absent.page.0 in
     let whole = error_at c.serve.result c.in-Err-Absent.field-0 (errors.Absent c.in-Err-Absent.page) _ c.in-Err-Absent.is c.in-Err-Absent.field-0-is (c.serve.ensures.whole c.requires) in
-    let needed = subst (λ (e : Equipped). ServeNeeds g.C.needs c.args.device e page) c.loop-done.invariant.same whole.1 in
+    let needed = subst (λ (e : Equipped). ServeNeeds g.C.Channels.needs c.args.device e page) c.loop-done.invariant.same whole.1 in
     record {
       same = rw (c.bring.ensures.bytes, c.bring.ensures.keys) (whole.2 ∙ c.loop-done.invariant.same);
       size = ap (λ (bytes : List ℕ). length bytes) c.bring.ensures.bytes ∙ g.met.S.Storage.keeps_size _ _ c.serve.ensures.rest ∙ c.loop-done.invariant.size;
@@ -63,6 +63,6 @@ returns-in-Err-clause-frames g c = λ out.
     record {
       page = page;
       inside = subst (λ (n : ℕ). page * 4096 < n) c.loop-done.invariant.size whole.0.inside;
-      needed = subst (λ (e : Equipped). ServeNeeds g.C.needs c.args.device e page) c.loop-done.invariant.same whole.1;
+      needed = subst (λ (e : Equipped). ServeNeeds g.C.Channels.needs c.args.device e page) c.loop-done.invariant.same whole.1;
       short = c.in-Err.ensures.short;
     }

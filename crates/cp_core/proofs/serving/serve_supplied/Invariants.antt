@@ -9,7 +9,7 @@ invariant-loop-done g l = record {
   same : equipped l.machine l.devices (g.C.Disks.disks l.channels) (g.S.Storage.bytes l.storage) (g.S.Storage.keys l.storage) ≡ equipped l.fn.machine l.fn.devices (g.C.Disks.disks l.fn.channels) (g.S.Storage.bytes l.fn.storage) (g.S.Storage.keys l.fn.storage);
   size : length (g.S.Storage.bytes l.storage) ≡ length (g.S.Storage.bytes l.fn.storage);
   others : g.C.Disks.KeepsOthers l.fn.channels l.channels;
-  supply : (pages : List ℕ) × g.S.Supply.Brought l.fn.storage pages l.storage × AllNeeded (ServeNeeds g.C.needs l.device (equipped l.fn.machine l.fn.devices (g.C.Disks.disks l.fn.channels) (g.S.Storage.bytes l.fn.storage) (g.S.Storage.keys l.fn.storage))) pages;
+  supply : (pages : List ℕ) × g.S.Supply.Brought l.fn.storage pages l.storage × AllNeeded (ServeNeeds g.C.Channels.needs l.device (equipped l.fn.machine l.fn.devices (g.C.Disks.disks l.fn.channels) (g.S.Storage.bytes l.fn.storage) (g.S.Storage.keys l.fn.storage))) pages;
 }
 
 abbrev pub decreases-loop-done : goal.decreases-loop-done
