@@ -1,11 +1,11 @@
 -- Programs whose inputs could change their words, and those that leave them as they are.
-use Rattle.std.specs.Prelude.{ℕ, ◌+◌, ◌*◌, ◌/◌, ◌%◌, ◌<◌, ◌≡◌, ◌⊎◌, List, [], Contains, IsPermutation, length, slice_index, IfOk, Result, Ok, Err, Bool, refl}
-use Rattle.std.proofs.Common.{sym, subst, ◌∙◌, ap, arith, inl, inr}
+use Rattle.std.specs.Prelude.{ℕ, ◌+◌, ◌*◌, ◌/◌, ◌%◌, ◌<◌, ◌≡◌, List, [], Contains, IsPermutation, length, slice_index, IfOk, Result, Ok, Err, Bool, refl}
+use Rattle.std.proofs.Common.{subst, arith, inl, inr}
 use Rattle.std.proofs.lemmas.List.Sorted.{Contains-permutation, IsPermutation-sym}
 use Rattle.s370_store.specs.declared.Range.{Range}
 use Rattle.s370_walk.specs.Hardware.{Memory}
-use Rattle.cp_needs.specs.Needs.{IsClash, IsDataByte, IsFixed, IsHeld, IsTextByte}
-use Rattle.cp_needs.specs.Noted.{AreMarked, AreStored, IsFilledAt, IsFilledBy, IsInSome, IsTextOf}
+use Rattle.cp_needs.specs.Needs.{IsClash, IsFixed, IsHeld, IsTextByte}
+use Rattle.cp_needs.specs.Noted.{AreMarked, AreStored, IsFilledBy, IsInSome, IsTextOf}
 use Rattle.cp_needs.specs.Words.{AreWords, IsAmong, IsHere, IsPageAt}
 use Rattle.cp_needs.proofs.Programs.{own_low, reached_even, word_fits}
 

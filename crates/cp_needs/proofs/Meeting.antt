@@ -1,5 +1,5 @@
 -- Pieces of storage and the fullwords that they meet.
-use Rattle.std.specs.Prelude.{ℕ, ◌+◌, ◌*◌, ◌/◌, ◌<◌, ◌≤◌, ◌≡◌, ◌⊎◌, List, Contains, IfNone, IfSome, length, slice_index_or, refl, Option, None, Some, Result, Ok, Err}
+use Rattle.std.specs.Prelude.{ℕ, ◌+◌, ◌*◌, ◌/◌, ◌<◌, ◌≤◌, ◌≡◌, ◌⊎◌, List, Contains, IfNone, IfSome, length, slice_index_or, Option, None, Some, Result, Ok, Err}
 use Rattle.std.specs.List.Sorted.{IsBinarySearchResult, IsNonDecreasing}
 use Rattle.std.specs.Ordering.{nat_cmp}
 use Rattle.std.proofs.Common.{sym, subst, ◌∙◌, ap, arith, inl, inr}

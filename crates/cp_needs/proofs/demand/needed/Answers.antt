@@ -1,4 +1,4 @@
-use Rattle.std.proofs.Common.{◌≡◌, ◌∙◌, sym, inr, ℕ}
+use Rattle.std.proofs.Common.{inr, ℕ}
 use Rattle.std.proofs.lemmas.List.Sorted.{IsNonDecreasingBy-from_sort}
 use Rattle.s370_walk.specs.Hardware.{memory_of}
 use Rattle.cp_needs.proofs.Clearing.{clash_of, even_at, fixed_of, here_at, ok_of}

@@ -1,4 +1,4 @@
-use Rattle.std.proofs.Common.{◌*◌, ◌<◌, ◌≤◌, ◌∙◌, arith, sym}
+use Rattle.std.proofs.Common.{◌*◌, ◌<◌, ◌≤◌, arith}
 use Rattle.std.proofs.lemmas.Bool.Decides.{nat_tests}
 use Rattle.cp_needs.proofs.Meeting.{some_first, touched, untouched, none_first}
 use Rattle.cp_needs.proofs.fixed.touches.Goals as goal

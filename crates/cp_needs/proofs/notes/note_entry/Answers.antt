@@ -1,5 +1,5 @@
-use Rattle.std.proofs.Common.{◌≡◌, ◌∙◌, ◌%◌, arith, sym}
-use Rattle.cp_needs.proofs.Noting.{marks_entry, marks_no_entry}
+use Rattle.std.proofs.Common.{◌∙◌, sym}
+use Rattle.cp_needs.proofs.Noting.{marks_entry}
 use Rattle.cp_needs.proofs.notes.note_entry.Goals as goal
 
 pub returns-in_ok-push : goal.returns-in_ok-push
