@@ -6,9 +6,12 @@ use cp_core::{Ended, Event, Sizes, System};
 use cp_directory::read_directory;
 use cp_users::UserNo;
 use s370_num::DevAddr;
+use s370_num::host::Bytes;
 use s370_store::PlainStorage;
 use std::alloc::Global;
 use step_table::lists::byte_at;
+use unit_record::Card;
+use vm370::session::session;
 
 /// The user, who is the first of his directory.
 pub fn user() -> UserNo {
@@ -23,53 +26,55 @@ pub fn booted(
     frames: u32,
     slots: u32,
 ) -> Result<System> {
-    let directory = read_directory(alloc, directory)?;
-    if directory.len() > 64 {
-        bail!("so many users are too many");
-    }
     let sizes = Sizes::new(frames, slots).context("so many frames or slots are too many")?;
+    let directory = read_directory(alloc, directory)?;
     Ok(System::boot(alloc, directory, volumes, sizes)?)
+}
+
+/// What a script tells that is played. It alone calls [`session`], whose promise is long.
+pub fn transcript(alloc: Global, system: &mut System, script: &[u8]) -> Result<Vec<u8>> {
+    let mut told = Vec::new(alloc);
+    session(alloc, system, &mut Bytes::new(script), &mut told)?;
+    Ok(told)
+}
+
+/// How an event ends. It alone calls the system, whose promise is long.
+fn ended(system: &mut System, event: Event<'_>) -> Result<Ended> {
+    // The prover finds what a reply may hold only where a function names it.
+    let _device = DevAddr::new(0);
+    match system.apply(event) {
+        Ok(reply) => Ok(reply.ended),
+        Err(error) => Err(error)?,
+    }
 }
 
 /// Lets the machine do a unit.
 pub fn run(system: &mut System) -> Result<()> {
-    // The prover finds what a reply may hold only where a function names it.
-    let _device = DevAddr::new(0);
-    match system.apply(Event::Run(user(), 1)) {
-        Ok(_) => Ok(()),
-        Err(error) => Err(error)?,
-    }
+    let _ended = ended(system, Event::Run(user(), 1))?;
+    Ok(())
 }
 
 /// Types a line of the user.
 pub fn type_line(system: &mut System, line: &str) -> Result<()> {
-    let _device = DevAddr::new(0);
-    match system.apply(Event::Line(user(), line.as_bytes())) {
-        Ok(reply) => has_ended(reply.ended, Ended::Done),
-        Err(error) => Err(error)?,
+    match ended(system, Event::Line(user(), line.as_bytes()))? {
+        Ended::Done => Ok(()),
+        _ => bail!("a line has ended otherwise"),
     }
+}
+
+/// The operator gives a deck to the user's reader.
+pub fn give(system: &mut System, cards: &[Card]) -> Result<()> {
+    let _ended = ended(system, Event::Deck(user(), cards))?;
+    Ok(())
 }
 
 /// Serves a device, which has a program: whether there are frames for what that needs, without which nothing is done.
 pub fn serve(system: &mut System, device: u16) -> Result<bool> {
-    match system.apply(Event::Serve(user(), DevAddr::new(device))) {
-        Ok(reply) => {
-            if reply.ended == Ended::FramesOut {
-                return Ok(false);
-            }
-            has_ended(reply.ended, Ended::Served(true))?;
-            Ok(true)
-        }
-        Err(error) => Err(error)?,
+    match ended(system, Event::Serve(user(), DevAddr::new(device)))? {
+        Ended::Served(true) => Ok(true),
+        Ended::FramesOut => Ok(false),
+        _ => bail!("a serve has ended otherwise"),
     }
-}
-
-/// An error where an event has not ended so.
-fn has_ended(ended: Ended, wanted: Ended) -> Result<()> {
-    if ended != wanted {
-        bail!("an event has ended otherwise");
-    }
-    Ok(())
 }
 
 /// Whether the storage of the user has a byte of an image.
