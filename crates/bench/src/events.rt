@@ -20,39 +20,41 @@ pub fn booted(alloc: Global, directory: &str, volumes: Vec<Volume>, frames: u32)
     Ok(System::boot(alloc, directory, volumes, sizes)?)
 }
 
-/// How an event ends that is no run.
-fn ended(system: &mut System, event: Event<'_>) -> Result<Ended> {
-    let reply = system.apply(event)?;
+/// A user types a line.
+pub fn type_line(system: &mut System, user: UserNo, typed: &[u8]) -> Result<()> {
+    let reply = system.apply(Event::Line(user, typed))?;
     // The prover finds what a reply may hold only where a function names it.
     let _device = DevAddr::new(0);
     let _response = Response::Sent;
     let _delivered: Option<Delivered> = reply.delivered;
     let _said: Told = reply.said;
-    Ok(reply.ended)
-}
-
-/// A user types a line.
-pub fn type_line(system: &mut System, user: UserNo, typed: &[u8]) -> Result<()> {
-    let _ended = ended(system, Event::Line(user, typed))?;
     Ok(())
 }
 
 /// The operator gives a deck to a user's reader.
 pub fn give_deck(system: &mut System, user: UserNo, cards: &[Card]) -> Result<()> {
-    let _ended = ended(system, Event::Deck(user, cards))?;
+    let reply = system.apply(Event::Deck(user, cards))?;
+    let _device = DevAddr::new(0);
+    let _response = Response::Sent;
+    let _delivered: Option<Delivered> = reply.delivered;
+    let _said: Told = reply.said;
     Ok(())
 }
 
 /// A device of a user is served: whether it had a program.
 pub fn serve(system: &mut System, user: UserNo, device: DevAddr) -> Result<bool> {
-    match ended(system, Event::Serve(user, device))? {
+    let reply = system.apply(Event::Serve(user, device))?;
+    let _response = Response::Sent;
+    let _delivered: Option<Delivered> = reply.delivered;
+    let _said: Told = reply.said;
+    match reply.ended {
         Ended::Served(done) => Ok(done),
         Ended::Ran(_) | Ended::Done | Ended::FramesOut => bail!("no room for a program's pages"),
     }
 }
 
 /// Units of a user: how many were done, if the system lives. It makes no error, whose place would be a part of each
-/// turn, and calls the system itself, so that nothing but a run is compiled into it.
+/// turn.
 fn units_of(system: &mut System, user: UserNo, units: u32) -> Option<u32> {
     let reply = match system.apply(Event::Run(user, units)) {
         Ok(reply) => reply,
@@ -76,6 +78,8 @@ pub fn run(system: &mut System, user: UserNo, units: u32) -> Result<u64> {
 
 /// A line is typed at a bare machine.
 pub fn type_on_bare(alloc: Global, machine: &mut Bare, typed: &[u8]) -> Result<()> {
+    // The prover finds what is told only where a function names it.
+    let _response = Response::Sent;
     let _told = machine.line(alloc, typed)?;
     Ok(())
 }

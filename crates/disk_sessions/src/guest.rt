@@ -38,43 +38,54 @@ pub fn transcript(alloc: Global, system: &mut System, script: &[u8]) -> Result<V
     Ok(told)
 }
 
-/// How an event ends. It alone calls the system, whose promise is long.
-fn ended(system: &mut System, event: Event<'_>) -> Result<Ended> {
+/// Lets the machine do a unit.
+pub fn run(system: &mut System) -> Result<()> {
     // The prover finds what a reply may hold only where a function names it.
     let _device = DevAddr::new(0);
-    match system.apply(event) {
-        Ok(reply) => Ok(reply.ended),
+    match system.apply(Event::Run(user(), 1)) {
+        Ok(_) => Ok(()),
         Err(error) => Err(error)?,
     }
 }
 
-/// Lets the machine do a unit.
-pub fn run(system: &mut System) -> Result<()> {
-    let _ended = ended(system, Event::Run(user(), 1))?;
-    Ok(())
-}
-
 /// Types a line of the user.
 pub fn type_line(system: &mut System, line: &str) -> Result<()> {
-    match ended(system, Event::Line(user(), line.as_bytes()))? {
-        Ended::Done => Ok(()),
-        _ => bail!("a line has ended otherwise"),
+    let _device = DevAddr::new(0);
+    match system.apply(Event::Line(user(), line.as_bytes())) {
+        Ok(reply) => has_ended(reply.ended, Ended::Done),
+        Err(error) => Err(error)?,
     }
 }
 
 /// The operator gives a deck to the user's reader.
 pub fn give(system: &mut System, cards: &[Card]) -> Result<()> {
-    let _ended = ended(system, Event::Deck(user(), cards))?;
-    Ok(())
+    let _device = DevAddr::new(0);
+    match system.apply(Event::Deck(user(), cards)) {
+        Ok(_) => Ok(()),
+        Err(error) => Err(error)?,
+    }
 }
 
 /// Serves a device, which has a program: whether there are frames for what that needs, without which nothing is done.
 pub fn serve(system: &mut System, device: u16) -> Result<bool> {
-    match ended(system, Event::Serve(user(), DevAddr::new(device)))? {
-        Ended::Served(true) => Ok(true),
-        Ended::FramesOut => Ok(false),
-        _ => bail!("a serve has ended otherwise"),
+    match system.apply(Event::Serve(user(), DevAddr::new(device))) {
+        Ok(reply) => {
+            if reply.ended == Ended::FramesOut {
+                return Ok(false);
+            }
+            has_ended(reply.ended, Ended::Served(true))?;
+            Ok(true)
+        }
+        Err(error) => Err(error)?,
     }
+}
+
+/// An error where an event has not ended so.
+fn has_ended(ended: Ended, wanted: Ended) -> Result<()> {
+    if ended != wanted {
+        bail!("an event has ended otherwise");
+    }
+    Ok(())
 }
 
 /// Whether the storage of the user has a byte of an image.

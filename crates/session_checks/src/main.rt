@@ -13,13 +13,10 @@
 
 mod bare;
 mod block;
-mod events;
 mod failures;
-mod pages;
 mod playing;
 mod systems;
 mod usage;
-mod without_memory;
 mod words;
 
 use anyhow::{Result, bail};
