@@ -4,7 +4,7 @@ use crate::exchange::Exchange;
 use crate::images::full_image;
 use crate::plain::Plain;
 use crate::served::{measure_parts, measure_served};
-use crate::timing::best_of;
+use crate::timing::{Taken, best_of};
 use anyhow::{Result, bail};
 use ckd_image::read_image;
 use cp_text::numbers::decimal_of;
@@ -34,6 +34,17 @@ fn number_of(word: Option<String>, other: u32) -> Result<u32> {
     }
 }
 
+/// What was timed of an exchange with so many bytes a word.
+fn timed(
+    rt: &(impl AllocGlobal + CpuClock),
+    exchange: Exchange,
+    bytes: u16,
+    programs: u32,
+) -> Result<Taken> {
+    let mut plain = Plain::new(rt.alloc(), exchange, bytes)?;
+    best_of(rt, rt.alloc(), &mut plain, programs)
+}
+
 /// Measures an exchange: what is paid beside the bytes, and how fast they move.
 fn measure(
     rt: &(impl AllocGlobal + CpuClock + Print + Eprint),
@@ -41,18 +52,8 @@ fn measure(
     programs: u32,
 ) -> Result<()> {
     let (name, many) = (exchange.name(), exchange.many());
-    let short = best_of(
-        rt,
-        rt.alloc(),
-        &mut Plain::new(rt.alloc(), exchange, FEW)?,
-        programs,
-    )?;
-    let long = best_of(
-        rt,
-        rt.alloc(),
-        &mut Plain::new(rt.alloc(), exchange, many)?,
-        programs,
-    )?;
+    let short = timed(rt, exchange, FEW, programs)?;
+    let long = timed(rt, exchange, many, programs)?;
     println!(rt;
         "{name}: {} programs of {FEW} byte, {} of {many} bytes",
         short.done, long.done

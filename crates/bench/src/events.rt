@@ -1,11 +1,24 @@
-//! Events of a system, and how they end.
+//! Events of a system or a bare machine, and how they end.
 use anyhow::{Result, bail};
+use bare_installation::Bare;
+use ckd_volume::Volume;
 use cp_console::responses::Response;
-use cp_core::{Delivered, Ended, Event, System};
+use cp_core::{Delivered, Ended, Event, Sizes, System};
 use cp_devices::Told;
+use cp_directory::read_directory;
 use cp_users::UserNo;
 use s370_num::DevAddr;
+use std::alloc::Global;
 use unit_record::Card;
+
+/// The system of a directory over these volumes, on so many frames.
+pub fn booted(alloc: Global, directory: &str, volumes: Vec<Volume>, frames: u32) -> Result<System> {
+    let Some(sizes) = Sizes::new(frames, 0) else {
+        bail!("sizes");
+    };
+    let directory = read_directory(alloc, directory.as_bytes())?;
+    Ok(System::boot(alloc, directory, volumes, sizes)?)
+}
 
 /// A user types a line.
 pub fn type_line(system: &mut System, user: UserNo, typed: &[u8]) -> Result<()> {
@@ -61,4 +74,17 @@ pub fn run(system: &mut System, user: UserNo, units: u32) -> Result<u64> {
         Some(done) => Ok(u64::from(done)),
         None => bail!("the system is spent"),
     }
+}
+
+/// A line is typed at a bare machine.
+pub fn type_on_bare(alloc: Global, machine: &mut Bare, typed: &[u8]) -> Result<()> {
+    // The prover finds what is told only where a function names it.
+    let _response = Response::Sent;
+    let _told = machine.line(alloc, typed)?;
+    Ok(())
+}
+
+/// Lets a bare machine run for so many units: how many were done.
+pub fn run_on_bare(machine: &mut Bare, units: u32) -> u64 {
+    u64::from(machine.units(units).ran.units)
 }

@@ -49,7 +49,7 @@ const TRANSFER: u8 = 0x08;
 pub const SEARCH_ID_EQUAL: u8 = 0x31;
 
 /// What a channel program does.
-#[derive(Clone, Copy, PartialEq, Eq)]
+#[derive(Clone, Copy)]
 pub enum Exchange {
     /// It reads from a device that gives many bytes at once.
     Give,

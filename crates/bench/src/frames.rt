@@ -1,6 +1,6 @@
 //! A program in a user's storage that stands in frames, and what a serve does with it, part by part.
 use crate::equipment::Equipment;
-use crate::exchange::{Exchange, LIMITS, START, is_well};
+use crate::exchange::{Doubleword, Exchange, LIMITS, START, is_well};
 use crate::timing::Repeated;
 use anyhow::{Result, bail};
 use cp_ccw::{Table, run_translated, translate};
@@ -74,23 +74,28 @@ impl Lent {
         bytes: u16,
         part: Part,
     ) -> Result<Lent> {
-        let mut frames = frames_with(alloc, pages)?;
-        let mut keys = [StorageKey::ZERO; BLOCKS];
-        let user = UserNo::new(0);
-        if frames.size(user) > MOST_BYTES {
-            bail!("too many pages");
-        }
-        let mut dat = Dat::new(&mut frames, &mut keys, user);
-        for doubleword in exchange.program(alloc, bytes)?.iter() {
-            doubleword.put(&mut dat)?;
-        }
-        Ok(Lent {
-            frames,
-            keys,
+        let mut lent = Lent {
+            frames: frames_with(alloc, pages)?,
+            keys: [StorageKey::ZERO; BLOCKS],
             device: Equipment::new(alloc, exchange, bytes)?,
             part,
             kept: None,
-        })
+        };
+        lent.put(&exchange.program(alloc, bytes)?)?;
+        Ok(lent)
+    }
+
+    /// Puts doublewords into the user's storage.
+    fn put(&mut self, content: &[Doubleword]) -> Result<()> {
+        let user = UserNo::new(0);
+        if self.frames.size(user) > MOST_BYTES {
+            bail!("too many pages");
+        }
+        let mut dat = Dat::new(&mut self.frames, &mut self.keys, user);
+        for doubleword in content {
+            doubleword.put(&mut dat)?;
+        }
+        Ok(())
     }
 
     /// Does the part once: whether it went well.

@@ -1,16 +1,15 @@
 //! Where the guest programs run: on a bare machine, or as users of the control program.
-use crate::events::{run, type_line};
+use crate::events::{booted, run, run_on_bare, type_line, type_on_bare};
 use crate::loops::Loop;
-use anyhow::{Result, bail};
+use anyhow::Result;
 use bare_installation::Bare;
-use cp_core::{Sizes, System};
-use cp_directory::read_directory;
+use cp_core::System;
 use cp_users::UserNo;
 use s370_store::PlainStorage;
 use std::alloc::Global;
 
 /// Where a guest program runs.
-#[derive(Clone, Copy, Debug, PartialEq, Eq)]
+#[derive(Clone, Copy)]
 pub enum Place {
     /// A bare machine.
     Bare,
@@ -52,12 +51,17 @@ const TURN: u32 = 100;
 /// A machine that runs the loop.
 fn bare_guest(alloc: Global, guest: Loop) -> Result<Bare> {
     let mut machine = Bare::without_devices(alloc, PlainStorage::new(alloc, 128)?);
-    machine.line(alloc, b"LOGON")?;
-    for line in guest.typed() {
-        machine.line(alloc, line.as_bytes())?;
-    }
-    machine.line(alloc, b"BEGIN 200")?;
+    begin_on_bare(alloc, &mut machine, guest)?;
     Ok(machine)
+}
+
+/// The loop is put into a machine, and begins.
+fn begin_on_bare(alloc: Global, machine: &mut Bare, guest: Loop) -> Result<()> {
+    type_on_bare(alloc, machine, b"LOGON")?;
+    for line in guest.typed() {
+        type_on_bare(alloc, machine, line.as_bytes())?;
+    }
+    type_on_bare(alloc, machine, b"BEGIN 200")
 }
 
 /// So many machines as there are users, which run the loop.
@@ -71,25 +75,26 @@ fn bare_guests(alloc: Global, guest: Loop) -> Result<Vec<Bare>> {
 
 /// A system of this directory, of which so many users run the loop.
 fn users_guest(alloc: Global, directory: &str, users: u8, guest: Loop) -> Result<System> {
-    let directory = read_directory(alloc, directory.as_bytes())?;
-    let Some(sizes) = Sizes::new(512, 0) else {
-        bail!("sizes");
-    };
-    let mut system = System::boot(alloc, directory, Vec::new(alloc), sizes)?;
-    for user in 0..users.min(USERS) {
-        let user = UserNo::new(user);
-        type_line(&mut system, user, b"LOGON")?;
-        for line in guest.typed() {
-            type_line(&mut system, user, line.as_bytes())?;
-        }
-        type_line(&mut system, user, b"BEGIN 200")?;
-    }
+    let mut system = booted(alloc, directory, Vec::new(alloc), 512)?;
+    begin_each(&mut system, users, guest)?;
     Ok(system)
 }
 
-/// Units of a bare machine: how many were done.
-fn on_bare(machine: &mut Bare, units: u32) -> u64 {
-    u64::from(machine.units(units).ran.units)
+/// The loop is put into the machine of each of so many users, and begins.
+fn begin_each(system: &mut System, users: u8, guest: Loop) -> Result<()> {
+    for user in 0..users.min(USERS) {
+        begin(system, UserNo::new(user), guest)?;
+    }
+    Ok(())
+}
+
+/// The loop is put into the machine of a user, and begins.
+fn begin(system: &mut System, user: UserNo, guest: Loop) -> Result<()> {
+    type_line(system, user, b"LOGON")?;
+    for line in guest.typed() {
+        type_line(system, user, line.as_bytes())?;
+    }
+    type_line(system, user, b"BEGIN 200")
 }
 
 /// Units of all users in turns: how many were done together.
@@ -108,7 +113,7 @@ fn in_turns_apart(machines: &mut [Bare], units: u32) -> u64 {
     let mut done = 0u64;
     for _ in 0..units / (TURN * u32::from(USERS)) {
         for machine in machines.iter_mut() {
-            done = done.wrapping_add(on_bare(machine, TURN));
+            done = done.wrapping_add(run_on_bare(machine, TURN));
         }
     }
     done
@@ -137,7 +142,7 @@ impl Guests {
     /// Lets them run for so many units together, and says how many were done.
     pub fn run(&mut self, units: u32) -> Result<u64> {
         match self {
-            Guests::Bare(machine) => Ok(on_bare(machine, units)),
+            Guests::Bare(machine) => Ok(run_on_bare(machine, units)),
             Guests::One(system) => run(system, UserNo::new(0), units),
             Guests::Eight(system) => in_turns(system, units),
             Guests::Machines(machines) => Ok(in_turns_apart(machines, units)),

@@ -1,14 +1,13 @@
 //! Machines whose guest starts one channel program after another: bare, or a user's.
 use crate::equipment::{cards_of, disk_with, volume_with};
-use crate::events::{give_deck, run, serve, type_line};
+use crate::events::{booted, give_deck, run, run_on_bare, serve, type_line, type_on_bare};
 use crate::exchange::{Doubleword, Exchange};
 use crate::timing::Repeated;
-use anyhow::{Context, Result, bail};
+use anyhow::{Context, Result};
 use bare_installation::Bare;
 use cp_channels::AttachedDisk;
-use cp_core::{Sizes, System};
+use cp_core::System;
 use cp_devices::{Devices, Places};
-use cp_directory::read_directory;
 use cp_users::UserNo;
 use s370_num::DevAddr;
 use s370_store::PlainStorage;
@@ -28,7 +27,7 @@ const DISK: u16 = 0x190;
 const ROUND: u32 = 5;
 
 /// Where a machine stands.
-#[derive(Clone, Copy, Debug, PartialEq, Eq)]
+#[derive(Clone, Copy)]
 pub enum Setting {
     /// Alone.
     Bare,
@@ -59,22 +58,16 @@ fn bare_machine(alloc: Global, bytes: u16) -> Result<Bare> {
         reader: Some(DevAddr::new(READER)),
         ..Places::NONE
     };
-    let unit = disk_with(alloc, bytes)?;
-    let mut disks = Vec::new(alloc);
-    disks.push(AttachedDisk::new(DevAddr::new(DISK), unit))?;
     let storage = PlainStorage::new(alloc, 128)?;
+    let disk = AttachedDisk::new(DevAddr::new(DISK), disk_with(alloc, bytes)?);
+    let disks = vec![in alloc; disk]?;
     Ok(Bare::new(alloc, storage, Devices::new(alloc, places), disks)?)
 }
 
 /// A system of one user, whose minidisk has a record of so many bytes.
 fn users_system(alloc: Global, bytes: u16) -> Result<System> {
-    let directory = read_directory(alloc, DIRECTORY.as_bytes())?;
-    let Some(sizes) = Sizes::new(128, 0) else {
-        bail!("sizes");
-    };
-    let mut volumes = Vec::new(alloc);
-    volumes.push(volume_with(alloc, bytes)?)?;
-    Ok(System::boot(alloc, directory, volumes, sizes)?)
+    let volumes = vec![in alloc; volume_with(alloc, bytes)?]?;
+    booted(alloc, DIRECTORY, volumes, 128)
 }
 
 impl Host {
@@ -88,10 +81,7 @@ impl Host {
     /// The user types a line.
     fn line(&mut self, alloc: Global, typed: &str) -> Result<()> {
         match self {
-            Host::Bare(machine) => {
-                let _told = machine.line(alloc, typed.as_bytes())?;
-                Ok(())
-            }
+            Host::Bare(machine) => type_on_bare(alloc, machine, typed.as_bytes()),
             Host::User(system) => type_line(system, UserNo::new(0), typed.as_bytes()),
         }
     }
@@ -117,7 +107,7 @@ impl Host {
     /// Lets it run for so many units: how many were done.
     fn run(&mut self, units: u32) -> Result<u64> {
         match self {
-            Host::Bare(machine) => Ok(u64::from(machine.units(units).ran.units)),
+            Host::Bare(machine) => Ok(run_on_bare(machine, units)),
             Host::User(system) => run(system, UserNo::new(0), units),
         }
     }
@@ -188,20 +178,27 @@ impl Guest {
             Exchange::Card | Exchange::Cards => READER,
             _ => DISK,
         };
-        let mut host = Host::new(alloc, setting, bytes)?;
-        host.line(alloc, "LOGON")?;
-        host.store(alloc, &exchange.program(alloc, bytes)?)?;
-        host.store(alloc, &guest_for(device))?;
-        if act != Act::Idle {
-            host.line(alloc, "BEGIN 200")?;
-            host.run(1)?;
-        }
-        Ok(Guest {
-            host,
+        let mut guest = Guest {
+            host: Host::new(alloc, setting, bytes)?,
             exchange,
             device: DevAddr::new(device),
             act,
-        })
+        };
+        guest.begin(alloc, bytes)?;
+        Ok(guest)
+    }
+
+    /// The program and the guest are put into storage, and the guest starts the program where one is to be started.
+    fn begin(&mut self, alloc: Global, bytes: u16) -> Result<()> {
+        self.host.line(alloc, "LOGON")?;
+        self.host
+            .store(alloc, &self.exchange.program(alloc, bytes)?)?;
+        self.host.store(alloc, &guest_for(self.device.get()))?;
+        if self.act != Act::Idle {
+            self.host.line(alloc, "BEGIN 200")?;
+            self.host.run(1)?;
+        }
+        Ok(())
     }
 
     /// Does it once: whether what was served was as it is to be.

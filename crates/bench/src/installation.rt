@@ -140,29 +140,38 @@ fn time_runs(
     })
 }
 
+/// Times what users do from their first LOGON on.
+fn time_users(
+    rt: &(impl CpuClock + Print + Eprint + AllocGlobal),
+    system: &mut System,
+    asked: Asked,
+) -> Result<()> {
+    let Asked {
+        users,
+        frames,
+        slots,
+    } = asked;
+    time_line(rt, system, users, "LOGON", "LOGON")?;
+    let Done {
+        first,
+        again,
+        turns,
+    } = time_runs(rt, system, asked)?;
+    time_line(rt, system, users, "#CP LOGOFF", "LOGOFF")?;
+    time_line(rt, system, users, "LOGON", "LOGON once more")?;
+    let came = system.page_ins();
+    println!(rt;
+        "{users} users on {frames} frames and {slots} slots: {first}, {again} and {turns} units, {came} pages came"
+    )?;
+    Ok(())
+}
+
 /// Measures an installation of as many users, frames and slots as the words of the command line say; four users on 64
 /// frames where they say nothing.
 pub fn measure_installation<R: AllocGlobal + CpuClock + Env + Print + Eprint>(
     rt: &R,
 ) -> Result<()> {
     let asked = words_of(rt)?;
-    let Asked {
-        users,
-        frames,
-        slots,
-    } = asked;
     let mut system = time_boot(rt, asked)?;
-    time_line(rt, &mut system, users, "LOGON", "LOGON")?;
-    let Done {
-        first,
-        again,
-        turns,
-    } = time_runs(rt, &mut system, asked)?;
-    time_line(rt, &mut system, users, "#CP LOGOFF", "LOGOFF")?;
-    time_line(rt, &mut system, users, "LOGON", "LOGON once more")?;
-    let came = system.page_ins();
-    println!(rt;
-        "{users} users on {frames} frames and {slots} slots: {first}, {again} and {turns} units, {came} pages came"
-    )?;
-    Ok(())
+    time_users(rt, &mut system, asked)
 }

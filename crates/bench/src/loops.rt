@@ -2,7 +2,7 @@
 //! 2 to the 32nd rounds.
 
 /// A guest program.
-#[derive(Clone, Copy, PartialEq, Eq)]
+#[derive(Clone, Copy)]
 pub enum Loop {
     /// BCT to itself.
     Count,

@@ -71,6 +71,17 @@ fn best_of(rt: &impl CpuClock, guests: &mut Guests, units: u32) -> Result<(Durat
     Ok((best, done))
 }
 
+/// The fastest of some runs of a loop in one place, and how many units all of them did.
+fn best_in(
+    rt: &(impl AllocGlobal + CpuClock),
+    guest: Loop,
+    place: Place,
+    units: u32,
+) -> Result<(Duration, u64)> {
+    let mut guests = Guests::new(rt.alloc(), place, guest)?;
+    best_of(rt, &mut guests, units)
+}
+
 /// Times one loop in one place.
 fn measure(
     rt: &(impl AllocGlobal + CpuClock + Print + Eprint),
@@ -78,14 +89,18 @@ fn measure(
     place: Place,
     thousands: u32,
 ) -> Result<()> {
-    let mut guests = Guests::new(rt.alloc(), place, guest)?;
     let units = thousands.wrapping_mul(1000);
-    let (time, done) = best_of(rt, &mut guests, units)?;
-    let (name, place) = (guest.name(), place.name());
-    println!(rt; "{name} {place}: {done} units")?;
+    let (time, done) = best_in(rt, guest, place, units)?;
+    println!(rt; "{} {}: {done} units", guest.name(), place.name())?;
+    tell(rt, guest, place, units, time)
+}
+
+/// Tells how many units a second are so many in that time, and how many bytes they move.
+fn tell(rt: &impl Eprint, guest: Loop, place: Place, units: u32, time: Duration) -> Result<()> {
     let micros = time.as_micros().max(1);
     let rate = u128::from(units) * 10 / micros;
     let (whole, tenth) = (rate / 10, rate % 10);
+    let (name, place) = (guest.name(), place.name());
     match guest.bytes_moved(u64::from(units)) {
         Some(bytes) => {
             let moved = bytes / micros;

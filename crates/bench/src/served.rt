@@ -90,10 +90,27 @@ fn parts_of(
 ) -> Result<[Taken; 5]> {
     let mut told = [Taken { nanos: 0, done: 0 }; 5];
     for (slot, part) in told.iter_mut().zip(PARTS.iter()) {
-        let mut lent = Lent::new(rt.alloc(), pages, case.exchange, case.bytes, *part)?;
-        *slot = best_of(rt, rt.alloc(), &mut lent, programs)?;
+        *slot = part_of(rt, case, pages, *part, programs)?;
     }
     Ok(told)
+}
+
+/// What was timed of one part.
+fn part_of(
+    rt: &(impl AllocGlobal + CpuClock),
+    case: Case,
+    pages: u16,
+    part: Part,
+    programs: u32,
+) -> Result<Taken> {
+    let mut lent = Lent::new(rt.alloc(), pages, case.exchange, case.bytes, part)?;
+    best_of(rt, rt.alloc(), &mut lent, programs)
+}
+
+/// What was timed of the device alone.
+fn alone_of(rt: &(impl AllocGlobal + CpuClock), case: Case, programs: u32) -> Result<Taken> {
+    let mut alone = Alone::new(rt.alloc(), case.exchange, case.bytes)?;
+    best_of(rt, rt.alloc(), &mut alone, programs)
 }
 
 /// Measures the parts of a program over frames.
@@ -104,8 +121,7 @@ fn measure_case(
     programs: u32,
 ) -> Result<()> {
     let [needed, translated, kept, reached, whole] = parts_of(rt, case, pages, programs)?;
-    let mut alone = Alone::new(rt.alloc(), case.exchange, case.bytes)?;
-    let alone = best_of(rt, rt.alloc(), &mut alone, programs)?;
+    let alone = alone_of(rt, case, programs)?;
     let name = case.name;
     println!(rt;
         "{name} of {pages} pages: {} needed, {} translated, {} kept, {} as reached, {} whole, {} alone",

@@ -7,7 +7,7 @@ use cp_users::UserNo;
 use s370_num::{AccessKey, StorageKey};
 use s370_store::{Access, Fault, FramesOut, Keyed, PAGE_SIZE, Page, Range, Storage, Supply};
 use std::alloc::{AllocError, Global};
-use step_table::{address, byte, decimal, words_of};
+use step_table::{address, byte, compare, decimal, words_of};
 
 /// How many blocks of 2048 bytes have keys: a user has no more than 32 pages here.
 const BLOCKS: usize = 64;
@@ -17,7 +17,7 @@ const MOST_BYTES: u32 = 131072;
 
 /// The frames and slots of two users, who have the same keys in storage.
 #[derive(Drop)]
-pub struct Work {
+struct Work {
     frames: Frames,
     keys: [StorageKey; BLOCKS],
 }
@@ -82,7 +82,7 @@ fn supply<S: Supply>(storage: &mut S, address: u32) -> Result<bool, FramesOut> {
 
 impl Work {
     /// No frames, no slots and no pages.
-    pub fn new(alloc: Global) -> Result<Work, AllocError> {
+    fn new(alloc: Global) -> Result<Work, AllocError> {
         Ok(Work {
             frames: Frames::new(alloc, 0, 0, vec![in alloc; 0u32, 0]?)?,
             keys: [StorageKey::ZERO; BLOCKS],
@@ -90,20 +90,34 @@ impl Work {
     }
 
     /// Does a step, and tells what came of it.
-    pub fn take(&mut self, alloc: Global, step: &str) -> Result<String> {
+    fn take(&mut self, alloc: Global, step: &str) -> Result<String> {
         match words_of(alloc, step)?.as_slice() {
             ["new", words @ ..] => self.take_new(alloc, words),
             ["put", words @ ..] => self.take_put(alloc, words),
-            ["mark", frame, place, mark] => {
-                let frame = frame_of(frame)?;
-                Ok(self.mark(alloc, frame, decimal(place)?, byte(mark)?)?)
-            }
-            ["key", block, key] => Ok(self.set_key(alloc, decimal(block)?, byte(key)?)?),
+            ["mark", words @ ..] => self.take_mark(alloc, words),
+            ["key", words @ ..] => self.take_key(alloc, words),
             [verb] => self.take_all(alloc, verb),
             [verb, one] => self.take_one(alloc, verb, one),
-            [verb, user, number] => self.take_place(alloc, verb, user_of(user)?, decimal(number)?),
+            [verb, user, number] => self.take_place(alloc, verb, user, number),
             _ => bail!("no such step"),
         }
+    }
+
+    /// Writes a byte to a place of a frame.
+    fn take_mark(&mut self, alloc: Global, words: &[&str]) -> Result<String> {
+        let [frame, place, mark] = words else {
+            bail!("a frame, a place and a byte are wanted");
+        };
+        let frame = frame_of(frame)?;
+        Ok(self.mark(alloc, frame, decimal(place)?, byte(mark)?)?)
+    }
+
+    /// Sets the key of a block.
+    fn take_key(&mut self, alloc: Global, words: &[&str]) -> Result<String> {
+        let [block, key] = words else {
+            bail!("a block and a key are wanted");
+        };
+        Ok(self.set_key(alloc, decimal(block)?, byte(key)?)?)
     }
 
     /// Does a step over all frames.
@@ -134,9 +148,10 @@ impl Work {
         &mut self,
         alloc: Global,
         verb: &str,
-        user: UserNo,
-        number: u32,
+        user: &str,
+        number: &str,
     ) -> Result<String> {
+        let (user, number) = (user_of(user)?, decimal(number)?);
         let told = match verb {
             "bring" => self.bring(alloc, user, Page(number)),
             "find" => self.find(alloc, user, Page(number)),
@@ -293,4 +308,11 @@ impl Work {
         }
         format!(in alloc; "{:04X}", self.frames.page_entry(user, Page(page)))
     }
+}
+
+/// Does the steps of a table, and compares what comes of each with what the table says.
+pub fn compare_all<R: AllocGlobal + Print>(rt: &R, table: &str) -> Result<()> {
+    let alloc = rt.alloc();
+    let mut work = Work::new(alloc)?;
+    compare(rt, "frames", table, " =", |step| work.take(alloc, step))
 }

@@ -28,14 +28,12 @@ mod texts;
 mod turns;
 mod values;
 
-use crate::frames::Work;
 use anyhow::{Result, bail};
 use std::{env, fs};
 use step_table::compare;
 
 fn main(rt: HostRuntime) -> Result<()> {
     let alloc = rt.alloc();
-    let mut work = Work::new(alloc)?;
     for path in env::args(&rt)?.skip(1) {
         let table = fs::read_to_string(&rt, &path)?;
         match path.as_str() {
@@ -46,7 +44,7 @@ fn main(rt: HostRuntime) -> Result<()> {
                 " |",
                 |step| values::told(alloc, step),
             )?,
-            "frames.txt" => compare(&rt, "frames", &table, " =", |step| work.take(alloc, step))?,
+            "frames.txt" => frames::compare_all(&rt, &table)?,
             "minidisks.txt" => {
                 compare(
                     &rt,

@@ -107,16 +107,25 @@ fn left(
 fn turn(alloc: Global, unit: &mut Unit, disks: &mut [Minidisk; 2], text: &[u8]) -> Result<String> {
     let (who, rest) = cut_item(b'/', text).context("a turn is somebody's")?;
     let (list, argument) = cut_item(b'/', rest).context("a turn has an argument")?;
-    let index = match who {
-        b"A" => 0,
-        b"B" => 1,
+    let argument = argument_of(alloc, argument)?;
+    match who {
+        b"A" => turn_of(alloc, unit, &mut disks[0], list, argument),
+        b"B" => turn_of(alloc, unit, &mut disks[1], list, argument),
         _ => bail!("A or B"),
-    };
+    }
+}
+
+/// One turn of a minidisk.
+fn turn_of(
+    alloc: Global,
+    unit: &mut Unit,
+    minidisk: &mut Minidisk,
+    list: &[u8],
+    argument: [u8; 6],
+) -> Result<String> {
     let mut storage = PlainStorage::new(alloc, 2)?;
     set_bytes(&mut storage, b"000100:070000F840000006");
     set_bytes(&mut storage, list);
-    let argument = argument_of(alloc, argument)?;
-    let minidisk = &mut disks[index];
     let csw = serve(unit, minidisk, &mut storage, argument)?;
     left(alloc, minidisk, &mut storage, &csw)
 }
@@ -127,12 +136,22 @@ pub fn told(alloc: Global, turns: &[u8]) -> Result<String> {
     let second = Extent::new(7, 3, false).context("an extent")?;
     let mut disks = [Minidisk::new(first), Minidisk::new(second)];
     let mut unit = unit_of(alloc)?;
+    told_on(alloc, &mut unit, &mut disks, turns)
+}
+
+/// What turns leave at a unit.
+fn told_on(
+    alloc: Global,
+    unit: &mut Unit,
+    disks: &mut [Minidisk; 2],
+    turns: &[u8],
+) -> Result<String> {
     let mut text = String::new(alloc);
     for item in turns.split(|c| *c == b';') {
         if !text.is_empty() {
             text.push_str(", ")?;
         }
-        text.push_str(turn(alloc, &mut unit, &mut disks, item)?.as_str())?;
+        text.push_str(turn(alloc, unit, disks, item)?.as_str())?;
     }
     Ok(text)
 }

@@ -18,9 +18,14 @@ pub fn begin<R: Print + AllocGlobal>(rt: &R) -> Result<()> {
     storage.store(9, &[7]);
     storage.set_key(3, StorageKey::new(0x1F));
     let mut machine = Bare::without_devices(rt.alloc(), storage);
-    tell(rt, &machine)?;
-    command(rt.alloc(), &mut machine, "LOGON", Some(Response::LogonOk))?;
-    tell(rt, &machine)
+    tell_twice(rt, &mut machine)
+}
+
+/// Tells what a machine has that is off, and after LOGON.
+fn tell_twice<R: Print + AllocGlobal>(rt: &R, machine: &mut Bare) -> Result<()> {
+    tell(rt, machine)?;
+    command(rt.alloc(), machine, "LOGON", Some(Response::LogonOk))?;
+    tell(rt, machine)
 }
 
 /// Tells what a machine has.

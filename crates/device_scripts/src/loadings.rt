@@ -54,9 +54,6 @@ pub fn difference(alloc: Global, fields: &str) -> Result<Option<String>> {
         "reader" => machine_with_reader(alloc)?,
         _ => machine_with_disk(alloc, &loading)?,
     };
-    if loading.kind == "reader" && loading.content != "-" {
-        give(&mut machine, cards_of(alloc, loading.content)?)?;
-    }
     loaded_difference(alloc, &mut machine, &loading)
 }
 
@@ -66,6 +63,9 @@ fn loaded_difference(
     machine: &mut Bare,
     loading: &Loading<'_>,
 ) -> Result<Option<String>> {
+    if loading.kind == "reader" && loading.content != "-" {
+        give(machine, cards_of(alloc, loading.content)?)?;
+    }
     let wanted = match loading.end {
         "OK" => End::Loaded,
         _ => End::Failed,

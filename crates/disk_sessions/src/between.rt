@@ -25,15 +25,20 @@ pub fn volume_between(alloc: Global, cylinders: usize, tracks: &[u8]) -> Result<
         bail!("too many cylinders");
     };
     let mut volume = Volume::blank(alloc, *b"TEST01", count)?;
+    fill(alloc, &mut volume, cylinders, tracks)?;
+    Ok(volume)
+}
+
+/// Writes the tracks of the disk, and those of the neighbour before and behind it.
+fn fill(alloc: Global, volume: &mut Volume, cylinders: usize, tracks: &[u8]) -> Result<()> {
     for head in 0..HEADS {
-        write_neighbour(alloc, &mut volume, 0, head)?;
-        write_neighbour(alloc, &mut volume, last, head)?;
+        write_neighbour(alloc, volume, 0, head)?;
+        write_neighbour(alloc, volume, cylinders.wrapping_add(1), head)?;
         for cylinder in 0..cylinders {
-            name_track(&mut volume, cylinder, head)?;
+            name_track(volume, cylinder, head)?;
         }
     }
-    write_tracks(alloc, &mut volume, 1, tracks)?;
-    Ok(volume)
+    write_tracks(alloc, volume, 1, tracks)
 }
 
 /// Writes a record of the neighbour.

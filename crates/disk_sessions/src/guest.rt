@@ -6,9 +6,12 @@ use cp_core::{Ended, Event, Sizes, System};
 use cp_directory::read_directory;
 use cp_users::UserNo;
 use s370_num::DevAddr;
+use s370_num::host::Bytes;
 use s370_store::PlainStorage;
 use std::alloc::Global;
 use step_table::lists::byte_at;
+use unit_record::Card;
+use vm370::session::session;
 
 /// The user, who is the first of his directory.
 pub fn user() -> UserNo {
@@ -23,12 +26,16 @@ pub fn booted(
     frames: u32,
     slots: u32,
 ) -> Result<System> {
-    let directory = read_directory(alloc, directory)?;
-    if directory.len() > 64 {
-        bail!("so many users are too many");
-    }
     let sizes = Sizes::new(frames, slots).context("so many frames or slots are too many")?;
+    let directory = read_directory(alloc, directory)?;
     Ok(System::boot(alloc, directory, volumes, sizes)?)
+}
+
+/// What a script tells that is played. It alone calls [`session`], whose promise is long.
+pub fn transcript(alloc: Global, system: &mut System, script: &[u8]) -> Result<Vec<u8>> {
+    let mut told = Vec::new(alloc);
+    session(alloc, system, &mut Bytes::new(script), &mut told)?;
+    Ok(told)
 }
 
 /// Lets the machine do a unit.
@@ -46,6 +53,15 @@ pub fn type_line(system: &mut System, line: &str) -> Result<()> {
     let _device = DevAddr::new(0);
     match system.apply(Event::Line(user(), line.as_bytes())) {
         Ok(reply) => has_ended(reply.ended, Ended::Done),
+        Err(error) => Err(error)?,
+    }
+}
+
+/// The operator gives a deck to the user's reader.
+pub fn give(system: &mut System, cards: &[Card]) -> Result<()> {
+    let _device = DevAddr::new(0);
+    match system.apply(Event::Deck(user(), cards)) {
+        Ok(_) => Ok(()),
         Err(error) => Err(error)?,
     }
 }

@@ -1,19 +1,16 @@
 //! Initial program loadings of a disk or a reader by a user, whose disk lies in the middle of a volume between those of a
 //! neighbour: how they end, and what they leave of storage; on the fewest frames.
 use crate::between::{directory_between, volume_between};
-use crate::guest::{booted, has_byte, has_volume, user};
+use crate::guest::{booted, give, has_byte, has_volume, transcript};
 use crate::playing::other_line;
 use anyhow::{Result, bail};
-use cp_core::{Event, System};
+use cp_core::System;
 use cp_text::numbers::decimal_of;
-use s370_num::DevAddr;
-use s370_num::host::Bytes;
 use s370_store::PlainStorage;
 use std::alloc::Global;
 use step_table::lists::set_bytes;
 use step_table::tally;
 use unit_record::Card;
-use vm370::session::session;
 
 /// The directory of a user with a reader.
 const WITH_READER: &str = "USER A PW 16K\nSPOOL 190 READER\n";
@@ -79,24 +76,28 @@ fn difference(alloc: Global, line: &str) -> Result<Option<String>> {
     let Some(loading) = loading_of(line) else {
         bail!("a loading has four fields");
     };
-    let mut system = match loading.cylinders {
-        Some(cylinders) => with_disk(alloc, &loading, cylinders)?,
-        None => with_reader(alloc, &loading)?,
-    };
-    match difference_of(alloc, &mut system, &loading)? {
+    match difference_of(alloc, &loading)? {
         Some(what) => Ok(Some(String::from_str(alloc, what)?)),
         None => Ok(None),
     }
 }
 
+/// What differs first from a loading.
+fn difference_of(alloc: Global, loading: &Loading<'_>) -> Result<Option<&'static str>> {
+    let mut system = booted_for(alloc, loading)?;
+    difference_after(alloc, &mut system, loading)
+}
+
 /// What differs first after a loading was done.
-fn difference_of(
+fn difference_after(
     alloc: Global,
     system: &mut System,
     loading: &Loading<'_>,
 ) -> Result<Option<&'static str>> {
-    let mut told = Vec::new(alloc);
-    session(alloc, system, &mut Bytes::new(SCRIPT), &mut told)?;
+    if loading.cylinders.is_none() && loading.content != "-" {
+        give(system, &cards_of(alloc, loading.content)?)?;
+    }
+    let told = transcript(alloc, system, SCRIPT)?;
     let wanted = if loading.is_loaded { LOADED } else { FAILED };
     if other_line(&told, wanted).is_some() {
         return Ok(Some("how it ends"));
@@ -110,44 +111,33 @@ fn difference_of(
     Ok(None)
 }
 
-/// The system of a loading from a disk.
-fn with_disk(alloc: Global, loading: &Loading<'_>, cylinders: usize) -> Result<System> {
+/// The system of a loading, from a disk or from a reader that has no deck yet.
+fn booted_for(alloc: Global, loading: &Loading<'_>) -> Result<System> {
+    let Some(cylinders) = loading.cylinders else {
+        return booted(alloc, WITH_READER.as_bytes(), Vec::new(alloc), FRAMES, 0);
+    };
     let directory = directory_between(alloc, "16K", cylinders, "W")?;
     let volume = volume_between(alloc, cylinders, loading.content.as_bytes())?;
     let volumes = vec![in alloc; volume]?;
     booted(alloc, directory.as_bytes(), volumes, FRAMES, 0)
 }
 
-/// The system of a loading from a reader, with the deck.
-fn with_reader(alloc: Global, loading: &Loading<'_>) -> Result<System> {
-    let volumes = Vec::new(alloc);
-    let mut system = booted(alloc, WITH_READER.as_bytes(), volumes, FRAMES, 0)?;
-    if loading.content != "-" {
-        give(&mut system, &cards_of(alloc, loading.content)?)?;
-    }
-    Ok(system)
-}
-
 /// The cards of a list, which are zero behind what is listed.
 fn cards_of(alloc: Global, list: &str) -> Result<Vec<Card>> {
     let mut cards = Vec::new(alloc);
     for digits in list.split('+') {
-        let mut card = [0u8; 80];
-        for (column, byte) in card.iter_mut().zip(hex::decode(alloc, digits)?.as_slice()) {
-            *column = *byte;
-        }
-        cards.push(card)?;
+        cards.push(card_of(alloc, digits)?)?;
     }
     Ok(cards)
 }
 
-/// Gives a deck to the user's reader.
-fn give(system: &mut System, cards: &[Card]) -> Result<()> {
-    let _device = DevAddr::new(0);
-    match system.apply(Event::Deck(user(), cards)) {
-        Ok(_) => Ok(()),
-        Err(error) => Err(error)?,
+/// The card that digits spell.
+fn card_of(alloc: Global, digits: &str) -> Result<Card> {
+    let mut card = [0u8; 80];
+    for (column, byte) in card.iter_mut().zip(hex::decode(alloc, digits)?.as_slice()) {
+        *column = *byte;
     }
+    Ok(card)
 }
 
 /// Whether storage is as a loading leaves it. The interval timer is not compared, nor what a loading that fails has left

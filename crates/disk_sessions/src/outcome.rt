@@ -52,18 +52,8 @@ pub fn is_same_status(bytes: [u8; 8], wanted: &[u8]) -> bool {
     true
 }
 
-/// What differs first, after the program of a line ran; none where all is as it should be.
-pub fn difference(
-    alloc: Global,
-    storage: &mut PlainStorage,
-    image: &mut PlainStorage,
-    case: &Case<'_>,
-) -> Result<Option<&'static str>> {
-    let mut unit = unit_of(alloc, case)?;
-    set_bytes(storage, case.storage);
-    set_keys(storage, case.keys);
-    set_bytes(image, case.storage);
-    set_bytes(image, case.storage_after);
+/// Runs the program of a line: its status word.
+fn ran(storage: &mut PlainStorage, unit: &mut Unit, case: &Case<'_>) -> Result<[u8; 8]> {
     let Ok(start) = check_start(&Guest, storage, case.caw) else {
         bail!("a page is absent");
     };
@@ -73,8 +63,34 @@ pub fn difference(
         commands: MOST_COMMANDS,
         prefix: 0,
     };
-    let ending = run(&Guest, storage, start.address.get(), &limits, &mut unit)?;
-    if !is_same_status(Csw::of_ending(start.key, ending).to_bytes(), case.csw) {
+    let ending = run(&Guest, storage, start.address.get(), &limits, unit)?;
+    Ok(Csw::of_ending(start.key, ending).to_bytes())
+}
+
+/// What differs first, after the program of a line ran; none where all is as it should be.
+pub fn difference(
+    alloc: Global,
+    storage: &mut PlainStorage,
+    image: &mut PlainStorage,
+    case: &Case<'_>,
+) -> Result<Option<&'static str>> {
+    set_bytes(storage, case.storage);
+    set_keys(storage, case.keys);
+    set_bytes(image, case.storage);
+    set_bytes(image, case.storage_after);
+    let mut unit = unit_of(alloc, case)?;
+    difference_on(alloc, storage, image, &mut unit, case)
+}
+
+/// What differs first, after the program of a line ran on a unit.
+fn difference_on(
+    alloc: Global,
+    storage: &mut PlainStorage,
+    image: &mut PlainStorage,
+    unit: &mut Unit,
+    case: &Case<'_>,
+) -> Result<Option<&'static str>> {
+    if !is_same_status(ran(storage, unit, case)?, case.csw) {
         return Ok(Some("the status word"));
     }
     if !is_same_in(storage, image, case.storage)
@@ -82,7 +98,7 @@ pub fn difference(
     {
         return Ok(Some("storage"));
     }
-    disk_difference(alloc, &unit, case)
+    disk_difference(alloc, unit, case)
 }
 
 /// What differs first of the sense and the arm.

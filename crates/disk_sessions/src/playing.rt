@@ -1,6 +1,6 @@
 //! A session is played, and compared with its block.
 use crate::block::Block;
-use crate::guest::booted;
+use crate::guest::{booted, transcript};
 use anyhow::{Context, Result};
 use ckd_image::image;
 use ckd_text::make_volume;
@@ -8,12 +8,11 @@ use ckd_volume::Volume;
 use cp_core::System;
 use cp_directory::read_directory;
 use cp_text::lines::numbered_lines;
-use s370_num::host::{Bytes, Counted, read_all};
+use s370_num::host::{Counted, read_all};
 use std::alloc::Global;
 use std::fs;
 use std::rt::Files;
 use vm370::faults::{Failure, fault_line};
-use vm370::session::session;
 
 /// How many frames the machine of the program `vm370` has.
 const FRAMES: u32 = 64;
@@ -60,20 +59,24 @@ fn difference_on<R: AllocGlobal + Files>(
     frames: u32,
     slots: u32,
 ) -> Result<Option<String>> {
-    let alloc = rt.alloc();
     let mut system = booted_with(rt, block, frames, slots)?;
-    let mut told = Vec::new(alloc);
-    session(
-        alloc,
-        &mut system,
-        &mut Bytes::new(&block.script),
-        &mut told,
-    )?;
+    difference_in(rt, block, &mut system, frames)
+}
+
+/// What differs first where a session is played in a system with so many frames.
+fn difference_in<R: AllocGlobal + Files>(
+    rt: &R,
+    block: &Block,
+    system: &mut System,
+    frames: u32,
+) -> Result<Option<String>> {
+    let alloc = rt.alloc();
+    let told = transcript(alloc, system, &block.script)?;
     if let Some(line) = other_line(&told, &block.told) {
         let line = str::from_utf8(line)?;
         return Ok(Some(format!(in alloc; "on {frames} frames: {line}")?));
     }
-    match other_volume(rt, block, &system)? {
+    match other_volume(rt, block, system)? {
         Some(name) => Ok(Some(format!(in alloc;
             "on {frames} frames {name} is not what there is"
         )?)),
@@ -127,9 +130,21 @@ fn other_volume<'a, R: AllocGlobal + Files>(
         let volume = ended.volume(index).context("a volume is away")?;
         let stating = block.ended.get(index).or(block.volumes.get(index));
         let name = stating.context("there are more volumes than before")?;
-        if image(rt.alloc(), volume)? != image(rt.alloc(), &stated(rt, name)?)? {
+        if !is_stated(rt, volume, name)? {
             return Ok(Some(name.as_str()));
         }
     }
     Ok(None)
+}
+
+/// Whether a volume is what a file states.
+fn is_stated<R: AllocGlobal + Files>(rt: &R, volume: &Volume, name: &str) -> Result<bool> {
+    let wanted = image_stated(rt, name)?;
+    Ok(image(rt.alloc(), volume)? == wanted)
+}
+
+/// The image of the volume that a file states.
+fn image_stated<R: AllocGlobal + Files>(rt: &R, name: &str) -> Result<Vec<u8>> {
+    let volume = stated(rt, name)?;
+    Ok(image(rt.alloc(), &volume)?)
 }

@@ -46,31 +46,69 @@ pub fn difference_of_user(
     image: &mut PlainStorage,
     case: &Case<'_>,
 ) -> Result<Option<&'static str>> {
-    let system = match played(alloc, case, FRAMES)? {
-        Some(system) => system,
-        None => match played(alloc, case, MANY_FRAMES)? {
-            Some(system) => system,
-            None => return Ok(Some("the frames of a user")),
-        },
-    };
-    if !is_same_status(status(&system), case.csw) {
-        return Ok(Some("the status word of a user"));
+    for frames in [FRAMES, MANY_FRAMES] {
+        match outcome_on(alloc, image, case, frames)? {
+            Outcome::Same => return Ok(None),
+            Outcome::Differs(what) => return Ok(Some(what)),
+            Outcome::FramesOut => {}
+        }
     }
-    if !has_bytes(&system, image, case.storage) || !has_bytes(&system, image, case.storage_after) {
-        return Ok(Some("storage of a user"));
-    }
-    disk_difference(alloc, &system, case)
+    Ok(Some("the frames of a user"))
 }
 
-/// The system after a user has run the program of a line on so many frames; none where it needs more.
-fn played(alloc: Global, case: &Case<'_>, frames: u32) -> Result<Option<System>> {
+/// What comes of a program that a user runs.
+#[derive(Clone, Copy)]
+enum Outcome {
+    /// All is as it should be.
+    Same,
+    /// This differs first.
+    Differs(&'static str),
+    /// The program needs more frames.
+    FramesOut,
+}
+
+/// What comes of the program of a line on so many frames.
+fn outcome_on(
+    alloc: Global,
+    image: &mut PlainStorage,
+    case: &Case<'_>,
+    frames: u32,
+) -> Result<Outcome> {
     let mut system = booted_with(alloc, case, frames)?;
-    prepare(alloc, &mut system, case)?;
-    if run_program(alloc, &mut system, case.caw)? {
-        Ok(Some(system))
-    } else {
-        Ok(None)
+    outcome_in(alloc, &mut system, image, case)
+}
+
+/// What comes of the program of a line in a system.
+fn outcome_in(
+    alloc: Global,
+    system: &mut System,
+    image: &mut PlainStorage,
+    case: &Case<'_>,
+) -> Result<Outcome> {
+    prepare(alloc, system, case)?;
+    if !run_program(alloc, system, case.caw)? {
+        return Ok(Outcome::FramesOut);
     }
+    match difference_in(alloc, system, image, case)? {
+        Some(what) => Ok(Outcome::Differs(what)),
+        None => Ok(Outcome::Same),
+    }
+}
+
+/// What differs first in a system in which the program of a line was run.
+fn difference_in(
+    alloc: Global,
+    system: &System,
+    image: &mut PlainStorage,
+    case: &Case<'_>,
+) -> Result<Option<&'static str>> {
+    if !is_same_status(status(system), case.csw) {
+        return Ok(Some("the status word of a user"));
+    }
+    if !has_bytes(system, image, case.storage) || !has_bytes(system, image, case.storage_after) {
+        return Ok(Some("storage of a user"));
+    }
+    disk_difference(alloc, system, case)
 }
 
 /// What differs first of the disk and of the cylinders beside it.

@@ -9,16 +9,16 @@
 //! on as many frames as `vm370` has, and on the fewest; each of his disks lies in the middle of a volume, has at the end
 //! what the machine's disk has, and the cylinders beside it stay empty.
 use crate::files::{contents, have_one_image, open, volume};
+use crate::users::{boot, played};
 use anyhow::{Context, Result, bail};
 use bare_installation::Bare;
 use bare370::session::{FIRST_DISK, MOST_DISKS};
 use bare370::{bare_session, machine_of};
 use ckd_volume::{HEADS, Volume};
 use cp_core::{Sizes, System};
-use cp_directory::{StorageSize, read_directory, storage_of};
+use cp_directory::{StorageSize, storage_of};
 use std::alloc::Global;
 use std::rt::Files;
-use vm370::session::session;
 
 /// The size of the machine's storage where an example does not tell it.
 const STORAGE: &[u8] = b"64K";
@@ -38,23 +38,32 @@ const SLOTS: u32 = 256;
 
 /// Compares the transcript of an example with the stored one.
 pub fn compare_example<R: AllocGlobal + Files>(rt: &R, folder: &str, stored: &[u8]) -> Result<()> {
-    let machine = played(rt, folder, stored)?;
-    compare_disks(rt, folder, &machine)?;
-    compare_user(rt, folder, FRAMES, stored, &machine)?;
-    compare_user(rt, folder, FEWEST_FRAMES, stored, &machine)
+    let blocks = size(rt, folder)?.blocks();
+    let mut machine = machine_of(rt.alloc(), blocks, volumes(rt, folder)?)?;
+    compare_on(rt, folder, stored, &mut machine)
 }
 
-/// The machine at the end of a folder's script, which has to give this transcript.
-fn played<R: AllocGlobal + Files>(rt: &R, folder: &str, stored: &[u8]) -> Result<Bare> {
-    let alloc = rt.alloc();
-    let mut machine = machine_of(alloc, size(rt, folder)?.blocks(), volumes(rt, folder)?)?;
-    let mut script = open(rt, folder, "script")?;
-    let mut transcript = Vec::new(alloc);
-    bare_session(alloc, &mut machine, &mut script, &mut transcript)?;
-    if transcript.as_slice() != stored {
+/// Plays a folder's script on its machine and for its user, and compares what comes of it.
+fn compare_on<R: AllocGlobal + Files>(
+    rt: &R,
+    folder: &str,
+    stored: &[u8],
+    machine: &mut Bare,
+) -> Result<()> {
+    if transcript(rt, folder, machine)?.as_slice() != stored {
         bail!("{folder}: the script gives another transcript");
     }
-    Ok(machine)
+    compare_disks(rt, folder, machine)?;
+    compare_user(rt, folder, FRAMES, stored, machine)?;
+    compare_user(rt, folder, FEWEST_FRAMES, stored, machine)
+}
+
+/// What a folder's script gives on its machine.
+fn transcript<R: AllocGlobal + Files>(rt: &R, folder: &str, machine: &mut Bare) -> Result<Vec<u8>> {
+    let mut script = open(rt, folder, "script")?;
+    let mut told = Vec::new(rt.alloc());
+    bare_session(rt.alloc(), machine, &mut script, &mut told)?;
+    Ok(told)
 }
 
 /// Whether a folder's script gives this transcript for a user of the same name, with the same storage, devices and disks,
@@ -67,30 +76,49 @@ fn compare_user<R: AllocGlobal + Files>(
     machine: &Bare,
 ) -> Result<()> {
     let mut system = booted(rt, folder, frames)?;
-    let mut script = open(rt, folder, "script")?;
-    let mut transcript = Vec::new(rt.alloc());
-    session(rt.alloc(), &mut system, &mut script, &mut transcript)?;
-    if transcript.as_slice() != stored {
-        bail!("{folder}: a user on {frames} frames has another transcript");
+    match difference(rt, folder, stored, machine, &mut system)? {
+        Some(what) => bail!("{folder}: a user on {frames} frames has another {what}"),
+        None => Ok(()),
     }
+}
+
+/// What differs first where a folder's script is played in the system of its user.
+fn difference<R: AllocGlobal + Files>(
+    rt: &R,
+    folder: &str,
+    stored: &[u8],
+    machine: &Bare,
+    system: &mut System,
+) -> Result<Option<&'static str>> {
+    if played(rt, folder, system)?.as_slice() != stored {
+        return Ok(Some("transcript"));
+    }
+    if !has_disks(rt.alloc(), system, machine)? {
+        return Ok(Some("disk at the end"));
+    }
+    Ok(None)
+}
+
+/// Whether the disks of a user have what those of a machine have.
+fn has_disks(alloc: Global, system: &System, machine: &Bare) -> Result<bool> {
     for (index, disk) in machine.disks().iter().enumerate() {
         let volume = system.volume(index).context("a volume is away")?;
-        if !has_in_the_middle(rt.alloc(), volume, disk.unit().volume())? {
-            bail!("{folder}: a user on {frames} frames has another disk at the end");
+        if !has_in_the_middle(alloc, volume, disk.unit().volume())? {
+            return Ok(false);
         }
     }
-    Ok(())
+    Ok(true)
 }
 
 /// The system of a user who has what the machine of a folder has.
 fn booted<R: AllocGlobal + Files>(rt: &R, folder: &str, frames: u32) -> Result<System> {
     let alloc = rt.alloc();
-    let disks = volumes(rt, folder)?;
-    let text = directory(alloc, &storage(rt, folder)?, &disks)?;
-    let directory = read_directory(alloc, &text)?;
     let sizes = Sizes::new(frames, SLOTS).context("so many frames or slots are too many")?;
+    let storage = storage(rt, folder)?;
+    let disks = volumes(rt, folder)?;
+    let text = directory(alloc, &storage, &disks)?;
     let volumes = in_the_middle_each(alloc, disks)?;
-    Ok(System::boot(alloc, directory, volumes, sizes)?)
+    boot(alloc, &text, volumes, sizes)
 }
 
 /// The directory of a user with so much storage and these disks.
@@ -194,15 +222,18 @@ fn compare_disks<R: AllocGlobal + Files>(rt: &R, folder: &str, machine: &Bare) -
     let alloc = rt.alloc();
     for address in FIRST_DISK..FIRST_DISK + MOST_DISKS {
         let name = format!(in alloc; "{address:X}-saved")?;
-        let Some(wanted) = volume(rt, folder, name.as_str())? else {
-            continue;
-        };
-        let index = usize::from(address - FIRST_DISK);
-        let disk = machine.disks().get(index);
-        let ended = disk.context("there is no such disk")?.unit().volume();
-        if !have_one_image(alloc, ended, &wanted)? {
-            bail!("{folder}: the disk {address:X} has another image at the end");
+        if let Some(wanted) = volume(rt, folder, name.as_str())? {
+            let index = usize::from(address - FIRST_DISK);
+            if !has_disk(alloc, machine, index, &wanted)? {
+                bail!("{folder}: the disk {address:X} has another image at the end");
+            }
         }
     }
     Ok(())
+}
+
+/// Whether the disk of this index of a machine has the image of a volume.
+fn has_disk(alloc: Global, machine: &Bare, index: usize, wanted: &Volume) -> Result<bool> {
+    let disk = machine.disks().get(index).context("there is no such disk")?;
+    Ok(have_one_image(alloc, disk.unit().volume(), wanted)?)
 }

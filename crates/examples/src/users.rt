@@ -12,6 +12,7 @@ use cp_core::{Sizes, System};
 use cp_directory::read_directory;
 use cp_text::numbers::decimal_of;
 use cp_text::words::cut_word;
+use std::alloc::Global;
 use std::rt::Files;
 use vm370::session::session;
 
@@ -69,14 +70,39 @@ fn compare<R: AllocGlobal + Files>(
 fn transcript<R: AllocGlobal + Files>(rt: &R, folder: &str, sizes: Sizes) -> Result<Vec<u8>> {
     let alloc = rt.alloc();
     let text = contents(rt, folder, "directory")?.context("there is no directory")?;
-    let directory = read_directory(alloc, &text)?;
     let names = names(rt, folder)?;
-    let mut system = System::boot(alloc, directory, volumes(rt, folder, &names)?, sizes)?;
+    let mut system = boot(alloc, &text, volumes(rt, folder, &names)?, sizes)?;
+    transcript_in(rt, folder, &names, &mut system)
+}
+
+/// What a folder's script gives in its system, whose volumes have to be at the end what they are to be.
+fn transcript_in<R: AllocGlobal + Files>(
+    rt: &R,
+    folder: &str,
+    names: &str,
+    system: &mut System,
+) -> Result<Vec<u8>> {
+    let told = played(rt, folder, system)?;
+    compare_volumes(rt, folder, names, system)?;
+    Ok(told)
+}
+
+/// The system of a directory over these volumes.
+pub fn boot(alloc: Global, directory: &[u8], volumes: Vec<Volume>, sizes: Sizes) -> Result<System> {
+    let directory = read_directory(alloc, directory)?;
+    Ok(System::boot(alloc, directory, volumes, sizes)?)
+}
+
+/// What a folder's script gives in a system. It alone calls [`session`], whose promise is long.
+pub fn played<R: AllocGlobal + Files>(
+    rt: &R,
+    folder: &str,
+    system: &mut System,
+) -> Result<Vec<u8>> {
     let mut script = open(rt, folder, "script")?;
-    let mut transcript = Vec::new(alloc);
-    session(alloc, &mut system, &mut script, &mut transcript)?;
-    compare_volumes(rt, folder, &names, &system)?;
-    Ok(transcript)
+    let mut told = Vec::new(rt.alloc());
+    session(rt.alloc(), system, &mut script, &mut told)?;
+    Ok(told)
 }
 
 /// The names of an example's volumes, one a line.
@@ -108,14 +134,19 @@ fn compare_volumes<R: AllocGlobal + Files>(
     let alloc = rt.alloc();
     for (index, name) in names.lines().enumerate() {
         let ended = ended.volume(index).context("a volume is away")?;
-        let after = volume(rt, folder, &format!(in alloc; "{name}.after")?)?;
-        let wanted = match after {
-            Some(wanted) => Some(wanted),
-            None => volume(rt, folder, &format!(in alloc; "{name}.volume")?)?,
-        };
-        if !have_one_image(alloc, ended, &wanted.context("there is no such volume")?)? {
+        if !have_one_image(alloc, ended, &volume_after(rt, folder, name)?)? {
             bail!("{folder}: the volume {name} has another image at the end");
         }
     }
     Ok(())
+}
+
+/// What the volume of a name has to be at the end.
+fn volume_after<R: AllocGlobal + Files>(rt: &R, folder: &str, name: &str) -> Result<Volume> {
+    let alloc = rt.alloc();
+    if let Some(after) = volume(rt, folder, &format!(in alloc; "{name}.after")?)? {
+        return Ok(after);
+    }
+    let before = volume(rt, folder, &format!(in alloc; "{name}.volume")?)?;
+    before.context("there is no such volume")
 }

@@ -5,7 +5,7 @@ use ckd_volume::Volume;
 use cp_core::Sizes;
 use cp_users::UserNo;
 use s370_num::DevAddr;
-use side_by_side::{Sequence, SideBySide, SideError};
+use side_by_side::{Sequence, SideBySide, SideError, View};
 use std::alloc::{AllocError, Global};
 use unit_record::Card;
 
@@ -56,20 +56,28 @@ fn volume(alloc: Global) -> Result<Volume> {
     Ok(volume)
 }
 
-/// The users, of whom most are on.
-fn booted(alloc: Global, sequence: &mut Sequence) -> Result<SideBySide> {
+/// The users, who are off.
+fn booted(alloc: Global) -> Result<SideBySide> {
     let Some(sizes) = Sizes::new(16, 3) else {
         bail!("too many frames");
     };
     let volumes = vec![in alloc; volume(alloc)?]?;
-    let mut machines = SideBySide::boot_on(alloc, DIRECTORY.as_bytes(), volumes, sizes)?;
+    Ok(SideBySide::boot_on(alloc, DIRECTORY.as_bytes(), volumes, sizes)?)
+}
+
+/// Most users log on, and have something in their storage.
+fn make_ready(
+    alloc: Global,
+    sequence: &mut Sequence,
+    machines: &mut SideBySide,
+) -> Result<(), SideError> {
     for number in 0..4u8 {
         let lines = sequence.below(7) as usize;
         for line in READY.iter().take(lines) {
             machines.line(alloc, UserNo::new(number), line.as_bytes())?;
         }
     }
-    Ok(machines)
+    Ok(())
 }
 
 /// The next cards: the first is one for a loading.
@@ -174,6 +182,7 @@ fn play(
     sequence: &mut Sequence,
     machines: &mut SideBySide,
 ) -> Result<(), SideError> {
+    make_ready(alloc, sequence, machines)?;
     for event in 1..=EVENTS {
         let user = UserNo::new(sequence.below(USERS) as u8);
         happen(alloc, sequence, machines, user)?;
@@ -184,17 +193,23 @@ fn play(
     Ok(())
 }
 
+/// Plays the script of this number, and tells what differs first.
+fn difference(alloc: Global, script: u32) -> Result<Option<View>> {
+    let mut machines = booted(alloc)?;
+    match play(alloc, &mut Sequence::new(u64::from(script)), &mut machines) {
+        Ok(()) => Ok(None),
+        Err(SideError::Differs(view)) => Ok(Some(view)),
+        Err(error) => Err(error.into()),
+    }
+}
+
 /// Plays all scripts, and prints those in which users and bare machines differ, and how many agree.
 pub fn play_all<R: AllocGlobal + Print>(rt: &R) -> Result<()> {
-    let alloc = rt.alloc();
     let mut agreed = 0u32;
     for script in 1..=SCRIPTS {
-        let mut sequence = Sequence::new(u64::from(script));
-        let mut machines = booted(alloc, &mut sequence)?;
-        match play(alloc, &mut sequence, &mut machines) {
-            Ok(()) => agreed = agreed.wrapping_add(1),
-            Err(SideError::Differs(view)) => println!(rt; "script {script}: not the same: {view}")?,
-            Err(error) => return Err(error.into()),
+        match difference(rt.alloc(), script)? {
+            None => agreed = agreed.wrapping_add(1),
+            Some(view) => println!(rt; "script {script}: not the same: {view}")?,
         }
     }
     println!(rt; "commands: {agreed} of {SCRIPTS} scripts agree")?;

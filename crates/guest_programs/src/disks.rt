@@ -26,6 +26,12 @@ fn plan_at(base: u32) -> Plan {
 /// A volume whose records have words of channel programs that a sequence makes.
 pub fn next_volume(alloc: Global, sequence: &mut Sequence) -> Result<Volume> {
     let mut volume = Volume::blank(alloc, *b"SHARED", CYLINDERS)?;
+    write_tracks(alloc, sequence, &mut volume)?;
+    Ok(volume)
+}
+
+/// Writes the tracks of a volume.
+fn write_tracks(alloc: Global, sequence: &mut Sequence, volume: &mut Volume) -> Result<()> {
     for cylinder in 0..4u8 {
         for head in HEADS {
             let track = volume
@@ -35,7 +41,7 @@ pub fn next_volume(alloc: Global, sequence: &mut Sequence) -> Result<Volume> {
             write_track(alloc, sequence, track, own, head)?;
         }
     }
-    Ok(volume)
+    Ok(())
 }
 
 /// Writes three records on a track, which has this place on its disk. The first of the first track is for a loading.

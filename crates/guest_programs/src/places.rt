@@ -2,7 +2,7 @@
 use s370_num::DevAddr;
 
 /// A device of the user.
-#[derive(Clone, Copy, Debug, PartialEq, Eq)]
+#[derive(Clone, Copy, PartialEq, Eq)]
 pub enum Unit {
     Console,
     Reader,

@@ -105,23 +105,33 @@ impl Stage {
         let Some(sizes) = Sizes::new(frames, SLOTS) else {
             bail!("too many frames");
         };
-        let mut machines = SideBySide::boot_on(alloc, directory.as_bytes(), volumes, sizes)?;
-        type_all(alloc, &mut machines, neighbour(), &NEIGHBOUR)?;
-        type_all(alloc, &mut machines, guest(), lines)?;
-        Ok(Stage {
-            machines,
+        let mut stage = Stage {
+            machines: SideBySide::boot_on(alloc, directory.as_bytes(), volumes, sizes)?,
             trials: 0,
             served: 0,
-        })
+        };
+        stage.make_ready(alloc, lines)?;
+        Ok(stage)
+    }
+
+    /// The neighbour's machine is made to run, and the user types lines.
+    fn make_ready(&mut self, alloc: Global, lines: &[&str]) -> Result<(), SideError> {
+        type_all(alloc, &mut self.machines, neighbour(), &NEIGHBOUR)?;
+        type_all(alloc, &mut self.machines, guest(), lines)
     }
 
     /// Both machines run, and the user's storage is filled.
     pub fn boot(alloc: Global, sequence: &mut Sequence) -> Result<Stage> {
         let volumes = vec![in alloc; next_volume(alloc, sequence)?]?;
         let mut stage = Stage::booted(alloc, DIRECTORY, volumes, FRAMES, &GUEST)?;
-        stage.run(FILLING)?;
-        stage.compare_disks()?;
+        stage.fill()?;
         Ok(stage)
+    }
+
+    /// The user's machine fills its storage.
+    fn fill(&mut self) -> Result<(), SideError> {
+        self.run(FILLING)?;
+        self.compare_disks()
     }
 
     /// The user has so many kilobytes of storage, which are all zero, and no disk; there are so many frames.

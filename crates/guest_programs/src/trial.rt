@@ -20,7 +20,7 @@ const TYPED: [&str; 4] = [
 ];
 
 /// How a program begins.
-#[derive(Clone, Copy, PartialEq, Eq)]
+#[derive(Clone, Copy)]
 pub enum Start {
     /// By SIO, with this channel address word.
     Sio(u32),

@@ -6,10 +6,11 @@ use crate::unit::DiskUnit;
 use crate::units::Units;
 use anyhow::{Result, bail};
 use std::alloc::Global;
+use step_table::compare;
 
 /// What the steps are done to.
 #[derive(Drop)]
-pub struct Work {
+struct Work {
     machine: Machine,
     units: Units,
     disk: Disk,
@@ -18,7 +19,7 @@ pub struct Work {
 
 impl Work {
     /// Nothing is done yet.
-    pub fn new(alloc: Global) -> Result<Work> {
+    fn new(alloc: Global) -> Result<Work> {
         Ok(Work {
             machine: Machine::new(alloc)?,
             units: Units::new(alloc),
@@ -28,7 +29,7 @@ impl Work {
     }
 
     /// Does a step, whose first word says to what, and tells what came of it.
-    pub fn take(&mut self, alloc: Global, step: &str) -> Result<String> {
+    fn take(&mut self, alloc: Global, step: &str) -> Result<String> {
         let (what, rest) = cut(step);
         match what {
             "machine" => self.machine.take(alloc, rest),
@@ -41,4 +42,11 @@ impl Work {
             _ => bail!("no step begins with {what}"),
         }
     }
+}
+
+/// Does the steps of a table, and compares what comes of each with what the table says.
+pub fn compare_all<R: AllocGlobal + Print>(rt: &R, table: &str) -> Result<()> {
+    let alloc = rt.alloc();
+    let mut work = Work::new(alloc)?;
+    compare(rt, "devices", table, " =", |step| work.take(alloc, step))
 }

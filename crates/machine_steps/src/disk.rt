@@ -92,30 +92,45 @@ impl Disk {
     pub fn take(&mut self, alloc: Global, step: &str) -> Result<String> {
         let (verb, operand) = cut(step);
         match verb {
-            "make" => return self.make(alloc, operand, 0),
-            "fill" => {
-                let (zeros, text) = cut(operand);
-                return self.make(alloc, text, decimal(zeros)?);
-            }
-            "blank" => return self.blank(alloc, operand),
-            "track" => return self.track(alloc, operand),
-            "map" => return self.map(alloc, operand),
+            "make" => self.make(alloc, operand, 0),
+            "fill" => self.fill(alloc, operand),
+            "blank" => self.blank(alloc, operand),
+            "track" => self.track(alloc, operand),
+            "map" => self.map(alloc, operand),
+            "bytes" => self.bytes(alloc, operand),
+            "read" => self.read(alloc),
+            "beginnings" => self.beginnings(alloc),
+            "mkvol" | "trackmap" => files(alloc, step),
+            "failure" => fail(alloc, operand),
+            _ => self.take_image(alloc, verb, operand),
+        }
+    }
+
+    /// Does a step that makes or changes the image, and tells how long that is then.
+    fn take_image(&mut self, alloc: Global, verb: &str, operand: &str) -> Result<String> {
+        match verb {
             "image" => self.image = image(alloc, &self.volume)?,
-            "write" => {
-                self.image = Vec::new(alloc);
-                write_image(alloc, &self.volume, &mut self.image)?;
-            }
+            "write" => self.write(alloc)?,
             "put" => self.put(operand)?,
             "cut" => self.image.truncate(decimal(operand)? as usize),
-            "append" => self.image.extend_from_slice(&bytes(alloc, operand)?)?,
-            "bytes" => return self.bytes(alloc, operand),
-            "read" => return self.read(alloc),
-            "beginnings" => return self.beginnings(alloc),
-            "mkvol" | "trackmap" => return files(alloc, step),
-            "failure" => return fail(alloc, operand),
+            "append" => self.append(alloc, operand)?,
             _ => bail!("no step of a disk is {verb}"),
         }
         Ok(format!(in alloc; "{} bytes", self.image.len())?)
+    }
+
+    fn write(&mut self, alloc: Global) -> Result<()> {
+        self.image = Vec::new(alloc);
+        Ok(write_image(alloc, &self.volume, &mut self.image)?)
+    }
+
+    fn append(&mut self, alloc: Global, operand: &str) -> Result<()> {
+        Ok(self.image.extend_from_slice(&bytes(alloc, operand)?)?)
+    }
+
+    fn fill(&mut self, alloc: Global, operand: &str) -> Result<String> {
+        let (zeros, text) = cut(operand);
+        self.make(alloc, text, decimal(zeros)?)
     }
 
     fn make(&mut self, alloc: Global, spelled: &str, zeros: u32) -> Result<String> {

@@ -26,6 +26,11 @@ pub struct Machine {
     storage: PagedStorage,
 }
 
+/// What is told of a step of which nothing comes.
+fn done(alloc: Global) -> Result<String> {
+    Ok(format!(in alloc; "done")?)
+}
+
 /// What is told where a page may have been absent.
 fn told_page(alloc: Global, done: Result<(), Page>) -> Result<String, AllocError> {
     match done {
@@ -107,37 +112,53 @@ impl Machine {
     pub fn take(&mut self, alloc: Global, step: &str) -> Result<String> {
         let (verb, operand) = cut(step);
         match verb {
-            "new" => *self = Machine::new(alloc)?,
-            "present" => self.set_present(operand, true)?,
-            "absent" => self.set_present(operand, false)?,
-            "reset" => self.devices.reset(),
-            "store" => return self.store(alloc, operand),
-            "load" => return self.load(alloc, operand),
-            "key" => return self.key(alloc, operand),
-            "psw" => return self.psw(alloc, operand),
-            "general" => return register(alloc, &mut self.cpu.general, operand),
-            "control" => return register(alloc, &mut self.cpu.control, operand),
-            "pending" => return self.pending(alloc, operand),
-            "add" => return self.add(alloc, operand),
-            "state" => return self.state(alloc, operand),
-            "ask" => return self.ask(alloc, operand),
-            "first" => return self.first(alloc, operand),
-            "instruct" => return self.instruct(alloc, operand),
-            "run" => return self.run(alloc, operand),
-            "swap" => return self.swap(alloc, operand),
-            "tick" => return self.tick(alloc),
-            _ => bail!("no step of a machine is {verb}"),
+            "new" => self.begin(alloc),
+            "present" => self.set_present(alloc, operand, true),
+            "absent" => self.set_present(alloc, operand, false),
+            "store" => self.store(alloc, operand),
+            "load" => self.load(alloc, operand),
+            "key" => self.key(alloc, operand),
+            "psw" => self.psw(alloc, operand),
+            "general" => register(alloc, &mut self.cpu.general, operand),
+            "control" => register(alloc, &mut self.cpu.control, operand),
+            _ => self.take_event(alloc, verb, operand),
         }
-        Ok(format!(in alloc; "done")?)
     }
 
-    fn set_present(&mut self, operand: &str, present: bool) -> Result<()> {
+    /// Does a step of the devices or of a run.
+    fn take_event(&mut self, alloc: Global, verb: &str, operand: &str) -> Result<String> {
+        match verb {
+            "reset" => self.reset(alloc),
+            "pending" => self.pending(alloc, operand),
+            "add" => self.add(alloc, operand),
+            "state" => self.state(alloc, operand),
+            "ask" => self.ask(alloc, operand),
+            "first" => self.first(alloc, operand),
+            "instruct" => self.instruct(alloc, operand),
+            "run" => self.run(alloc, operand),
+            "swap" => self.swap(alloc, operand),
+            "tick" => self.tick(alloc),
+            _ => bail!("no step of a machine is {verb}"),
+        }
+    }
+
+    fn begin(&mut self, alloc: Global) -> Result<String> {
+        *self = Machine::new(alloc)?;
+        done(alloc)
+    }
+
+    fn reset(&mut self, alloc: Global) -> Result<String> {
+        self.devices.reset();
+        done(alloc)
+    }
+
+    fn set_present(&mut self, alloc: Global, operand: &str, present: bool) -> Result<String> {
         let page = decimal(operand)?;
         if page >= self.storage.size() / PAGE_SIZE {
             bail!("no such page");
         }
         self.storage.set_present(Page(page), present);
-        Ok(())
+        done(alloc)
     }
 
     fn store(&mut self, alloc: Global, operand: &str) -> Result<String> {
@@ -145,7 +166,7 @@ impl Machine {
         if put(&mut self.storage, address(start)?, hexadecimal(digits)?).is_err() {
             bail!("nothing can be stored at {start}");
         }
-        Ok(format!(in alloc; "done")?)
+        done(alloc)
     }
 
     fn load(&self, alloc: Global, operand: &str) -> Result<String> {

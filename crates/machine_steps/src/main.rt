@@ -22,14 +22,12 @@ mod storage;
 mod unit;
 mod units;
 
-use crate::devices::Work;
 use anyhow::{Result, bail};
 use std::{env, fs};
 use step_table::compare;
 
 fn main(rt: HostRuntime) -> Result<()> {
     let alloc = rt.alloc();
-    let mut work = Work::new(alloc)?;
     for path in env::args(&rt)?.skip(1) {
         let table = fs::read_to_string(&rt, &path)?;
         match path.as_str() {
@@ -49,7 +47,7 @@ fn main(rt: HostRuntime) -> Result<()> {
                 " =",
                 |step| storage::told(alloc, step),
             )?,
-            "devices.txt" => compare(&rt, "devices", &table, " =", |step| work.take(alloc, step))?,
+            "devices.txt" => devices::compare_all(&rt, &table)?,
             _ => bail!("{path} is no table"),
         }
     }

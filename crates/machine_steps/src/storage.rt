@@ -17,53 +17,73 @@ type Told = Result<String, AllocError>;
 
 /// What comes of a step.
 pub fn told(alloc: Global, step: &str) -> Result<String> {
-    match words_of(alloc, step)?.as_slice() {
-        ["new"] => Ok(new(alloc)?),
-        ["bytes"] => Ok(bytes(alloc)?),
-        ["access", start, count, rest @ ..] => access_to(alloc, range(start, count)?, rest),
-        ["both", start, count, rest @ ..] => both_of(alloc, range(start, count)?, rest),
-        ["paged", start, count, key] => Ok(paged(alloc, range(start, count)?, key_of(key)?)?),
-        ["find", start, kind, key] => find_from(alloc, start, kind, key),
-        ["move", from, to] => moves_of(alloc, from, to),
-        ["stamp", user, start, mark] => stamp_of(alloc, user, start, mark),
+    let words = words_of(alloc, step)?;
+    let Some((verb, operands)) = words.split_first() else {
+        bail!("a step has a word");
+    };
+    match *verb {
+        "new" => Ok(new(alloc)?),
+        "bytes" => Ok(bytes(alloc)?),
+        "access" => access_to(alloc, operands),
+        "both" => both_of(alloc, operands),
+        "paged" => paged_with(alloc, operands),
+        "find" => find_from(alloc, operands),
+        "move" => moves_of(alloc, operands),
+        "stamp" => stamp_of(alloc, operands),
         _ => bail!("no such step: {step}"),
     }
 }
 
-/// `access`, of a kind and with a key.
-fn access_to(alloc: Global, range: Range, words: &[&str]) -> Result<String>
-    requires { range.count ≤ 256 }
-{
-    let [kind, key] = words else {
-        bail!("a kind and a key are wanted");
+/// `access`, by its words.
+fn access_to(alloc: Global, words: &[&str]) -> Result<String> {
+    let [start, count, kind, key] = words else {
+        bail!("a range, a kind and a key are wanted");
     };
+    let range = range(start, count)?;
     Ok(access(alloc, range, access_of(kind)?, key_of(key)?)?)
 }
 
-/// `both`, of another range and with a key.
-fn both_of(alloc: Global, one: Range, words: &[&str]) -> Result<String>
-    requires { one.count ≤ 256 }
-{
-    let [start, count, key] = words else {
-        bail!("a range and a key are wanted");
+/// `both`, by its words.
+fn both_of(alloc: Global, words: &[&str]) -> Result<String> {
+    let [start, count, other_start, other_count, key] = words else {
+        bail!("two ranges and a key are wanted");
     };
-    let other = range(start, count)?;
+    let one = range(start, count)?;
+    let other = range(other_start, other_count)?;
     Ok(both(alloc, one, other, key_of(key)?)?)
 }
 
+/// `paged`, by its words.
+fn paged_with(alloc: Global, words: &[&str]) -> Result<String> {
+    let [start, count, key] = words else {
+        bail!("a range and a key are wanted");
+    };
+    let range = range(start, count)?;
+    Ok(paged(alloc, range, key_of(key)?)?)
+}
+
 /// `find`, by its words.
-fn find_from(alloc: Global, start: &str, kind: &str, key: &str) -> Result<String> {
+fn find_from(alloc: Global, words: &[&str]) -> Result<String> {
+    let [start, kind, key] = words else {
+        bail!("an address, a kind and a key are wanted");
+    };
     let (access, key) = (access_of(kind)?, key_of(key)?);
     Ok(find(alloc, address(start)?, access, key)?)
 }
 
 /// `move`, by its words.
-fn moves_of(alloc: Global, from: &str, to: &str) -> Result<String> {
+fn moves_of(alloc: Global, words: &[&str]) -> Result<String> {
+    let [from, to] = words else {
+        bail!("two addresses are wanted");
+    };
     Ok(moves(alloc, address(from)?, address(to)?)?)
 }
 
 /// `stamp`, by its words.
-fn stamp_of(alloc: Global, user: &str, start: &str, mark: &str) -> Result<String> {
+fn stamp_of(alloc: Global, words: &[&str]) -> Result<String> {
+    let [user, start, mark] = words else {
+        bail!("a user, an address and a mark are wanted");
+    };
     let (user, mark) = (byte(user)?, byte(mark)?);
     Ok(stamp(alloc, user, address(start)?, mark)?)
 }

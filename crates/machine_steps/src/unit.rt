@@ -59,8 +59,8 @@ impl DiskUnit {
     fn begin(&mut self, alloc: Global, operand: &str) -> Result<()> {
         let (cylinder, rest) = cut(operand);
         let (head, spelled) = cut(rest);
-        let volume = make_volume(alloc, &text_of(alloc, spelled, 0)?)?;
         let (cylinder, head) = (decimal(cylinder)? as usize, decimal(head)? as usize);
+        let volume = make_volume(alloc, &text_of(alloc, spelled, 0)?)?;
         self.unit = unit_over(alloc, volume, cylinder, head)?;
         Ok(())
     }

@@ -139,12 +139,9 @@ impl Units {
         match verb {
             "new" => *reader = Reader::new(alloc),
             "do" => return perform(alloc, reader, operand),
+            "purge" => return purge(alloc, reader, operand),
             "deck" => reader.deck(deck_of(alloc, operand)?)?,
             "back" => reader.put_back(),
-            "purge" => {
-                let gone = reader.purge(u64::from(decimal(operand)?));
-                return Ok(format!(in alloc; "{gone}")?);
-            }
             "sense" => {}
             _ => bail!("no step of a reader is {verb}"),
         }
@@ -158,10 +155,7 @@ impl Units {
         match verb {
             "new" => *punch = Punch::new(alloc),
             "do" => return perform(alloc, punch, operand),
-            "close" => {
-                let closed = punch.close(alloc, target_of(operand)?)?;
-                return Ok(format!(in alloc; "{closed}")?);
-            }
+            "close" => return close_punch(alloc, punch, operand),
             "files" => return told_files(alloc, punch.closed()),
             "entries" => {}
             _ => bail!("no step of a punch is {verb}"),
@@ -177,16 +171,31 @@ impl Units {
             "new" => *printer = Printer::new(alloc),
             "reset" => printer.reset(),
             "do" => return perform(alloc, printer, operand),
-            "close" => {
-                let closed = printer.close(alloc, target_of(operand)?)?;
-                return Ok(format!(in alloc; "{closed}")?);
-            }
-            "entries" => {}
+            "close" => return close_printer(alloc, printer, operand),
             "sense" => return Ok(format!(in alloc; "{:02X}", printer.sense())?),
+            "entries" => {}
             _ => bail!("no step of a printer is {verb}"),
         }
         told_entries(alloc, printer.entries())
     }
+}
+
+/// Takes a deck away by its label, and tells whether there was one.
+fn purge(alloc: Global, reader: &mut Reader, operand: &str) -> Result<String> {
+    let gone = reader.purge(u64::from(decimal(operand)?));
+    Ok(format!(in alloc; "{gone}")?)
+}
+
+/// Closes what was punched, and tells whether there was anything.
+fn close_punch(alloc: Global, punch: &mut Punch, operand: &str) -> Result<String> {
+    let closed = punch.close(alloc, target_of(operand)?)?;
+    Ok(format!(in alloc; "{closed}")?)
+}
+
+/// Closes what was printed, and tells whether there was anything.
+fn close_printer(alloc: Global, printer: &mut Printer, operand: &str) -> Result<String> {
+    let closed = printer.close(alloc, target_of(operand)?)?;
+    Ok(format!(in alloc; "{closed}")?)
 }
 
 /// Types a line of host characters, and tells whether it is kept.

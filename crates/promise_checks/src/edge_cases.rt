@@ -47,9 +47,8 @@ fn store(alloc: Global, machines: &mut SideBySide, item: &Item<'_>) -> Result<()
     Ok(())
 }
 
-/// The machines as a case finds them, running.
-fn setting(alloc: Global, case: &Case<'_>) -> Result<SideBySide> {
-    let mut machines = booted(alloc)?;
+/// The machines become as a case finds them, and run.
+fn set(alloc: Global, machines: &mut SideBySide, case: &Case<'_>) -> Result<()> {
     for line in SETTING {
         machines.line(alloc, user(), line.as_bytes())?;
     }
@@ -57,12 +56,12 @@ fn setting(alloc: Global, case: &Case<'_>) -> Result<SideBySide> {
         place: Place::Storage(0x200),
         digits: case.code,
     };
-    store(alloc, &mut machines, &code)?;
+    store(alloc, machines, &code)?;
     for word in case.found.split_whitespace() {
-        store(alloc, &mut machines, &item_of(word).context("an item")?)?;
+        store(alloc, machines, &item_of(word).context("an item")?)?;
     }
     machines.line(alloc, user(), b"BEGIN")?;
-    Ok(machines)
+    Ok(())
 }
 
 /// What a case is to leave.
@@ -85,9 +84,15 @@ fn carry_out(machines: &mut SideBySide, image: &Image) -> Result<(), SideError> 
 /// What differs first, with the case's name.
 fn try_line(alloc: Global, line: &str) -> Result<Option<String>> {
     let case = case_of(line).context("a line is no case")?;
-    let mut machines = setting(alloc, &case)?;
-    let image = wanted(alloc, &case, &machines)?;
-    match carry_out(&mut machines, &image) {
+    let mut machines = booted(alloc)?;
+    try_case(alloc, &mut machines, &case)
+}
+
+/// What differs first where a case is carried out on new machines, with the case's name.
+fn try_case(alloc: Global, machines: &mut SideBySide, case: &Case<'_>) -> Result<Option<String>> {
+    set(alloc, machines, case)?;
+    let image = wanted(alloc, case, machines)?;
+    match carry_out(machines, &image) {
         Ok(()) => Ok(None),
         Err(error) => Ok(Some(format!(in alloc; "{}: {error}", case.name)?)),
     }

@@ -89,18 +89,23 @@ fn two_users(alloc: Global) -> Result<SideBySide> {
         bail!("16 frames are too many");
     };
     let mut machines = SideBySide::boot(alloc, DIRECTORY, sizes)?;
+    make_ready(alloc, &mut machines)?;
+    Ok(machines)
+}
+
+/// Fills the storage of both, lets the neighbour's machine begin, and gives the user cards.
+fn make_ready(alloc: Global, machines: &mut SideBySide) -> Result<(), SideError> {
     for user in [neighbour(), guest()] {
         machines.line(alloc, user, b"LOGON")?;
-        type_all(alloc, &mut machines, user, &FILLING)?;
+        type_all(alloc, machines, user, &FILLING)?;
     }
     type_all(
         alloc,
-        &mut machines,
+        machines,
         neighbour(),
         &["STORE G7 00ABCDEF", "BEGIN 700"],
     )?;
-    machines.deck(alloc, guest(), &[[0xC1; 80], [0xC2; 80], [0xC3; 80]])?;
-    Ok(machines)
+    machines.deck(alloc, guest(), &[[0xC1; 80], [0xC2; 80], [0xC3; 80]])
 }
 
 /// Sets what an instruction finds; it stands at 300, after a load of the registers.
@@ -151,17 +156,27 @@ fn carry_out(
 }
 
 /// Carries out an operation code with each second byte.
-fn carry_out_all<R: Print>(
+fn carry_out_all<R: AllocGlobal + Print>(
     rt: &R,
-    alloc: Global,
     state: State,
     code: u8,
     tally: &mut Tally,
 ) -> Result<()> {
-    let mut machines = two_users(alloc)?;
+    let mut machines = two_users(rt.alloc())?;
+    carry_out_on(rt, &mut machines, state, code, tally)
+}
+
+/// Carries out an operation code with each second byte on these machines, which begin anew where they differ.
+fn carry_out_on<R: AllocGlobal + Print>(
+    rt: &R,
+    machines: &mut SideBySide,
+    state: State,
+    code: u8,
+    tally: &mut Tally,
+) -> Result<()> {
     for second in 0..=255u8 {
         let halfword = u16::from_be_bytes([code, second]);
-        match carry_out(alloc, &mut machines, state, halfword) {
+        match carry_out(rt.alloc(), machines, state, halfword) {
             Ok(units) => {
                 tally.agreed = tally.agreed.wrapping_add(1);
                 tally.units = tally.units.wrapping_add(units);
@@ -171,7 +186,7 @@ fn carry_out_all<R: Print>(
                     tally.told += 1;
                     println!(rt; "{state}: {halfword:04X}: not the same: {view}")?;
                 }
-                machines = two_users(alloc)?;
+                *machines = two_users(rt.alloc())?;
             }
             Err(error) => return Err(error.into()),
         }
@@ -189,7 +204,7 @@ pub fn carry_out_each<R: AllocGlobal + Print>(rt: &R) -> Result<()> {
             units: 0,
         };
         for code in 0..=255u8 {
-            carry_out_all(rt, rt.alloc(), state, code, &mut tally)?;
+            carry_out_all(rt, state, code, &mut tally)?;
         }
         let Tally { agreed, units, .. } = tally;
         println!(rt; "{state}: {agreed} of 65536 halfwords agree, over {units} units")?;

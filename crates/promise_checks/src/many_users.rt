@@ -102,16 +102,13 @@ fn begin(
     Ok(())
 }
 
-/// All users, running.
-fn all_users(alloc: Global, sequence: &mut Sequence) -> Result<SideBySide> {
+/// All users, who are off.
+fn all_users(alloc: Global) -> Result<SideBySide> {
     let Some(sizes) = Sizes::new(FRAMES, SLOTS) else {
         bail!("{FRAMES} frames or {SLOTS} slots are too many");
     };
-    let mut machines = SideBySide::boot(alloc, directory(alloc)?.as_bytes(), sizes)?;
-    for number in 0..64u8 {
-        begin(alloc, &mut machines, UserNo::new(number), sequence)?;
-    }
-    Ok(machines)
+    let directory = directory(alloc)?;
+    Ok(SideBySide::boot(alloc, directory.as_bytes(), sizes)?)
 }
 
 /// Compares all views of all users but for the lines that their consoles have printed, of which it looks at the number.
@@ -145,19 +142,32 @@ fn happen(
     compare_all(machines)
 }
 
-/// Plays it, and prints how many events there were, or fails at the first after which a view differs.
-pub fn play<R: AllocGlobal + Print>(rt: &R) -> Result<()> {
-    let alloc = rt.alloc();
+/// All users begin, all events come, and all views are compared.
+fn play_on(alloc: Global, machines: &mut SideBySide) -> Result<()> {
     let mut sequence = Sequence::new(370);
-    let mut machines = all_users(alloc, &mut sequence)?;
+    for number in 0..64u8 {
+        begin(alloc, machines, UserNo::new(number), &mut sequence)?;
+    }
     for event in 0..EVENTS {
         let user = next_user(&mut sequence);
         let what = next_happening(&mut sequence);
-        happen(alloc, &mut machines, user, what).context(format_args!("after event {event}"))?;
+        happen(alloc, machines, user, what).context(format_args!("after event {event}"))?;
     }
     for number in 0..64u8 {
         machines.compare_console(UserNo::new(number), 0)?;
     }
+    Ok(())
+}
+
+/// Plays it on new machines.
+fn play_all(alloc: Global) -> Result<()> {
+    let mut machines = all_users(alloc)?;
+    play_on(alloc, &mut machines)
+}
+
+/// Plays it, and prints how many events there were, or fails at the first after which a view differs.
+pub fn play<R: AllocGlobal + Print>(rt: &R) -> Result<()> {
+    play_all(rt.alloc())?;
     println!(rt; "{EVENTS} events: all views of {USERS} users agree after each")?;
     Ok(())
 }

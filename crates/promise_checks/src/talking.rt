@@ -88,14 +88,19 @@ impl Talkers {
             let what = next_happening(alloc, &mut self.sequence, user, files)?;
             self.happen(alloc, user, what)?;
         }
-        self.machines.compare_registers(user)?;
-        self.machines.compare_console(user, printed)?;
-        self.machines.compare_storage(user)?;
-        self.machines.compare_devices(user)?;
+        self.compare_after(user, printed)?;
         if let Some(delivered) = self.machines.delivered() {
             self.machines.compare(delivered.to)?;
         }
         Ok(())
+    }
+
+    /// Compares the views of a user; of the lines that his console has printed, these and all later.
+    fn compare_after(&self, user: UserNo, printed: usize) -> Result<(), SideError> {
+        self.machines.compare_registers(user)?;
+        self.machines.compare_console(user, printed)?;
+        self.machines.compare_storage(user)?;
+        self.machines.compare_devices(user)
     }
 
     /// Whether a user goes on with making his machine ready: he begins anew where he is off.
@@ -180,20 +185,24 @@ impl Talkers {
     }
 }
 
+/// Plays it on so many frames and slots: what came about, and how many events were out of frames.
+fn played(alloc: Global, frames: u32, slots: u32) -> Result<(Counts, u64)> {
+    let mut talkers = Talkers::boot(alloc, frames, slots)?;
+    talkers.play(alloc)?;
+    Ok((talkers.counts, talkers.machines.out_of_frames()))
+}
+
 /// Plays it, and prints how much there was, or fails at the first event after which a view differs.
 pub fn play<R: AllocGlobal + Print>(rt: &R) -> Result<()> {
-    let alloc = rt.alloc();
     for (frames, slots) in [(64, 256), (16, 24)] {
-        let mut talkers = Talkers::boot(alloc, frames, slots)?;
-        talkers
-            .play(alloc)
-            .context(format_args!("on {frames} frames and {slots} slots"))?;
+        let (counts, out) = played(rt.alloc(), frames, slots).context(format_args!(
+            "on {frames} frames and {slots} slots"
+        ))?;
         let Counts {
             messages,
             decks,
             served,
-        } = talkers.counts;
-        let out = talkers.machines.out_of_frames();
+        } = counts;
         println!(rt;
             "{frames} frames: {messages} messages, {decks} decks, {served} serves, {out} out of frames"
         )?;
