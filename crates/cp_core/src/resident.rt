@@ -24,9 +24,9 @@ use std::alloc::{AllocError, Global};
 use std::mem::replace;
 
 /// A program runs as on a machine of its own where the pages that it needs stand in frames: those of its words, of their
-/// lists and of their areas, and each page of its user's storage where it is not known that it leaves its words as they
-/// are. Else the first page that does not is told, and nothing has happened. A program of which it is known is copied,
-/// with the real addresses of those pages, and the copy runs; of another each word is read when it is reached.
+/// lists and of their areas, and each page of its user's storage where an input could change one of its words. Else the
+/// first page that does not is told, and nothing has happened. A program that no input could change is copied, with the
+/// real addresses of those pages, and the copy runs; of another each word is read when it is reached.
 #[derive(Drop)]
 pub(crate) struct Resident {
     disks: UserDisks,

@@ -5,8 +5,8 @@
 //! them are. A program whose inputs could change one of its own words may come to words that nobody could see before.
 //! Its one theorem ([`fixed_programs_need_their_pages`]): where no area that an input may fill has a byte of a word or
 //! a list, whatever the device answers, the program walks by the words with which it began, and needs no page but
-//! those. So [`needed`] tells a page of the program, or, of a program of which that is not known, of the whole storage;
-//! and where it tells none, it says which of both it is, and [`run_held`] never stops for want of a page.
+//! those. So [`needed`] tells a page of the program, or, where there is such an area, of the whole storage; and where it
+//! tells none, it says which of both it is, and [`run_held`] never stops for want of a page.
 //!
 //! ```
 //! match needed(alloc, &storage, start)? {
