@@ -1,5 +1,5 @@
 //! A machine with its devices, and nobody else.
-ghost use Rattle.std.specs.Prelude.{◌≡◌, ◌≤◌, [], List, Option, true, IfOk, OnErr, OnOk, length, slice_get};
+ghost use Rattle.std.specs.Prelude.{Err, IsOk, false, map, ◌++◌, ◌≡◌, ◌≤◌, [], List, Option, true, IfOk, OnErr, OnOk, length, slice_get};
 ghost use Rattle.std.specs.Option.{option_map};
 ghost use Rattle.s370_store.specs.Plain.{plain_bytes, plain_keys};
 ghost use Rattle.s370_channel.specs.Reading.{as_reached};
@@ -9,7 +9,8 @@ ghost use Rattle.cp_panel.specs.Ready.{is_ready};
 ghost use Rattle.cp_panel.specs.Run.{run};
 ghost use Rattle.cp_panel.specs.Tick.{ticked};
 ghost use Rattle.s370_subchannels.specs.declared.subchannel.Subchannel.{Subchannel};
-ghost use Rattle.cp_devices.specs.Devices.{AreAttached, devices_new, no_places};
+ghost use Rattle.cp_devices.specs.Devices.{AreAttached, can_attach, devices_new, no_places, places_of};
+ghost use Rattle.cp_devices.specs.declared.attaching.AttachError.TheVariants as errors;
 ghost use Rattle.cp_devices.specs.Lines.{IsIpl, IsLine, IsWholeLine};
 ghost use Rattle.cp_devices.specs.Serve.{IsServedAt};
 ghost use Rattle.bare_installation.specs.Bare.{IsTyped, alone, next_file, noted, printed_file, punched, received, with_deck, world_of};
@@ -75,6 +76,10 @@ impl Bare {
         ensures devices { IfOk result (λ bare. bare.equipped.devices ≡ devices) }
         ensures disks { IfOk result (λ bare. bare.equipped.disks ≡ disks.items) }
         ensures files { IfOk result (λ bare. bare.files ≡ []) }
+        ensures apart { IsOk result
+            → can_attach (places_of devices.places ++ map (λ disk. disk.address) disks.items) ≡ true }
+        ensures address { result ≡ Err errors.Address
+            → can_attach (places_of devices.places ++ map (λ disk. disk.address) disks.items) ≡ false }
     {
         let subchannels = devices.subchannels(alloc, &disks)?;
         Ok(Bare::with_subchannels(alloc, storage, subchannels, devices, disks))

@@ -1,9 +1,10 @@
 -- The parts of a system at boot.
-use Rattle.std.proofs.Common.{◌≡◌, ℕ, ◌*◌, ◌<◌, ◌≤◌, List, [], ◌∷◌, ◌++◌, length, map, get_or, zero, suc, refl, sym, ◌∙◌, ap, arith, replicate, subst, Bool, false, Option, None}
-use Rattle.std.specs.Prelude.{reverse, slice_get}
-use Rattle.std.specs.List.{range_with_len}
+use Rattle.std.proofs.Common.{true, All, Err, Result, ◌≡◌, ℕ, ◌*◌, ◌<◌, ◌≤◌, List, [], ◌∷◌, ◌++◌, length, map, get_or, zero, suc, refl, sym, ◌∙◌, ap, arith, replicate, subst, Bool, false, Option, None}
+use Rattle.std.specs.Prelude.{nat_le, nat_lt, reverse, slice_get}
+use Rattle.std.specs.List.{list_all, range_with_len}
 use Rattle.std.proofs.lemmas.List.{length-replicate}
-use Rattle.std.proofs.lemmas.List.Elements.{All-nil}
+use Rattle.std.proofs.lemmas.Bool.Decides.{nat_tests}
+use Rattle.std.proofs.lemmas.List.Elements.{All-head, All-nil, All-tail}
 use Rattle.ckd_volume.specs.Volume.{VolumeFormat}
 use Rattle.cp_channels.specs.Disks.{DiskAt}
 use Rattle.cp_directory.specs.Users.{DirectoryUser}
@@ -11,18 +12,57 @@ use Rattle.cp_frames.specs.declared.numbers.UserPage.{UserPage}
 use Rattle.cp_frames.specs.Layout.{FrameSupply}
 use Rattle.cp_dat.specs.Supplied.{IsBetweenUnits}
 use Rattle.cp_panel.specs.Machine.{Machine, machine_of, unused}
-use Rattle.cp_devices.specs.Devices.{DevicesValue, devices_new}
+use Rattle.cp_devices.specs.Devices.{DevicesValue, are_apart, can_attach, devices_new}
+use Rattle.cp_directory.specs.Grammar.{AreDifferent, HasLawfulDevices}
 use Rattle.cp_devices.specs.Equipped.{Equipped}
 use Rattle.cp_core.specs.UserMachines.{Fits, IsUnused, UserParts, user_with}
-use Rattle.cp_core.specs.Boot.{AreNewUsers, IsNewUser, free_supply, places_in}
+use Rattle.cp_devices.specs.declared.attaching.AttachError.{AttachError}
+use Rattle.cp_devices.specs.declared.attaching.AttachError.TheVariants as attaching
+use Rattle.cp_core.specs.declared.events.BootError.TheVariants as errors
+use Rattle.cp_core.specs.Boot.{AreNewUsers, IsNewUser, boot_error, free_supply, places_in}
 use Rattle.cp_core.specs.System.{SystemView, deliveries_of, stands_among, users_of}
 use Rattle.cp_volumes.specs.Shared.{AllLeaveBe, IsUsers, SharedMinidisk, Stand, disks_on, stands_of}
 use Rattle.cp_seating.specs.Seating.{AreDisks, AreLawful, IsLawful, minidisks_at, seats_of, user_is_past, user_lacks}
 use Rattle.cp_seating.proofs.Seated.{are_disks, is_users, users_apart}
-use Rattle.cp_directory.specs.Users.{AreApart}
+use Rattle.cp_directory.specs.Users.{AreApart, addresses_of}
+use Rattle.cp_directory.specs.declared.minidisk.Minidisk.{Minidisk}
 use Rattle.std.specs.List.{find, position}
 use Rattle.cp_core.specs.Whole.{AreNew, AreSeated, IsNew, IsWhole, no_user}
 use Rattle.cp_core.specs.declared.delivery.Delivery.{Delivery}
+
+-- the devices of a lawful user can be attached
+low_all : (xs : List ℕ) → All (λ address. address ≤ 0x5FF) xs → list_all (λ (address : ℕ). nat_lt address 0x600) xs ≡ true
+low_all [] h = refl
+low_all (x ∷ xs) h =
+    let one : nat_lt x 0x600 ≡ true = low_true x (All-head (λ (a : ℕ). a ≤ 0x5FF) x xs h) in
+    let rest : list_all (λ (address : ℕ). nat_lt address 0x600) xs ≡ true = low_all xs (All-tail (λ (a : ℕ). a ≤ 0x5FF) x xs h) in
+    rw (one, rest) refl
+  where
+    low_true : (n : ℕ) → n ≤ 0x5FF → nat_lt n 0x600 ≡ true
+    low_true n h = grind (arith, nat_tests)
+
+different_apart : (xs : List ℕ) → AreDifferent xs → are_apart xs ≡ true
+different_apart [] h = refl
+different_apart (x ∷ xs) h = rw (h.0, different_apart xs h.1) refl
+
+pub lawful_attach : (user : DirectoryUser) → HasLawfulDevices user → can_attach (addresses_of user) ≡ true
+lawful_attach user h =
+    let few : nat_le (length (addresses_of user)) 32 ≡ true = few_true (length (addresses_of user)) h.few in
+    rw (few, low_all (addresses_of user) h.low, different_apart (addresses_of user) h.different) refl
+  where
+    few_true : (n : ℕ) → n ≤ 32 → nat_le n 32 ≡ true
+    few_true n h = grind (arith, nat_tests)
+
+pub seat_addresses : (volumes : List VolumeFormat) (ms : List Minidisk) → map (λ (d : SharedMinidisk). d.address) (seats_of volumes ms) ≡ map (λ (m : Minidisk). m.address) ms
+seat_addresses volumes [] = refl
+seat_addresses volumes (m ∷ ms) = ap (λ (xs : List ℕ). m.address ∷ xs) (seat_addresses volumes ms)
+
+pub err_same : {A E : Type 0} (x y : E) → (let told : Result A E = Err x in told ≡ Err y) → x ≡ y
+err_same x y e = cc
+
+pub device_told : (e : AttachError) → boot_error e ≡ errors.DuplicateDevice → e ≡ attaching.Address
+device_told attaching.Memory h = cc
+device_told attaching.Address h = refl
 
 -- one seat more
 pub new_more : (volumes : List VolumeFormat) (seats : List UserParts) (users : List DirectoryUser) (seat : UserParts) (user : DirectoryUser) → AreNew volumes seats users → IsNew volumes seat user → AreNew volumes (seats ++ seat ∷ []) (users ++ user ∷ [])

@@ -37,6 +37,7 @@ given_back old new given = record {
   slots = ap (λ (s : FrameSupply). s.slots) given.supply;
   gone = given.gone;
   gone_slots = given.gone_slots;
+  order = ap (λ (s : FrameSupply). s.order) given.supply;
   page_ins = ap (λ (s : FrameSupply). s.page_ins) given.supply;
 }
 
@@ -93,4 +94,4 @@ line_short typed e user page old between new rest paged need is refused =
 -- pages that were given back have left, also when the pins are taken away
 pub given_for : (user : ℕ) (old between new : FrameSupply) → IsGivenBack user old between → new ≡ unpinned between → IsGivenBack user old new
 given_for user old between new given is =
-    subst (λ (s : FrameSupply). IsGivenBack user old s) (sym is) (record { owners = given.owners; slots = given.slots; gone = given.gone; gone_slots = given.gone_slots; page_ins = given.page_ins })
+    subst (λ (s : FrameSupply). IsGivenBack user old s) (sym is) (record { owners = given.owners; slots = given.slots; gone = given.gone; gone_slots = given.gone_slots; order = given.order; page_ins = given.page_ins })

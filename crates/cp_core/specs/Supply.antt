@@ -36,12 +36,13 @@ pub record IsShort (supply : FrameSupply) (user : ℕ) (needs : ℕ → Type 0) 
 
 -- ---- pages that leave
 
--- the user's pages have left their frames and slots, and no other page has
+-- the user's pages have left their frames and slots, and no other page has; the frames keep their order
 pub record IsGivenBack (user : ℕ) (old new : FrameSupply) : Type 0 where
   pub owners : new.owners ≡ cleared_of user old.owners
   pub slots : new.slots ≡ cleared_of user old.slots
   pub gone : (page : ℕ) → is_there new.owners user page ≡ false
   pub gone_slots : (page : ℕ) → is_there new.slots user page ≡ false
+  pub order : new.order ≡ old.order
   pub page_ins : new.page_ins ≡ old.page_ins
 
 -- whether an event switches a machine on or off, which gives back all the user's pages

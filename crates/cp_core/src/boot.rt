@@ -4,6 +4,8 @@ ghost use Rattle.std.specs.List.{find, position};
 ghost use Rattle.cp_core.specs.Boot.{IsBooted, boot_error, places_in};
 ghost use Rattle.cp_seating.specs.Seating.{AreLawful, IsFirstPast, first_lacking, has_twins, minidisks_at, user_is_past, user_lacks};
 ghost use Rattle.cp_core.specs.Whole.{AreNew};
+ghost use Rattle.cp_devices.specs.declared.attaching.AttachError.TheVariants as attaching;
+ghost use Rattle.cp_directory.specs.Grammar.{HasLawfulDevices};
 
 use crate::events::BootError;
 use crate::system::System;
@@ -74,7 +76,8 @@ impl Sizes {
 
 impl System {
     /// The system that a directory states, on these volumes, and on so many frames and slots: every user is off, and
-    /// storage is zero; each minidisk stands on the cylinders of its extent.
+    /// storage is zero; each minidisk stands on the cylinders of its extent. `DuplicateDevice` is told of no directory
+    /// that was read, and `ExtentPastEnd` only where every volume is there.
     pub fn boot(
         alloc: Global,
         directory: Directory,
@@ -89,7 +92,8 @@ impl System {
         ensures no_volume { (volser : List ℕ) → result ≡ Err (BootError.NoVolume volser)
             → first_lacking volumes.items (find (user_lacks volumes.items) directory) ≡ Some volser }
         ensures past { (user address : ℕ) → result ≡ Err (BootError.ExtentPastEnd user address)
-            → IsFirstPast volumes.items directory user address }
+            → IsFirstPast volumes.items directory user address × (find (user_lacks volumes.items) directory ≡ None) }
+        ensures device { result ≡ Err BootError.DuplicateDevice → All HasLawfulDevices directory → ⊥ }
         ensures lacking { IsOk result → find (user_lacks volumes.items) directory ≡ None }
         ensures inside { IsOk result → position (user_is_past volumes.items) directory ≡ None }
     {
@@ -164,6 +168,7 @@ fn machines_of(
     requires inside { position (user_is_past volumes.now) users.now ≡ None }
     ensures new { IfOk result (λ machines. AreNew volumes.now machines.items users.now) }
     ensures lawful { IfOk result (λ machines. (k : ℕ) → AreLawful (minidisks_at users.now k)) }
+    ensures address { result ≡ Err attaching.Address → All HasLawfulDevices users.now → ⊥ }
 {
     let mut machines = Vec::new(alloc);
     for user in users {

@@ -1,7 +1,7 @@
 //! Where a user's page stands, and the loan of frames: the bytes of one.
 ghost use Rattle.std.specs.Prelude.{◌≡◌, ℕ, ◌*◌, ◌<◌, ◌↔◌, nat_lt, true, Some, None, IfNone, IfSome, IsSome, length};
 ghost use Rattle.cp_frames.specs.Layout.{IsZeroPage, number_of};
-ghost use Rattle.cp_core.specs.Loan.{frame_at, slot_at};
+ghost use Rattle.cp_core.specs.Loan.{frame_at, slot_at, written_frame};
 ghost use Rattle.cp_core.specs.System.{machine_at};
 
 use crate::system::System;
@@ -58,10 +58,11 @@ impl System {
         self.frames.slot_of(user, page)
     }
 
-    /// A frame's bytes, `None` past the frames. What is written there is from then on the content of the page that
-    /// stands in the frame. This takes no memory.
+    /// A frame's bytes, `None` past the frames: the content of the page that stands in the frame. What is written there
+    /// is its content from then on. This takes no memory.
     pub fn frame_mut(&mut self, frame: FrameNo) -> Option<&mut [u8; FRAME_SIZE]>
         ensures* writes_back { sem 𝓛 (LendsFrame self.entry frame.0 result) }
+        ensures content { IfSome result (λ lent. written_frame self.old frame.0 lent.now ≡ self.old) }
         ensures some { IsSome result ↔ (frame.0 < length self.old.supply.owners) }
     {
         self.frames.frame_mut(frame)

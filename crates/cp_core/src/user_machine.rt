@@ -1,9 +1,10 @@
 //! A user's machine with its devices, of which the storage stands in frames.
-ghost use Rattle.std.specs.Prelude.{◌≡◌, ◌<◌, ◌≤◌, ◌*◌, ◌++◌, ◌∷◌, [], ℕ, List, IfOk, OnErr, OnOk, length, map, replicate, slice_set};
+ghost use Rattle.std.specs.Prelude.{◌≡◌, ◌<◌, ◌≤◌, ◌*◌, ◌++◌, ◌∷◌, [], ℕ, List, Err, IfOk, OnErr, OnOk, false, length, map, replicate, slice_set};
 ghost use Rattle.s370_channel.specs.Reading.{as_reached};
 ghost use Rattle.cp_frames.specs.Layout.{bytes_of};
 ghost use Rattle.cp_dat.specs.Supplied.{IsBetweenUnits};
-ghost use Rattle.cp_devices.specs.Devices.{devices_new};
+ghost use Rattle.cp_devices.specs.Devices.{can_attach, devices_new, places_of};
+ghost use Rattle.cp_devices.specs.declared.attaching.AttachError.TheVariants as attaching;
 ghost use Rattle.cp_devices.specs.Equipped.{equipped};
 ghost use Rattle.cp_devices.specs.Life.{Leaves};
 ghost use Rattle.cp_core.specs.Parcels.{contents, note_of};
@@ -66,6 +67,8 @@ impl UserMachine {
         ensures devices { IfOk result (λ user. user.devices ≡ devices_new places) }
         ensures minidisks { IfOk result (λ user. user.minidisks ≡ minidisks.items) }
         ensures deliveries { IfOk result (λ user. user.deliveries ≡ []) }
+        ensures address { result ≡ Err attaching.Address
+            → can_attach (places_of places ++ map (λ disk. disk.address) minidisks.items) ≡ false }
     {
         let Ok(keys) = vec![in alloc; StorageKey::ZERO; pages as usize * 2] else {
             return Err(AttachError::Memory);

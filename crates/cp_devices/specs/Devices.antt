@@ -1,10 +1,10 @@
 -- The parts of the devices of one machine: console, card reader, card punch and line printer, each at its address or without
 -- one. The disks are those of its channels.
-use Rattle.std.specs.Prelude.{ℕ, ◌≡◌, ◌<◌, ◌==◌, ◌||◌, ◌++◌, ◌∷◌, [], Bool, false, if◌then◌else◌, is_some, List, length, Option, Some, None}
-use Rattle.std.specs.Option.{option_map}
-use Rattle.std.specs.List.{list_any, position}
+use Rattle.std.specs.Prelude.{ℕ, ◌≡◌, ◌<◌, ◌==◌, ◌||◌, ◌&&◌, ◌++◌, ◌∷◌, [], Bool, true, false, not, nat_le, nat_lt, if◌then◌else◌, is_some, List, length, map, Option, Some, None}
+use Rattle.std.specs.Option.{option_map, option_to_list}
+use Rattle.std.specs.List.{filter, list_all, list_any, position, range_with_len}
 use Rattle.s370_subchannels.specs.declared.subchannel.Subchannel.{Subchannel}
-use Rattle.s370_subchannels.specs.Subchannels.{found, new_device}
+use Rattle.s370_subchannels.specs.Subchannels.{new_device}
 use Rattle.unit_record.specs.declared.output.Target.{Target}
 use Rattle.unit_record.specs.declared.output.Target.TheVariants.{System}
 use Rattle.unit_record.specs.Console.{ConsoleState, console_new}
@@ -85,6 +85,25 @@ has_at d addresses device = is_some (part_at d device) || list_any (λ (address 
 abbrev pub attached : Bool → ℕ → List Subchannel → List Subchannel
 attached is_there device list = if is_there then list ++ new_device device ∷ [] else list
 
--- there is a subchannel for each of them, and no other, on channels 0 to 5
+-- the idle subchannels, without a start, of each of them below this address, by address
+abbrev pub subchannels_below : (ℕ → Bool) → ℕ → List Subchannel
+subchannels_below has address = filter (λ (s : Subchannel). has s.address) (map new_device (range_with_len 0 address))
+
+-- there is an idle subchannel, without a start, for each of them, and no other, on channels 0 to 5, in the order of their addresses
 abbrev pub AreAttached : DevicesValue → List DiskAt → List Subchannel → Type 0
-AreAttached d disks list = (device : ℕ) → device < 0x600 → is_some (found device list) ≡ has_device d disks device
+AreAttached d disks list = list ≡ subchannels_below (has_device d disks) 0x600
+
+-- ---- which devices can be attached
+
+-- where console, reader, punch and printer are
+abbrev pub places_of : Places → List ℕ
+places_of p = option_to_list p.console ++ (option_to_list p.reader ++ (option_to_list p.punch ++ option_to_list p.printer))
+
+-- each has an address of its own
+abbrev pub are_apart : List ℕ → Bool
+are_apart [] = true
+are_apart (one ∷ others) = not (list_any (λ (other : ℕ). other == one) others) && are_apart others
+
+-- at most 32, each at an address of its own, on channels 0 to 5
+abbrev pub can_attach : List ℕ → Bool
+can_attach addresses = (nat_le (length addresses) 32 && list_all (λ (address : ℕ). nat_lt address 0x600) addresses) && are_apart addresses

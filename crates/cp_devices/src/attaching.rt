@@ -1,8 +1,10 @@
 //! The subchannels of the devices of one machine.
 ghost use Rattle.std.specs.List.{list_any};
-ghost use Rattle.std.specs.Prelude.{◌≡◌, ◌==◌, IfOk, List, map};
+ghost use Rattle.std.specs.Prelude.{◌≡◌, ◌==◌, ◌≤◌, ◌++◌, Err, IfOk, IsOk, List, false, length, map, true};
 ghost use Rattle.cp_channels.specs.Disks.{DiskAt};
-ghost use Rattle.cp_devices.specs.Devices.{AreAttached, attached, has_at};
+ghost use Rattle.cp_devices.specs.Devices.{AreAttached, attached, can_attach, has_at, places_of};
+ghost use Rattle.cp_devices.specs.declared.attaching.AttachError.TheVariants as errors;
+ghost use Rattle.s370_subchannels.specs.Subchannels.{can_add};
 
 use crate::devices::Devices;
 use cp_channels::AttachedDisk;
@@ -24,14 +26,18 @@ pub enum AttachError {
 }
 
 impl Devices {
-    /// The subchannels of these devices and disks, all idle: one at each address. Each of them has to have an address
-    /// of its own, on one of channels 0 to 5.
+    /// The subchannels of these devices and disks, all idle: one at each address, in their order. `Address` tells, and
+    /// it alone, that one of them has no address of its own on one of channels 0 to 5, or that they are more than 32.
     pub fn subchannels(
         &self,
         alloc: Global,
         disks: &[AttachedDisk],
     ) -> Result<Subchannels, AttachError>
-        ensures { IfOk result (AreAttached self.now disks.now) }
+        ensures ok { IfOk result (AreAttached self.now disks.now) }
+        ensures apart { let addresses = places_of self.now.places ++ map (λ disk. disk.address) disks.now in
+            IsOk result → can_attach addresses ≡ true }
+        ensures address { let addresses = places_of self.now.places ++ map (λ disk. disk.address) disks.now in
+            result ≡ Err errors.Address → can_attach addresses ≡ false }
     {
         match addresses_of(alloc, disks) {
             Ok(addresses) => self.subchannels_at(alloc, &addresses),
@@ -45,8 +51,11 @@ impl Devices {
         alloc: Global,
         addresses: &[DevAddr],
     ) -> Result<Subchannels, AttachError>
-        ensures { (disks : List DiskAt) → addresses.now ≡ map (λ disk. disk.address) disks
+        ensures ok { (disks : List DiskAt) → addresses.now ≡ map (λ disk. disk.address) disks
             → IfOk result (AreAttached self.now disks) }
+        ensures apart { IsOk result → can_attach (places_of self.now.places ++ addresses.now) ≡ true }
+        ensures address { result ≡ Err errors.Address
+            → can_attach (places_of self.now.places ++ addresses.now) ≡ false }
     {
         let mut subchannels = Subchannels::new(alloc);
         for address in 0..PAST_DEVICES {
@@ -94,7 +103,10 @@ fn attach_if(
     device: DevAddr,
     is_there: bool,
 ) -> Result<(), AttachError>
-    ensures { IfOk result (λ _. subchannels.new ≡ attached is_there device subchannels.old) }
+    ensures ok { IfOk result (λ _. subchannels.new ≡ attached is_there device subchannels.old) }
+    ensures address { result ≡ Err errors.Address → can_add device subchannels.old ≡ false }
+    ensures there { result ≡ Err errors.Address → is_there ≡ true }
+    ensures few { length subchannels.old ≤ 32 → length subchannels.new ≤ 32 }
 {
     if !is_there {
         return Ok(());

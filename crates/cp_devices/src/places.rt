@@ -1,6 +1,7 @@
 //! Where the devices of a machine are.
-ghost use Rattle.std.specs.Prelude.{◌≡◌, ◌≤◌};
-ghost use Rattle.cp_devices.specs.Devices.{is_there};
+ghost use Rattle.std.specs.Prelude.{◌≡◌, ◌≤◌, length};
+ghost use Rattle.std.specs.Option.{option_to_list};
+ghost use Rattle.cp_devices.specs.Devices.{is_there, places_of};
 
 use s370_num::DevAddr;
 
@@ -24,7 +25,8 @@ impl Places {
 
     /// How many of them a machine has.
     pub fn count(&self) -> usize
-        ensures { result ≤ 4 }
+        ensures count { result ≡ length (places_of self.now) }
+        ensures most { result ≤ 4 }
     {
         let Places {
             console,
@@ -32,18 +34,19 @@ impl Places {
             punch,
             printer,
         } = *self;
-        one_if(console.is_some())
-            + one_if(reader.is_some())
-            + one_if(punch.is_some())
-            + one_if(printer.is_some())
+        one_if(console) + one_if(reader) + one_if(punch) + one_if(printer)
     }
 }
 
-/// One where this holds, else none.
-fn one_if(holds: bool) -> usize
-    ensures { result ≤ 1 }
+/// One where a device is there, else none.
+fn one_if(place: Option<DevAddr>) -> usize
+    ensures count { result ≡ length (option_to_list place) }
+    ensures most { result ≤ 1 }
 {
-    if holds { 1 } else { 0 }
+    match place {
+        Some(_) => 1,
+        None => 0,
+    }
 }
 
 /// What has an address.

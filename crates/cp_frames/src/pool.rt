@@ -2,7 +2,7 @@
 ghost use Rattle.std.specs.Prelude.{reverse, ◌≡◌, ℕ, ◌+◌, ◌-◌, ◌*◌, ◌/◌, ◌%◌, ◌<◌, ◌≤◌, ◌↔◌, ◌++◌, Option, Some, None, true, false, map, length, slice_index_or, slice_set, slice_get, slice_range, IsSome, is_some, IfOk, IfSome, IfNone, All, replicate};
 ghost use Rattle.std.specs.List.{range_with_len};
 ghost use Rattle.s370_store.specs.Access.{put, IsGranted};
-ghost use Rattle.cp_frames.specs.Layout.{frame_of, number_of, is_there, IsZeroPage, cleared_of};
+ghost use Rattle.cp_frames.specs.Layout.{frame_of, number_of, is_there, IsZeroPage, cleared_of, written_frame};
 ghost use Rattle.cp_frames.specs.Tables.{segment_entry, page_entry, walk};
 
 use crate::frame::{blank_frames, copy_in, copy_out_at, copy_over};
@@ -367,9 +367,10 @@ impl Frames {
     }
 
     /// A frame's bytes; None past the frames. What is written there is from then on the content of the page in the
-    /// frame.
+    /// frame; what is lent is that content.
     pub fn frame_mut(&mut self, frame: FrameNo) -> Option<&mut [u8; FRAME_SIZE]>
         ensures* writes_back { sem 𝓛 (LendsFrame self.entry frame.0 result) }
+        ensures content { IfSome result (λ lent. written_frame self.old frame.0 lent.now ≡ self.old) }
         ensures some { IsSome result ↔ (frame.0 < length self.old.supply.owners) }
     {
         self.frames.get_mut(frame.0 as usize)

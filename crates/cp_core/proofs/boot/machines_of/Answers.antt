@@ -1,9 +1,13 @@
-use Rattle.std.proofs.Common.{◌≡◌, ◌∙◌, ◌*◌, ◌+◌, ◌++◌, [], ◌∷◌, List, ℕ, ap, sym, arith, take, replicate, subst, false}
+use Rattle.std.proofs.Common.{Err, map, refl, ◌≡◌, ◌∙◌, ◌*◌, ◌+◌, ◌++◌, [], ◌∷◌, List, ℕ, ap, sym, arith, take, replicate, subst, false}
 use Rattle.std.proofs.lemmas.List.{take_more}
-use Rattle.cp_directory.specs.Users.{DirectoryUser}
+use Rattle.std.proofs.lemmas.Bool.{true≢false}
+use Rattle.std.proofs.lemmas.Result.{err_from_is_err_and}
+use Rattle.cp_devices.specs.declared.attaching.AttachError.TheVariants as attaching
+use Rattle.cp_directory.specs.Grammar.{HasLawfulDevices}
+use Rattle.cp_directory.specs.Users.{DirectoryUser, addresses_of}
 use Rattle.cp_directory.specs.declared.minidisk.Minidisk.{Minidisk}
 use Rattle.cp_channels.specs.Disks.{DiskAt}
-use Rattle.cp_devices.specs.Devices.{devices_new}
+use Rattle.cp_devices.specs.Devices.{can_attach, devices_new, places_of}
 use Rattle.cp_devices.specs.declared.places.Places.{Places}
 use Rattle.cp_core.specs.Boot.{places_in}
 use Rattle.cp_core.specs.UserMachines.{IsUnused}
@@ -13,7 +17,7 @@ use Rattle.cp_volumes.specs.Shared.{SharedMinidisk, disks_on}
 use Rattle.cp_core.specs.Whole.{IsNew}
 use Rattle.cp_seating.specs.Seating.{lacks_volume, user_is_past, user_lacks}
 use Rattle.std.specs.List.{list_any}
-use Rattle.cp_core.proofs.Boots.{lawful_on, new_more, off_new}
+use Rattle.cp_core.proofs.Boots.{err_same, lawful_attach, lawful_on, new_more, off_new, seat_addresses}
 use Rattle.cp_seating.proofs.Found.{unfound_at, unplaced_at}
 use Rattle.cp_core.proofs.boot.machines_of.Goals as goal
 
@@ -49,3 +53,16 @@ seats_of-requires c =
     let volumes = c.args.volumes.now in
     let user = c.user-item.result in
     rw c.minidisks.ensures (record { there = subst (λ (u : DirectoryUser). user_lacks volumes u ≡ false) (sym c.user-item.is) (unfound_at (user_lacks volumes) c.args.users.now c.loop-user.user-index user c.requires.there c.loop-user-test.true) })
+
+pub returns-in_err-machine-clause-address : goal.returns-in_err-machine-clause-address
+returns-in_err-machine-clause-address c = λ failed lawful. (
+    let users = c.args.users.now in
+    let volumes = c.args.volumes.now in
+    let user = c.user-item.result in
+    let p = err_from_is_err_and c.from_residual.result c.from_residual.ensures.1 in
+    let told = err_same c.in_err-machine.field-0.0 attaching.Address (sym (p.1 ∙ ap Err p.2) ∙ failed) in
+    let is : HasLawfulDevices user = subst HasLawfulDevices (sym c.user-item.is) (lawful c.loop-user.user-index user c.loop-user-test.true) in
+    let places : c.places_in-places.result ≡ places_in user.devices = c.places_in-places.ensures ∙ ap places_in c.devices.ensures in
+    let seats : c.in-Ok.minidisks.items ≡ seats_of volumes user.minidisks = c.in-Ok.ensures.seats ∙ ap (seats_of volumes) c.minidisks.ensures in
+    let same : places_of c.places_in-places.result ++ map (λ (d : SharedMinidisk). d.address) c.in-Ok.minidisks.items ≡ addresses_of user = rw (places, seats, seat_addresses volumes user.minidisks) refl in
+    true≢false (sym (lawful_attach user is) ∙ (ap can_attach (sym same) ∙ c.in_err-machine.ensures.address (ap Err told))))

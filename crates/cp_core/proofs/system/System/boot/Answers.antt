@@ -1,13 +1,15 @@
-use Rattle.std.proofs.Common.{◌≡◌, ◌∙◌, ◌*◌, ℕ, List, Option, None, ap, arith, map, replicate, subst, sym, false, refl}
+use Rattle.std.proofs.Common.{All, Err, ◌≡◌, ◌∙◌, ◌*◌, ℕ, List, Option, None, ap, arith, map, replicate, subst, sym, false, refl}
 use Rattle.std.specs.List.{find, position}
 use Rattle.ckd_volume.specs.Volume.{VolumeFormat}
+use Rattle.cp_directory.specs.Grammar.{HasLawfulDevices}
 use Rattle.cp_directory.specs.Users.{AreApart, DirectoryUser}
+use Rattle.cp_core.specs.declared.events.BootError.TheVariants as errors
 use Rattle.cp_seating.specs.Seating.{AreLawful, minidisks_at, user_is_past, user_lacks}
 use Rattle.cp_volumes.specs.Shared.{AreThere}
 use Rattle.cp_core.specs.Boot.{AreNewUsers, free_supply}
 use Rattle.cp_core.specs.System.{stands_among, users_of}
 use Rattle.cp_core.specs.Whole.{AreNew, AreSeated}
-use Rattle.cp_core.proofs.Boots.{blank, between_new, boot_seen, new_supply, new_users, none_delivered, seated_new, stands_new, whole_new}
+use Rattle.cp_core.proofs.Boots.{blank, between_new, boot_seen, device_told, err_same, new_supply, new_users, none_delivered, seated_new, stands_new, whole_new}
 use Rattle.cp_core.proofs.system.System.boot.Goals as goal
 
 pub invariant_of-result : goal.invariant_of-result
@@ -49,3 +51,8 @@ returns-in-Ok-new-2-clause-ok c =
           (supply ∙ (ap (λ (n : ℕ). free_supply n c.slots.result) c.frames-2.ensures.value ∙ ap (λ (n : ℕ). free_supply c.args.sizes.frames n) c.slots.ensures.value))
           (none_delivered volumes seats users new));
     })
+
+pub returns-in-Err-clause-device : goal.returns-in-Err-clause-device
+returns-in-Err-clause-device c = λ failed lawful. (
+    let told = device_told c.in-Err.error (sym c.boot_error.ensures ∙ err_same c.boot_error.result errors.DuplicateDevice failed) in
+    c.in-Err.ensures.address (ap Err told) (subst (All HasLawfulDevices) (sym c.users-3.ensures.users) lawful))

@@ -1,4 +1,5 @@
-use Rattle.std.proofs.Common.{◌≡◌, ◌∙◌, ap, refl, subst, sym}
+use Rattle.std.proofs.Common.{◌≡◌, ◌∙◌, ap, refl, subst, sym, Option, None, Some}
+use Rattle.std.specs.Prelude.{IfSome}
 use Rattle.cp_frames.specs.Layout.{Pool}
 use Rattle.cp_core.specs.System.{SystemView}
 use Rattle.cp_core.specs.Whole.{IsSystem}
@@ -18,6 +19,10 @@ invariant_of-self-lent c =
       fits c.frame_mut.follows.lender-at-none pool c.frame_mut.follows.holds-at-none c.self.invariant,
     )
 
+some_so : {X : Type 0} (o : Option X) (P Q : X → Type 0) → ((x : X) → P x → Q x) → IfSome o P → IfSome o Q
+some_so None P Q f h = tt
+some_so (Some x) P Q f h = f x h
+
 pub returns : goal.returns
 returns c =
     let seats = c.self.inside.users.items in
@@ -30,5 +35,9 @@ returns c =
         λ w. ap see (c.frame_mut.follows.holds w) ∙ (seen_written seats users c.self.inside.files.items volumes c.self.inside.is_spent pool c.args.frame.0 w ∙ ap (λ (s : SystemView). written_frame s c.args.frame.0 w) c.self.view_is),
         ap see c.frame_mut.follows.holds-at-none ∙ c.self.view_is,
       ),
-      record { writes_back = tt; some = rw (← c.self.view_is) c.frame_mut.ensures.some },
+      record {
+        writes_back = tt;
+        content = rw (← c.self.view_is) (some_so c.frame_mut.result _ _ (λ lent same. sym (seen_written seats users c.self.inside.files.items volumes c.self.inside.is_spent pool c.args.frame.0 lent.now) ∙ ap see same) c.frame_mut.ensures.content);
+        some = rw (← c.self.view_is) c.frame_mut.ensures.some;
+      },
     )

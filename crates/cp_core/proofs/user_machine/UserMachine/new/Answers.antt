@@ -13,6 +13,6 @@ returns-in-Ok-subchannels_at-clause-parts c = λ volumes.
     c.deref-2.ensures.value ∙ c.in-Ok-addresses_of.ensures ∙ ap (λ (ds : List SharedMinidisk). map (λ (d : SharedMinidisk). d.address) ds) c.deref.ensures.value ∙ disk_addresses volumes minidisks in
     record {
       subchannels = c.in-Ok-subchannels_at.subchannels;
-      attached = subst (λ (d : DevicesValue). AreAttached d (disks_on volumes minidisks) c.in-Ok-subchannels_at.subchannels) c.new-devices.ensures (c.in-Ok-subchannels_at.ensures (disks_on volumes minidisks) addresses);
+      attached = subst (λ (d : DevicesValue). AreAttached d (disks_on volumes minidisks) c.in-Ok-subchannels_at.subchannels) c.new-devices.ensures (c.in-Ok-subchannels_at.ensures.ok (disks_on volumes minidisks) addresses);
       off = c.new.ensures.machine;
     }
