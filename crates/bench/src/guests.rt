@@ -50,7 +50,7 @@ const TURN: u32 = 100;
 
 /// A machine that runs the loop.
 fn bare_guest(alloc: Global, guest: Loop) -> Result<Bare> {
-    let mut machine = Bare::without_devices(alloc, PlainStorage::new(alloc, 128)?);
+    let mut machine = Bare::without_devices(alloc, PlainStorage::new(alloc, 128)?)?;
     begin_on_bare(alloc, &mut machine, guest)?;
     Ok(machine)
 }

@@ -7,7 +7,7 @@ use anyhow::{Context, Result};
 use bare_installation::Bare;
 use cp_channels::AttachedDisk;
 use cp_core::System;
-use cp_devices::{Devices, Places};
+use cp_devices::Places;
 use cp_users::UserNo;
 use s370_num::DevAddr;
 use s370_store::PlainStorage;
@@ -61,7 +61,7 @@ fn bare_machine(alloc: Global, bytes: u16) -> Result<Bare> {
     let storage = PlainStorage::new(alloc, 128)?;
     let disk = AttachedDisk::new(DevAddr::new(DISK), disk_with(alloc, bytes)?);
     let disks = vec![in alloc; disk]?;
-    Ok(Bare::new(alloc, storage, Devices::new(alloc, places), disks)?)
+    Ok(Bare::new(alloc, storage, places, disks)?)
 }
 
 /// A system of one user, whose minidisk has a record of so many bytes.

@@ -10,3 +10,4 @@ pub mod Steps
 pub mod Histories
 pub mod Loans
 pub mod Wanted
+pub mod Owned

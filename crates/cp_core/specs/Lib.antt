@@ -20,3 +20,4 @@ pub mod Histories
 pub mod Loan
 pub mod Whole
 pub mod Sizes
+pub mod Owners

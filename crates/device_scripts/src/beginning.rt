@@ -17,7 +17,7 @@ pub fn begin<R: Print + AllocGlobal>(rt: &R) -> Result<()> {
     }
     storage.store(9, &[7]);
     storage.set_key(3, StorageKey::new(0x1F));
-    let mut machine = Bare::without_devices(rt.alloc(), storage);
+    let mut machine = Bare::without_devices(rt.alloc(), storage)?;
     tell_twice(rt, &mut machine)
 }
 

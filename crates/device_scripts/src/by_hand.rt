@@ -11,7 +11,7 @@ use crate::panel::{give, machine_of, run, said, serve};
 use anyhow::{Context, Result};
 use bare_installation::Bare;
 use cp_console::printing::reply;
-use cp_devices::{Devices, Places};
+use cp_devices::Places;
 use s370_num::DevAddr;
 use std::alloc::Global;
 
@@ -91,7 +91,7 @@ fn machine(alloc: Global) -> Result<Bare> {
         printer: Some(DevAddr::new(PRINTER)),
         ..Places::NONE
     };
-    machine_of(alloc, 4, Devices::new(alloc, places), Vec::new(alloc))
+    machine_of(alloc, 4, places, Vec::new(alloc))
 }
 
 /// Does something, and tells what comes of it.
@@ -122,7 +122,8 @@ fn show<R: Print + AllocGlobal>(rt: &R, machine: &mut Bare, line: &str) -> Resul
 
 /// What the printer has printed.
 fn tell_printed<R: Print + AllocGlobal>(rt: &R, machine: &Bare) -> Result<()> {
-    for entry in machine.devices().printer().entries() {
+    let devices = machine.devices();
+    for entry in devices.printer().entries() {
         let bytes = hex::encode_upper(rt.alloc(), entry.bytes())?;
         println!(rt; "printed {:02X} {bytes}", entry.code())?;
     }

@@ -7,7 +7,7 @@ use ckd_text::make_volume;
 use ckd_volume::Unit;
 use cp_channels::AttachedDisk;
 use cp_console::responses::Response;
-use cp_devices::{Devices, Places};
+use cp_devices::Places;
 use s370_num::DevAddr;
 use std::alloc::Global;
 use unit_record::Card;
@@ -87,14 +87,13 @@ fn machine_with_reader(alloc: Global) -> Result<Bare> {
         reader: Some(DevAddr::new(DEVICE)),
         ..Places::NONE
     };
-    machine_of(alloc, BLOCKS, Devices::new(alloc, places), Vec::new(alloc))
+    machine_of(alloc, BLOCKS, places, Vec::new(alloc))
 }
 
 /// A machine whose only device is a disk with these tracks.
 fn machine_with_disk(alloc: Global, loading: &Loading<'_>) -> Result<Bare> {
-    let devices = Devices::new(alloc, Places::NONE);
     let disk = AttachedDisk::new(DevAddr::new(DEVICE), unit_of(alloc, loading)?);
-    machine_of(alloc, BLOCKS, devices, vec![in alloc; disk]?)
+    machine_of(alloc, BLOCKS, Places::NONE, vec![in alloc; disk]?)
 }
 
 /// The disk with these tracks.

@@ -6,25 +6,25 @@ use anyhow::{Result, bail};
 use bare_installation::Bare;
 use cp_channels::AttachedDisk;
 use cp_console::responses::Response;
-use cp_devices::{Devices, Told};
+use cp_devices::{Places, Told};
 use cp_panel::MachineRan;
 use s370_num::DevAddr;
 use s370_store::PlainStorage;
 use std::alloc::{AllocError, Global};
 use unit_record::Card;
 
-/// A machine with a storage of so many blocks of 2048 bytes and these devices, whose user is logged on.
+/// A machine with a storage of so many blocks of 2048 bytes and devices at these places, whose user is logged on.
 pub fn machine_of(
     alloc: Global,
     blocks: u32,
-    devices: Devices,
+    places: Places,
     disks: Vec<AttachedDisk>,
 ) -> Result<Bare>
     requires least { 4 ≤ blocks }
     requires most { blocks ≤ 2048 }
 {
     let storage = PlainStorage::new(alloc, blocks)?;
-    let mut machine = Bare::new(alloc, storage, devices, disks)?;
+    let mut machine = Bare::new(alloc, storage, places, disks)?;
     command(alloc, &mut machine, "LOGON", Some(Response::LogonOk))?;
     Ok(machine)
 }

@@ -5,7 +5,7 @@ use anyhow::{Context, Result, bail};
 use bare_installation::Bare;
 use ckd_volume::{Arm, Sense, Unit, Volume};
 use cp_channels::AttachedDisk;
-use cp_devices::{Devices, Places};
+use cp_devices::Places;
 use s370_num::DevAddr;
 use std::alloc::Global;
 
@@ -43,8 +43,7 @@ const UNTOUCHED: &str = "EEEEEEEEEEEEEEEE";
 
 /// What differs first from the answers of a script.
 pub fn difference(alloc: Global, script: &str) -> Result<Option<String>> {
-    let devices = Devices::new(alloc, Places::NONE);
-    let mut machine = machine_of(alloc, BLOCKS, devices, disks(alloc)?)?;
+    let mut machine = machine_of(alloc, BLOCKS, Places::NONE, disks(alloc)?)?;
     first_difference(alloc, &mut machine, script)
 }
 
