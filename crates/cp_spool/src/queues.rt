@@ -316,7 +316,7 @@ impl Queues {
     pub fn next_deck(&self, user: UserNo) -> Result<SeenDeck<'_>, SpoolError>
         ensures ok { IfOk result (λ deck. slice_get (files_of self.now.users user).decks 0 ≡ Some deck) }
         ensures no_user { (result ≡ Err SpoolError.NoSuchUser) ↔ (length self.now.users ≤ user) }
-        ensures no_file { result ≡ Err SpoolError.NoSuchFile → (files_of self.now.users user).decks ≡ [] }
+        ensures no_file { result ≡ Err SpoolError.NoSuchFile → slice_get (files_of self.now.users user).decks 0 ≡ None }
         ensures memory { result ≢ Err SpoolError.Memory }
     {
         if user.index() >= self.users.len() {
