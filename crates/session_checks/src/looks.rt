@@ -1,7 +1,5 @@
 //! What no script shows of a system.
-use crate::events::{
-    Act, FEWEST_FRAMES, a, answer, b, booted, done, see, type_lines, units_of,
-};
+use crate::events::{Act, FEWEST_FRAMES, a, answer, b, booted, done, see, type_lines, units_of};
 use anyhow::{Result, bail};
 use cp_console::console_line::ConsoleLine;
 use cp_console::responses::Response;
@@ -35,7 +33,10 @@ fn events_of_nobody(system: &mut System) -> Result<()> {
 
 fn machine_of_nobody(system: &System) -> Result<()> {
     let nobody = nobody();
-    see(system.registers(nobody).is_none(), "nobody has no registers")?;
+    see(
+        system.registers(nobody).is_none(),
+        "nobody has no registers",
+    )?;
     see(system.psw(nobody).is_none(), "nobody has no PSW")?;
     see(system.storage(nobody, 0).is_none(), "nobody has no storage")?;
     let output = system.console_output(nobody, 0);
@@ -131,7 +132,10 @@ fn a_lent_frame_is_written(system: &mut System) -> Result<()> {
     see(printed == Some(6), "the stores and the line are kept")?;
     let line = system.console_output(a(), 5);
     let wanted = Response::Written(ConsoleLine::of(b"JELLO"));
-    see(line == Some(wanted), "what is written is what the frame has")
+    see(
+        line == Some(wanted),
+        "what is written is what the frame has",
+    )
 }
 
 /// A's machine runs a loop across a page end, L 1,4094 and back to it; the new PSW for external interruptions and the
