@@ -25,6 +25,9 @@ import signal
 import subprocess
 import tempfile
 
+# a run takes some milliseconds
+SECONDS = 120
+
 
 def text_of(spelled):
     """The bytes of a text."""
@@ -132,7 +135,7 @@ def change(room, mark, text):
 
 def ended(programs, words, room, **more):
     """Status, output and errors of a run."""
-    done = subprocess.run([*programs[words[0]], *words[1:]], cwd=room, capture_output=True, timeout=600, **more)
+    done = subprocess.run([*programs[words[0]], *words[1:]], cwd=room, stdin=subprocess.DEVNULL, capture_output=True, timeout=SECONDS, **more)
     return done.returncode, done.stdout, done.stderr.decode("latin-1")
 
 
@@ -212,7 +215,7 @@ def otherwise_written(run, programs, room, wanted):
 
         with open(path, "wb") as file:
             done = subprocess.run([*programs[run.words[0]], *run.words[1:]], cwd=room, stdout=file, stderr=subprocess.PIPE,
-                                  timeout=600, preexec_fn=limit)
+                                  timeout=SECONDS, preexec_fn=limit)
         if (done.returncode, done.stderr) != (3, b"fault: file Device 1\n") or read(path) != wanted[:size]:
             return f"a write that fails at byte {size}: status {done.returncode}, {done.stderr!r}, {read(path)!r}"
     return None
