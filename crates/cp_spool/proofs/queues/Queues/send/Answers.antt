@@ -4,7 +4,7 @@ use Rattle.cp_spool.specs.declared.queue.Waiting.{Waiting}
 use Rattle.cp_spool.specs.Keys.{IsSound, QueueKeys, queue_of, user_files}
 use Rattle.cp_spool.specs.Queues.{QueuesValue, deck_of, files_of, with_deck, with_files}
 use Rattle.cp_spool.proofs.Moves.{inside_of, none_inside, punched_seen, sound_delivered, users_delivered}
-use Rattle.cp_spool.proofs.queues.Queues.deliver.Goals as goal
+use Rattle.cp_spool.proofs.queues.Queues.send.Goals as goal
 
 pub unreachable-requires : goal.unreachable-requires
 unreachable-requires c =
