@@ -1,5 +1,5 @@
 //! A machine with its devices, and nobody else.
-ghost use Rattle.std.specs.Prelude.{◌≡◌, ◌<◌, ◌≤◌, [], List, Option, true, IfOk, OnErr, OnOk, length, slice_get};
+ghost use Rattle.std.specs.Prelude.{◌≡◌, ◌<◌, ◌≤◌, ◌^◌, [], List, Option, true, IfOk, OnErr, OnOk, length, slice_get};
 ghost use Rattle.std.specs.Option.{option_map};
 ghost use Rattle.s370_store.specs.Plain.{plain_bytes, plain_keys};
 ghost use Rattle.s370_channel.specs.Reading.{as_reached};
@@ -347,9 +347,10 @@ impl Bare {
         }
     }
 
-    /// The number of the next file.
+    /// The number of the next file. A list ends before numbers do, so none is used again.
     fn next_file(&self) -> u64
-        ensures { result ≡ next_file self.now.files }
+        ensures value { result ≡ next_file self.now.files }
+        ensures fits { result ≤ 2 ^ 63 }
     {
         self.files.len() as u64 + 1
     }

@@ -1,5 +1,5 @@
 //! The system: its users, their machines with their devices, and the frames that they share.
-ghost use Rattle.std.specs.Prelude.{◌≡◌, ◌<◌, ◌≤◌, ◌↔◌, ℕ, [], ◌∷◌, ◌++◌, Err, Some, true, false, IfSome, IsOk, IfOk, OnErr, OnOk, length, option_copied, slice_get, slice_set};
+ghost use Rattle.std.specs.Prelude.{◌≡◌, ◌<◌, ◌≤◌, ◌↔◌, ℕ, [], ◌∷◌, ◌++◌, ◌^◌, Err, Some, true, false, IfSome, IsOk, IfOk, OnErr, OnOk, length, option_copied, slice_get, slice_set};
 ghost use Rattle.s370_channel.specs.Reading.{as_reached};
 ghost use Rattle.cp_dat.specs.Supplied.{IsBetweenUnits};
 ghost use Rattle.cp_devices.specs.Life.{Leaves};
@@ -133,9 +133,10 @@ impl System {
         self.volumes.volume(index)
     }
 
-    /// The number of the next file.
+    /// The number of the next file. A list ends before numbers do, so none is used again.
     pub(crate) fn next_file(&self) -> u64
         ensures value { result ≡ next_file self.now.files }
+        ensures fits { result ≤ 2 ^ 63 }
         ensures between { IsBetweenUnits self.now.supply }
     {
         self.files.len() as u64 + 1

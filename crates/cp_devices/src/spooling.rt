@@ -41,7 +41,9 @@ impl Devices {
         ensures err { OnErr result (devices_on self.new queues.new ≡ devices_on self.old queues.old) }
         ensures beside { KeepsBeside self.old queues.old self.new queues.new }
     {
-        queues.make_room(self.user)?;
+        if queues.make_room(self.user).is_err() {
+            return Err(AllocError);
+        }
         self.close_punch_reserved(alloc, queues);
         Ok(())
     }
@@ -53,7 +55,9 @@ impl Devices {
         ensures err { OnErr result (devices_on self.new queues.new ≡ devices_on self.old queues.old) }
         ensures beside { KeepsBeside self.old queues.old self.new queues.new }
     {
-        queues.make_room(self.user)?;
+        if queues.make_room(self.user).is_err() {
+            return Err(AllocError);
+        }
         self.close_printer_reserved(alloc, queues);
         Ok(())
     }
@@ -96,7 +100,9 @@ impl Devices {
         ensures err { OnErr result (devices_on self.new queues.new ≡ devices_on self.old queues.old) }
         ensures beside { KeepsBeside self.old queues.old self.new queues.new }
     {
-        queues.make_room(self.user)?;
+        if queues.make_room(self.user).is_err() {
+            return Err(AllocError);
+        }
         self.close_punch_reserved(alloc, queues);
         self.close_printer_reserved(alloc, queues);
         self.put_back(queues);
@@ -119,7 +125,10 @@ impl Devices {
         ensures err { OnErr result (devices_on self.now queues.new ≡ devices_on self.now queues.old) }
         ensures beside { KeepsBeside self.now queues.old self.now queues.new }
     {
-        queues.give(self.user, label, sender, cards)
+        match queues.append(self.user, label, sender, cards) {
+            Ok(()) => Ok(()),
+            Err(_) => Err(AllocError),
+        }
     }
 
     /// The file of this index that a user's punch closed comes to the end of the reader's queue, as a deck with this
@@ -139,7 +148,10 @@ impl Devices {
         ensures err { OnErr result (devices_on self.now queues.new ≡ devices_on self.now queues.old) }
         ensures beside { KeepsBeside self.now queues.old self.now queues.new }
     {
-        queues.deliver(from, index, self.user, label, Sender::User(from.number()))
+        match queues.deliver(from, index, self.user, label, Sender::User(from.number())) {
+            Ok(()) => Ok(()),
+            Err(_) => Err(AllocError),
+        }
     }
 
     /// Takes the queued deck of this id away, and tells whether there was any. The current deck is not queued.
@@ -149,7 +161,7 @@ impl Devices {
         ensures after { devices_on self.now queues.new ≡ with_deck_purged (devices_on self.now queues.old) id }
         ensures beside { KeepsBeside self.now queues.old self.now queues.new }
     {
-        queues.purge(self.user, id)
+        queues.purge(self.user, id).is_ok()
     }
 
     /// The current deck, if there is one, goes back to the front of the queue, to be read from its first card.

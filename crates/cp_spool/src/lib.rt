@@ -25,6 +25,7 @@
 //! ```
 #![tactic(auto)]
 
+mod error;
 mod file;
 mod keeping;
 mod laws;
@@ -34,6 +35,7 @@ mod queues;
 mod reader;
 mod seen;
 
+pub use error::SpoolError;
 pub use file::{Contents, SpoolFile};
 pub use laws::a_fed_reader_is_a_reader;
 pub use progress::Progress;

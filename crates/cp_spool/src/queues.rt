@@ -1,10 +1,11 @@
 //! The files of all users.
-ghost use Rattle.std.specs.Prelude.{◌≡◌, ◌+◌, ◌<◌, ◌≤◌, [], None, is_some, length, replicate, slice_get, slice_index, IfSome, IfOk, OnOk, OnErr};
+ghost use Rattle.std.specs.Prelude.{◌≡◌, ◌≢◌, ◌↔◌, ◌+◌, ◌<◌, ◌≤◌, [], Err, None, Some, is_ok, is_some, length, replicate, slice_get, slice_index, IfSome, IfOk, OnOk, OnErr};
 ghost use Rattle.std.specs.Option.{option_copied, option_map};
 ghost use Rattle.unit_record.specs.Reader.{currents};
 ghost use Rattle.cp_spool.specs.File.{closed_file};
 ghost use Rattle.cp_spool.specs.Queues.{HasRoom, deck_of, file_of, files_of, no_files, purged, put_back, read_on, waiting_at, with_deck, with_files, with_place, with_printed, with_punched, without_deck, without_first};
 
+use crate::error::SpoolError;
 use crate::file::{Contents, SpoolFile};
 use crate::keeping::{
     discard, empty_queues, place_reader, push_printed, push_punched, push_waiting, queue_at,
@@ -65,7 +66,31 @@ impl Queues {
     }
 
     /// A deck of these cards comes to the end of the queue of this user's reader.
-    pub fn give(
+    pub fn append(
+        &mut self,
+        user: UserNo,
+        label: u64,
+        sender: Sender,
+        cards: Vec<Card>,
+    ) -> Result<(), SpoolError>
+        ensures ok { OnOk result (self.new.users
+            ≡ with_files user (with_deck (record { label = label; sender = sender; cards = cards.items })
+            (files_of self.old.users user)) self.old.users) }
+        ensures err { OnErr result (self.new.users ≡ self.old.users) }
+        ensures no_user { (result ≡ Err SpoolError.NoSuchUser) ↔ (length self.old.users ≤ user) }
+        ensures no_file { result ≢ Err SpoolError.NoSuchFile }
+    {
+        if user.index() >= self.users.len() {
+            return Err(SpoolError::NoSuchUser);
+        }
+        match self.give(user, label, sender, cards) {
+            Ok(()) => Ok(()),
+            Err(_) => Err(SpoolError::Memory),
+        }
+    }
+
+    /// The same, of a user who is there.
+    fn give(
         &mut self,
         user: UserNo,
         label: u64,
@@ -89,8 +114,24 @@ impl Queues {
     }
 
     /// Makes room for one file that this user's punch closes, and one that his printer does: what LOGOFF closes. So
-    /// they can be closed without memory.
-    pub fn make_room(&mut self, user: UserNo) -> Result<(), AllocError>
+    /// they can be closed without memory, both or neither.
+    pub fn make_room(&mut self, user: UserNo) -> Result<(), SpoolError>
+        ensures users { self.new.users ≡ self.old.users }
+        ensures room { OnOk result (HasRoom user self.new.room) }
+        ensures no_user { (result ≡ Err SpoolError.NoSuchUser) ↔ (length self.old.users ≤ user) }
+        ensures no_file { result ≢ Err SpoolError.NoSuchFile }
+    {
+        if user.index() >= self.users.len() {
+            return Err(SpoolError::NoSuchUser);
+        }
+        match self.reserve(user) {
+            Ok(()) => Ok(()),
+            Err(_) => Err(SpoolError::Memory),
+        }
+    }
+
+    /// The same, of a user who is there.
+    fn reserve(&mut self, user: UserNo) -> Result<(), AllocError>
         requires { user < length self.old.users }
         ensures users { self.new.users ≡ self.old.users }
         ensures room { OnOk result (HasRoom user self.new.room) }
@@ -140,6 +181,35 @@ impl Queues {
         to: UserNo,
         label: u64,
         sender: Sender,
+    ) -> Result<(), SpoolError>
+        ensures ok { OnOk result (self.new.users
+            ≡ with_files to (with_deck (deck_of (files_of self.old.users from).punched index label sender)
+            (files_of self.old.users to)) self.old.users) }
+        ensures err { OnErr result (self.new.users ≡ self.old.users) }
+        ensures no_user { (result ≡ Err SpoolError.NoSuchUser) ↔ (length self.old.users ≤ to) }
+        ensures no_file { result ≡ Err SpoolError.NoSuchFile
+            → length (files_of self.old.users from).punched ≤ index }
+    {
+        if to.index() >= self.users.len() {
+            return Err(SpoolError::NoSuchUser);
+        }
+        if index >= self.punched_count(from) {
+            return Err(SpoolError::NoSuchFile);
+        }
+        match self.send(from, index, to, label, sender) {
+            Ok(()) => Ok(()),
+            Err(_) => Err(SpoolError::Memory),
+        }
+    }
+
+    /// The same, of a file and a user who are there.
+    fn send(
+        &mut self,
+        from: UserNo,
+        index: usize,
+        to: UserNo,
+        label: u64,
+        sender: Sender,
     ) -> Result<(), AllocError>
         requires index { index < length (files_of self.old.users from).punched }
         requires to { to < length self.old.users }
@@ -156,20 +226,25 @@ impl Queues {
         Ok(())
     }
 
-    /// Takes the first waiting deck of this label away from the reader of this user, and tells whether there was any. A
-    /// current deck does not wait.
-    pub fn purge(&mut self, user: UserNo, label: u64) -> bool
-        ensures found { result ≡ is_some (waiting_at (files_of self.old.users user) label) }
+    /// Takes the first waiting deck of this label away from the reader of this user. A current deck does not wait.
+    pub fn purge(&mut self, user: UserNo, label: u64) -> Result<(), SpoolError>
+        ensures found { is_ok result ≡ is_some (waiting_at (files_of self.old.users user) label) }
         ensures after { self.new.users
             ≡ with_files user (purged (waiting_at (files_of self.old.users user) label)
             (files_of self.old.users user)) self.old.users }
+        ensures err { OnErr result (self.new.users ≡ self.old.users) }
+        ensures no_user { (result ≡ Err SpoolError.NoSuchUser) ↔ (length self.old.users ≤ user) }
+        ensures memory { result ≢ Err SpoolError.Memory }
     {
+        if user.index() >= self.users.len() {
+            return Err(SpoolError::NoSuchUser);
+        }
         match self.waiting_at(user, label) {
             Some(index) => {
                 self.take_out(user, index);
-                true
+                Ok(())
             }
-            None => false,
+            None => Err(SpoolError::NoSuchFile),
         }
     }
 
@@ -234,6 +309,22 @@ impl Queues {
         match self.files.get(waiting.key) {
             Some(file) => Some(SeenDeck::new(waiting.label, waiting.sender, file)),
             None => None,
+        }
+    }
+
+    /// The deck that this user's reader feeds from: the current one, or that which becomes current when a card is read.
+    pub fn next_deck(&self, user: UserNo) -> Result<SeenDeck<'_>, SpoolError>
+        ensures ok { IfOk result (λ deck. slice_get (files_of self.now.users user).decks 0 ≡ Some deck) }
+        ensures no_user { (result ≡ Err SpoolError.NoSuchUser) ↔ (length self.now.users ≤ user) }
+        ensures no_file { result ≡ Err SpoolError.NoSuchFile → slice_get (files_of self.now.users user).decks 0 ≡ None }
+        ensures memory { result ≢ Err SpoolError.Memory }
+    {
+        if user.index() >= self.users.len() {
+            return Err(SpoolError::NoSuchUser);
+        }
+        match self.deck(user, 0) {
+            Some(deck) => Ok(deck),
+            None => Err(SpoolError::NoSuchFile),
         }
     }
 
