@@ -22,6 +22,7 @@ mod operands;
 mod responses;
 mod status;
 mod step;
+mod storage;
 mod telling;
 mod texts;
 mod turns;
