@@ -403,8 +403,13 @@ impl Bare {
     {
         let number = self.next_file();
         let user = self.devices.user();
-        self.queues
+        match self
+            .queues
             .deliver(user, index, user, number, Sender::User(0))
+        {
+            Ok(()) => Ok(()),
+            Err(_) => Err(AllocError),
+        }
     }
 
     /// How many files the punch closed.

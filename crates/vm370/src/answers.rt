@@ -125,11 +125,7 @@ fn cards_in(alloc: Global, event: &ScriptEvent<'_>) -> Result<Vec<Card>, AllocEr
 }
 
 /// Applies an event of a user and a device that the directory has, which gives these cards.
-fn ask(
-    system: &mut System,
-    event: &ScriptEvent<'_>,
-    cards: &[Card],
-) -> Result<Reply, SessionError>
+fn ask(system: &mut System, event: &ScriptEvent<'_>, cards: &[Card]) -> Result<Reply, SessionError>
     requires user { IsOfUser (length system.old.directory) event.now }
     requires device { IsOfStated system.old.directory event.now }
     requires event { IsApplicable event.now }
