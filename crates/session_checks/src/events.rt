@@ -1,0 +1,98 @@
+//! Systems, and the events that are given to them.
+use anyhow::{Context, Result, bail};
+use cp_core::{CpError, Ended, Event, Sizes, System};
+use cp_directory::read_directory;
+use cp_users::UserNo;
+use s370_num::DevAddr;
+use std::alloc::Global;
+
+/// The fewest frames that a system may have.
+pub const FEWEST_FRAMES: u32 = 16;
+
+/// User A.
+pub fn a() -> UserNo {
+    UserNo::new(0)
+}
+
+/// User B.
+pub fn b() -> UserNo {
+    UserNo::new(1)
+}
+
+/// What is given to a system.
+#[derive(Clone, Copy)]
+pub enum Act<'a> {
+    /// A user types a line.
+    Line(UserNo, &'a str),
+    /// A user's machine runs for so many units.
+    Run(UserNo, u32),
+    /// A user's timer ticks.
+    Tick(UserNo),
+    /// A device of a user is served.
+    Serve(UserNo, DevAddr),
+}
+
+/// An error where something is otherwise than it has to be.
+pub fn see(holds: bool, what: &str) -> Result<()> {
+    if !holds {
+        bail!("it is not so: {what}");
+    }
+    Ok(())
+}
+
+/// The system of a directory, without volumes and on the fewest frames.
+pub fn booted(alloc: Global, directory: &[u8]) -> Result<System> {
+    let directory = read_directory(alloc, directory)?;
+    let sizes = Sizes::new(FEWEST_FRAMES, 0).context("so many frames are too many")?;
+    Ok(System::boot(alloc, directory, Vec::new(alloc), sizes)?)
+}
+
+/// How an event ends, or why it is none. Nothing else here calls the system: each call brings along the whole contract
+/// of an event, which takes the prover long.
+pub fn answer(system: &mut System, act: Act<'_>) -> Result<Ended, CpError> {
+    // The kit proves a function whose replies may hold the address of a device only where it names one.
+    let _device = DevAddr::new(0);
+    let event = match act {
+        Act::Line(user, line) => Event::Line(user, line.as_bytes()),
+        Act::Run(user, units) => Event::Run(user, units),
+        Act::Tick(user) => Event::Tick(user),
+        Act::Serve(user, device) => Event::Serve(user, device),
+    };
+    match system.apply(event) {
+        Ok(reply) => Ok(reply.ended),
+        Err(error) => Err(error),
+    }
+}
+
+/// How an event ends that has to be one. A system for which memory was refused has to answer nothing else from then on.
+pub fn done(system: &mut System, act: Act<'_>) -> Result<Ended> {
+    let error = match answer(system, act) {
+        Ok(ended) => return Ok(ended),
+        Err(error) => error,
+    };
+    if error == CpError::Memory {
+        see(system.is_spent(), "want of memory ends the system")?;
+        let later = answer(system, Act::Run(a(), 1));
+        see(
+            later == Err(CpError::Spent),
+            "a system that has ended says so",
+        )?;
+    }
+    Err(error)?
+}
+
+/// Types lines of a user.
+pub fn type_lines(system: &mut System, user: UserNo, lines: &[&str]) -> Result<()> {
+    for line in lines {
+        let _ended = done(system, Act::Line(user, *line))?;
+    }
+    Ok(())
+}
+
+/// How many units a run has done; none where it is no run.
+pub fn units_of(system: &mut System, user: UserNo, units: u32) -> Option<u32> {
+    match answer(system, Act::Run(user, units)) {
+        Ok(Ended::Ran(ran)) => Some(ran.units),
+        _ => None,
+    }
+}
