@@ -5,10 +5,12 @@
 #![tactic(auto)]
 
 mod events;
+mod kept;
 mod looks;
 
 use anyhow::Result;
 
 fn main(rt: HostRuntime) -> Result<()> {
+    kept::look_at_kept_programs(rt.alloc())?;
     looks::look_at_all(&rt)
 }
