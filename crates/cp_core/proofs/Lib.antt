@@ -11,3 +11,4 @@ pub mod Histories
 pub mod Loans
 pub mod Wanted
 pub mod Owned
+mod Emptied

@@ -15,6 +15,7 @@ pub mod Work
 pub mod Supply
 pub mod Come
 pub mod Memory
+pub mod Reuse
 pub mod Resident
 pub mod Histories
 pub mod Loan

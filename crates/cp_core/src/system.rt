@@ -112,6 +112,16 @@ impl System {
         self.frames.page_ins()
     }
 
+    /// How many programs of devices were run again as they were kept, since boot. It stays at its greatest value. Nothing
+    /// is said of the work that was saved.
+    pub fn reuses(&self) -> u64 {
+        let mut sum = 0u64;
+        for user in &self.users {
+            sum = sum.saturating_add(user.reuse.reuses());
+        }
+        sum
+    }
+
     /// What each file was when it got its number, and whose it is: the first has number 1.
     pub fn files(&self) -> &[FileNote]
         ensures { result.now ≡ self.now.files }

@@ -13,6 +13,7 @@ ghost use Rattle.ckd_volume.specs.Volume.{VolumeFormat};
 ghost use Rattle.cp_volumes.specs.Shared.{IsUsers, KeepsNeighbours, disks_on, stands_of};
 
 use crate::delivery::{Delivery, Parcel};
+use crate::reuse::Reuse;
 use crate::work::Work;
 use cp_console::responses::Response;
 use cp_dat::Dat;
@@ -37,6 +38,7 @@ pub(crate) struct UserMachine {
     pub(crate) minidisks: Vec<SharedDisk>,
     pub(crate) keys: Vec<StorageKey>,
     pub(crate) deliveries: Vec<Delivery>,
+    pub(crate) reuse: Reuse,
 }
 
 impl Model for UserMachine {
@@ -74,6 +76,9 @@ impl UserMachine {
         let Ok(keys) = vec![in alloc; StorageKey::ZERO; pages as usize * 2] else {
             return Err(AttachError::Memory);
         };
+        let Ok(reuse) = Reuse::empty(alloc, minidisks.len()) else {
+            return Err(AttachError::Memory);
+        };
         let devices = Devices::new(alloc, places, user);
         let Ok(addresses) = addresses_of(alloc, &minidisks) else {
             return Err(AttachError::Memory);
@@ -85,6 +90,7 @@ impl UserMachine {
                 minidisks,
                 keys,
                 deliveries: Vec::new(alloc),
+                reuse,
             }),
             Err(error) => Err(error),
         }
@@ -122,6 +128,7 @@ impl UserMachine {
             queues,
             volumes,
             &mut self.minidisks,
+            &mut self.reuse,
             frames,
             &mut self.keys,
             user,
@@ -180,6 +187,7 @@ fn lend_over<W: Work>(
     queues: &mut Queues,
     volumes: &mut Volumes,
     minidisks: &mut Vec<SharedDisk>,
+    reuse: &mut Reuse,
     frames: &mut Frames,
     keys: &mut [StorageKey],
     user: UserNo,
@@ -211,6 +219,7 @@ fn lend_over<W: Work>(
         queues,
         volumes,
         minidisks,
+        reuse,
         &mut storage,
     )
 }

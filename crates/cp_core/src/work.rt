@@ -10,6 +10,7 @@ ghost use Rattle.cp_devices.specs.Lent.{KeepsBeside, devices_on};
 ghost use Rattle.cp_volumes.specs.Shared.{IsUsers, KeepsNeighbours, disks_on, stands_of};
 
 use crate::resident::Resident;
+use crate::reuse::Reuse;
 use crate::serving::{serve_supplied, type_supplied};
 use crate::world::Among;
 use arrayvec::ArrayVec;
@@ -35,7 +36,7 @@ pub(crate) trait Work {
     ghost Does: { Self → List DirectoryUser → ℕ → Equipped → FrameSupply → Self.Answer → Equipped → FrameSupply
         → Type 0 };
 
-    /// Does it, with these minidisks on volumes that others share. No frame is pinned before and after.
+    /// Does it, with these minidisks on volumes that others share, and these programs of the devices that are kept. No frame is pinned before and after.
     fn work(
         &self,
         directory: &Directory,
@@ -44,6 +45,7 @@ pub(crate) trait Work {
         queues: &mut Queues,
         volumes: &mut Volumes,
         minidisks: &mut Vec<SharedDisk>,
+        reuse: &mut Reuse,
         storage: &mut Dat<'_>,
     ) -> Self::Answer
         requires large { 8192 ≤ length (lent_bytes storage.old) }
@@ -83,6 +85,7 @@ impl Work for Units {
         _queues: &mut Queues,
         _volumes: &mut Volumes,
         _minidisks: &mut Vec<SharedDisk>,
+        _reuse: &mut Reuse,
         storage: &mut Dat<'_>,
     ) -> Ran {
         machine.run::<VirtualCpu, Dat<'_>>(storage, self.0)
@@ -108,6 +111,7 @@ impl Work for Tick {
         _queues: &mut Queues,
         _volumes: &mut Volumes,
         _minidisks: &mut Vec<SharedDisk>,
+        _reuse: &mut Reuse,
         storage: &mut Dat<'_>,
     ) -> Result<(), FramesOut> {
         machine.tick(storage)
@@ -141,6 +145,7 @@ impl<'a> Work for Line<'a> {
         queues: &mut Queues,
         volumes: &mut Volumes,
         minidisks: &mut Vec<SharedDisk>,
+        reuse: &mut Reuse,
         storage: &mut Dat<'_>,
     ) -> Result<Told, LineError> {
         let world = Among {
@@ -148,7 +153,7 @@ impl<'a> Work for Line<'a> {
             own: self.user,
             on: self.on.as_slice(),
         };
-        let mut channels = Resident::take(self.alloc, volumes, minidisks);
+        let mut channels = Resident::take(self.alloc, volumes, minidisks, reuse);
         let told = type_supplied(
             self.alloc,
             devices,
@@ -159,7 +164,7 @@ impl<'a> Work for Line<'a> {
             &world,
             self.typed,
         );
-        channels.give(volumes, minidisks);
+        channels.give(volumes, minidisks, reuse);
         storage.let_go();
         told
     }
@@ -187,9 +192,10 @@ impl Work for Service {
         queues: &mut Queues,
         volumes: &mut Volumes,
         minidisks: &mut Vec<SharedDisk>,
+        reuse: &mut Reuse,
         storage: &mut Dat<'_>,
     ) -> Result<bool, LineError> {
-        let mut channels = Resident::take(self.alloc, volumes, minidisks);
+        let mut channels = Resident::take(self.alloc, volumes, minidisks, reuse);
         let served = serve_supplied(
             devices,
             queues,
@@ -198,7 +204,7 @@ impl Work for Service {
             &mut channels,
             self.device,
         );
-        channels.give(volumes, minidisks);
+        channels.give(volumes, minidisks, reuse);
         storage.let_go();
         served
     }

@@ -11,7 +11,7 @@ ghost use Rattle.cp_spool.specs.Queues.{KeepsOthers, files_of};
 ghost use Rattle.cp_devices.specs.Loading.{IsLoaded, LacksPage};
 
 use crate::loading::load;
-use cp_channels::Channels;
+use cp_channels::{Channels, UnitRecord};
 use cp_panel::Machine;
 use cp_spool::{FedReader, Queues, Reader};
 use cp_users::UserNo;
@@ -55,7 +55,7 @@ pub(crate) fn feed<S: Storage, C: Channels<S>>(
     ensures rest { S.Keeps storage.old storage.new }
 {
     let mut fed = FedReader::new(queues, user, replace(reader, Reader::new()));
-    let ended = channels.run(storage, start, &mut fed);
+    let ended = channels.run(storage, start, UnitRecord::Reader, &mut fed);
     let (left, progress) = fed.into_parts();
     *reader = left;
     queues.take_back(user, progress);

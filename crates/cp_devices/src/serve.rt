@@ -13,7 +13,7 @@ ghost use Rattle.cp_devices.specs.Stopped.{StopsAt, StopsConsole, StopsKind};
 use crate::devices::Devices;
 use crate::feeding::feed;
 use crate::places::Kind;
-use cp_channels::Channels;
+use cp_channels::{Channels, UnitRecord};
 use cp_console::console_line::ConsoleLine;
 use cp_console::responses::Response;
 use cp_panel::Machine;
@@ -113,8 +113,8 @@ impl Devices {
             Kind::Reader => return self.run_reader(
                 queues, machine, storage, channels, device, start,
             ),
-            Kind::Punch => channels.run(storage, start, &mut self.punch),
-            Kind::Printer => channels.run(storage, start, &mut self.printer),
+            Kind::Punch => channels.run(storage, start, UnitRecord::Punch, &mut self.punch),
+            Kind::Printer => channels.run(storage, start, UnitRecord::Printer, &mut self.printer),
             Kind::Disk(index) => channels.run_disk(storage, start, index),
         };
         match ended {
@@ -207,7 +207,7 @@ impl Devices {
         ensures rest { S.Keeps storage.old storage.new }
     {
         let key = start.key;
-        let ending = match channels.run(storage, start, &mut self.console) {
+        let ending = match channels.run(storage, start, UnitRecord::Console, &mut self.console) {
             Ok(ending) => ending,
             Err(error) => return Err(error),
         };
