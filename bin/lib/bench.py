@@ -27,7 +27,7 @@ TIMES = 5
 HEADS, TRACK = 19, 13030
 # TIO, SIO of a device, and a branch back to both; the program is at 800, and what it seeks at 840
 GUEST = ["STORE 48 00000800", "STORE 200 9D000{0}9C000{0}47F00200"]
-FOUND = ["STORE 800 07000840400000063100084640000005", "STORE 810 0800080800000000{0}00200020{1:02X}{2:02X}",
+FOUND = ["STORE 800 07000840400000063100084640000005", "STORE 810 0800080800000000{0}0020002000{1:02X}{2:02X}",
          "STORE 840 0000000000000000000001"]
 # each program: its device, what is typed, and how many bytes it moves
 CHANNELS = {
@@ -37,6 +37,10 @@ CHANNELS = {
     "written": ("190", [FOUND[0], FOUND[1].format("05", *divmod(TRACK, 256)), FOUND[2]], TRACK),
     "printed": ("00E", ["STORE 800 0900200020000084"], 132),
 }
+
+
+# the crates whose parts of a serve are told
+PARTS = ["cp_core", "cp_needs", "cp_ccw", "cp_volumes", "s370_channel", "ckd_volume", "unit_record"]
 
 
 def tell(text):
@@ -79,6 +83,16 @@ class Bench:
             told = subprocess.run(valgrind, stdout=subprocess.DEVNULL, stderr=subprocess.PIPE, check=False).stderr
         found = re.search(rb"Collected : ([0-9]+)", told)
         return int(found[1]) if found else 0
+
+    def functions(self, *words):
+        """How many instructions of the host each function takes, with those that it calls."""
+        with tempfile.TemporaryDirectory() as room:
+            valgrind = ["valgrind", "--tool=callgrind", f"--callgrind-out-file={room}/out", *self.command(room, *words)]
+            subprocess.run(valgrind, stdout=subprocess.DEVNULL, stderr=subprocess.DEVNULL, check=False)
+            annotate = ["callgrind_annotate", "--inclusive=yes", "--threshold=100", f"{room}/out"]
+            told = subprocess.run(annotate, stdout=subprocess.PIPE, stderr=subprocess.DEVNULL, check=False).stdout.decode()
+        lines = (re.match(r" *([0-9,]+) .*?\) +[^ ]*?:(\w+::[^ ]*)", it) for it in told.splitlines())
+        return {it[2]: int(it[1].replace(",", "")) for it in lines if it}
 
     def each(self, first, ready, again, count, *more):
         """Microseconds of what is done again, by three times as much of it; never none, so that a rate can be told."""
@@ -128,6 +142,18 @@ def full_volume(cylinders):
     return b"".join([*out, (cylinders * HEADS).to_bytes(4, "big")])
 
 
+def measure_parts(bench, name, first, ready, again):
+    """Instructions of the host of a serve with its units: of each crate those of the function that takes the most of them."""
+    less, more = (bench.functions(first, ready + again * it, [full_volume(1)]) for it in (20, 60))
+    most = {}
+    for function, count in more.items():
+        crate, each = function.split("::")[0], (count - less.get(function, 0)) / 40
+        if crate in PARTS and each > most.get(crate, (0, ""))[0]:
+            most[crate] = each, function.split("::<")[0]
+    parts = ", ".join(f"{most[it][1]} {most[it][0]:.0f}" for it in PARTS if it in most)
+    tell(f"{name} user: instructions of the host: {parts}")
+
+
 def measure_channels(bench, programs, cylinders):
     """What a serve costs that runs a program, and one that does nothing; and how fast an image is read."""
     programs = max(int(programs), 1)
@@ -136,13 +162,15 @@ def measure_channels(bench, programs, cylinders):
         for place, first, user in (("bare", "256K", "BARE"), ("user", f"USER A PW 256K\n{devices}", "A")):
             ready = [f"LINE {user} {it.format(device)}" for it in ["LOGON", *GUEST, *typed, "BEGIN 200"]]
             volumes, run, serve = [full_volume(1)], [f"RUN {user} 3"], [f"SERVE {user} {device}"]
-            decks = [[f"DECK {user} 1", "A"]] if device == "00C" else [[]]
-            # what the units cost, and the reading of a card's deck, is done in both
-            whole = bench.each(first, ready, decks[0] + run + serve, programs, volumes)
-            units = bench.each(first, ready, decks[0] + run, programs, volumes)
+            # (a card has a deck of its own, which is given in both)
+            run = [f"DECK {user} 1", "A", *run] if device == "00C" else run
+            whole = bench.each(first, ready, run + serve, programs, volumes)
+            units = bench.each(first, ready, run, programs, volumes)
             idle = bench.each(first, [f"LINE {user} LOGON"], serve, programs, volumes)
             tell(f"{name} {place}: three units and a serve {whole:.2f} us, the units {units:.2f}, an idle serve {idle:.2f}; "
                  f"{count / whole:.0f} MB a second")
+            if place == "user" and shutil.which("callgrind_annotate"):
+                measure_parts(bench, name, first, ready, run + serve)
     size = max(int(cylinders), 1)
     image = full_volume(size)
     taken = bench.seconds("8K", [], [image]) - bench.seconds("8K", [])
