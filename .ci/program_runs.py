@@ -21,7 +21,6 @@ Any other line is one of standard output."""
 import os
 import re
 import resource
-import signal
 import subprocess
 import tempfile
 
@@ -211,12 +210,12 @@ def otherwise_written(run, programs, room, wanted):
     path = f"{room}/written"
     for size in range(len(wanted)):
         def limit():
-            signal.signal(signal.SIGXFSZ, signal.SIG_IGN)
             resource.setrlimit(resource.RLIMIT_FSIZE, (size, size))
 
+        # (that a file may not grow is told by the call, since the signal that tells it too is ignored)
         with open(path, "wb") as file:
             done = subprocess.run([*programs[run.words[0]], *run.words[1:]], cwd=room, stdout=file, stderr=subprocess.PIPE,
-                                  timeout=SECONDS, preexec_fn=limit, check=False)
+                                  timeout=SECONDS, preexec_fn=limit, restore_signals=False, check=False)
         if (done.returncode, done.stderr) != (3, b"fault: file Device 1\n") or read(path) != wanted[:size]:
             return f"a write that fails at byte {size}: status {done.returncode}, {done.stderr!r}, {read(path)!r}"
     return None
