@@ -13,7 +13,7 @@ A paragraph ends with an empty line, and has one folder, in which its files stay
     ; NAME PLACE DIGITS  from this place on the file has these bytes, and ends
     ? NUMBER LINE        this line of standard output, counted from 0; those that are not named so are not compared
     * COUNT LINE         so many such lines of standard output
-    ^ FROM TO STATUS LINE   over each beginning of its last file of FROM to TO - 1 bytes it ends so, with this line of standard error
+    ^ FROM TO STATUS LINE   over each beginning of its file (its directory, or the last) of FROM to TO - 1 bytes it ends so
     % PAGES | PAGES | PAGES | N    of a map of one user: pages that have frames, that have slots, that have neither, and PAGE INS
     &                    a write that fails at any byte of standard output is told, behind all bytes before it
     # ..                 a comment
@@ -21,7 +21,6 @@ Any other line is one of standard output."""
 import os
 import re
 import resource
-import signal
 import subprocess
 import tempfile
 
@@ -133,9 +132,10 @@ def change(room, mark, text):
         file.write(data)
 
 
-def ended(programs, words, room, **more):
+def ended(programs, words, room):
     """Status, output and errors of a run."""
-    done = subprocess.run([*programs[words[0]], *words[1:]], cwd=room, stdin=subprocess.DEVNULL, capture_output=True, timeout=SECONDS, **more)
+    done = subprocess.run([*programs[words[0]], *words[1:]], cwd=room, stdin=subprocess.DEVNULL, capture_output=True,
+                          timeout=SECONDS, check=False)
     return done.returncode, done.stdout, done.stderr.decode("latin-1")
 
 
@@ -210,12 +210,12 @@ def otherwise_written(run, programs, room, wanted):
     path = f"{room}/written"
     for size in range(len(wanted)):
         def limit():
-            signal.signal(signal.SIGXFSZ, signal.SIG_IGN)
             resource.setrlimit(resource.RLIMIT_FSIZE, (size, size))
 
+        # (that a file may not grow is told by the call, since the signal that tells it too is ignored)
         with open(path, "wb") as file:
             done = subprocess.run([*programs[run.words[0]], *run.words[1:]], cwd=room, stdout=file, stderr=subprocess.PIPE,
-                                  timeout=SECONDS, preexec_fn=limit)
+                                  timeout=SECONDS, preexec_fn=limit, restore_signals=False, check=False)
         if (done.returncode, done.stderr) != (3, b"fault: file Device 1\n") or read(path) != wanted[:size]:
             return f"a write that fails at byte {size}: status {done.returncode}, {done.stderr!r}, {read(path)!r}"
     return None
