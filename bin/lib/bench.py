@@ -4,13 +4,15 @@ So the start of a program, the reading of a script and its first pages are not i
     bench.py VM370 BARE370 loops THOUSANDS LOOPS PLACES
     bench.py VM370 BARE370 rates THOUSANDS LOOPS PLACES      without instructions of the host
     bench.py VM370 BARE370 channels PROGRAMS CYLINDERS
-    bench.py VM370 BARE370 installation USERS FRAMES SLOTS"""
+    bench.py VM370 BARE370 installation USERS FRAMES SLOTS
+    bench.py VM370 BARE370 spool CARDS FILES"""
 import os
 import re
 import shutil
 import subprocess
 import sys
 import tempfile
+import time
 
 # Guest loops that never end, at 200. Register 1 counts down from zero.
 LOOPS = {
@@ -25,6 +27,8 @@ LOOPS = {
 # how often a script is run; the fastest counts
 TIMES = 5
 HEADS, TRACK = 19, 13030
+# how many cards a program punches
+CHAIN = 1000
 # TIO, SIO of a device, and a branch back to both; the program is at 800, and what it seeks at 840
 GUEST = ["STORE 48 00000800", "STORE 200 9D000{0}9C000{0}47F00200"]
 FOUND = ["STORE 800 07000840400000063100084640000005", "STORE 810 0800080800000000{0}0020002000{1:02X}{2:02X}",
@@ -201,10 +205,78 @@ def measure_installation(bench, users, frames, slots):
     tell(f"turn of 100 units: {bench.each(first, ready + round_of, ['AUTO 100'], 100, (), sizes) / 100:.2f} us")
 
 
+class Followed:
+    """A session of vm370 that is given its script part by part, each of which is timed."""
+
+    def __init__(self, vm370, directory, room):
+        with open(f"{room}/directory", "w", encoding="utf-8") as file:
+            file.write(directory)
+        words = [vm370, "--frames", "512", "--follow", f"{room}/directory"]
+        self.child = subprocess.Popen(words, stdin=subprocess.PIPE, stdout=subprocess.PIPE)
+
+    def do(self, lines):
+        """Microseconds until these lines are answered, by the clock."""
+        part = "".join(f"{it}\n" for it in lines).encode()
+        begun = time.perf_counter()
+        self.child.stdin.write(b"%d\n%s" % (len(part), part))
+        self.child.stdin.flush()
+        for line in self.child.stdout:
+            if line == b"> DONE\n":
+                return (time.perf_counter() - begun) * 1e6
+        return sys.exit(self.child.wait() or 1)
+
+    def end(self):
+        self.child.stdin.close()
+        self.child.stdout.read()
+        self.child.wait()
+
+
+def measure_deck(bench, cards):
+    """What CLOSE takes of a punch with so many cards, which come to another user, and of one without any."""
+    words = [f"01002000{'60' if it < CHAIN - 1 else '20'}000050" for it in range(CHAIN)]
+    program = [f"LINE A STORE {0x3000 + 8 * it:X} {words[it]}{words[it + 1]}" for it in range(0, CHAIN, 2)]
+    ready = ["LINE A LOGON", "LINE B LOGON", "LINE A SPOOL 00D TO B", *program, "LINE A STORE 48 00003000",
+             "LINE A STORE 200 9D00000D9C00000D47F00200", "LINE A BEGIN 200"]
+    with tempfile.TemporaryDirectory() as room:
+        session = Followed(bench.vm370, "USER A PW 256K\nSPOOL 00D PUNCH\nUSER B PW 256K\nSPOOL 00C READER\n", room)
+        session.do(ready)
+        for _ in range(0, cards, CHAIN):
+            session.do(["RUN A 3", "SERVE A 00D"])
+        taken, empty = (session.do(["LINE A #CP CLOSE 00D"]) for _ in range(2))
+        session.end()
+    tell(f"a deck of {cards} cards is closed and comes to another user: {taken:.0f} us; nothing is closed: {empty:.0f} us")
+
+
+def measure_files(bench, others):
+    """What a user's own commands and reads take beside so many files of others."""
+    users, own, times = [f"U{it}" for it in range(64)], 10, 200
+    # each card is the line after its own
+    decks = [f"DECK {users[1 + it % 63]} 1\nA" for it in range(others)] + ["DECK U0 1\nA"] * (own + times)
+    with tempfile.TemporaryDirectory() as room:
+        session = Followed(bench.vm370, "".join(f"USER {it} PW 64K\nSPOOL 00C READER\n" for it in users), room)
+        session.do([f"LINE {it} LOGON" for it in users] + decks)
+        asked = session.do(["LINE U0 QUERY FILES"] * times) / times
+        purged = session.do([f"LINE U0 PURGE {others + own + 1 + it}" for it in range(times)]) / times
+        session.do(["LINE U0 STORE 300 0200200020000050", "LINE U0 STORE 48 00000300",
+                    "LINE U0 STORE 200 9D00000C9C00000C47F00200", "LINE U0 BEGIN 200"])
+        read = session.do(["RUN U0 3", "SERVE U0 00C"] * own) / own
+        session.end()
+    tell(f"beside {others} files of 63 others: QUERY FILES of {own + times} decks {asked:.1f} us, PURGE {purged:.2f} us, "
+         f"a read and its units {read:.1f} us")
+
+
+def measure_spool(bench, cards, files):
+    """Decks of growing sizes, and files of others."""
+    for size in sorted({min(it, int(cards)) for it in (CHAIN, 30 * CHAIN, 1000 * CHAIN)}):
+        measure_deck(bench, size)
+    for others in (0, int(files)):
+        measure_files(bench, others)
+
+
 def main():
     vm370, bare370, what, *words = sys.argv[1:]
     measures = {"loops": measure_loops, "rates": measure_rates, "channels": measure_channels,
-                "installation": measure_installation}
+                "installation": measure_installation, "spool": measure_spool}
     measures[what](Bench(vm370, bare370), *words)
 
 
