@@ -214,15 +214,20 @@ fn booted(alloc: Global) -> Result<System> {
     Ok(System::boot(alloc, directory, volumes, sizes)?)
 }
 
-/// Starts the program once more, serves it, and compares.
-fn serve_again(system: &mut System, device: u16, before: u64, step: &Step) -> Result<()> {
-    type_lines(system, a(), step.typed)?;
+/// Starts the program once more, and serves it.
+fn serve_again(system: &mut System, device: u16, typed: &[&str]) -> Result<()> {
+    type_lines(system, a(), typed)?;
     type_lines(system, a(), &["#CP BEGIN 100"])?;
     let _started = done(system, Act::Run(a(), 1))?;
     let _served = done(system, Act::Serve(a(), DevAddr::new(device)))?;
     let _tested = done(system, Act::Run(a(), 1))?;
+    Ok(())
+}
+
+/// Compares what has come of it.
+fn see_step(system: &System, step: &Step) -> Result<()> {
     see(
-        system.reuses() == before + step.reuses,
+        system.reuses() == step.reuses,
         "so many programs were run again",
     )?;
     for (place, byte) in step.status.iter().enumerate() {
@@ -235,19 +240,31 @@ fn serve_again(system: &mut System, device: u16, before: u64, step: &Step) -> Re
     Ok(())
 }
 
-/// Each program is started four times; behind a reset none is kept.
+/// The program is started four times, and once behind a reset, which keeps none.
+fn see_program(system: &mut System, program: &Program) -> Result<()> {
+    type_lines(system, a(), &["LOGON"])?;
+    type_lines(system, a(), program.typed)?;
+    type_lines(system, a(), &GUEST)?;
+    for step in &program.steps {
+        serve_again(system, program.device, step.typed)?;
+        see_step(system, step)?;
+    }
+    type_lines(system, a(), &["#CP SYSTEM RESET"])?;
+    let last = &program.steps[3];
+    serve_again(system, program.device, last.typed)?;
+    see_step(system, last)
+}
+
+/// The same, in a system of its own.
+fn look_at_program(alloc: Global, program: &Program) -> Result<()> {
+    let mut system = booted(alloc)?;
+    see_program(&mut system, program)
+}
+
+/// Looks at the programs of all devices.
 pub fn look_at_kept_programs(alloc: Global) -> Result<()> {
     for program in [&DISK, &PRINTER, &PUNCH, &CONSOLE, &READER] {
-        let mut system = booted(alloc)?;
-        type_lines(&mut system, a(), &["LOGON"])?;
-        type_lines(&mut system, a(), program.typed)?;
-        type_lines(&mut system, a(), &GUEST)?;
-        for step in &program.steps {
-            serve_again(&mut system, program.device, 0, step)?;
-        }
-        type_lines(&mut system, a(), &["#CP SYSTEM RESET"])?;
-        let last = &program.steps[3];
-        serve_again(&mut system, program.device, 0, last)?;
+        look_at_program(alloc, program)?;
     }
     Ok(())
 }
