@@ -21,15 +21,16 @@ pub fn b() -> UserNo {
 
 /// What is given to a system.
 #[derive(Clone, Copy)]
-pub enum Act<'a> {
+pub enum Act {
     /// A user types a line.
-    Line(UserNo, &'a str),
+    Line(UserNo, &'static str),
     /// A user's machine runs for so many units.
     Run(UserNo, u32),
     /// A user's timer ticks.
     Tick(UserNo),
-    /// A device of a user is served.
-    Serve(UserNo, DevAddr),
+    /// The device of a user that has this address is served. (The kit does not follow a [`DevAddr`] through many
+    /// functions.)
+    Serve(UserNo, u16),
 }
 
 /// An error where something is otherwise than it has to be.
@@ -49,14 +50,14 @@ pub fn booted(alloc: Global, directory: &[u8]) -> Result<System> {
 
 /// How an event ends, or why it is none. Nothing else here calls the system: each call brings along the whole contract
 /// of an event, which takes the prover long.
-pub fn answer(system: &mut System, act: Act<'_>) -> Result<Ended, CpError> {
+pub fn answer(system: &mut System, act: Act) -> Result<Ended, CpError> {
     // The kit proves a function whose replies may hold the address of a device only where it names one.
     let _device = DevAddr::new(0);
     let event = match act {
         Act::Line(user, line) => Event::Line(user, line.as_bytes()),
         Act::Run(user, units) => Event::Run(user, units),
         Act::Tick(user) => Event::Tick(user),
-        Act::Serve(user, device) => Event::Serve(user, device),
+        Act::Serve(user, device) => Event::Serve(user, DevAddr::new(device)),
     };
     match system.apply(event) {
         Ok(reply) => Ok(reply.ended),
@@ -65,24 +66,31 @@ pub fn answer(system: &mut System, act: Act<'_>) -> Result<Ended, CpError> {
 }
 
 /// How an event ends that has to be one. A system for which memory was refused has to answer nothing else from then on.
-pub fn done(system: &mut System, act: Act<'_>) -> Result<Ended> {
-    let error = match answer(system, act) {
-        Ok(ended) => return Ok(ended),
-        Err(error) => error,
-    };
-    if error == CpError::Memory {
-        see(system.is_spent(), "want of memory ends the system")?;
-        let later = answer(system, Act::Run(a(), 1));
-        see(
-            later == Err(CpError::Spent),
-            "a system that has ended says so",
-        )?;
+pub fn done(system: &mut System, act: Act) -> Result<Ended> {
+    match answer(system, act) {
+        Ok(ended) => Ok(ended),
+        Err(error) => {
+            see_refused(system, matches!(error, CpError::Memory))?;
+            Err(error)?
+        }
     }
-    Err(error)?
+}
+
+/// What is so of a system that has refused an event, for want of memory or for another reason.
+fn see_refused(system: &mut System, is_memory: bool) -> Result<()> {
+    if !is_memory {
+        return Ok(());
+    }
+    see(system.is_spent(), "want of memory ends the system")?;
+    let later = answer(system, Act::Run(a(), 1));
+    see(
+        later == Err(CpError::Spent),
+        "a system that has ended says so",
+    )
 }
 
 /// Types lines of a user.
-pub fn type_lines(system: &mut System, user: UserNo, lines: &[&str]) -> Result<()> {
+pub fn type_lines(system: &mut System, user: UserNo, lines: &[&'static str]) -> Result<()> {
     for line in lines {
         let _ended = done(system, Act::Line(user, *line))?;
     }

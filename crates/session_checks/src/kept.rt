@@ -4,7 +4,6 @@ use anyhow::{Context, Result};
 use ckd_volume::Volume;
 use cp_core::{Sizes, System};
 use cp_directory::read_directory;
-use s370_num::DevAddr;
 use std::alloc::Global;
 
 /// A user with each device.
@@ -215,11 +214,11 @@ fn booted(alloc: Global) -> Result<System> {
 }
 
 /// Starts the program once more, and serves it.
-fn serve_again(system: &mut System, device: u16, typed: &[&str]) -> Result<()> {
+fn serve_again(system: &mut System, device: u16, typed: &[&'static str]) -> Result<()> {
     type_lines(system, a(), typed)?;
     type_lines(system, a(), &["#CP BEGIN 100"])?;
     let _started = done(system, Act::Run(a(), 1))?;
-    let _served = done(system, Act::Serve(a(), DevAddr::new(device)))?;
+    let _served = done(system, Act::Serve(a(), device))?;
     let _tested = done(system, Act::Run(a(), 1))?;
     Ok(())
 }

@@ -5,7 +5,6 @@ use cp_console::console_line::ConsoleLine;
 use cp_console::responses::Response;
 use cp_core::{CpError, Ended, FrameNo, System};
 use cp_users::UserNo;
-use s370_num::DevAddr;
 use s370_store::Page;
 
 /// Two users with two pages each.
@@ -19,15 +18,16 @@ fn nobody() -> UserNo {
     UserNo::new(2)
 }
 
+/// An event of a user whom nobody is.
+fn event_of_nobody(system: &mut System, act: Act) -> Result<()> {
+    let answer = answer(system, act);
+    see(answer == Err(CpError::NoSuchUser), "nobody has no events")
+}
+
 fn events_of_nobody(system: &mut System) -> Result<()> {
-    for act in [
-        Act::Run(nobody(), 1),
-        Act::Line(nobody(), "LOGON"),
-        Act::Tick(nobody()),
-    ] {
-        let answer = answer(system, act);
-        see(answer == Err(CpError::NoSuchUser), "nobody has no events")?;
-    }
+    event_of_nobody(system, Act::Run(nobody(), 1))?;
+    event_of_nobody(system, Act::Line(nobody(), "LOGON"))?;
+    event_of_nobody(system, Act::Tick(nobody()))?;
     see(!system.is_spent(), "such an event does not end the system")
 }
 
@@ -126,7 +126,7 @@ fn a_lent_frame_is_written(system: &mut System) -> Result<()> {
     type_lines(system, a(), &WRITING)?;
     let _ended = done(system, Act::Run(a(), 1))?;
     write_to_first_page(system, a(), 0x840, 0xD1)?;
-    let ended = done(system, Act::Serve(a(), DevAddr::new(0x009)))?;
+    let ended = done(system, Act::Serve(a(), 0x009))?;
     see(ended == Ended::Served(true), "the console is served")?;
     let printed = system.printed(a());
     see(printed == Some(6), "the stores and the line are kept")?;
