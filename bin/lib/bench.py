@@ -173,6 +173,12 @@ def measure_channels(bench, programs, cylinders):
             idle = bench.each(first, [f"LINE {user} LOGON"], serve, programs, volumes)
             tell(f"{name} {place}: three units and a serve {whole:.2f} us, the units {units:.2f}, an idle serve {idle:.2f}; "
                  f"{count / whole:.0f} MB a second")
+            if place == "user":
+                # a byte of the first word that means nothing is stored before each serve: the same, or another each time
+                kept, first_ones = (sum(([f"LINE A #CP STORE 805 {it:02X}", *run, *serve] for it in bytes_of), [])
+                                    for bytes_of in ((0, 0), (0, 1)))
+                cost = (bench.each(first, ready, it, programs // 2, volumes) / 2 for it in (first_ones, kept))
+                tell(f"{name} user: a serve whose program is not the kept one takes {next(cost) - next(cost):.2f} us more")
             if place == "user" and shutil.which("callgrind_annotate"):
                 measure_parts(bench, name, first, ready, run + serve)
     size = max(int(cylinders), 1)

@@ -21,9 +21,9 @@ pub fn b() -> UserNo {
 
 /// What is given to a system.
 #[derive(Clone, Copy)]
-pub enum Act {
+pub enum Act<'a> {
     /// A user types a line.
-    Line(UserNo, &'static str),
+    Line(UserNo, &'a str),
     /// A user's machine runs for so many units.
     Run(UserNo, u32),
     /// A user's timer ticks.
@@ -50,7 +50,7 @@ pub fn booted(alloc: Global, directory: &[u8]) -> Result<System> {
 
 /// How an event ends, or why it is none. Nothing else here calls the system: each call brings along the whole contract
 /// of an event, which takes the prover long.
-pub fn answer(system: &mut System, act: Act) -> Result<Ended, CpError> {
+pub fn answer(system: &mut System, act: Act<'_>) -> Result<Ended, CpError> {
     // The kit proves a function whose replies may hold the address of a device only where it names one.
     let _device = DevAddr::new(0);
     let event = match act {
@@ -66,7 +66,7 @@ pub fn answer(system: &mut System, act: Act) -> Result<Ended, CpError> {
 }
 
 /// How an event ends that has to be one. A system for which memory was refused has to answer nothing else from then on.
-pub fn done(system: &mut System, act: Act) -> Result<Ended> {
+pub fn done(system: &mut System, act: Act<'_>) -> Result<Ended> {
     match answer(system, act) {
         Ok(ended) => Ok(ended),
         Err(error) => {
@@ -90,7 +90,7 @@ fn see_refused(system: &mut System, is_memory: bool) -> Result<()> {
 }
 
 /// Types lines of a user.
-pub fn type_lines(system: &mut System, user: UserNo, lines: &[&'static str]) -> Result<()> {
+pub fn type_lines(system: &mut System, user: UserNo, lines: &[&str]) -> Result<()> {
     for line in lines {
         let _ended = done(system, Act::Line(user, *line))?;
     }

@@ -214,7 +214,7 @@ fn booted(alloc: Global) -> Result<System> {
 }
 
 /// Starts the program once more, and serves it.
-fn serve_again(system: &mut System, device: u16, typed: &[&'static str]) -> Result<()> {
+fn serve_again(system: &mut System, device: u16, typed: &[&str]) -> Result<()> {
     type_lines(system, a(), typed)?;
     type_lines(system, a(), &["#CP BEGIN 100"])?;
     let _started = done(system, Act::Run(a(), 1))?;

@@ -19,7 +19,7 @@ fn nobody() -> UserNo {
 }
 
 /// An event of a user whom nobody is.
-fn event_of_nobody(system: &mut System, act: Act) -> Result<()> {
+fn event_of_nobody(system: &mut System, act: Act<'_>) -> Result<()> {
     let answer = answer(system, act);
     see(answer == Err(CpError::NoSuchUser), "nobody has no events")
 }
