@@ -65,15 +65,33 @@ pub fn answer(system: &mut System, act: Act<'_>) -> Result<Ended, CpError> {
     }
 }
 
-/// How an event ends that has to be one. A system for which memory was refused has to answer nothing else from then on.
-pub fn done(system: &mut System, act: Act<'_>) -> Result<Ended> {
-    match answer(system, act) {
+/// How an event ended that had to be one. A system for which memory was refused has to answer nothing else from then on.
+fn settled(system: &mut System, answer: Result<Ended, CpError>) -> Result<Ended> {
+    match answer {
         Ok(ended) => Ok(ended),
         Err(error) => {
             see_refused(system, matches!(error, CpError::Memory))?;
             Err(error)?
         }
     }
+}
+
+/// How a run of a user's machine ends.
+pub fn run(system: &mut System, user: UserNo, units: u32) -> Result<Ended> {
+    let answer = answer(system, Act::Run(user, units));
+    settled(system, answer)
+}
+
+/// How a serve of the device of this address ends.
+pub fn serve(system: &mut System, user: UserNo, device: u16) -> Result<Ended> {
+    let answer = answer(system, Act::Serve(user, device));
+    settled(system, answer)
+}
+
+/// How a line of a user ends.
+pub fn type_line(system: &mut System, user: UserNo, line: &str) -> Result<Ended> {
+    let answer = answer(system, Act::Line(user, line));
+    settled(system, answer)
 }
 
 /// What is so of a system that has refused an event, for want of memory or for another reason.
@@ -92,7 +110,7 @@ fn see_refused(system: &mut System, is_memory: bool) -> Result<()> {
 /// Types lines of a user.
 pub fn type_lines(system: &mut System, user: UserNo, lines: &[&str]) -> Result<()> {
     for line in lines {
-        let _ended = done(system, Act::Line(user, *line))?;
+        let _ended = type_line(system, user, *line)?;
     }
     Ok(())
 }

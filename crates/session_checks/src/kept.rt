@@ -1,5 +1,5 @@
 //! Programs that are kept from one serve to the next: how often one was run again, and that it ends as any other.
-use crate::events::{Act, a, done, see, type_lines};
+use crate::events::{a, run, see, serve, type_lines};
 use anyhow::{Context, Result};
 use ckd_volume::Volume;
 use cp_core::{Sizes, System};
@@ -217,9 +217,9 @@ fn booted(alloc: Global) -> Result<System> {
 fn serve_again(system: &mut System, device: u16, typed: &[&str]) -> Result<()> {
     type_lines(system, a(), typed)?;
     type_lines(system, a(), &["#CP BEGIN 100"])?;
-    let _started = done(system, Act::Run(a(), 1))?;
-    let _served = done(system, Act::Serve(a(), device))?;
-    let _tested = done(system, Act::Run(a(), 1))?;
+    let _started = run(system, a(), 1)?;
+    let _served = serve(system, a(), device)?;
+    let _tested = run(system, a(), 1)?;
     Ok(())
 }
 

@@ -1,5 +1,7 @@
 //! What no script shows of a system.
-use crate::events::{Act, FEWEST_FRAMES, a, answer, b, booted, done, see, type_lines, units_of};
+use crate::events::{
+    Act, FEWEST_FRAMES, a, answer, b, booted, run, see, serve, type_lines, units_of,
+};
 use anyhow::{Result, bail};
 use cp_console::console_line::ConsoleLine;
 use cp_console::responses::Response;
@@ -18,16 +20,16 @@ fn nobody() -> UserNo {
     UserNo::new(2)
 }
 
-/// An event of a user whom nobody is.
-fn event_of_nobody(system: &mut System, act: Act<'_>) -> Result<()> {
-    let answer = answer(system, act);
-    see(answer == Err(CpError::NoSuchUser), "nobody has no events")
+/// Whether nobody's event was refused so.
+fn is_refused(answer: Result<Ended, CpError>) -> bool {
+    answer == Err(CpError::NoSuchUser)
 }
 
 fn events_of_nobody(system: &mut System) -> Result<()> {
-    event_of_nobody(system, Act::Run(nobody(), 1))?;
-    event_of_nobody(system, Act::Line(nobody(), "LOGON"))?;
-    event_of_nobody(system, Act::Tick(nobody()))?;
+    let of_run = is_refused(answer(system, Act::Run(nobody(), 1)));
+    let of_line = is_refused(answer(system, Act::Line(nobody(), "LOGON")));
+    let of_tick = is_refused(answer(system, Act::Tick(nobody())));
+    see(of_run && of_line && of_tick, "nobody has no events")?;
     see(!system.is_spent(), "such an event does not end the system")
 }
 
@@ -55,7 +57,7 @@ const KEPT: [&str; 6] = [
 
 fn kept_lines(system: &mut System) -> Result<()> {
     type_lines(system, a(), &KEPT)?;
-    let _ended = done(system, Act::Run(a(), 5))?;
+    let _ended = run(system, a(), 5)?;
     see(system.printed(a()) == Some(3), "A has three lines")?;
     let stop = Some(Response::StoppedDisabledWait);
     for (index, wanted) in [(2, stop), (3, None)] {
@@ -83,7 +85,7 @@ fn a_lent_frame(system: &mut System) -> Result<()> {
         see(frame.is_none(), "such a page stands in no frame")?;
     }
     write_to_first_page(system, a(), 0xFFE, 0xEE)?;
-    let _ended = done(system, Act::Run(a(), 1))?;
+    let _ended = run(system, a(), 1)?;
     let loaded = system.registers(a()).map(|general| general[1]);
     see(loaded == Some(0xEECD_0000), "A has loaded what was written")?;
     for address in 0..8192 {
@@ -124,9 +126,9 @@ const WRITING: [&str; 7] = [
 /// Before the program is served, the first letter is changed in the frame that is lent.
 fn a_lent_frame_is_written(system: &mut System) -> Result<()> {
     type_lines(system, a(), &WRITING)?;
-    let _ended = done(system, Act::Run(a(), 1))?;
+    let _ended = run(system, a(), 1)?;
     write_to_first_page(system, a(), 0x840, 0xD1)?;
-    let ended = done(system, Act::Serve(a(), 0x009))?;
+    let ended = serve(system, a(), 0x009)?;
     see(ended == Ended::Served(true), "the console is served")?;
     let printed = system.printed(a());
     see(printed == Some(6), "the stores and the line are kept")?;
