@@ -41,6 +41,15 @@ pub trait Disks {
     ghost others_on: { (d e f : Self) → KeepsOthers d e → KeepsOthers e f → KeepsOthers d f };
 }
 
+/// A device of a machine that is no disk.
+#[derive(Clone, Copy, PartialEq, Eq)]
+pub enum UnitRecord {
+    Console,
+    Reader,
+    Punch,
+    Printer,
+}
+
 /// The channels of a machine with this storage, which have its disks.
 pub trait Channels<S: Storage>: Disks {
     /// How a program is read that begins with this storage.
@@ -53,12 +62,14 @@ pub trait Channels<S: Storage>: Disks {
     /// Which pages a program that is run as a whole needs, that begins at an address of this storage.
     ghost needs: { Memory → ℕ → ℕ → Type 0 };
 
-    /// Runs the program with this start, for a device that is no disk. An error is told only where the program comes to
-    /// a command that needs memory, or a page is not present that the program names.
+    /// Runs the program with this start, for a device that is no disk, of which `unit` says which it is. An error is
+    /// told only where the program comes to a command that needs memory, or a page is not present that the program
+    /// names.
     fn run<D: Device>(
         &mut self,
         storage: &mut S,
         start: Caw,
+        unit: UnitRecord,
         device: &mut D,
     ) -> Result<Ending, ChannelError>
         ensures walk { IfOk result

@@ -5,6 +5,8 @@ ghost use Rattle.cp_channels.specs.Disks.{DiskAt};
 ghost use Rattle.cp_devices.specs.Devices.{AreAttached, attached, can_attach, has_at, places_of};
 ghost use Rattle.cp_devices.specs.declared.attaching.AttachError.TheVariants as errors;
 ghost use Rattle.s370_subchannels.specs.Subchannels.{can_add};
+ghost use Rattle.cp_devices.specs.Lent.{devices_with};
+ghost use Rattle.cp_spool.specs.Queues.{UserFiles, no_files};
 
 use crate::devices::Devices;
 use cp_channels::AttachedDisk;
@@ -33,7 +35,7 @@ impl Devices {
         alloc: Global,
         disks: &[AttachedDisk],
     ) -> Result<Subchannels, AttachError>
-        ensures ok { IfOk result (AreAttached self.now disks.now) }
+        ensures ok { (files : UserFiles) → IfOk result (AreAttached (devices_with self.now files) disks.now) }
         ensures apart { let addresses = places_of self.now.places ++ map (λ disk. disk.address) disks.now in
             IsOk result → can_attach addresses ≡ true }
         ensures address { let addresses = places_of self.now.places ++ map (λ disk. disk.address) disks.now in
@@ -51,8 +53,8 @@ impl Devices {
         alloc: Global,
         addresses: &[DevAddr],
     ) -> Result<Subchannels, AttachError>
-        ensures ok { (disks : List DiskAt) → addresses.now ≡ map (λ disk. disk.address) disks
-            → IfOk result (AreAttached self.now disks) }
+        ensures ok { (files : UserFiles) (disks : List DiskAt) → addresses.now ≡ map (λ disk. disk.address) disks
+            → IfOk result (AreAttached (devices_with self.now files) disks) }
         ensures apart { IsOk result → can_attach (places_of self.now.places ++ addresses.now) ≡ true }
         ensures address { result ≡ Err errors.Address
             → can_attach (places_of self.now.places ++ addresses.now) ≡ false }
@@ -70,7 +72,7 @@ impl Devices {
 
     /// Whether one of these devices, or of disks at these addresses, has this one.
     fn has_device(&self, addresses: &[DevAddr], device: u16) -> bool
-        ensures { result ≡ has_at self.now addresses.now device }
+        ensures { result ≡ has_at (devices_with self.now no_files) addresses.now device }
     {
         match self.part_at(device) {
             Some(_) => true,

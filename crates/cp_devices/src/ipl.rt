@@ -4,15 +4,18 @@ ghost use Rattle.s370_store.specs.Access.{IsAway};
 ghost use Rattle.cp_channels.specs.Channels.{IsAllThere};
 ghost use Rattle.cp_channels.specs.Disks.{reset_disk};
 ghost use Rattle.cp_devices.specs.Equipped.{equipped};
+ghost use Rattle.cp_devices.specs.Lent.{KeepsBeside, devices_on};
 ghost use Rattle.cp_devices.specs.Lines.{IsIpl, LoadsDisk, LoadsReader, ipl_told};
 
 use crate::devices::Devices;
+use crate::feeding::load_fed;
 use crate::line::Told;
-use crate::loading::{load, start_loaded};
+use crate::loading::start_loaded;
 use crate::places::Kind;
 use cp_channels::Channels;
 use cp_console::responses::Response;
 use cp_panel::{LineError, Machine};
+use cp_spool::Queues;
 use s370_channel::ChannelError;
 use s370_num::DevAddr;
 use s370_store::Storage;
@@ -33,26 +36,31 @@ impl Devices {
     /// said of the machine.
     pub fn ipl<S: Storage, C: Channels<S>>(
         &mut self,
+        queues: &mut Queues,
         machine: &mut Machine,
         storage: &mut S,
         channels: &mut C,
         device: DevAddr,
     ) -> Result<Told, LineError>
         requires size { 8192 ≤ length (S.bytes storage.old) }
+        requires user { self.old.user < length queues.old.users }
         requires there { C.is_whole ≡ true → IsAllThere (length (S.bytes storage.old)) (S.present storage.old) }
-        ensures ok { let before = equipped machine.old self.old (C.disks channels.old) (S.bytes storage.old)
+        ensures ok { let before = equipped machine.old (devices_on self.old queues.old) (C.disks channels.old) (S.bytes storage.old)
             (S.keys storage.old) in
-            let after = equipped machine.new self.new (C.disks channels.new) (S.bytes storage.new)
+            let after = equipped machine.new (devices_on self.new queues.new) (C.disks channels.new) (S.bytes storage.new)
             (S.keys storage.new) in
             IfOk result (λ told. IsIpl device before told after) }
         ensures frames { result ≡ Err LineError.FramesOut
             → ((page : ℕ) × IsAway (length (S.bytes storage.old)) (S.present storage.old) page) }
         ensures others { C.KeepsOthers channels.old channels.new }
+        ensures beside { KeepsBeside self.old queues.old self.new queues.new }
         ensures rest { S.Keeps storage.old storage.new }
     {
         match self.kind_at(channels, device.get()) {
-            Some(Kind::Reader) => self.load_reader(machine, storage, channels, device),
-            Some(Kind::Disk(index)) => self.load_disk(machine, storage, channels, device, index),
+            Some(Kind::Reader) => self.load_reader(queues, machine, storage, channels, device),
+            Some(Kind::Disk(index)) => self.load_disk(
+                queues, machine, storage, channels, device, index,
+            ),
             _ => Ok(Told::Said(Response::DeviceNotFound)),
         }
     }
@@ -60,20 +68,23 @@ impl Devices {
     /// The machine is loaded from the reader.
     fn load_reader<S: Storage, C: Channels<S>>(
         &mut self,
+        queues: &mut Queues,
         machine: &mut Machine,
         storage: &mut S,
         channels: &mut C,
         device: DevAddr,
     ) -> Result<Told, LineError>
         requires size { 8192 ≤ length (S.bytes storage.old) }
-        ensures ok { let before = equipped machine.old self.old (C.disks channels.old) (S.bytes storage.old)
+        requires user { self.old.user < length queues.old.users }
+        ensures ok { let before = equipped machine.old (devices_on self.old queues.old) (C.disks channels.old) (S.bytes storage.old)
             (S.keys storage.old) in
-            let after = equipped machine.new self.new (C.disks channels.new) (S.bytes storage.new)
+            let after = equipped machine.new (devices_on self.new queues.new) (C.disks channels.new) (S.bytes storage.new)
             (S.keys storage.new) in
             IfOk result (λ told. LoadsReader device before told after) }
         ensures frames { result ≡ Err LineError.FramesOut
             → ((page : ℕ) × IsAway (length (S.bytes storage.old)) (S.present storage.old) page) }
         ensures others { C.KeepsOthers channels.old channels.new }
+        ensures beside { KeepsBeside self.old queues.old self.new queues.new }
         ensures rest { S.Keeps storage.old storage.new }
     {
         match machine.make_room(1) {
@@ -82,7 +93,14 @@ impl Devices {
         }
         self.reset();
         channels.reset_disks();
-        match load(machine, storage, device, &mut self.reader) {
+        match load_fed(
+            machine,
+            storage,
+            device,
+            &mut self.reader,
+            queues,
+            self.user,
+        ) {
             Ok(well) => Ok(loaded(well)),
             // A command of a reader is never refused memory.
             Err(ChannelError::Memory) => unreachable!(),
@@ -93,6 +111,7 @@ impl Devices {
     /// The machine is loaded from the disk of this index.
     fn load_disk<S: Storage, C: Channels<S>>(
         &mut self,
+        queues: &Queues,
         machine: &mut Machine,
         storage: &mut S,
         channels: &mut C,
@@ -102,14 +121,15 @@ impl Devices {
         requires size { 8192 ≤ length (S.bytes storage.old) }
         requires there { C.is_whole ≡ true → IsAllThere (length (S.bytes storage.old)) (S.present storage.old) }
         requires inside { index < length (C.disks channels.old) }
-        ensures ok { let before = equipped machine.old self.old (C.disks channels.old) (S.bytes storage.old)
+        ensures ok { let before = equipped machine.old (devices_on self.old queues.now) (C.disks channels.old) (S.bytes storage.old)
             (S.keys storage.old) in
-            let after = equipped machine.new self.new (C.disks channels.new) (S.bytes storage.new)
+            let after = equipped machine.new (devices_on self.new queues.now) (C.disks channels.new) (S.bytes storage.new)
             (S.keys storage.new) in
             IfOk result (λ told. LoadsDisk index (slice_get (map reset_disk (C.disks channels.old)) index) device before told after) }
         ensures frames { result ≡ Err LineError.FramesOut
             → ((page : ℕ) × IsAway (length (S.bytes storage.old)) (S.present storage.old) page) }
         ensures others { C.KeepsOthers channels.old channels.new }
+        ensures user { self.new.user ≡ self.old.user }
         ensures rest { S.Keeps storage.old storage.new }
     {
         match machine.make_room(1) {

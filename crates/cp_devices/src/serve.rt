@@ -4,16 +4,20 @@ ghost use Rattle.s370_channel.specs.Runs.{TellsAway};
 ghost use Rattle.s370_walk.specs.Hardware.{memory_of};
 ghost use Rattle.cp_channels.specs.Channels.{WhereAbsent};
 ghost use Rattle.cp_devices.specs.Devices.{IsAttached};
+ghost use Rattle.cp_devices.specs.declared.places.Kind.TheVariants as kinds;
 ghost use Rattle.cp_devices.specs.Equipped.{equipped};
+ghost use Rattle.cp_devices.specs.Lent.{KeepsBeside, devices_on};
 ghost use Rattle.cp_devices.specs.Serve.{IsServedAt, RunsConsole, RunsKind, ServeNeeds};
 ghost use Rattle.cp_devices.specs.Stopped.{StopsAt, StopsConsole, StopsKind};
 
 use crate::devices::Devices;
+use crate::feeding::feed;
 use crate::places::Kind;
-use cp_channels::Channels;
+use cp_channels::{Channels, UnitRecord};
 use cp_console::console_line::ConsoleLine;
 use cp_console::responses::Response;
 use cp_panel::Machine;
+use cp_spool::Queues;
 use s370_channel::{Caw, ChannelError};
 use s370_num::DevAddr;
 use s370_store::Storage;
@@ -27,28 +31,31 @@ impl Devices {
     /// happened in the latter case.
     pub fn serve<S: Storage, C: Channels<S>>(
         &mut self,
+        queues: &mut Queues,
         machine: &mut Machine,
         storage: &mut S,
         channels: &mut C,
         device: DevAddr,
     ) -> Result<bool, ChannelError>
-        ensures served { let before = equipped machine.old self.old (C.disks channels.old) (S.bytes storage.old)
+        requires user { self.old.user < length queues.old.users }
+        ensures served { let before = equipped machine.old (devices_on self.old queues.old) (C.disks channels.old) (S.bytes storage.old)
             (S.keys storage.old) in
-            let after = equipped machine.new self.new (C.disks channels.new) (S.bytes storage.new)
+            let after = equipped machine.new (devices_on self.new queues.new) (C.disks channels.new) (S.bytes storage.new)
             (S.keys storage.new) in
             IfOk result (λ done. IsServedAt C.reads device before done after) }
-        ensures whole { let before = equipped machine.old self.old (C.disks channels.old) (S.bytes storage.old)
+        ensures whole { let before = equipped machine.old (devices_on self.old queues.old) (C.disks channels.old) (S.bytes storage.old)
             (S.keys storage.old) in
-            let after = equipped machine.new self.new (C.disks channels.new) (S.bytes storage.new)
+            let after = equipped machine.new (devices_on self.new queues.new) (C.disks channels.new) (S.bytes storage.new)
             (S.keys storage.new) in
             C.is_whole ≡ true
             → IfErr result (WhereAbsent (length (S.bytes storage.old)) (S.present storage.old)
             (ServeNeeds C.needs device before) (after ≡ before)) }
-        ensures stopped { let before = equipped machine.old self.old (C.disks channels.old) (S.bytes storage.old)
+        ensures stopped { let before = equipped machine.old (devices_on self.old queues.old) (C.disks channels.old) (S.bytes storage.old)
             (S.keys storage.old) in
             C.is_whole ≡ false → IfErr result (StopsAt C.reads (S.present storage.old) device before) }
         ensures away { IfErr result (TellsAway (S.present storage.old)) }
         ensures others { C.KeepsOthers channels.old channels.new }
+        ensures beside { KeepsBeside self.old queues.old self.new queues.new }
         ensures keys { S.keys storage.new ≡ S.keys storage.old }
         ensures rest { S.Keeps storage.old storage.new }
     {
@@ -58,7 +65,7 @@ impl Devices {
         let Some(start) = machine.program(device) else {
             return Ok(false);
         };
-        match self.run_kind(machine, storage, channels, kind, device, start) {
+        match self.run_kind(queues, machine, storage, channels, kind, device, start) {
             Ok(()) => Ok(true),
             Err(error) => Err(error),
         }
@@ -67,6 +74,7 @@ impl Devices {
     /// The program of the device of this kind, at this address, runs.
     fn run_kind<S: Storage, C: Channels<S>>(
         &mut self,
+        queues: &mut Queues,
         machine: &mut Machine,
         storage: &mut S,
         channels: &mut C,
@@ -75,32 +83,38 @@ impl Devices {
         start: Caw,
     ) -> Result<(), ChannelError>
         requires attached { IsAttached (C.disks channels.old) kind }
-        ensures runs { let before = equipped machine.old self.old (C.disks channels.old) (S.bytes storage.old)
+        requires user { self.old.user < length queues.old.users }
+        ensures runs { let before = equipped machine.old (devices_on self.old queues.old) (C.disks channels.old) (S.bytes storage.old)
             (S.keys storage.old) in
-            let after = equipped machine.new self.new (C.disks channels.new) (S.bytes storage.new)
+            let after = equipped machine.new (devices_on self.new queues.new) (C.disks channels.new) (S.bytes storage.new)
             (S.keys storage.new) in
             OnOk result (RunsKind C.reads kind device start before after) }
-        ensures whole { let before = equipped machine.old self.old (C.disks channels.old) (S.bytes storage.old)
+        ensures whole { let before = equipped machine.old (devices_on self.old queues.old) (C.disks channels.old) (S.bytes storage.old)
             (S.keys storage.old) in
-            let after = equipped machine.new self.new (C.disks channels.new) (S.bytes storage.new)
+            let after = equipped machine.new (devices_on self.new queues.new) (C.disks channels.new) (S.bytes storage.new)
             (S.keys storage.new) in
             C.is_whole ≡ true
             → IfErr result (WhereAbsent (length (S.bytes storage.old)) (S.present storage.old)
             (C.needs (memory_of (S.bytes storage.old) (S.keys storage.old)) start.address) (after ≡ before)) }
-        ensures stopped { let before = equipped machine.old self.old (C.disks channels.old) (S.bytes storage.old)
+        ensures stopped { let before = equipped machine.old (devices_on self.old queues.old) (C.disks channels.old) (S.bytes storage.old)
             (S.keys storage.old) in
             C.is_whole ≡ false → IfErr result (StopsKind C.reads (S.present storage.old) kind start before) }
         ensures away { IfErr result (TellsAway (S.present storage.old)) }
         ensures others { C.KeepsOthers channels.old channels.new }
+        ensures beside { KeepsBeside self.old queues.old self.new queues.new }
         ensures keys { S.keys storage.new ≡ S.keys storage.old }
         ensures rest { S.Keeps storage.old storage.new }
     {
         let key = start.key;
         let ended = match kind {
-            Kind::Console => return self.run_console(machine, storage, channels, device, start),
-            Kind::Reader => channels.run(storage, start, &mut self.reader),
-            Kind::Punch => channels.run(storage, start, &mut self.punch),
-            Kind::Printer => channels.run(storage, start, &mut self.printer),
+            Kind::Console => return self.run_console(
+                queues, machine, storage, channels, device, start,
+            ),
+            Kind::Reader => return self.run_reader(
+                queues, machine, storage, channels, device, start,
+            ),
+            Kind::Punch => channels.run(storage, start, UnitRecord::Punch, &mut self.punch),
+            Kind::Printer => channels.run(storage, start, UnitRecord::Printer, &mut self.printer),
             Kind::Disk(index) => channels.run_disk(storage, start, index),
         };
         match ended {
@@ -112,37 +126,88 @@ impl Devices {
         }
     }
 
-    /// The program of the console runs.
-    fn run_console<S: Storage, C: Channels<S>>(
+    /// The program of the reader runs.
+    fn run_reader<S: Storage, C: Channels<S>>(
         &mut self,
+        queues: &mut Queues,
         machine: &mut Machine,
         storage: &mut S,
         channels: &mut C,
         device: DevAddr,
         start: Caw,
     ) -> Result<(), ChannelError>
-        ensures runs { let before = equipped machine.old self.old (C.disks channels.old) (S.bytes storage.old)
+        requires { self.old.user < length queues.old.users }
+        ensures runs { let before = equipped machine.old (devices_on self.old queues.old) (C.disks channels.old) (S.bytes storage.old)
             (S.keys storage.old) in
-            let after = equipped machine.new self.new (C.disks channels.new) (S.bytes storage.new)
+            let after = equipped machine.new (devices_on self.new queues.new) (C.disks channels.new) (S.bytes storage.new)
             (S.keys storage.new) in
-            OnOk result (RunsConsole C.reads device start before after) }
-        ensures whole { let before = equipped machine.old self.old (C.disks channels.old) (S.bytes storage.old)
+            OnOk result (RunsKind C.reads kinds.Reader device start before after) }
+        ensures whole { let before = equipped machine.old (devices_on self.old queues.old) (C.disks channels.old) (S.bytes storage.old)
             (S.keys storage.old) in
-            let after = equipped machine.new self.new (C.disks channels.new) (S.bytes storage.new)
+            let after = equipped machine.new (devices_on self.new queues.new) (C.disks channels.new) (S.bytes storage.new)
             (S.keys storage.new) in
             C.is_whole ≡ true
             → IfErr result (WhereAbsent (length (S.bytes storage.old)) (S.present storage.old)
             (C.needs (memory_of (S.bytes storage.old) (S.keys storage.old)) start.address) (after ≡ before)) }
-        ensures stopped { let before = equipped machine.old self.old (C.disks channels.old) (S.bytes storage.old)
+        ensures stopped { let before = equipped machine.old (devices_on self.old queues.old) (C.disks channels.old) (S.bytes storage.old)
             (S.keys storage.old) in
-            C.is_whole ≡ false → IfErr result (StopsConsole C.reads (S.present storage.old) start before) }
+            C.is_whole ≡ false → IfErr result (StopsKind C.reads (S.present storage.old) kinds.Reader start before) }
         ensures away { IfErr result (TellsAway (S.present storage.old)) }
         ensures others { C.KeepsOthers channels.old channels.new }
+        ensures beside { KeepsBeside self.old queues.old self.new queues.new }
         ensures keys { S.keys storage.new ≡ S.keys storage.old }
         ensures rest { S.Keeps storage.old storage.new }
     {
         let key = start.key;
-        let ending = match channels.run(storage, start, &mut self.console) {
+        match feed(
+            &mut self.reader,
+            queues,
+            self.user,
+            storage,
+            channels,
+            start,
+        ) {
+            Ok(ending) => {
+                machine.end_program(device, key, ending);
+                Ok(())
+            }
+            Err(error) => Err(error),
+        }
+    }
+
+    /// The program of the console runs.
+    fn run_console<S: Storage, C: Channels<S>>(
+        &mut self,
+        queues: &Queues,
+        machine: &mut Machine,
+        storage: &mut S,
+        channels: &mut C,
+        device: DevAddr,
+        start: Caw,
+    ) -> Result<(), ChannelError>
+        ensures runs { let before = equipped machine.old (devices_on self.old queues.now) (C.disks channels.old) (S.bytes storage.old)
+            (S.keys storage.old) in
+            let after = equipped machine.new (devices_on self.new queues.now) (C.disks channels.new) (S.bytes storage.new)
+            (S.keys storage.new) in
+            OnOk result (RunsConsole C.reads device start before after) }
+        ensures whole { let before = equipped machine.old (devices_on self.old queues.now) (C.disks channels.old) (S.bytes storage.old)
+            (S.keys storage.old) in
+            let after = equipped machine.new (devices_on self.new queues.now) (C.disks channels.new) (S.bytes storage.new)
+            (S.keys storage.new) in
+            C.is_whole ≡ true
+            → IfErr result (WhereAbsent (length (S.bytes storage.old)) (S.present storage.old)
+            (C.needs (memory_of (S.bytes storage.old) (S.keys storage.old)) start.address) (after ≡ before)) }
+        ensures stopped { let before = equipped machine.old (devices_on self.old queues.now) (C.disks channels.old) (S.bytes storage.old)
+            (S.keys storage.old) in
+            C.is_whole ≡ false → IfErr result (StopsConsole C.reads (S.present storage.old) start before) }
+        ensures away { IfErr result (TellsAway (S.present storage.old)) }
+        ensures others { C.KeepsOthers channels.old channels.new }
+        ensures user { self.new.user ≡ self.old.user }
+        ensures keys { S.keys storage.new ≡ S.keys storage.old }
+        ensures rest { S.Keeps storage.old storage.new }
+    {
+        let key = start.key;
+        let ending = match channels.run(storage, start, UnitRecord::Console, &mut self.console) {
             Ok(ending) => ending,
             Err(error) => return Err(error),
         };
