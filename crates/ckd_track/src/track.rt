@@ -75,7 +75,13 @@ impl Track {
     pub fn home(&self) -> [u8; 5]
         ensures { result ≡ self.now.home }
     {
-        self.home
+        // All its fields: what is added to them is seen here.
+        let Track {
+            home,
+            entries: _,
+            area: _,
+        } = self;
+        *home
     }
 
     /// Writes another home address; the records stay.

@@ -99,7 +99,19 @@ impl Panel {
     pub(crate) fn argument(&self) -> Option<[u8; 6]>
         ensures { result ≡ unit.argument_held self.now }
     {
-        let bytes = &self.bytes;
+        // All its fields: what is added to them is seen here.
+        let Panel {
+            writable: _,
+            head: _,
+            place: _,
+            mask: _,
+            points: _,
+            right: _,
+            sense: _,
+            job: _,
+            bytes,
+            given: _,
+        } = self;
         if self.is_seeking() && bytes.len() >= 6 {
             return Some([bytes[0], bytes[1], bytes[2], bytes[3], bytes[4], bytes[5]]);
         }

@@ -69,7 +69,9 @@ impl Cylinder {
         ensures count { result ≡ length self.now }
         ensures always { result ≡ 19 }
     {
-        self.tracks.len()
+        // All its fields: what is added to them is seen here.
+        let Cylinder { tracks } = self;
+        tracks.len()
     }
 
     /// The track under this head.

@@ -79,7 +79,14 @@ impl Unit {
         ensures volser { result.now.volser ≡ self.now.volser }
         ensures cylinders { result.now.cylinders ≡ self.now.cylinders }
     {
-        &self.volume
+        // All its fields: what is added to them is seen here.
+        let Unit {
+            volume,
+            cylinder: _,
+            home: _,
+            panel: _,
+        } = self;
+        volume
     }
 
     /// The volume, which is taken off.

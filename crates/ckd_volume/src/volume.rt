@@ -133,7 +133,12 @@ impl Volume {
     pub fn volser(&self) -> [u8; 6]
         ensures { result ≡ self.now.volser }
     {
-        self.volser
+        // All its fields: what is added to them is seen here.
+        let Volume {
+            volser,
+            cylinders: _,
+        } = self;
+        *volser
     }
 
     /// How many cylinders it has.

@@ -74,7 +74,13 @@ impl Reuse {
 
     /// How often a program was run again.
     pub(crate) fn reuses(&self) -> u64 {
-        self.reuses
+        // All its fields: what is added to them is seen here.
+        let Reuse {
+            units: _,
+            disks: _,
+            reuses,
+        } = self;
+        *reuses
     }
 
     /// A program is run again.

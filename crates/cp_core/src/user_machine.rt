@@ -125,17 +125,17 @@ impl UserMachine {
         ensures neighbours { KeepsNeighbours (record { volumes = volumes.old; minidisks = self.old.minidisks })
             (record { volumes = volumes.new; minidisks = self.new.minidisks }) }
     {
+        // All its fields: what is added to them is seen here.
+        let UserMachine {
+            machine,
+            devices,
+            minidisks,
+            keys,
+            deliveries: _,
+            reuse,
+        } = self;
         lend_over(
-            &mut self.machine,
-            &mut self.devices,
-            queues,
-            volumes,
-            &mut self.minidisks,
-            &mut self.reuse,
-            frames,
-            &mut self.keys,
-            user,
-            directory,
+            machine, devices, queues, volumes, minidisks, reuse, frames, keys, user, directory,
             work,
         )
     }

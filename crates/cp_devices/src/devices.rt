@@ -126,7 +126,17 @@ impl Devices {
     pub fn user(&self) -> UserNo
         ensures { result ≡ self.now.user }
     {
-        self.user
+        // All its fields: what is added to them is seen here.
+        let Devices {
+            places: _,
+            console: _,
+            reader: _,
+            punch: _,
+            printer: _,
+            target: _,
+            user,
+        } = self;
+        *user
     }
 
     /// The card punch.

@@ -73,7 +73,14 @@ impl Minidisk {
     pub fn sense(&self) -> Sense
         ensures { result ≡ self.now.sense }
     {
-        self.sense
+        // All its fields: what is added to them is seen here.
+        let Minidisk {
+            extent: _,
+            cylinder: _,
+            head: _,
+            sense,
+        } = self;
+        *sense
     }
 
     /// A system reset: there is no sense, and the arm stays.

@@ -116,7 +116,14 @@ impl UserQueue {
     pub(crate) fn place(&self) -> Option<usize>
         ensures { result ≡ self.now.place }
     {
-        self.place
+        // All its fields: what is added to them is seen here.
+        let UserQueue {
+            decks: _,
+            place,
+            punched: _,
+            printed: _,
+        } = self;
+        *place
     }
 
     /// How many decks there are.

@@ -62,7 +62,9 @@ impl Queues {
     pub fn users(&self) -> usize
         ensures { result ≡ length self.now.users }
     {
-        self.users.len()
+        // All its fields: what is added to them is seen here.
+        let Queues { files: _, users } = self;
+        users.len()
     }
 
     /// A deck of these cards comes to the end of the queue of this user's reader.

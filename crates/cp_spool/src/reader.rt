@@ -57,7 +57,13 @@ impl Reader {
     pub fn sense(&self) -> u8
         ensures { result ≡ self.now.sense }
     {
-        self.sense
+        // All its fields: what is added to them is seen here.
+        let Reader {
+            sense,
+            bytes: _,
+            given: _,
+        } = self;
+        *sense
     }
 
     /// A unit check with this sense byte.

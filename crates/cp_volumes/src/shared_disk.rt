@@ -48,7 +48,13 @@ impl SharedDisk {
     pub fn volume(&self) -> usize
         ensures { result ≡ self.now.volume }
     {
-        self.volume
+        // All its fields: what is added to them is seen here.
+        let SharedDisk {
+            address: _,
+            volume,
+            minidisk: _,
+        } = self;
+        *volume
     }
 
     /// What it has of its own: its extent, its arm and its sense.

@@ -77,7 +77,9 @@ impl Volumes {
     pub fn count(&self) -> usize
         ensures { result ≡ length self.now }
     {
-        self.units.len()
+        // All its fields: what is added to them is seen here.
+        let Volumes { units } = self;
+        units.len()
     }
 
     /// The volume of this index, which stands here unless a program runs on it.

@@ -236,7 +236,17 @@ impl Console {
     pub fn sense(&self) -> u8
         ensures { result ≡ self.now.sense }
     {
-        self.sense
+        // All its fields: what is added to them is seen here.
+        let Console {
+            lines: _,
+            unfinished: _,
+            waiting: _,
+            sense,
+            wanted: _,
+            ends_line: _,
+            giving: _,
+        } = self;
+        *sense
     }
 }
 

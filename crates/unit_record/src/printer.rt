@@ -137,7 +137,14 @@ impl Printer {
     pub fn sense(&self) -> u8
         ensures { result ≡ self.now.sense }
     {
-        self.sense
+        // All its fields: what is added to them is seen here.
+        let Printer {
+            output: _,
+            sense,
+            printing: _,
+            line: _,
+        } = self;
+        *sense
     }
 }
 

@@ -139,6 +139,13 @@ impl Punch {
     pub fn sense(&self) -> u8
         ensures { result ≡ self.now.sense }
     {
-        self.sense
+        // All its fields: what is added to them is seen here.
+        let Punch {
+            output: _,
+            sense,
+            is_punching: _,
+            card: _,
+        } = self;
+        *sense
     }
 }

@@ -270,6 +270,13 @@ impl Reader {
     pub fn sense(&self) -> u8
         ensures { result ≡ self.now.sense }
     {
-        self.sense
+        // All its fields: what is added to them is seen here.
+        let Reader {
+            decks: _,
+            place: _,
+            sense,
+            giving: _,
+        } = self;
+        *sense
     }
 }

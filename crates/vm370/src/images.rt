@@ -1,13 +1,14 @@
 //! The images of volumes: files of the host that are read at first, and written again at the end.
 use crate::faults::Failure;
 use crate::program::open;
-use ckd_image::{ImageError, read_image, write_image};
+use ckd_image::{ImageError, image, read_image};
 use ckd_volume::Volume;
-use s370_num::host::Counted;
+use s370_num::host::{Counted, HostFault, read_all};
 use std::alloc::{AllocError, Global};
+use std::fs;
 use std::fs::{File, OpenFile, OpenOptions};
+use std::io::Write;
 use std::rt::Files;
-use std::{fs, io};
 
 /// What is told where the host makes, opens or renames no file: its first failure.
 const FAILED: ImageError = ImageError::Device(1);
@@ -42,8 +43,8 @@ pub fn owned(alloc: Global, paths: &[&str]) -> Result<Vec<String>, AllocError> {
 /// Writes the image of a volume to a path, in place of the file that stands there.
 ///
 /// It is written to a new file beside that one, which is renamed when it is whole. So whatever fails, either image is
-/// there, and none that is half written; but where no file can be made beside it, the one that stands there is written
-/// over.
+/// there, and none that is half written. Where no file can be made beside it, the one that stands there is written over,
+/// and where that fails it is written back.
 pub fn save_volume<R: AllocGlobal + Files>(
     rt: &R,
     volume: &Volume,
@@ -60,9 +61,15 @@ pub fn without_volume(path: String) -> Failure {
     Failure::Unsaved(FAILED, path)
 }
 
-/// Puts the image of a volume to a path.
+/// Puts the image of a volume to a path. All bytes of the image are there before a file is touched.
 fn put<R: AllocGlobal + Files>(rt: &R, volume: &Volume, path: &str) -> Result<(), ImageError> {
     let place = place_of(rt, path)?;
+    let Ok(bytes) = image(rt.alloc(), volume) else {
+        return Err(ImageError::Memory);
+    };
+    let Ok(new) = format!(in rt.alloc(); "{place}.new") else {
+        return Err(ImageError::Memory);
+    };
     let Ok(old) = OpenOptions::new()
         .write(true)
         .create(true)
@@ -70,15 +77,12 @@ fn put<R: AllocGlobal + Files>(rt: &R, volume: &Volume, path: &str) -> Result<()
     else {
         return Err(FAILED);
     };
-    let Ok(new) = format!(in rt.alloc(); "{place}.new") else {
-        return Err(ImageError::Memory);
-    };
     match File::create_new(rt, new.as_str()) {
         Ok(file) => {
             keep_permissions(&old, &file);
-            replace(rt, volume, file, &new, &place)
+            replace(rt, &bytes, file, &new, &place)
         }
-        Err(_) => write_over(rt, volume, &place),
+        Err(_) => write_over(rt, &bytes, &place),
     }
 }
 
@@ -100,15 +104,15 @@ fn keep_permissions<F: OpenFile>(old: &F, new: &F) {
     }
 }
 
-/// Writes the image of a volume to a new file, and renames that when it is whole. It is removed where that fails.
+/// Writes an image to a new file, and renames that when it is whole. It is removed where that fails.
 fn replace<R: AllocGlobal + Files>(
     rt: &R,
-    volume: &Volume,
+    bytes: &[u8],
     file: R::File,
     new: &str,
     place: &str,
 ) -> Result<(), ImageError> {
-    let replaced = match write_whole(rt, volume, file) {
+    let replaced = match write_whole(file, bytes) {
         Ok(()) => fs::rename(rt, new, place).map_err(|_| FAILED),
         Err(error) => Err(error),
     };
@@ -118,36 +122,41 @@ fn replace<R: AllocGlobal + Files>(
     replaced
 }
 
-/// Writes the image of a volume to a new file, until the host has all of it on its disk.
-fn write_whole<R: AllocGlobal + Files>(
-    rt: &R,
-    volume: &Volume,
-    file: R::File,
-) -> Result<(), ImageError> {
-    let Ok(same) = file.try_clone() else {
+/// Writes an image over the file that stands at a place. What stands there is read before, and written back where that
+/// fails: so a host that fails once leaves either image whole.
+fn write_over<R: AllocGlobal + Files>(rt: &R, bytes: &[u8], place: &str) -> Result<(), ImageError> {
+    let Ok(file) = fs::open(rt, place) else {
         return Err(FAILED);
     };
-    write(rt, volume, file)?;
-    same.sync_all().map_err(|_| FAILED)
+    let old = match read_all(rt.alloc(), &mut Counted::new(file)) {
+        Ok(old) => old,
+        Err(HostFault::Memory) => return Err(ImageError::Memory),
+        Err(HostFault::Device(_)) => return Err(FAILED),
+    };
+    let written = write_at(rt, bytes, place);
+    if written.is_err() {
+        let _ = write_at(rt, &old, place);
+    }
+    written
 }
 
-/// Writes the image of a volume over the file that stands at a place.
-fn write_over<R: AllocGlobal + Files>(
-    rt: &R,
-    volume: &Volume,
-    place: &str,
-) -> Result<(), ImageError> {
-    match fs::create(rt, place) {
-        Ok(file) => write(rt, volume, file),
+/// Writes these bytes over the file that stands at a place, which has no others then.
+fn write_at<R: AllocGlobal + Files>(rt: &R, bytes: &[u8], place: &str) -> Result<(), ImageError> {
+    match OpenOptions::new().write(true).open(rt, place) {
+        Ok(file) => write_whole(file, bytes),
         Err(_) => Err(FAILED),
     }
 }
 
-/// Writes the image of a volume to a file.
-fn write<R: AllocGlobal + Files>(rt: &R, volume: &Volume, file: R::File) -> Result<(), ImageError> {
-    let alloc = rt.alloc();
-    match io::BufWriter::new(alloc, file) {
-        Ok(output) => write_image(alloc, volume, &mut Counted::new(output)),
-        Err(_) => Err(ImageError::Memory),
+/// Writes these bytes from the beginning of a file, which has no others then, until the host has all of them on its
+/// disk.
+fn write_whole<F: Write + OpenFile + Drop>(mut file: F, bytes: &[u8]) -> Result<(), ImageError> {
+    let written = match file.write_all(bytes) {
+        Ok(()) => file.set_len(bytes.len() as u64),
+        Err(error) => Err(error),
+    };
+    match written {
+        Ok(()) => file.sync_all().map_err(|_| FAILED),
+        Err(_) => Err(FAILED),
     }
 }
