@@ -67,6 +67,34 @@ fn kept_lines(system: &mut System) -> Result<()> {
     see(system.printed(b()) == Some(0), "B has no lines")
 }
 
+/// The directory of a user with a console and a reader.
+const CONSOLE_AND_READER: &[u8] = b"USER A PW 8K\nCONSOLE 009 3215\nSPOOL 00C READER\n";
+
+/// The reader has no deck.
+const FAILING: [&str; 4] = ["LOGON", "SYSTEM RESET", "IPL 00C", "BEGIN"];
+
+/// How many lines a console holds that are not read.
+const MOST_WAITING: usize = 16;
+
+/// What is said of a reset, of a loading that failed, and of a line that is lost is kept too.
+fn kept_notices(system: &mut System) -> Result<()> {
+    type_lines(system, a(), &FAILING)?;
+    for _ in 0..MOST_WAITING + 1 {
+        type_lines(system, a(), &["X"])?;
+    }
+    let notices = [
+        Some(Response::SystemReset),
+        Some(Response::IplFailed),
+        Some(Response::LineLost),
+        None,
+    ];
+    for (index, wanted) in notices.into_iter().enumerate() {
+        let line = system.console_output(a(), index);
+        see(line == wanted, "notices are kept in their order")?;
+    }
+    Ok(())
+}
+
 /// L 1,4094 across a page end, in A's machine.
 const LOADING: [&str; 5] = [
     "LOGON",
@@ -201,6 +229,7 @@ fn events_without_memory<R: Print>(rt: &R, system: &mut System) -> Result<()> {
 enum Look {
     Nobody,
     KeptLines,
+    KeptNotices,
     LentFrame,
     WrittenFrame,
     WithoutMemory,
@@ -214,6 +243,7 @@ fn see_one<R: Print>(rt: &R, system: &mut System, look: Look) -> Result<()> {
             machine_of_nobody(system)
         }
         Look::KeptLines => kept_lines(system),
+        Look::KeptNotices => kept_notices(system),
         Look::LentFrame => a_lent_frame(system),
         Look::WrittenFrame => a_lent_frame_is_written(system),
         Look::WithoutMemory => events_without_memory(rt, system),
@@ -231,6 +261,7 @@ pub fn look_at_all<R: AllocGlobal + Print>(rt: &R) -> Result<()> {
     for (directory, look) in [
         (TWO_USERS, Look::Nobody),
         (TWO_USERS, Look::KeptLines),
+        (CONSOLE_AND_READER, Look::KeptNotices),
         (TWO_USERS, Look::LentFrame),
         (CONSOLE, Look::WrittenFrame),
         (TWO_USERS, Look::WithoutMemory),

@@ -8,11 +8,13 @@ mod events;
 mod failures;
 mod kept;
 mod looks;
+mod scripts;
 
 use anyhow::Result;
 
 fn main(rt: HostRuntime) -> Result<()> {
     failures::look_at_failures(rt.alloc())?;
     kept::look_at_kept_programs(rt.alloc())?;
+    scripts::look_at_sessions(rt.alloc())?;
     looks::look_at_all(&rt)
 }
