@@ -1,6 +1,6 @@
 -- A walk leaves as many bytes of storage; so what it lacks is a page of the storage that it began with.
-use Rattle.std.proofs.Common.{◌≡◌, ◌∙◌, ℕ, zero, suc, ◌==◌, ◌≤◌, Bool, true, false, [], ◌∷◌, length, Option, None, Some, refl, arith, inl, inr}
-use Rattle.std.specs.Prelude.{◌+◌, ◌*◌, ◌<◌, ◌⊎◌, ◌&&◌, if◌then◌else◌, not}
+use Rattle.std.proofs.Common.{◌≡◌, ◌∙◌, ℕ, zero, suc, ◌==◌, Bool, true, false, [], ◌∷◌, length, Option, None, Some, refl, arith, inl, inr}
+use Rattle.std.specs.Prelude.{◌+◌, ◌&&◌, if◌then◌else◌, not}
 use Rattle.s370_store.specs.declared.Fault.{Fault}
 use Rattle.s370_store.specs.declared.Page.{Page}
 use Rattle.s370_store.specs.declared.Fault.TheVariants.{Addressing, Protection, Absent}
@@ -28,6 +28,7 @@ use Rattle.s370_channel.specs.Loading.{MatchLoading, implied_word, loading, load
 use Rattle.s370_channel.specs.Guest.{guest_written}
 use Rattle.s370_channel.specs.Progress.{setting}
 use Rattle.s370_walk.specs.Short.{nothing_needed}
+use Rattle.unit_record.specs.Reader.{ReaderState, reader_machine}
 use Rattle.ckd_volume.specs.Unit.{Disk, disk_machine}
 use Rattle.cp_channels.specs.Channels.{LacksPage}
 
@@ -129,3 +130,9 @@ pub disk_lacks : (present : ℕ → Bool) (m : Memory) (disk : Disk) (error : Ch
 disk_lacks present m disk errors.Memory (inl h) = let no : false ≡ true = h in cc
 disk_lacks present m disk errors.Memory (inr s) = let no : false ≡ true = s.needed in cc
 disk_lacks present m disk (errors.Absent page) s = loading_lacks guest_written disk_machine nothing_needed present m disk page s
+
+-- and a reader's
+pub reader_lacks : (present : ℕ → Bool) (m : Memory) (reader : ReaderState) (error : ChannelError) → MatchLoading guest_written reader_machine nothing_needed present m reader error → LacksPage (length m.bytes) present error
+reader_lacks present m reader errors.Memory (inl h) = let no : false ≡ true = h in cc
+reader_lacks present m reader errors.Memory (inr s) = let no : false ≡ true = s.needed in cc
+reader_lacks present m reader (errors.Absent page) s = loading_lacks guest_written reader_machine nothing_needed present m reader page s

@@ -1,14 +1,15 @@
 //! IPL, which the owner of a machine does for it.
-ghost use Rattle.std.specs.Prelude.{◌≡◌, ◌<◌, ◌≤◌, ℕ, true, Err, IfOk, length, map, slice_get};
+ghost use Rattle.std.specs.Prelude.{◌≡◌, ◌<◌, ◌≤◌, ℕ, false, true, Err, IfOk, Some, length, map, slice_get};
 ghost use Rattle.s370_store.specs.Access.{IsAway};
-ghost use Rattle.cp_channels.specs.Channels.{IsAllThere};
+ghost use Rattle.cp_channels.specs.Channels.{Brings, LacksRoom};
 ghost use Rattle.cp_channels.specs.Disks.{reset_disk};
 ghost use Rattle.cp_devices.specs.Equipped.{equipped};
-ghost use Rattle.cp_devices.specs.Lines.{IsIpl, LoadsDisk, LoadsReader, ipl_told};
+ghost use Rattle.cp_devices.specs.Lines.{IplNeeds, IsIpl, KindLoads, LoadsDisk, LoadsReader, ipl_told};
+ghost use Rattle.cp_devices.specs.declared.places.Kind.TheVariants as kinds;
 
 use crate::devices::Devices;
 use crate::line::Told;
-use crate::loading::{load, start_loaded};
+use crate::loading::start_loaded;
 use crate::places::Kind;
 use cp_channels::Channels;
 use cp_console::responses::Response;
@@ -29,8 +30,9 @@ fn loaded(well: bool) -> Told
 }
 
 impl Devices {
-    /// The machine is loaded from the device of this address, a reader or a disk. Where it is not obeyed, nothing is
-    /// said of the machine.
+    /// The machine is loaded from the device of this address, a reader or a disk. Where the channels are whole and there
+    /// is no room for a page that this needs, nothing has happened but that such pages came; else, where it is not
+    /// obeyed, nothing is said of the machine.
     pub fn ipl<S: Storage, C: Channels<S>>(
         &mut self,
         machine: &mut Machine,
@@ -39,16 +41,29 @@ impl Devices {
         device: DevAddr,
     ) -> Result<Told, LineError>
         requires size { 8192 ≤ length (S.bytes storage.old) }
-        requires there { C.is_whole ≡ true → IsAllThere (length (S.bytes storage.old)) (S.present storage.old) }
+        requires ready { C.IsReady storage.old }
         ensures ok { let before = equipped machine.old self.old (C.disks channels.old) (S.bytes storage.old)
             (S.keys storage.old) in
             let after = equipped machine.new self.new (C.disks channels.new) (S.bytes storage.new)
             (S.keys storage.new) in
             IfOk result (λ told. IsIpl device before told after) }
-        ensures frames { result ≡ Err LineError.FramesOut
+        ensures lacks { C.is_whole ≡ false → result ≡ Err LineError.FramesOut
             → ((page : ℕ) × IsAway (length (S.bytes storage.old)) (S.present storage.old) page) }
+        ensures same { let before = equipped machine.old self.old (C.disks channels.old) (S.bytes storage.old)
+            (S.keys storage.old) in
+            let after = equipped machine.new self.new (C.disks channels.new) (S.bytes storage.new)
+            (S.keys storage.new) in
+            C.is_whole ≡ true → result ≡ Err LineError.FramesOut → after ≡ before }
+        ensures out { let before = equipped machine.old self.old (C.disks channels.old) (S.bytes storage.old)
+            (S.keys storage.old) in
+            let needs = IplNeeds device before in
+            C.is_whole ≡ true → result ≡ Err LineError.FramesOut
+            → LacksRoom (length (S.bytes storage.old)) needs (C.IsOut storage.new needs) }
+        ensures came { let before = equipped machine.old self.old (C.disks channels.old) (S.bytes storage.old)
+            (S.keys storage.old) in
+            Brings C.Came storage.old (IplNeeds device before) storage.new }
+        ensures ready { C.IsReady storage.new }
         ensures others { C.KeepsOthers channels.old channels.new }
-        ensures rest { S.Keeps storage.old storage.new }
     {
         match self.kind_at(channels, device.get()) {
             Some(Kind::Reader) => self.load_reader(machine, storage, channels, device),
@@ -66,27 +81,46 @@ impl Devices {
         device: DevAddr,
     ) -> Result<Told, LineError>
         requires size { 8192 ≤ length (S.bytes storage.old) }
+        requires ready { C.IsReady storage.old }
         ensures ok { let before = equipped machine.old self.old (C.disks channels.old) (S.bytes storage.old)
             (S.keys storage.old) in
             let after = equipped machine.new self.new (C.disks channels.new) (S.bytes storage.new)
             (S.keys storage.new) in
             IfOk result (λ told. LoadsReader device before told after) }
-        ensures frames { result ≡ Err LineError.FramesOut
+        ensures lacks { C.is_whole ≡ false → result ≡ Err LineError.FramesOut
             → ((page : ℕ) × IsAway (length (S.bytes storage.old)) (S.present storage.old) page) }
+        ensures same { let before = equipped machine.old self.old (C.disks channels.old) (S.bytes storage.old)
+            (S.keys storage.old) in
+            let after = equipped machine.new self.new (C.disks channels.new) (S.bytes storage.new)
+            (S.keys storage.new) in
+            C.is_whole ≡ true → result ≡ Err LineError.FramesOut → after ≡ before }
+        ensures out { let before = equipped machine.old self.old (C.disks channels.old) (S.bytes storage.old)
+            (S.keys storage.old) in
+            let needs = KindLoads (Some kinds.Reader) before in
+            C.is_whole ≡ true → result ≡ Err LineError.FramesOut
+            → LacksRoom (length (S.bytes storage.old)) needs (C.IsOut storage.new needs) }
+        ensures came { let before = equipped machine.old self.old (C.disks channels.old) (S.bytes storage.old)
+            (S.keys storage.old) in
+            Brings C.Came storage.old (KindLoads (Some kinds.Reader) before) storage.new }
+        ensures ready { C.IsReady storage.new }
         ensures others { C.KeepsOthers channels.old channels.new }
-        ensures rest { S.Keeps storage.old storage.new }
     {
         match machine.make_room(1) {
             Ok(()) => {}
             Err(_) => return Err(LineError::Memory),
         }
-        self.reset();
+        let ending = match channels.load_reader(storage, &mut self.reader) {
+            Ok(ending) => ending,
+            Err(ChannelError::Memory) => return Err(LineError::Memory),
+            Err(ChannelError::Absent(_)) => return Err(LineError::FramesOut),
+        };
+        self.reset_beside();
         channels.reset_disks();
-        match load(machine, storage, device, &mut self.reader) {
+        machine.reset();
+        match start_loaded(machine, storage, device, &ending) {
             Ok(well) => Ok(loaded(well)),
-            // A command of a reader is never refused memory.
-            Err(ChannelError::Memory) => unreachable!(),
-            Err(ChannelError::Absent(_)) => Err(LineError::FramesOut),
+            // The page of the PSW is not present.
+            Err(_) => Err(LineError::FramesOut),
         }
     }
 
@@ -100,31 +134,42 @@ impl Devices {
         index: usize,
     ) -> Result<Told, LineError>
         requires size { 8192 ≤ length (S.bytes storage.old) }
-        requires there { C.is_whole ≡ true → IsAllThere (length (S.bytes storage.old)) (S.present storage.old) }
+        requires ready { C.IsReady storage.old }
         requires inside { index < length (C.disks channels.old) }
         ensures ok { let before = equipped machine.old self.old (C.disks channels.old) (S.bytes storage.old)
             (S.keys storage.old) in
             let after = equipped machine.new self.new (C.disks channels.new) (S.bytes storage.new)
             (S.keys storage.new) in
             IfOk result (λ told. LoadsDisk index (slice_get (map reset_disk (C.disks channels.old)) index) device before told after) }
-        ensures frames { result ≡ Err LineError.FramesOut
+        ensures lacks { C.is_whole ≡ false → result ≡ Err LineError.FramesOut
             → ((page : ℕ) × IsAway (length (S.bytes storage.old)) (S.present storage.old) page) }
+        ensures same { let before = equipped machine.old self.old (C.disks channels.old) (S.bytes storage.old)
+            (S.keys storage.old) in
+            let after = equipped machine.new self.new (C.disks channels.new) (S.bytes storage.new)
+            (S.keys storage.new) in
+            C.is_whole ≡ true → result ≡ Err LineError.FramesOut → after ≡ before }
+        ensures out { let before = equipped machine.old self.old (C.disks channels.old) (S.bytes storage.old)
+            (S.keys storage.old) in
+            let needs = KindLoads (Some (kinds.Disk index)) before in
+            C.is_whole ≡ true → result ≡ Err LineError.FramesOut
+            → LacksRoom (length (S.bytes storage.old)) needs (C.IsOut storage.new needs) }
+        ensures came { let before = equipped machine.old self.old (C.disks channels.old) (S.bytes storage.old)
+            (S.keys storage.old) in
+            Brings C.Came storage.old (KindLoads (Some (kinds.Disk index)) before) storage.new }
+        ensures ready { C.IsReady storage.new }
         ensures others { C.KeepsOthers channels.old channels.new }
-        ensures rest { S.Keeps storage.old storage.new }
     {
         match machine.make_room(1) {
             Ok(()) => {}
             Err(_) => return Err(LineError::Memory),
         }
-        self.reset();
-        channels.reset_disks();
-        machine.reset();
         let ending = match channels.load_disk(storage, index) {
             Ok(ending) => ending,
-            // A command of a disk is never refused memory.
-            Err(ChannelError::Memory) => unreachable!(),
+            Err(ChannelError::Memory) => return Err(LineError::Memory),
             Err(ChannelError::Absent(_)) => return Err(LineError::FramesOut),
         };
+        self.reset();
+        machine.reset();
         match start_loaded(machine, storage, device, &ending) {
             Ok(well) => Ok(loaded(well)),
             // The page of the PSW is not present.

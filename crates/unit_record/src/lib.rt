@@ -27,6 +27,7 @@ mod printer;
 mod punch;
 mod reader;
 mod record;
+mod trials;
 
 pub use closing::{Closed, close_both};
 pub use console::{Arrival, Console};
@@ -39,3 +40,4 @@ pub use printer::Printer;
 pub use punch::Punch;
 pub use reader::{Card, Deck, Reader, Sender};
 pub use record::{RECORD_LENGTH, Record};
+pub use trials::{ConsoleTrial, PrinterTrial, PunchTrial, ReaderTrial, trials_view_their_devices};

@@ -81,10 +81,10 @@ impl Deck {
 /// A card reader: its decks, of which the first may be being read.
 #[derive(Drop)]
 pub struct Reader {
-    decks: VecDeque<Deck>,
-    place: Option<usize>,
-    sense: u8,
-    giving: Outgoing,
+    pub(crate) decks: VecDeque<Deck>,
+    pub(crate) place: Option<usize>,
+    pub(crate) sense: u8,
+    pub(crate) giving: Outgoing,
 }
 
 impl Model for Reader {

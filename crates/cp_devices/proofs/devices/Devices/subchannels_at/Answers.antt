@@ -1,6 +1,5 @@
-use Rattle.std.proofs.Common.{◌≡◌, ◌∙◌, ◌<◌, ap, ℕ, List, arith}
-use Rattle.std.specs.Prelude.{Bool, ◌&&◌, nat_lt, true}
-use Rattle.std.proofs.lemmas.Bool.Decides.{nat_tests}
+use Rattle.std.proofs.Common.{ℕ, arith}
+use Rattle.std.specs.Prelude.{Bool}
 use Rattle.cp_devices.specs.Devices.{has_at}
 use Rattle.cp_devices.proofs.Attached.{attached_at, on}
 use Rattle.cp_devices.proofs.devices.Devices.subchannels_at.Goals as goal
