@@ -9,8 +9,8 @@ use Rattle.vm370.specs.Files.{count_of, found_lines, is_printer, is_punch}
 -- the closed file of this kind, behind these files: of those that the punch has closed the one after as many as it has closed
 -- before, and so of the printer
 abbrev pub closed_in : Bare → List FileKind → FileKind → Option FileValue
-closed_in b before kinds.Punch = slice_get b.equipped.devices.punch.closed (count_of is_punch before)
-closed_in b before kinds.Printer = slice_get b.equipped.devices.printer.closed (count_of is_printer before)
+closed_in b before kinds.Punch = slice_get b.equipped.devices.punched (count_of is_punch before)
+closed_in b before kinds.Printer = slice_get b.equipped.devices.printed (count_of is_printer before)
 closed_in b before kinds.Deck = None
 
 -- the lines of a file of this kind, behind these files: its number is one more than theirs

@@ -3,6 +3,8 @@ use Rattle.std.specs.Prelude.{ℕ, List, [], ◌∷◌, map}
 use Rattle.s370_subchannels.specs.declared.subchannel.Subchannel.{Subchannel}
 use Rattle.cp_script.specs.Users.{KnownUser}
 use Rattle.cp_script.specs.Script.{Said, Run, Line, Tick, Serve, Deck}
+use Rattle.cp_script.specs.declared.event.ScriptEvent.{ScriptEvent}
+use Rattle.cp_script.specs.declared.event.ScriptEvent.TheVariants as scripts
 use Rattle.bare_installation.specs.Bare.{Bare, bare}
 use Rattle.bare_installation.specs.declared.events.Event.{Event}
 use Rattle.bare_installation.specs.declared.events.Event.TheVariants as events
@@ -31,3 +33,12 @@ as_said (events.Line typed) = Line user typed.now
 as_said (events.Serve device) = Serve user device
 as_said events.Tick = Tick user
 as_said (events.Deck cards) = Deck user cards.now
+
+-- an event that a script says with all that it has: no deck, whose cards are still to be made, and no turns
+abbrev pub IsWhole : ScriptEvent → Type 0
+IsWhole (scripts.Run user units) = Unit {0}
+IsWhole (scripts.Line user text) = Unit {0}
+IsWhole (scripts.Tick user) = Unit {0}
+IsWhole (scripts.Serve user device) = Unit {0}
+IsWhole (scripts.Deck user cards) = ⊥
+IsWhole (scripts.Auto turns) = ⊥

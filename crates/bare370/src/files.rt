@@ -1,14 +1,15 @@
 //! The files that a machine of its own has closed for the operator, by their numbers: the last part of a transcript.
 ghost use Rattle.std.specs.Prelude.{◌≡◌, ◌++◌, ◌<◌, IfOk, OnOk, Some, length, slice_get, take};
-ghost use Rattle.std.specs.Option.{option_copied};
+ghost use Rattle.std.specs.Option.{option_copied, option_map};
+ghost use Rattle.cp_spool.specs.File.{closed_file};
 ghost use Rattle.bare_installation.specs.Bare.{bare};
 ghost use Rattle.vm370.specs.Files.{count_of, found_lines, is_printer, is_punch};
 ghost use Rattle.vm370.specs.Transcript.{ended};
 ghost use Rattle.bare370.specs.Files.{closed_in, closing_lines, kind_lines, place_lines};
 
 use bare_installation::{BARE, Bare, FileKind};
+use cp_spool::SpoolFile;
 use std::alloc::{AllocError, Global};
-use unit_record::File;
 use vm370::files::print_file;
 
 /// The lines of all files that were closed for the operator, by their numbers, each ended by LF.
@@ -74,10 +75,10 @@ fn print_found(
     out: &mut Vec<u8>,
     kind: FileKind,
     number: u64,
-    file: Option<&File>,
+    file: Option<&SpoolFile>,
 ) -> Result<(), AllocError>
     ensures { OnOk result (out.new.items
-        ≡ out.old.items ++ ended (found_lines kind number bare (option_copied file.entry))) }
+        ≡ out.old.items ++ ended (found_lines kind number bare (option_map closed_file (option_copied file.entry)))) }
 {
     match file {
         Some(file) => print_file(alloc, out, kind, number, BARE, file),
@@ -86,12 +87,12 @@ fn print_found(
 }
 
 /// The closed file of this kind behind these files.
-fn closed_file<'a>(machine: &'a Bare, before: &[FileKind], kind: FileKind) -> Option<&'a File>
-    ensures { option_copied result ≡ closed_in machine.now before.now kind }
+fn closed_file<'a>(machine: &'a Bare, before: &[FileKind], kind: FileKind) -> Option<&'a SpoolFile>
+    ensures { option_map closed_file (option_copied result) ≡ closed_in machine.now before.now kind }
 {
     match kind {
-        FileKind::Punch => machine.devices().punch().closed().get(punched(before)),
-        FileKind::Printer => machine.devices().printer().closed().get(printed(before)),
+        FileKind::Punch => machine.devices().punched(punched(before)),
+        FileKind::Printer => machine.devices().printed(printed(before)),
         FileKind::Deck => None,
     }
 }

@@ -1,9 +1,9 @@
 //! The script of a machine of its own: the events that it names, and how they happen to the machine.
 ghost use Rattle.std.specs.Prelude.{◌≡◌, ◌∷◌, ◌⊎◌, [], All, IfErr, IfOk, Ok, OnErr, map};
 ghost use Rattle.cp_script.specs.Script.{Deck, IsRefusal, said, script_of};
-ghost use Rattle.vm370.specs.Script.{IsApplicable, IsOfUser, IsWhole};
+ghost use Rattle.vm370.specs.Script.{IsApplicable, IsOfUser};
 ghost use Rattle.bare370.specs.Schedule.{IsLost};
-ghost use Rattle.bare370.specs.Script.{addresses_of, as_said, known_with, users_of};
+ghost use Rattle.bare370.specs.Script.{IsWhole, addresses_of, as_said, known_with, users_of};
 ghost use Rattle.bare370.specs.Session.{HasHappened};
 
 use bare_installation::{BARE, Bare, Event, Reply};

@@ -19,7 +19,7 @@ use crate::script::read_events;
 use bare_installation::Bare;
 use ckd_volume::{Arm, Sense, Unit, Volume};
 use cp_channels::AttachedDisk;
-use cp_devices::{AttachError, Devices, Places};
+use cp_devices::{AttachError, Places};
 use cp_script::ScriptEvent;
 use s370_num::DevAddr;
 use s370_num::host::{HostReader, HostWriter, read_all, write_all};
@@ -58,17 +58,14 @@ pub fn machine_of(alloc: Global, blocks: u32, volumes: Vec<Volume>) -> Result<Ba
     requires least { 4 ≤ blocks }
     requires most { blocks ≤ 2048 }
 {
-    let devices = Devices::new(
-        alloc,
-        Places {
-            console: Some(DevAddr::new(CONSOLE)),
-            reader: Some(DevAddr::new(READER)),
-            punch: Some(DevAddr::new(PUNCH)),
-            printer: Some(DevAddr::new(PRINTER)),
-        },
-    );
+    let places = Places {
+        console: Some(DevAddr::new(CONSOLE)),
+        reader: Some(DevAddr::new(READER)),
+        punch: Some(DevAddr::new(PUNCH)),
+        printer: Some(DevAddr::new(PRINTER)),
+    };
     match parts_of(alloc, blocks, volumes) {
-        Ok((storage, disks)) => Bare::new(alloc, storage, devices, disks),
+        Ok((storage, disks)) => Bare::new(alloc, storage, places, disks),
         Err(_) => Err(AttachError::Memory),
     }
 }

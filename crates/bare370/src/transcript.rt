@@ -9,11 +9,11 @@ ghost use Rattle.bare370.specs.Transcript.{answer_lines, ending_lines, printed_l
 use bare_installation::{BARE, Bare, Reply};
 use cp_console::printing;
 use cp_console::responses::Response;
-use cp_devices::{Told, deck_line};
+use cp_devices::{SeenDevices, Told, deck_line};
 use cp_script::ScriptEvent;
+use cp_spool::SeenDeck;
 use s370_num::DevAddr;
 use std::alloc::{AllocError, Global};
-use unit_record::{Deck, Reader};
 use vm370::transcript::{print_line, print_ran, print_served};
 
 /// The transcript's lines for the reply that the machine has just given to an event, before which its console had
@@ -30,23 +30,23 @@ pub(crate) fn print_reply(
     ensures { IfOk result (λ text. text.items ≡ ended (reply_lines before (said event.now) reply.now machine.now)) }
 {
     let mut text = Vec::new(alloc);
-    print_answer(alloc, &mut text, machine.devices().reader(), reply)?;
+    print_answer(alloc, &mut text, &machine.devices(), reply)?;
     print_console(alloc, &mut text, machine, before)?;
     print_ending(alloc, &mut text, event, reply)?;
     Ok(text)
 }
 
-/// Adds the lines of a reply to a line, given by a machine with this reader.
+/// Adds the lines of a reply to a line, given by a machine with these devices.
 fn print_answer(
     alloc: Global,
     out: &mut Vec<u8>,
-    reader: &Reader,
+    devices: &SeenDevices<'_>,
     reply: &Reply,
 ) -> Result<(), AllocError>
-    ensures { OnOk result (out.new.items ≡ out.old.items ++ ended (answer_lines reader.now.decks reply.now)) }
+    ensures { OnOk result (out.new.items ≡ out.old.items ++ ended (answer_lines devices.now.reader.decks reply.now)) }
 {
     match *reply {
-        Reply::Told(told) => print_told(alloc, out, reader, told),
+        Reply::Told(told) => print_told(alloc, out, devices, told),
         Reply::Ran(_) | Reply::Served(_) | Reply::Done => Ok(()),
     }
 }
@@ -92,14 +92,14 @@ fn print_end(
 fn print_told(
     alloc: Global,
     out: &mut Vec<u8>,
-    reader: &Reader,
+    devices: &SeenDevices<'_>,
     told: Told,
 ) -> Result<(), AllocError>
-    ensures { OnOk result (out.new.items ≡ out.old.items ++ ended (told_lines reader.now.decks told)) }
+    ensures { OnOk result (out.new.items ≡ out.old.items ++ ended (told_lines devices.now.reader.decks told)) }
 {
     match told {
         Told::Said(response) => print_said(alloc, out, response),
-        Told::Files => print_queue(alloc, out, reader),
+        Told::Files => print_queue(alloc, out, devices),
         Told::Silent | Told::Sent(_, _) | Told::Loads(_) | Told::Closed => Ok(()),
     }
 }
@@ -116,20 +116,24 @@ fn print_said(alloc: Global, out: &mut Vec<u8>, response: Response) -> Result<()
 
 /// Adds a line for each deck of the reader, in their order.
 #[tactic(auto, using(crate::proofs::Queues::one_more, crate::proofs::Queues::no_more))]
-fn print_queue(alloc: Global, out: &mut Vec<u8>, reader: &Reader) -> Result<(), AllocError>
-    ensures { OnOk result (out.new.items ≡ out.old.items ++ ended (queue_lines reader.now.decks)) }
+fn print_queue(
+    alloc: Global,
+    out: &mut Vec<u8>,
+    devices: &SeenDevices<'_>,
+) -> Result<(), AllocError>
+    ensures { OnOk result (out.new.items ≡ out.old.items ++ ended (queue_lines devices.now.reader.decks)) }
 {
-    for index in 0..reader.len() {
-        let Some(deck) = reader.get(index) else {
+    for index in 0..devices.decks() {
+        let Some(deck) = devices.deck(index) else {
             unreachable!();
         };
-        print_deck(alloc, out, deck)?;
+        print_deck(alloc, out, &deck)?;
     }
     Ok(())
 }
 
 /// Adds the line of a deck.
-fn print_deck(alloc: Global, out: &mut Vec<u8>, deck: &Deck) -> Result<(), AllocError>
+fn print_deck(alloc: Global, out: &mut Vec<u8>, deck: &SeenDeck<'_>) -> Result<(), AllocError>
     ensures { OnOk result (out.new.items ≡ out.old.items ++ ended (queue_line deck.now ∷ [])) }
 {
     let line = deck_line(alloc, &[BARE], deck)?;

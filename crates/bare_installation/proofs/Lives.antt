@@ -47,7 +47,7 @@ gets_file (Some file) index number e = gets_for file.target index number e
 
 gets : (is_closed : Bool) (index : ℕ) (i : Bare) → Lives as_reached (got is_closed index i.files i.equipped) i.equipped (punched is_closed index i).equipped
 gets false index i = refl
-gets true index i = gets_file (slice_get i.equipped.devices.punch.closed index) index (next_file i.files) i.equipped
+gets true index i = gets_file (slice_get i.equipped.devices.punched index) index (next_file i.files) i.equipped
 
 -- a printed file changes nothing of the machine and its devices
 printed_alone : (is_closed : Bool) (i : Bare) → (printed_file is_closed i).equipped ≡ i.equipped
@@ -64,10 +64,10 @@ Once old event new = OnceBy (IsOwn old event) old new
 line_once : (typed : List ℕ) (old new : Bare) (told : Told) → IsTyped typed old told new → OnceBy (IsOwnLine typed old) old new
 line_once typed old new told h =
     let after : Equipped = (received (next_file old.files) h.first h.answered).equipped in
-    let before : ℕ = length old.equipped.devices.punch.closed in
-    let is_closed : Bool = nat_lt before (length after.devices.punch.closed) in
+    let before : ℕ = length old.equipped.devices.punched in
+    let is_closed : Bool = nat_lt before (length after.devices.punched) in
     let i : Bare = record { equipped = after; files = old.files } in
-    let is_printed : Bool = nat_lt (length old.equipped.devices.printer.closed) (length after.devices.printer.closed) in
+    let is_printed : Bool = nat_lt (length old.equipped.devices.printed) (length after.devices.printed) in
     let left : new.equipped ≡ (punched is_closed before i).equipped =
     ap (λ (x : Bare). x.equipped) h.left ∙ printed_alone is_printed (punched is_closed before i) in
     let lives : Lives as_reached (got is_closed before old.files after) after new.equipped =

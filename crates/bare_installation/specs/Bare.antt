@@ -51,19 +51,30 @@ next_file files = length files + 1
 -- ---- files that were closed
 
 -- a punched file for a user comes to the reader as a deck with its number
+abbrev pub given_back : ℕ → ℕ → Equipped → Equipped
+given_back index number e = record e { devices = with_deck_queued e.devices (deck_punched e.devices index number (senders.User 0)) }
+
 abbrev pub delivered_to : Target → ℕ → ℕ → Equipped → Equipped
 delivered_to targets.System index number e = e
-delivered_to (targets.User user) index number e =
-    record e { devices = with_deck_queued e.devices (deck_punched e.devices index number (senders.User 0)) }
+delivered_to (targets.User user) index number e = given_back index number e
 
 abbrev pub delivered : Option FileValue → ℕ → ℕ → Equipped → Equipped
 delivered None index number e = e
 delivered (Some file) index number e = delivered_to file.target index number e
 
+-- a file is for a user
+abbrev pub is_target : Target → Bool
+is_target targets.System = false
+is_target (targets.User user) = true
+
+abbrev pub is_for_user : Option FileValue → Bool
+is_for_user None = false
+is_for_user (Some file) = is_target file.target
+
 abbrev pub punched : Bool → ℕ → Bare → Bare
 punched false index i = i
 punched true index i = record {
-  equipped = delivered (slice_get i.equipped.devices.punch.closed index) index (next_file i.files) i.equipped;
+  equipped = delivered (slice_get i.equipped.devices.punched index) index (next_file i.files) i.equipped;
   files = i.files ++ kinds.Punch ∷ [];
 }
 
@@ -74,8 +85,8 @@ printed_file true i = record i { files = i.files ++ kinds.Printer ∷ [] }
 -- each file that was closed, of so many punched and printed ones before, has the number after the last, the punched one first
 abbrev pub noted : ℕ → ℕ → Bare → Bare
 noted before before_printer i =
-    let p = punched (nat_lt before (length i.equipped.devices.punch.closed)) before i in
-    printed_file (nat_lt before_printer (length i.equipped.devices.printer.closed)) p
+    let p = punched (nat_lt before (length i.equipped.devices.punched)) before i in
+    printed_file (nat_lt before_printer (length i.equipped.devices.printed)) p
 
 -- ---- a line
 
@@ -86,7 +97,7 @@ pub record IsTyped (typed : List ℕ) (old : Bare) (told : Told) (new : Bare) : 
   pub first : Told
   pub line : IsWholeLine (world_of old) typed old.equipped first answered
   pub last : told ≡ (received (next_file old.files) first answered).told
-  pub left : new ≡ noted (length old.equipped.devices.punch.closed) (length old.equipped.devices.printer.closed) (record { equipped = (received (next_file old.files) first answered).equipped; files = old.files })
+  pub left : new ≡ noted (length old.equipped.devices.punched) (length old.equipped.devices.printed) (record { equipped = (received (next_file old.files) first answered).equipped; files = old.files })
 
 -- ---- a deck of the operator
 

@@ -111,15 +111,15 @@ deck_of (Some file) index number e = deck_for file.target index number e
 -- the file of this index, where one was closed, with the number after those of these files
 abbrev pub got : Bool → ℕ → List FileKind → Equipped → List Local
 got false index files e = []
-got true index files e = deck_of (slice_get e.devices.punch.closed index) index (next_file files) e
+got true index files e = deck_of (slice_get e.devices.punched index) index (next_file files) e
 
 pub record IsOwnLine (typed : List ℕ) (old : Bare) (own : List Local) : Type 0 where
   pub answered : Equipped
   pub told : Told
   pub line : IsWholeLine (world_of old) typed old.equipped told answered
-  pub made : let before = length old.equipped.devices.punch.closed in
+  pub made : let before = length old.equipped.devices.punched in
       let after = (received (next_file old.files) told answered).equipped in
-      own ≡ Types (world_of old) typed ∷ heard told ++ got (nat_lt before (length after.devices.punch.closed)) before old.files after
+      own ≡ Types (world_of old) typed ∷ heard told ++ got (nat_lt before (length after.devices.punched)) before old.files after
 
 -- a deck of the operator has the number after the last
 abbrev pub gotten : List (List ℕ) → List FileKind → List Local

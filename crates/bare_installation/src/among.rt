@@ -11,7 +11,7 @@ use cp_console::console_line::ConsoleLine;
 use cp_console::responses::Response;
 use cp_devices::{Told, World};
 use std::alloc::{AllocError, Global};
-use unit_record::Deck;
+use unit_record::{Card, Sender};
 
 impl Bare {
     /// A line that is typed in this world, and what is told. What it sends goes to nobody, and a file that it closed
@@ -32,11 +32,17 @@ impl Bare {
 
     /// A deck that another sent, or the operator, with the number that it has among the files of all. Where memory is
     /// refused, nothing is said of the machine.
-    pub fn take_deck(&mut self, deck: Deck) -> Result<(), AllocError>
-        ensures taken { OnOk result (Leaves as_reached (Gets deck) self.old.equipped self.new.equipped) }
+    pub fn take_deck(
+        &mut self,
+        number: u64,
+        sender: Sender,
+        cards: Vec<Card>,
+    ) -> Result<(), AllocError>
+        ensures taken { OnOk result (Leaves as_reached
+            (Gets (record { label = number; sender = sender; cards = cards.items })) self.old.equipped self.new.equipped) }
         ensures files { self.new.files ≡ self.old.files }
     {
-        self.devices.deck(deck)
+        self.devices.deck(&mut self.queues, number, sender, cards)
     }
 
     /// A message that another sent, as the whole line that the console prints. Where memory is refused, nothing is said

@@ -1,5 +1,5 @@
 //! A machine with its devices, and nobody else.
-ghost use Rattle.std.specs.Prelude.{◌≡◌, ◌≤◌, [], List, Option, true, IfOk, OnErr, OnOk, length, slice_get};
+ghost use Rattle.std.specs.Prelude.{◌≡◌, ◌<◌, ◌≤◌, ◌^◌, [], List, Option, true, IfOk, OnErr, OnOk, length, slice_get};
 ghost use Rattle.std.specs.Option.{option_map};
 ghost use Rattle.s370_store.specs.Plain.{plain_bytes, plain_keys};
 ghost use Rattle.s370_channel.specs.Reading.{as_reached};
@@ -10,17 +10,22 @@ ghost use Rattle.cp_panel.specs.Run.{run};
 ghost use Rattle.cp_panel.specs.Tick.{ticked};
 ghost use Rattle.s370_subchannels.specs.declared.subchannel.Subchannel.{Subchannel};
 ghost use Rattle.cp_devices.specs.Devices.{AreAttached, devices_new, no_places};
+ghost use Rattle.cp_devices.specs.Lent.{devices_on};
 ghost use Rattle.cp_devices.specs.Lines.{IsIpl, IsLine, IsWholeLine};
 ghost use Rattle.cp_devices.specs.Serve.{IsServedAt};
-ghost use Rattle.bare_installation.specs.Bare.{IsTyped, alone, next_file, noted, printed_file, punched, received, with_deck, world_of};
+ghost use Rattle.bare_installation.specs.Bare.{IsTyped, alone, given_back, is_for_user, next_file, noted, printed_file, punched, received, with_deck, world_of};
 ghost use Rattle.bare_installation.specs.Life.{AttentionAgreesThroughout, EachIsLife, IsApplied, LacksMemory, MayLackMemory};
 
 use crate::alone::Alone;
 use crate::events::{Event, Reply};
 use cp_channels::{AttachedDisk, Own};
 use cp_console::responses::Response;
-use cp_devices::{AttachError, Devices, FileKind, Places, Told, World, copy_of, is_logged_on};
+use cp_devices::{
+    AttachError, Devices, FileKind, Places, SeenDevices, Told, World, copy_of, is_logged_on,
+};
 use cp_panel::{LineError, Machine, MachineRan, Mode};
+use cp_spool::Queues;
+use cp_users::UserNo;
 use s370_channel::ChannelError;
 use s370_intr::{Pending, RealCpu};
 use s370_num::{DevAddr, StorageKey};
@@ -29,55 +34,68 @@ use s370_store::{PlainStorage, Supply};
 use s370_subchannels::{Subchannel, Subchannels};
 use std::alloc::{AllocError, Global};
 use std::marker::Model;
-use unit_record::{Card, Deck, Sender, Target};
+use unit_record::{Card, Sender, Target};
 
 /// One System/370 with its panel, its own storage and its devices. Its user is `BARE`.
 #[derive(Drop)]
 pub struct Bare {
     pub(crate) machine: Machine,
     pub(crate) devices: Devices,
+    pub(crate) queues: Queues,
     channels: Own,
     storage: PlainStorage,
     files: Vec<FileKind>,
 }
 
 impl Model for Bare {
-    ghost use Rattle.std.specs.Prelude.{◌≤◌, length};
+    ghost use Rattle.std.specs.Prelude.{◌<◌, ◌≤◌, length};
     ghost use Rattle.s370_store.specs.Plain.{plain_bytes, plain_keys};
     ghost use Rattle.cp_channels.specs.Own.{disks_of};
     ghost use Rattle.cp_devices.specs.Equipped.{equipped};
+    ghost use Rattle.cp_devices.specs.Lent.{devices_on};
     ghost use Rattle.bare_installation.specs.Bare.{Bare as Whole};
 
     ghost Value = { Whole };
 
     ghost view = { λ b. record {
-      equipped = equipped b.machine b.devices (disks_of b.channels) (plain_bytes b.storage)
+      equipped = equipped b.machine (devices_on b.devices b.queues) (disks_of b.channels) (plain_bytes b.storage)
           (plain_keys b.storage);
       files = b.files.items;
     } };
 
-    ghost invariant = { λ b. 8192 ≤ length (plain_bytes b.storage) };
+    ghost invariant = { λ b. (8192 ≤ length (plain_bytes b.storage)) × (b.devices.user < length b.queues.users) };
 }
 
 impl Bare {
-    /// A machine that is off, with this storage of at least 8 KiB, which is cleared, these devices and these disks,
-    /// each of which has an address of its own, on one of channels 0 to 5.
+    /// A machine that is off, with this storage of at least 8 KiB, which is cleared, devices at these places and these
+    /// disks, each of which has an address of its own, on one of channels 0 to 5.
     pub fn new(
         alloc: Global,
         storage: PlainStorage,
-        devices: Devices,
+        places: Places,
         disks: Vec<AttachedDisk>,
     ) -> Result<Bare, AttachError>
         requires { 8192 ≤ length (plain_bytes storage) }
         ensures machine { IfOk result
-            (λ bare. (subchannels : List Subchannel) × AreAttached devices disks.items subchannels
+            (λ bare. (subchannels : List Subchannel) × AreAttached (devices_new places) disks.items subchannels
             × (bare.equipped.machine ≡ unused (plain_bytes storage) (plain_keys storage) subchannels)) }
-        ensures devices { IfOk result (λ bare. bare.equipped.devices ≡ devices) }
+        ensures devices { IfOk result (λ bare. bare.equipped.devices ≡ devices_new places) }
         ensures disks { IfOk result (λ bare. bare.equipped.disks ≡ disks.items) }
         ensures files { IfOk result (λ bare. bare.files ≡ []) }
     {
+        let devices = Devices::new(alloc, places, UserNo::new(0));
         let subchannels = devices.subchannels(alloc, &disks)?;
-        Ok(Bare::with_subchannels(alloc, storage, subchannels, devices, disks))
+        match Queues::new(alloc, 1) {
+            Ok(queues) => Ok(Bare::with_subchannels(
+                alloc,
+                storage,
+                subchannels,
+                devices,
+                queues,
+                disks,
+            )),
+            Err(_) => Err(AttachError::Memory),
+        }
     }
 
     /// The same, where these subchannels are those of the devices and disks.
@@ -86,11 +104,13 @@ impl Bare {
         mut storage: PlainStorage,
         subchannels: Subchannels,
         devices: Devices,
+        queues: Queues,
         disks: Vec<AttachedDisk>,
     ) -> Bare
-        requires { 8192 ≤ length (plain_bytes storage) }
+        requires size { 8192 ≤ length (plain_bytes storage) }
+        requires user { devices.user < length queues.users }
         ensures machine { result.equipped.machine ≡ unused (plain_bytes storage) (plain_keys storage) subchannels }
-        ensures devices { result.equipped.devices ≡ devices }
+        ensures devices { result.equipped.devices ≡ devices_on devices queues }
         ensures disks { result.equipped.disks ≡ disks.items }
         ensures files { result.files ≡ [] }
     {
@@ -98,6 +118,7 @@ impl Bare {
         Bare {
             machine: Machine::new(alloc, subchannels),
             devices,
+            queues,
             channels: Own::new(disks),
             storage,
             files: Vec::new(alloc),
@@ -105,20 +126,23 @@ impl Bare {
     }
 
     /// A machine without devices that is off, with this storage of at least 8 KiB, which is cleared.
-    pub fn without_devices(alloc: Global, storage: PlainStorage) -> Bare
+    pub fn without_devices(alloc: Global, storage: PlainStorage) -> Result<Bare, AllocError>
         requires { 8192 ≤ length (plain_bytes storage) }
-        ensures machine { result.equipped.machine ≡ unused (plain_bytes storage) (plain_keys storage) [] }
-        ensures devices { result.equipped.devices ≡ devices_new no_places }
-        ensures disks { result.equipped.disks ≡ [] }
-        ensures files { result.files ≡ [] }
+        ensures machine { IfOk result
+            (λ bare. bare.equipped.machine ≡ unused (plain_bytes storage) (plain_keys storage) []) }
+        ensures devices { IfOk result (λ bare. bare.equipped.devices ≡ devices_new no_places) }
+        ensures disks { IfOk result (λ bare. bare.equipped.disks ≡ []) }
+        ensures files { IfOk result (λ bare. bare.files ≡ []) }
     {
-        Bare::with_subchannels(
+        let queues = Queues::new(alloc, 1)?;
+        Ok(Bare::with_subchannels(
             alloc,
             storage,
             Subchannels::new(alloc),
-            Devices::new(alloc, Places::NONE),
+            Devices::new(alloc, Places::NONE, UserNo::new(0)),
+            queues,
             Vec::new(alloc),
-        )
+        ))
     }
 
     /// What an event does to the machine, and what is told. Where memory is refused, nothing is said of the machine.
@@ -189,6 +213,7 @@ impl Bare {
         ensures memory { OnErr result (LacksMemory device self.old) }
     {
         match self.devices.serve(
+            &mut self.queues,
             &mut self.machine,
             &mut self.storage,
             &mut self.channels,
@@ -210,7 +235,8 @@ impl Bare {
             return Ok(());
         }
         let number = self.next_file();
-        self.devices.deck(Deck::new(number, Sender::System, cards))?;
+        self.devices
+            .deck(&mut self.queues, number, Sender::System, cards)?;
         self.files.push(FileKind::Deck)?;
         Ok(())
     }
@@ -219,12 +245,12 @@ impl Bare {
     pub fn line(&mut self, alloc: Global, typed: &[u8]) -> Result<Told, AllocError>
         ensures { IfOk result (λ told. IsTyped typed.now self.old told self.new) }
     {
-        let punched = self.devices.punch().closed().len();
-        let printed = self.devices.printer().closed().len();
+        let punched = self.punched();
+        let printed = self.printed_files();
         let world = self.world();
         let first = self.answer_whole(alloc, &world, typed)?;
         let told = self.receive(first)?;
-        self.note(alloc, punched, printed)?;
+        self.note(punched, printed)?;
         Ok(told)
     }
 
@@ -268,6 +294,7 @@ impl Bare {
     {
         let told = self.devices.line(
             alloc,
+            &mut self.queues,
             &mut self.machine,
             &mut self.storage,
             &mut self.channels,
@@ -288,6 +315,7 @@ impl Bare {
         ensures files { self.new.files ≡ self.old.files }
     {
         let told = self.devices.ipl(
+            &mut self.queues,
             &mut self.machine,
             &mut self.storage,
             &mut self.channels,
@@ -319,25 +347,21 @@ impl Bare {
         }
     }
 
-    /// The number of the next file.
+    /// The number of the next file. A list ends before numbers do, so none is used again.
     fn next_file(&self) -> u64
-        ensures { result ≡ next_file self.now.files }
+        ensures value { result ≡ next_file self.now.files }
+        ensures fits { result ≤ 2 ^ 63 }
     {
         self.files.len() as u64 + 1
     }
 
     /// Each file that was closed, of so many punched and printed ones before, gets its number.
-    fn note(
-        &mut self,
-        alloc: Global,
-        punched_before: usize,
-        printed_before: usize,
-    ) -> Result<(), AllocError>
+    fn note(&mut self, punched_before: usize, printed_before: usize) -> Result<(), AllocError>
         ensures { OnOk result (self.new ≡ noted punched_before printed_before self.old) }
     {
-        let has_printed = self.devices.printer().closed().len() > printed_before;
-        if self.devices.punch().closed().len() > punched_before {
-            self.note_punched(alloc, punched_before)?;
+        let has_printed = self.printed_files() > printed_before;
+        if self.punched() > punched_before {
+            self.note_punched(punched_before)?;
         }
         if has_printed {
             self.files.push(FileKind::Printer)?;
@@ -346,24 +370,60 @@ impl Bare {
     }
 
     /// The punched file of this index gets its number, and goes where it is for.
-    fn note_punched(&mut self, alloc: Global, index: usize) -> Result<(), AllocError>
+    fn note_punched(&mut self, index: usize) -> Result<(), AllocError>
+        requires { index < length self.old.equipped.devices.punched }
         ensures { OnOk result (self.new ≡ punched true index self.old) }
     {
-        let number = self.next_file();
-        match self.devices.punch().closed().get(index) {
-            Some(file) => match file.target() {
-                Target::User(_) => {
-                    let deck = self
-                        .devices
-                        .deck_of_punched(alloc, index, number, Sender::User(0))?;
-                    self.devices.deck(deck)?;
-                }
-                Target::System => {}
-            },
-            None => {}
+        if self.is_for_user(index) {
+            self.deliver(index)?;
         }
         self.files.push(FileKind::Punch)?;
         Ok(())
+    }
+
+    /// Whether the punched file of this index is for a user.
+    fn is_for_user(&self, index: usize) -> bool
+        ensures { result ≡ is_for_user (slice_get self.now.equipped.devices.punched index) }
+    {
+        match self.queues.punched(self.devices.user(), index) {
+            Some(file) => match file.target() {
+                Target::User(_) => true,
+                Target::System => false,
+            },
+            None => false,
+        }
+    }
+
+    /// The punched file of this index comes to the reader, as a deck with the next number.
+    fn deliver(&mut self, index: usize) -> Result<(), AllocError>
+        requires { index < length self.old.equipped.devices.punched }
+        ensures equipped { OnOk result (self.new.equipped
+            ≡ given_back index (next_file self.old.files) self.old.equipped) }
+        ensures files { self.new.files ≡ self.old.files }
+    {
+        let number = self.next_file();
+        let user = self.devices.user();
+        match self
+            .queues
+            .deliver(user, index, user, number, Sender::User(0))
+        {
+            Ok(()) => Ok(()),
+            Err(_) => Err(AllocError),
+        }
+    }
+
+    /// How many files the punch closed.
+    fn punched(&self) -> usize
+        ensures { result ≡ length self.now.equipped.devices.punched }
+    {
+        self.queues.punched_count(self.devices.user())
+    }
+
+    /// How many files the printer closed.
+    fn printed_files(&self) -> usize
+        ensures { result ≡ length self.now.equipped.devices.printed }
+    {
+        self.queues.printed_count(self.devices.user())
     }
 
     /// The general registers.
@@ -442,11 +502,11 @@ impl Bare {
     {
         self.machine.console_output(line)
     }
-    /// The parts of its devices.
-    pub fn devices(&self) -> &Devices
-        ensures { result.now ≡ self.now.equipped.devices }
+    /// Its devices, with their files.
+    pub fn devices(&self) -> SeenDevices<'_>
+        ensures { result ≡ self.now.equipped.devices }
     {
-        &self.devices
+        SeenDevices::new(&self.devices, &self.queues)
     }
 
     /// Its disks, in the order in which they were attached.

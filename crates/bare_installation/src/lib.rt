@@ -7,7 +7,7 @@
 //! `BARE`, to whom messages and punched files go.
 //!
 //! ```
-//! let mut machine = Bare::new(alloc, storage, devices, disks)?;
+//! let mut machine = Bare::new(alloc, storage, places, disks)?;
 //! machine.line(alloc, b"LOGON")?;
 //! machine.line(alloc, b"IPL 00C")?;
 //! let told = machine.units(100);

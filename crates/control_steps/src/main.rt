@@ -3,8 +3,8 @@
 //!
 //! The words of the program are the tables, each of which has one step a line; their first lines tell the steps.
 //!
-//! - `values.txt`: numbers, status words, words and lines, commands and responses, scripts, directories, turns, and
-//!   files that fail.
+//! - `values.txt`: numbers, status words, words and lines, responses, devices of directories, turns, and files that fail.
+//!   What commands, scripts and directories are is shown by scripts.
 //! - `frames.txt`: pages that come, leave and are pinned, keys, and the bytes of the tables.
 //! - `minidisks.txt`: seeks that are relocated, cylinders that are cut out and put back, and two minidisks that take
 //!   turns at the unit of their volume.
@@ -20,9 +20,9 @@ mod mounts;
 mod numbers;
 mod operands;
 mod responses;
-mod scripts;
 mod status;
 mod step;
+mod storage;
 mod telling;
 mod texts;
 mod turns;

@@ -1,5 +1,6 @@
 //! Steps in which two minidisks take turns at the unit of their volume.
 use crate::extents::argument_of;
+use crate::storage::{byte_at, cut_item, set_byte, set_bytes};
 use anyhow::{Context, Result, bail};
 use ckd_volume::{Arm, Sense, Unit, Volume};
 use cp_minidisk::{Extent, Minidisk};
@@ -7,7 +8,6 @@ use s370_channel::{Csw, Guest, Limits, MOST_COMMANDS, run};
 use s370_num::AccessKey;
 use s370_store::PlainStorage;
 use std::alloc::Global;
-use step_table::lists::{byte_at, cut_item, set_byte, set_bytes};
 
 /// Where the seek to the arm stands; the program of the turn stands behind it.
 const ARMING: u32 = 0x100;
@@ -49,7 +49,7 @@ fn set_argument(storage: &mut PlainStorage, start: u32, argument: &[u8; 6]) {
     }
 }
 
-/// Runs the program of a list of storage on a minidisk, with this argument of a seek; the status word.
+/// Runs the program of a storage on a minidisk, with this argument of a seek; the status word.
 fn serve(
     unit: &mut Unit,
     minidisk: &mut Minidisk,
@@ -82,7 +82,7 @@ fn serve(
 fn left(
     alloc: Global,
     minidisk: &Minidisk,
-    storage: &mut PlainStorage,
+    storage: &PlainStorage,
     csw: &[u8; 8],
 ) -> Result<String> {
     let sense = minidisk.sense();
@@ -103,14 +103,14 @@ fn left(
     Ok(text)
 }
 
-/// One turn: `A` or `B`, the list of its storage, and the argument of its seek, between slashes.
+/// One turn: `A` or `B`, the bytes of its storage, and the argument of its seek, between slashes.
 fn turn(alloc: Global, unit: &mut Unit, disks: &mut [Minidisk; 2], text: &[u8]) -> Result<String> {
     let (who, rest) = cut_item(b'/', text).context("a turn is somebody's")?;
-    let (list, argument) = cut_item(b'/', rest).context("a turn has an argument")?;
+    let (bytes, argument) = cut_item(b'/', rest).context("a turn has an argument")?;
     let argument = argument_of(alloc, argument)?;
     match who {
-        b"A" => turn_of(alloc, unit, &mut disks[0], list, argument),
-        b"B" => turn_of(alloc, unit, &mut disks[1], list, argument),
+        b"A" => turn_of(alloc, unit, &mut disks[0], bytes, argument),
+        b"B" => turn_of(alloc, unit, &mut disks[1], bytes, argument),
         _ => bail!("A or B"),
     }
 }
@@ -120,14 +120,14 @@ fn turn_of(
     alloc: Global,
     unit: &mut Unit,
     minidisk: &mut Minidisk,
-    list: &[u8],
+    bytes: &[u8],
     argument: [u8; 6],
 ) -> Result<String> {
     let mut storage = PlainStorage::new(alloc, 2)?;
-    set_bytes(&mut storage, b"000100:070000F840000006");
-    set_bytes(&mut storage, list);
+    set_bytes(alloc, &mut storage, b"000100:070000F840000006")?;
+    set_bytes(alloc, &mut storage, bytes)?;
     let csw = serve(unit, minidisk, &mut storage, argument)?;
-    left(alloc, minidisk, &mut storage, &csw)
+    left(alloc, minidisk, &storage, &csw)
 }
 
 /// What turns leave, each told behind a comma, of A with the cylinders 3 to 6 and of B, only read, with 7 to 9.

@@ -1,6 +1,6 @@
 //! Steps over values and texts.
 use crate::step::Step;
-use crate::{commands, directories, files, numbers, responses, scripts, status, texts, turns};
+use crate::{commands, directories, files, numbers, responses, status, texts, turns};
 use anyhow::Result;
 use std::alloc::Global;
 
@@ -39,26 +39,10 @@ fn told_of_text(alloc: Global, step: &Step<'_>) -> Result<String> {
         "user" => texts::user(alloc, step),
         "clean" => commands::clean(alloc, step),
         "asked" => commands::asked(alloc, step),
-        "command" => commands::command(alloc, step),
         "response" => responses::response(alloc, step),
         "file" => responses::file(alloc, step),
         "message" => responses::message(alloc, step),
-        "script" => scripts::script(alloc, step),
-        _ => return told_of_directory(alloc, step),
-    };
-    Ok(told?)
-}
-
-/// What a step over a directory tells.
-fn told_of_directory(alloc: Global, step: &Step<'_>) -> Result<String> {
-    let told = match step.word(0) {
-        "directory" => directories::directory(alloc, step.text()),
-        "users" => directories::users(alloc, step),
         "devices" => directories::devices(alloc, step),
-        "beginnings" => directories::beginnings(alloc, step),
-        "crowd" => directories::crowd(alloc, step),
-        "full" => directories::full(alloc, step),
-        "size" => directories::size(alloc, step),
         "overlap" => directories::overlap(alloc, step),
         _ => return told_of_file(alloc, step),
     };

@@ -2,3 +2,5 @@ pub mod Moving
 pub mod Runs
 pub mod Steady
 pub mod Served
+pub mod Keeping
+pub mod Knowing

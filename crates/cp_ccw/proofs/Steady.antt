@@ -33,7 +33,7 @@ module _ {D : Type 0} (h : Setting D) (m0 : Memory) where
       (λ moves_on. steady.places 0 p m d refl moves_on) (λ moves_on a at. refl)
   step_same (Over e m d) steady = refl
 
-  walk_same : (s : State D) (n : ℕ) → IsSteadyInWords h m0 s → walk (live guest_written) h n s ≡ walk (words_frozen (live guest_written) m0) h n s
+  pub walk_same : (s : State D) (n : ℕ) → IsSteadyInWords h m0 s → walk (live guest_written) h n s ≡ walk (words_frozen (live guest_written) m0) h n s
   walk_same s zero steady = refl
   walk_same s (suc n) steady = walk_same (next (live guest_written) h s) n (steady_next s steady) ∙ ap (walk (words_frozen (live guest_written) m0) h n) (step_same s steady)
 

@@ -1,3 +1,6 @@
 pub mod Moved
 pub mod Translated
 pub mod Runs
+pub mod Kept
+pub mod Known
+pub mod Placed

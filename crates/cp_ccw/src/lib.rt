@@ -6,8 +6,16 @@
 //! another user's is changed.
 #![tactic(auto)]
 
+mod direct;
+mod kept;
+mod known;
+mod reuse;
 mod running;
 mod table;
 
+pub use direct::{know, runs_still};
+pub use kept::{Held, Kept};
+pub use known::Known;
+pub use reuse::{keep, reusable, run_kept};
 pub use running::{run_fixed, run_translated};
 pub use table::{Table, translate};

@@ -69,7 +69,7 @@ pub fn run_translated<'a, 'b, 'c, D: Device>(
 }
 
 /// Runs a translated program over the frames of a user's storage, as [`run_translated`] does over real storage.
-fn run_lent<'a, D: Device>(
+pub(crate) fn run_lent<'a, D: Device>(
     table: &Table,
     storage: &mut Dat<'a>,
     limits: &Limits,

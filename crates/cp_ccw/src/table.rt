@@ -65,7 +65,7 @@ fn list_to_real(dat: &Dat, list: &mut Vec<Option<u32>>)
 }
 
 /// Gives the lists of all words real addresses.
-fn nodes_to_real(dat: &Dat, nodes: &mut Vec<Node>)
+pub(crate) fn nodes_to_real(dat: &Dat, nodes: &mut Vec<Node>)
     ensures { AreRealNodes (real_in dat.now) nodes.old.items nodes.new.items }
 {
     let mut count = 0;

@@ -44,6 +44,15 @@ pub trait Disks {
     ghost others_on: { (d e f : Self) → KeepsOthers d e → KeepsOthers e f → KeepsOthers d f };
 }
 
+/// A device of a machine that is no disk.
+#[derive(Clone, Copy, PartialEq, Eq)]
+pub enum UnitRecord {
+    Console,
+    Reader,
+    Punch,
+    Printer,
+}
+
 /// The channels of a machine with this storage, which have its disks.
 pub trait Channels<S: Storage>: Disks {
     /// How a program is read that begins with this storage.
@@ -66,12 +75,13 @@ pub trait Channels<S: Storage>: Disks {
     /// From one storage to the other just these pages were brought, in these units.
     ghost Came: { S → List (List ℕ) → S → Type 0 };
 
-    /// Runs the program with this start, for a device that is no disk. An error is told only where memory was refused,
-    /// a page is not present, or there is no room for one.
+    /// Runs the program with this start, for a device that is no disk, of which `unit` says which it is. An error is
+    /// told only where memory was refused, a page is not present, or there is no room for one.
     fn run<D: Tried>(
         &mut self,
         storage: &mut S,
         start: Caw,
+        unit: UnitRecord,
         device: &mut D,
     ) -> Result<Ending, ChannelError>
         requires { IsReady storage.old }

@@ -11,7 +11,7 @@ mod none;
 mod own;
 mod running;
 
-pub use channels::{Channels, Disks};
+pub use channels::{Channels, Disks, UnitRecord};
 pub use disks::AttachedDisk;
 pub use none::NoDisks;
 pub use own::Own;

@@ -3,7 +3,7 @@ ghost use Rattle.std.specs.Prelude.{◌≡◌, map};
 ghost use Rattle.cp_channels.specs.Disks.{cleared_disk, reset_disk};
 ghost use Rattle.cp_channels.specs.Own.{disks_of};
 
-use crate::channels::{Channels, Disks};
+use crate::channels::{Channels, Disks, UnitRecord};
 use crate::disks::{AttachedDisk, clear_each, reset_each};
 use crate::running::{load_live, run_live};
 use s370_channel::{Caw, ChannelError};
@@ -101,6 +101,7 @@ impl<S: Storage> Channels<S> for Own {
         &mut self,
         storage: &mut S,
         start: Caw,
+        _unit: UnitRecord,
         device: &mut D,
     ) -> Result<Ending, ChannelError> {
         run_live(storage, start, device)

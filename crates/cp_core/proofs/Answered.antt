@@ -40,8 +40,8 @@ pub record IsMild (closing sends : Bool) (old : Equipped) (o : Outcome) : Type 0
   pub no_load : loads_from o.told ≡ None
   pub sent : SentSame old o.told o.equipped
   pub unsent : sends ≡ false → is_sent o.told ≡ false
-  pub punched : closing ≡ false → o.equipped.devices.punch.closed ≡ old.devices.punch.closed
-  pub printed : closing ≡ false → o.equipped.devices.printer.closed ≡ old.devices.printer.closed
+  pub punched : closing ≡ false → o.equipped.devices.punched ≡ old.devices.punched
+  pub printed : closing ≡ false → o.equipped.devices.printed ≡ old.devices.printed
 
 said_none : (r : Option Response) → loads_from (said r) ≡ None
 said_none None = refl
@@ -90,11 +90,11 @@ files_mild (deck ∷ decks) e = record { no_load = refl; sent = tt; unsent = λ 
 said_mild : (response : Response) (e : Equipped) → IsMild false false e (outcome e (Said response))
 said_mild response e = record { no_load = refl; sent = tt; unsent = λ none. refl; punched = λ none. refl; printed = λ none. refl }
 
-spooled_punched : (b : Bool) (d : DevicesValue) (target : Target) → (if b then record d { target = target } else d).punch.closed ≡ d.punch.closed
+spooled_punched : (b : Bool) (d : DevicesValue) (target : Target) → (if b then record d { target = target } else d).punched ≡ d.punched
 spooled_punched true d target = refl
 spooled_punched false d target = refl
 
-spooled_printed : (b : Bool) (d : DevicesValue) (target : Target) → (if b then record d { target = target } else d).printer.closed ≡ d.printer.closed
+spooled_printed : (b : Bool) (d : DevicesValue) (target : Target) → (if b then record d { target = target } else d).printed ≡ d.printed
 spooled_printed true d target = refl
 spooled_printed false d target = refl
 
@@ -236,8 +236,8 @@ sent_is old Closed new is same = cc
 none_closed : {A B : Type 0} (xs xs' : List A) (ys ys' : List B) → xs' ≡ xs → ys' ≡ ys → (length xs < length xs') ⊎ (length ys < length ys') → ⊥
 none_closed xs xs' ys ys' p q h = elim h [ inl more ↦ omega (arith, more, ap length p) | inr more ↦ omega (arith, more, ap length q) ]
 
-not_closed : (old new : Equipped) → new.devices.punch.closed ≡ old.devices.punch.closed → new.devices.printer.closed ≡ old.devices.printer.closed → HasClosed (length old.devices.punch.closed) (length old.devices.printer.closed) new → ⊥
-not_closed old new p q h = none_closed old.devices.punch.closed new.devices.punch.closed old.devices.printer.closed new.devices.printer.closed p q h
+not_closed : (old new : Equipped) → new.devices.punched ≡ old.devices.punched → new.devices.printed ≡ old.devices.printed → HasClosed (length old.devices.punched) (length old.devices.printed) new → ⊥
+not_closed old new p q h = none_closed old.devices.punched new.devices.punched old.devices.printed new.devices.printed p q h
 
 -- such a line may take memory
 closing_may : (q : Request) (typed : List ℕ) (e : Equipped) → closes q ≡ true → MayTakeMemory q typed e
@@ -271,7 +271,7 @@ sending_may Elsewhere typed e is = cc
 not_both : {b : Bool} → b ≡ false → b ≡ true → ⊥
 not_both off on = cc
 
-may_mild : (q : Request) (typed : List ℕ) (old : Equipped) (told : Told) (new : Equipped) → IsMild (closes q) (sends q) old (outcome new told) → NeedsMemory (length old.devices.punch.closed) (length old.devices.printer.closed) told new → MayTakeMemory q typed old
+may_mild : (q : Request) (typed : List ℕ) (old : Equipped) (told : Told) (new : Equipped) → IsMild (closes q) (sends q) old (outcome new told) → NeedsMemory (length old.devices.punched) (length old.devices.printed) told new → MayTakeMemory q typed old
 may_mild q typed old told new mild h = elim (true_or_false (closes q)) [
   | inl closing ↦ closing_may q typed old closing
   | inr none ↦ elim (true_or_false (sends q)) [
@@ -283,14 +283,14 @@ may_mild q typed old told new mild h = elim (true_or_false (closes q)) [
   ]
 ]
 
-same_mild : (q : Request) (old : Equipped) (told : Told) (new : Equipped) → closes q ≡ false → IsMild (closes q) (sends q) old (outcome new told) → NeedsMemory (length old.devices.punch.closed) (length old.devices.printer.closed) told new → new ≡ old
+same_mild : (q : Request) (old : Equipped) (told : Told) (new : Equipped) → closes q ≡ false → IsMild (closes q) (sends q) old (outcome new told) → NeedsMemory (length old.devices.punched) (length old.devices.printed) told new → new ≡ old
 same_mild q old told new none mild h = elim h [
   | inl sent ↦ sent_is old told new sent mild.sent
   | inr closed ↦ absurd (not_closed old new (mild.punched none) (mild.printed none) closed)
 ]
 
 -- what comes of a line takes memory only where the line may
-pub follow_may : (w : World) (typed : List ℕ) (old : Equipped) (told : Told) (new : Equipped) → IsWholeLine w typed old told new → NeedsMemory (length old.devices.punch.closed) (length old.devices.printer.closed) told new → LineMay typed old
+pub follow_may : (w : World) (typed : List ℕ) (old : Equipped) (told : Told) (new : Equipped) → IsWholeLine w typed old told new → NeedsMemory (length old.devices.punched) (length old.devices.printed) told new → LineMay typed old
 follow_may w typed old told new h needs = elim (true_or_false (is_ipl (requested typed old))) [
   | inl ipl ↦ inr ipl
   | inr other ↦ (let q = requested typed old in inl (may_mild q typed old told new (mild q w typed old told new other (whole_plain w typed old told new other h)) needs))
@@ -301,7 +301,7 @@ is_cut_parts true c h = cc
 is_cut_parts false c h = (refl, h)
 
 -- and a line that is not cut short has changed nothing then
-pub follow_same : (w : World) (typed : List ℕ) (old : Equipped) (told : Told) (new : Equipped) → is_cut (requested typed old) ≡ false → IsWholeLine w typed old told new → NeedsMemory (length old.devices.punch.closed) (length old.devices.printer.closed) told new → new ≡ old
+pub follow_same : (w : World) (typed : List ℕ) (old : Equipped) (told : Told) (new : Equipped) → is_cut (requested typed old) ≡ false → IsWholeLine w typed old told new → NeedsMemory (length old.devices.punched) (length old.devices.printed) told new → new ≡ old
 follow_same w typed old told new none h needs =
     let q = requested typed old in
     let parts = is_cut_parts (closes q) (is_ipl q) none in

@@ -3,8 +3,7 @@ use Rattle.std.proofs.Common.{◌≡◌, ◌≢◌, ℕ, Bool, true, false, List
 use Rattle.std.specs.Prelude.{if◌then◌else◌}
 use Rattle.std.proofs.lemmas.Grind.{common_steps}
 use Rattle.s370_channel.specs.Reading.{Reading, as_reached}
-use Rattle.unit_record.specs.Punch.{PunchState}
-use Rattle.unit_record.specs.Printer.{PrinterState}
+use Rattle.unit_record.specs.Output.{FileValue}
 use Rattle.cp_devices.specs.Equipped.{Equipped}
 use Rattle.cp_devices.specs.Life.{Event as Local, Leaves, Lives}
 use Rattle.cp_core.specs.Come.{HasCome, comes_by_line}
@@ -73,20 +72,20 @@ come_as f g (Some d) middle new same h = record {
 }
 
 -- punch and printer are as they were
-punch_kept : (user index : ℕ) (e : Equipped) (what : Delivery) (old new : Equipped) → Leaves as_reached (comes_by_line user index e what) old new → new.devices.punch ≡ old.devices.punch
-punch_kept user index e (deliveries.Deck number) old new h = ap (λ (x : Equipped). x.devices.punch) h
-punch_kept user index e (deliveries.Message line) old new h = ap (λ (x : Equipped). x.devices.punch) h
+punch_kept : (user index : ℕ) (e : Equipped) (what : Delivery) (old new : Equipped) → Leaves as_reached (comes_by_line user index e what) old new → new.devices.punched ≡ old.devices.punched
+punch_kept user index e (deliveries.Deck number) old new h = ap (λ (x : Equipped). x.devices.punched) h
+punch_kept user index e (deliveries.Message line) old new h = ap (λ (x : Equipped). x.devices.punched) h
 
-printer_kept : (user index : ℕ) (e : Equipped) (what : Delivery) (old new : Equipped) → Leaves as_reached (comes_by_line user index e what) old new → new.devices.printer ≡ old.devices.printer
-printer_kept user index e (deliveries.Deck number) old new h = ap (λ (x : Equipped). x.devices.printer) h
-printer_kept user index e (deliveries.Message line) old new h = ap (λ (x : Equipped). x.devices.printer) h
+printer_kept : (user index : ℕ) (e : Equipped) (what : Delivery) (old new : Equipped) → Leaves as_reached (comes_by_line user index e what) old new → new.devices.printed ≡ old.devices.printed
+printer_kept user index e (deliveries.Deck number) old new h = ap (λ (x : Equipped). x.devices.printed) h
+printer_kept user index e (deliveries.Message line) old new h = ap (λ (x : Equipped). x.devices.printed) h
 
-pub punch_stays : (user index : ℕ) (e : Equipped) (delivered : Option Delivered) (middle new : SystemView) → HasCome (comes_by_line user index e) delivered middle new → (u : ℕ) → (user_at new u).devices.punch ≡ (user_at middle u).devices.punch
-punch_stays user index e None middle new h u = ap (λ (us : List Equipped). (get_or us u nobody).devices.punch) h
+pub punch_stays : (user index : ℕ) (e : Equipped) (delivered : Option Delivered) (middle new : SystemView) → HasCome (comes_by_line user index e) delivered middle new → (u : ℕ) → (user_at new u).devices.punched ≡ (user_at middle u).devices.punched
+punch_stays user index e None middle new h u = ap (λ (us : List Equipped). (get_or us u nobody).devices.punched) h
 punch_stays user index e (Some d) middle new h u =
-    stays_each (λ (x : Equipped). x.devices.punch) d.to middle.users new.users h.others (punch_kept user index e d.what (user_at middle d.to) (user_at new d.to) h.comes) u
+    stays_each (λ (x : Equipped). x.devices.punched) d.to middle.users new.users h.others (punch_kept user index e d.what (user_at middle d.to) (user_at new d.to) h.comes) u
 
-pub printer_stays : (user index : ℕ) (e : Equipped) (delivered : Option Delivered) (middle new : SystemView) → HasCome (comes_by_line user index e) delivered middle new → (u : ℕ) → (user_at new u).devices.printer ≡ (user_at middle u).devices.printer
-printer_stays user index e None middle new h u = ap (λ (us : List Equipped). (get_or us u nobody).devices.printer) h
+pub printer_stays : (user index : ℕ) (e : Equipped) (delivered : Option Delivered) (middle new : SystemView) → HasCome (comes_by_line user index e) delivered middle new → (u : ℕ) → (user_at new u).devices.printed ≡ (user_at middle u).devices.printed
+printer_stays user index e None middle new h u = ap (λ (us : List Equipped). (get_or us u nobody).devices.printed) h
 printer_stays user index e (Some d) middle new h u =
-    stays_each (λ (x : Equipped). x.devices.printer) d.to middle.users new.users h.others (printer_kept user index e d.what (user_at middle d.to) (user_at new d.to) h.comes) u
+    stays_each (λ (x : Equipped). x.devices.printed) d.to middle.users new.users h.others (printer_kept user index e d.what (user_at middle d.to) (user_at new d.to) h.comes) u

@@ -10,3 +10,5 @@ pub mod Steps
 pub mod Histories
 pub mod Loans
 pub mod Wanted
+pub mod Owned
+mod Emptied

@@ -11,8 +11,7 @@ use Rattle.s370_intr.specs.declared.next.Reason.{Reason}
 use Rattle.s370_intr.specs.declared.next.Reason.TheVariants.{Stopped, Count, EcMode, Wait, DisabledWait, FramesOut as RunFramesOut}
 use Rattle.s370_intr.specs.declared.run.Ran.{Ran as RanUnits}
 use Rattle.unit_record.specs.declared.reader.Sender.TheVariants as senders
-use Rattle.unit_record.specs.Punch.{PunchState}
-use Rattle.unit_record.specs.Printer.{PrinterState}
+use Rattle.unit_record.specs.Output.{FileValue}
 use Rattle.cp_console.specs.declared.responses.Response.{Response}
 use Rattle.cp_frames.specs.Layout.{FrameSupply}
 use Rattle.cp_dat.specs.Lent.{set_own}
@@ -29,7 +28,7 @@ use Rattle.cp_devices.specs.declared.files.FileKind.TheVariants as kinds
 use Rattle.cp_devices.specs.Equipped.{Equipped}
 use Rattle.cp_devices.specs.Life.{Event as Local, Units, Serve as Serves, Line as Types, Tick as Ticks, Deck as Gets, Leaves, Lives}
 use Rattle.cp_devices.specs.Lines.{requested, said}
-use Rattle.cp_devices.specs.Spooling.{cards_of}
+use Rattle.cp_spool.specs.Queues.{cards_of}
 use Rattle.cp_core.specs.Come.{HasCome, NeedsMemory, comes_by_line, comes_from_operator}
 use Rattle.cp_core.specs.Files.{closed_by, closed_since, next_file, note_where}
 use Rattle.cp_core.specs.Histories.{IsStep}
@@ -149,21 +148,21 @@ tick_out old new user out h lent rest between = record {
 
 -- ---- a line
 
-deck_from : (number user : ℕ) (p : PunchState) (index : ℕ) → Local
-deck_from number user p index = Gets (record { label = number; sender = senders.User user; cards = cards_of (slice_get p.closed index) })
+deck_from : (number user : ℕ) (p : List FileValue) (index : ℕ) → Local
+deck_from number user p index = Gets (record { label = number; sender = senders.User user; cards = cards_of (slice_get p index) })
 
 -- what comes of it is told as it has come
-come_same : (old middle seen : SystemView) (user punched : ℕ) (typed : Bor (List ℕ)) (reply : Reply) → punched ≡ length (user_at old user).devices.punch.closed → (user_at seen user).devices.punch ≡ (user_at middle user).devices.punch → (what : Delivery) → comes_by_line user punched (user_at middle user) what ≡ coming old (record { event = Line user typed; reply = reply; seen = seen }) what
+come_same : (old middle seen : SystemView) (user punched : ℕ) (typed : Bor (List ℕ)) (reply : Reply) → punched ≡ length (user_at old user).devices.punched → (user_at seen user).devices.punched ≡ (user_at middle user).devices.punched → (what : Delivery) → comes_by_line user punched (user_at middle user) what ≡ coming old (record { event = Line user typed; reply = reply; seen = seen }) what
 unfolding deck_from
 come_same old middle seen user punched typed reply at same (deliveries.Deck number) =
-    ap (λ (p : PunchState). deck_from number user p punched) (sym same) ∙ ap (deck_from number user (user_at seen user).devices.punch) at
+    ap (λ (p : List FileValue). deck_from number user p punched) (sym same) ∙ ap (deck_from number user (user_at seen user).devices.punched) at
 come_same old middle seen user punched typed reply at same (deliveries.Message line) = refl
 
-noted_same : (user a a' b b' : ℕ) (e e' : Equipped) → a ≡ a' → b ≡ b' → e.devices.punch ≡ e'.devices.punch → e.devices.printer ≡ e'.devices.printer → closed_since user a b e ≡ closed_since user a' b' e'
+noted_same : (user a a' b b' : ℕ) (e e' : Equipped) → a ≡ a' → b ≡ b' → e.devices.punched ≡ e'.devices.punched → e.devices.printed ≡ e'.devices.printed → closed_since user a b e ≡ closed_since user a' b' e'
 noted_same user a a' b b' e e' p q r s =
     ap (λ (n : ℕ). closed_since user n b e) p ∙ ap (λ (n : ℕ). closed_since user a' n e) q
-    ∙ ap (λ (x : PunchState). note_where (nat_lt a' (length x.closed)) user kinds.Punch ++ note_where (nat_lt b' (length e.devices.printer.closed)) user kinds.Printer) r
-    ∙ ap (λ (x : PrinterState). note_where (nat_lt a' (length e'.devices.punch.closed)) user kinds.Punch ++ note_where (nat_lt b' (length x.closed)) user kinds.Printer) s
+    ∙ ap (λ (x : List FileValue). note_where (nat_lt a' (length x)) user kinds.Punch ++ note_where (nat_lt b' (length e.devices.printed)) user kinds.Printer) r
+    ∙ ap (λ (x : List FileValue). note_where (nat_lt a' (length e'.devices.punched)) user kinds.Punch ++ note_where (nat_lt b' (length x)) user kinds.Printer) s
 
 delivered_same : (d : Option Delivered) (s t : SystemView) → s.deliveries ≡ t.deliveries → with_delivered d s ≡ with_delivered d t
 delivered_same None s t h = h
@@ -172,7 +171,7 @@ delivered_same (Some d) s t h = ap (λ (ds : List (List Delivery)). set ds d.to 
 pub line_done : (old middle new : SystemView) (user : ℕ) (typed : Bor (List ℕ)) (told said' : Told) (lines : ℕ) (delivered : Option Delivered) (punched printed : ℕ)
     → HasTyped (world_of old user) user typed.now (user_at old user) old.supply (Ok told) (user_at middle user) middle.supply
     → IsLent old user middle → IsBetweenUnits old.supply → IsBetweenUnits middle.supply
-    → punched ≡ length (user_at old user).devices.punch.closed → printed ≡ length (user_at old user).devices.printer.closed
+    → punched ≡ length (user_at old user).devices.punched → printed ≡ length (user_at old user).devices.printed
     → delivered ≡ delivered_by (length middle.users) (next_file middle.files) punched told (user_at middle user)
     → new.files ≡ middle.files ++ closed_since user punched printed (user_at middle user)
     → HasCome (comes_by_line user punched (user_at middle user)) delivered middle new
@@ -217,7 +216,7 @@ none_since : (n : ℕ) → nat_lt n n ≡ false
 none_since n = grind (arith, nat_tests)
 
 none_closed : (user : ℕ) (e : Equipped) → closed_by user e e ≡ []
-none_closed user e = rw (none_since (length e.devices.punch.closed), none_since (length e.devices.printer.closed)) refl
+none_closed user e = rw (none_since (length e.devices.punched), none_since (length e.devices.printed)) refl
 
 pub line_out : (old new : SystemView) (user : ℕ) (typed : Bor (List ℕ)) → HasTyped (world_of old user) user typed.now (user_at old user) old.supply (Err errors.FramesOut) (user_at new user) new.supply → IsLent old user new → IsBetweenUnits old.supply → IsBetweenUnits new.supply
     → IsStep old (record { event = Line user typed; reply = silent FramesOut; seen = new })
@@ -271,7 +270,7 @@ line_refused old new user typed h lent rest between = record {
 pub line_cut : (old middle new : SystemView) (user : ℕ) (typed : Bor (List ℕ)) (told : Told) (punched printed : ℕ)
     → HasTyped (world_of old user) user typed.now (user_at old user) old.supply (Ok told) (user_at middle user) middle.supply
     → IsLent old user middle → IsBetweenUnits old.supply → IsBetweenUnits middle.supply
-    → punched ≡ length (user_at old user).devices.punch.closed → printed ≡ length (user_at old user).devices.printer.closed
+    → punched ≡ length (user_at old user).devices.punched → printed ≡ length (user_at old user).devices.printed
     → NeedsMemory punched printed told (user_at middle user)
     → new.users ≡ middle.users → new.supply ≡ middle.supply
     → IsCutShort old (Line user typed) new
@@ -279,8 +278,8 @@ line_cut old middle new user typed told punched printed h lent rest between at_p
     let e = user_at old user in
     let w = world_of old user in
     let q = requested typed.now e in
-    let now : NeedsMemory (length e.devices.punch.closed) (length e.devices.printer.closed) told (user_at middle user) =
-    subst (λ (n : ℕ). NeedsMemory n (length e.devices.printer.closed) told (user_at middle user)) at_punch (subst (λ (n : ℕ). NeedsMemory punched n told (user_at middle user)) at_printer needs) in
+    let now : NeedsMemory (length e.devices.punched) (length e.devices.printed) told (user_at middle user) =
+    subst (λ (n : ℕ). NeedsMemory n (length e.devices.printed) told (user_at middle user)) at_punch (subst (λ (n : ℕ). NeedsMemory punched n told (user_at middle user)) at_printer needs) in
     record {
       may = follow_may w typed.now e told (user_at middle user) h.leaves now;
       supplied = record {

@@ -37,7 +37,7 @@ HasCome coming (Some delivered) old new = ComesTo coming delivered old new
 
 -- the punch or the printer, which had closed so many files, has closed one since
 abbrev pub HasClosed : ℕ → ℕ → Equipped → Type 0
-HasClosed punched printed e = (punched < length e.devices.punch.closed) ⊎ (printed < length e.devices.printer.closed)
+HasClosed punched printed e = (punched < length e.devices.punched) ⊎ (printed < length e.devices.printed)
 
 -- a message is to be sent
 abbrev pub is_sent : Told → Bool

@@ -16,8 +16,8 @@ note_where true user kind = record { user = user; kind = kind } ∷ []
 -- the files that a user's punch and printer, which had closed so many, have closed since, that of the punch first
 abbrev pub closed_since : ℕ → ℕ → ℕ → Equipped → List FileNote
 closed_since user punched printed new =
-    note_where (nat_lt punched (length new.devices.punch.closed)) user kinds.Punch
-    ++ note_where (nat_lt printed (length new.devices.printer.closed)) user kinds.Printer
+    note_where (nat_lt punched (length new.devices.punched)) user kinds.Punch
+    ++ note_where (nat_lt printed (length new.devices.printed)) user kinds.Printer
 
 abbrev pub closed_by : ℕ → Equipped → Equipped → List FileNote
-closed_by user old new = closed_since user (length old.devices.punch.closed) (length old.devices.printer.closed) new
+closed_by user old new = closed_since user (length old.devices.punched) (length old.devices.printed) new

@@ -73,7 +73,7 @@ local_event old (Serve user device) ended = serve_of device ended
 abbrev pub deck_by : Event → SystemView → SystemView → ℕ → DeckValue
 deck_by (Deck user cards) old seen number = record { label = number; sender = senders.System; cards = cards.now }
 deck_by (Line user typed) old seen number =
-    deck_punched (user_at seen user).devices (length (user_at old user).devices.punch.closed) number (senders.User user)
+    deck_punched (user_at seen user).devices (length (user_at old user).devices.punched) number (senders.User user)
 deck_by (Run user asked) old seen number = record { label = number; sender = senders.System; cards = [] }
 deck_by (Tick user) old seen number = record { label = number; sender = senders.System; cards = [] }
 deck_by (Serve user device) old seen number = record { label = number; sender = senders.System; cards = [] }

@@ -4,10 +4,15 @@ use Rattle.cp_channels.specs.Disks.{DiskAt}
 use Rattle.cp_volumes.specs.Keeping.{neighbours_on, neighbours_same}
 use Rattle.cp_volumes.specs.Shared.{DisksValue, KeepsNeighbours, seen}
 use Rattle.cp_core.specs.declared.resident.Resident.{Resident}
+use Rattle.cp_core.specs.declared.reuse.Reuse.{Reuse}
 
 -- the minidisks that hang on the channels of a user, and the volumes on which they stand
 abbrev pub hung_on : Resident → DisksValue
 hung_on r = r.disks
+
+-- the programs of his devices that are kept
+abbrev pub reuse_of : Resident → Reuse
+reuse_of r = r.reuse
 
 -- the disks that he sees
 abbrev pub disks_on : Resident → List DiskAt

@@ -85,9 +85,18 @@ abbrev pub deck_of : ℕ → ℕ → Option FileValue → Option Delivered
 deck_of users number None = None
 deck_of users number (Some file) = deck_for users number file.target
 
+-- the user for whom a file is, if it is for one
+abbrev pub user_in : Target → Option ℕ
+user_in targets.System = None
+user_in (targets.User user) = Some user
+
+abbrev pub receiver_of : Option FileValue → Option ℕ
+receiver_of None = None
+receiver_of (Some file) = user_in file.target
+
 -- the punch's file of this index, where there is one
 abbrev pub punched : ℕ → ℕ → ℕ → Equipped → Option Delivered
-punched users number index answered = deck_of users number (slice_get answered.devices.punch.closed index)
+punched users number index answered = deck_of users number (slice_get answered.devices.punched index)
 
 -- what a line delivers: the message that it sends, or the file that the punch closed, which is the first after those of before
 abbrev pub delivered_by : ℕ → ℕ → ℕ → Told → Equipped → Option Delivered
@@ -104,7 +113,7 @@ pub record IsLineTold (user : ℕ) (typed : List ℕ) (old : SystemView) (reply 
   pub answered : Equipped
   pub line : IsWholeLine (world_of old user) typed (user_at old user) told answered
   pub said : reply.said ≡ said_to_line (next_file old.files) told
-  pub delivered : reply.delivered ≡ delivered_by (length old.users) (next_file old.files) (length (user_at old user).devices.punch.closed) told answered
+  pub delivered : reply.delivered ≡ delivered_by (length old.users) (next_file old.files) (length (user_at old user).devices.punched) told answered
 
 abbrev pub TellsOfLine : ℕ → List ℕ → SystemView → Reply → Ended → SystemView → Type 0
 TellsOfLine user typed old reply Done new = IsLineTold user typed old reply

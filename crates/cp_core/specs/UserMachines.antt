@@ -1,5 +1,5 @@
 -- A user's machine with its devices, of which the storage stands in frames.
-use Rattle.std.specs.Prelude.{◌≡◌, ℕ, ◌*◌, ◌≤◌, List, [], length, replicate}
+use Rattle.std.specs.Prelude.{◌≡◌, ℕ, ◌*◌, ◌≤◌, List, [], length, map, replicate}
 use Rattle.s370_subchannels.specs.declared.subchannel.Subchannel.{Subchannel}
 use Rattle.cp_panel.specs.Machine.{Parts, machine_of, unused}
 use Rattle.cp_devices.specs.Devices.{AreAttached, DevicesValue}
@@ -7,6 +7,8 @@ use Rattle.cp_channels.specs.Disks.{DiskAt}
 use Rattle.ckd_volume.specs.Volume.{VolumeFormat}
 use Rattle.cp_volumes.specs.Shared.{SharedMinidisk, disks_on}
 use Rattle.cp_devices.specs.Equipped.{Equipped, equipped}
+use Rattle.cp_spool.specs.Queues.{QueuesValue, no_files}
+use Rattle.cp_devices.specs.Lent.{DevicesParts, devices_on, devices_with}
 use Rattle.cp_core.specs.declared.delivery.Delivery.{Delivery}
 
 -- a machine with its devices but for the bytes of its storage and the cylinders of its minidisks, and what was delivered to its
@@ -17,6 +19,29 @@ pub record UserParts : Type 0 where
   pub minidisks : List SharedMinidisk
   pub keys : List ℕ
   pub deliveries : List Delivery
+
+-- the same as it is kept: its files stand among those of all users
+pub record SeatParts : Type 0 where
+  pub parts : Parts
+  pub devices : DevicesParts
+  pub minidisks : List SharedMinidisk
+  pub keys : List ℕ
+  pub deliveries : List Delivery
+
+-- what it is with these devices, which have their files
+abbrev pub seat_with : DevicesValue → SeatParts → UserParts
+seat_with devices s = record { parts = s.parts; devices = devices; minidisks = s.minidisks; keys = s.keys; deliveries = s.deliveries }
+
+-- without a file
+abbrev pub unowned : SeatParts → UserParts
+unowned s = seat_with (devices_with s.devices no_files) s
+
+-- and where all users have these files
+abbrev pub seat_on : QueuesValue → SeatParts → UserParts
+seat_on queues s = seat_with (devices_on s.devices queues) s
+
+abbrev pub seats_on : QueuesValue → List SeatParts → List UserParts
+seats_on queues seats = map (seat_on queues) seats
 
 -- the machine with its devices that it is with these volumes and this storage
 abbrev pub user_with : UserParts → List VolumeFormat → List ℕ → Equipped

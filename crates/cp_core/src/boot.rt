@@ -1,8 +1,9 @@
 //! Boot: a system from a directory.
-ghost use Rattle.std.specs.Prelude.{◌≡◌, ◌<◌, ◌≤◌, ◌↔◌, ℕ, All, Err, IfOk, IfSome, IsOk, IsSome, List, None, Some, true, length, map};
+ghost use Rattle.std.specs.Prelude.{◌≡◌, ◌<◌, ◌≤◌, ◌↔◌, ℕ, All, Err, IfOk, IfSome, IsOk, IsSome, List, None, Some, true, length, map, slice_get};
 ghost use Rattle.std.specs.List.{find, position};
 ghost use Rattle.cp_core.specs.Boot.{IsBooted, boot_error, places_in};
 ghost use Rattle.cp_seating.specs.Seating.{AreLawful, IsFirstPast, first_lacking, has_twins, minidisks_at, user_is_past, user_lacks};
+ghost use Rattle.cp_core.specs.UserMachines.{SeatParts, unowned};
 ghost use Rattle.cp_core.specs.Whole.{AreNew};
 
 use crate::events::BootError;
@@ -13,6 +14,8 @@ use cp_devices::{AttachError, Places};
 use cp_directory::{Directory, User, UserDevices};
 use cp_frames::Frames;
 use cp_seating::{has_twins, lacking_volume, past_end, seats_of};
+use cp_spool::Queues;
+use cp_users::UserNo;
 use cp_volumes::Volumes;
 use std::alloc::{AllocError, Global};
 use std::marker::Model;
@@ -117,6 +120,10 @@ impl System {
             Ok(volumes) => volumes,
             Err(_) => return Err(BootError::Memory),
         };
+        let queues = match Queues::new(alloc, users.len()) {
+            Ok(queues) => queues,
+            Err(_) => return Err(BootError::Memory),
+        };
         match Frames::new(alloc, sizes.frames(), sizes.slots(), pages) {
             Ok(frames) => Ok(System {
                 alloc,
@@ -124,6 +131,7 @@ impl System {
                 users,
                 frames,
                 files: Vec::new(alloc),
+                queues,
                 volumes,
                 is_spent: false,
             }),
@@ -162,7 +170,9 @@ fn machines_of(
 ) -> Result<Vec<UserMachine>, AttachError>
     requires there { find (user_lacks volumes.now) users.now ≡ None }
     requires inside { position (user_is_past volumes.now) users.now ≡ None }
-    ensures new { IfOk result (λ machines. AreNew volumes.now machines.items users.now) }
+    requires few { length users.now ≤ 64 }
+    ensures new { IfOk result (λ machines. AreNew volumes.now (map unowned machines.items) users.now) }
+    ensures owners { IfOk result (λ machines. (k : ℕ) (s : SeatParts) → slice_get machines.items k ≡ Some s → s.devices.user ≡ k) }
     ensures lawful { IfOk result (λ machines. (k : ℕ) → AreLawful (minidisks_at users.now k)) }
 {
     let mut machines = Vec::new(alloc);
@@ -171,7 +181,8 @@ fn machines_of(
             return Err(AttachError::Memory);
         };
         let places = places_in(user.devices());
-        let machine = UserMachine::new(alloc, user.storage().pages(), places, minidisks)?;
+        let number = UserNo::new(machines.len() as u8);
+        let machine = UserMachine::new(alloc, number, user.storage().pages(), places, minidisks)?;
         match machines.push(machine) {
             Ok(()) => {}
             Err(_) => return Err(AttachError::Memory),

@@ -3,7 +3,7 @@ ghost use Rattle.std.specs.Prelude.{◌≡◌};
 
 use cp_console::console_line::ConsoleLine;
 use cp_users::UserNo;
-use unit_record::Deck;
+use unit_record::Card;
 
 /// What a user was told as delivered to him.
 #[derive(Clone, Copy, Debug, PartialEq, Eq)]
@@ -26,8 +26,10 @@ pub struct Delivered {
 /// What is to be delivered to a user.
 #[derive(Drop)]
 pub(crate) enum Parcel {
-    /// A deck for the reader.
-    Deck(Deck),
+    /// A deck of the operator, with this number.
+    Deck(u64, Vec<Card>),
+    /// The file of this index that the punch of a user closed, which has this number.
+    File(UserNo, usize, u64),
     /// A line for the console.
     Message(ConsoleLine),
 }
@@ -40,7 +42,8 @@ impl Parcel {
         ensures { result ≡ note_of self.now }
     {
         match self {
-            Parcel::Deck(deck) => Delivery::Deck(deck.label()),
+            Parcel::Deck(number, _) => Delivery::Deck(*number),
+            Parcel::File(_, _, number) => Delivery::Deck(*number),
             Parcel::Message(line) => Delivery::Message(*line),
         }
     }

@@ -25,6 +25,7 @@ mod lines;
 mod loan;
 mod ready;
 mod resident;
+mod reuse;
 mod serving;
 mod system;
 mod user_machine;

@@ -1,5 +1,5 @@
 //! Lines of users, and decks of the operator: what comes of them for the files of all, and for others.
-ghost use Rattle.std.specs.Prelude.{◌≡◌, ◌<◌, ◌≤◌, ◌++◌, [], ◌∷◌, None, Some, IfOk, OnErr, OnOk, length, map, nat_lt, if◌then◌else◌, slice_set};
+ghost use Rattle.std.specs.Prelude.{◌≡◌, ◌<◌, ◌≤◌, ◌++◌, [], ◌∷◌, None, Some, IfOk, OnErr, OnOk, length, map, nat_lt, if◌then◌else◌, slice_get, slice_set};
 ghost use Rattle.cp_dat.specs.Supplied.{IsBetweenUnits};
 ghost use Rattle.cp_devices.specs.World.{is_logged_on};
 ghost use Rattle.cp_core.specs.declared.events.Event.TheVariants as happening;
@@ -7,10 +7,10 @@ ghost use Rattle.cp_core.specs.Come.{HasClosed, HasCome, NeedsMemory, comes_by_l
 ghost use Rattle.cp_core.specs.Files.{closed_since, next_file};
 ghost use Rattle.cp_core.specs.Histories.{IsStep};
 ghost use Rattle.cp_core.specs.Memory.{IsCutShort};
-ghost use Rattle.cp_core.specs.Parcels.{contents, note_of};
+ghost use Rattle.cp_core.specs.Parcels.{IsThere, contents, note_of};
 ghost use Rattle.cp_volumes.specs.Shared.{IsConfined};
 ghost use Rattle.cp_core.specs.System.{SystemView, logged_on_of, stands_at, user_at, world_of};
-ghost use Rattle.cp_core.specs.Told.{delivered_by, delivery_to, punched, said_to_line, with_delivered};
+ghost use Rattle.cp_core.specs.Told.{receiver_of, delivered_by, delivery_to, punched, said_to_line, with_delivered};
 ghost use Rattle.cp_core.specs.Work.{HasTyped};
 
 use crate::delivery::{Delivered, Delivery, Parcel};
@@ -24,7 +24,7 @@ use cp_devices::{FileKind, Told, copy_of, is_logged_on};
 use cp_panel::LineError;
 use cp_users::UserNo;
 use std::alloc::AllocError;
-use unit_record::{Card, Deck, Sender, Target};
+use unit_record::{Card, Target};
 
 /// How many files the punch and the printer of a user have closed.
 #[derive(Clone, Copy)]
@@ -90,13 +90,13 @@ impl System {
     /// How many files the punch and the printer of a user have closed.
     fn closed_by(&self, user: usize) -> Closed
         requires { user < length self.now.users }
-        ensures punched { result.punched ≡ length (user_at self.now user).devices.punch.closed }
-        ensures printed { result.printed ≡ length (user_at self.now user).devices.printer.closed }
+        ensures punched { result.punched ≡ length (user_at self.now user).devices.punched }
+        ensures printed { result.printed ≡ length (user_at self.now user).devices.printed }
     {
         let devices = self.devices_of(user);
         Closed {
-            punched: devices.punch().closed().len(),
-            printed: devices.printer().closed().len(),
+            punched: devices.punched_count(),
+            printed: devices.printed_count(),
         }
     }
 
@@ -206,25 +206,35 @@ impl System {
               deliveries = with_delivered delivered self.old;
             }) }
         ensures err { OnErr result (self.new ≡ record self.old { deliveries = self.new.deliveries }) }
-        ensures memory { OnErr result (index < length (user_at self.old user).devices.punch.closed) }
+        ensures memory { OnErr result (index < length (user_at self.old user).devices.punched) }
     {
-        let devices = self.devices_of(user);
-        let Some(file) = devices.punch().closed().get(index) else {
+        let Some(to) = self.receiver_of(user, index) else {
             return Ok(None);
         };
-        let Target::User(to) = file.target() else {
-            return Ok(None);
-        };
-        let sender = Sender::User(self.number_of(user).number());
-        let deck = devices.deck_of_punched(self.alloc, index, number, sender)?;
-        self.deliver_to(to, Parcel::Deck(deck))
+        let from = self.number_of(user);
+        self.deliver_to(to, Parcel::File(from, index, number))
+    }
+
+    /// For which user the punch's closed file of this index is, if it is there and for one.
+    fn receiver_of(&self, user: usize, index: usize) -> Option<u8>
+        requires { user < length self.now.users }
+        ensures { result ≡ receiver_of (slice_get (user_at self.now user).devices.punched index) }
+    {
+        match self.devices_of(user).punched(index) {
+            Some(file) => match file.target() {
+                Target::User(to) => Some(to),
+                Target::System => None,
+            },
+            None => None,
+        }
     }
 
     /// A parcel comes to the user of this number, where there is one.
     fn deliver_to(&mut self, to: u8, parcel: Parcel) -> Result<Option<Delivered>, AllocError>
+        requires { IsThere self.old parcel }
         ensures delivered { IfOk result
             (λ delivered. delivered ≡ delivery_to (length self.old.users) to (note_of parcel)) }
-        ensures come { IfOk result (λ delivered. HasCome (λ note. contents parcel) delivered self.old self.new) }
+        ensures come { IfOk result (λ delivered. HasCome (λ note. contents self.old parcel) delivered self.old self.new) }
         ensures rest { IfOk result
             (λ delivered. self.new ≡ record self.old {
               users = self.new.users;
@@ -286,9 +296,9 @@ impl System {
             (self.new ≡ record self.old { files = self.new.files; deliveries = self.new.deliveries }) }
     {
         let to = self.number_of(user);
-        let deck = Deck::new(number, Sender::System, copy_of(self.alloc, cards)?);
+        let copy = copy_of(self.alloc, cards)?;
         self.note(to, FileKind::Deck)?;
-        self.deliver(user, Parcel::Deck(deck))?;
+        self.deliver(user, Parcel::Deck(number, copy))?;
         Ok(Delivered {
             to,
             what: Delivery::Deck(number),

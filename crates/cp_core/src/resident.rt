@@ -1,5 +1,5 @@
 //! Channels of users, on which a program runs where the pages that it needs stand in frames.
-ghost use Rattle.std.specs.Prelude.{◌≡◌, ◌%◌, IfErr, IfOk, IfNone, IfSome, length};
+ghost use Rattle.std.specs.Prelude.{◌≡◌, ◌%◌, All, IfErr, IfOk, IfNone, IfSome, length};
 ghost use Rattle.s370_channel.specs.Reading.{as_reached};
 ghost use Rattle.s370_channel.specs.Runs.{Walks};
 ghost use Rattle.s370_channel.specs.declared.running.ChannelError.TheVariants as errors;
@@ -7,15 +7,16 @@ ghost use Rattle.s370_store.specs.Access.{IsAway};
 ghost use Rattle.s370_walk.specs.Hardware.{memory_of};
 ghost use Rattle.cp_dat.specs.Lent.{KeepsRest, is_lent_page, lent_bytes, lent_keys};
 ghost use Rattle.cp_needs.specs.Needs.{IsFixed, IsHeld};
-ghost use Rattle.cp_needs.specs.Told.{IfFixed, IfPage, IfWhole};
-ghost use Rattle.cp_needs.specs.Words.{IsEnough};
+ghost use Rattle.cp_needs.specs.Kept.{IfFound, IfPages, IfText, IfWhole, IsAsItStood, IsPaged, IsPagedOnly, IsText, IsTextOnly};
+ghost use Rattle.cp_ccw.specs.Kept.{IsAtBase};
 ghost use Rattle.cp_core.specs.Resident.{IsResident};
 ghost use Rattle.cp_core.specs.Wants.{ProgramNeeds};
 
-use cp_ccw::run_fixed;
-use cp_channels::{Channels, Disks};
+use crate::reuse::Reuse;
+use cp_ccw::{Kept, keep, know, run_kept};
+use cp_channels::{Channels, Disks, UnitRecord};
 use cp_dat::Dat;
-use cp_needs::{Wanted, needed, run_held};
+use cp_needs::{Found, look, run_held};
 use cp_volumes::{SharedDisk, UserDisks, Volumes};
 use s370_channel::{Caw, ChannelError, Limits, MOST_COMMANDS};
 use s370_store::{PAGE_SIZE, Page, Storage};
@@ -27,9 +28,14 @@ use std::mem::replace;
 /// lists and of their areas, and each page of its user's storage where an input could change one of its words. Else the
 /// first page that does not is told, and nothing has happened. A program that no input could change is copied, with the
 /// real addresses of those pages, and the copy runs; of another each word is read when it is reached.
+///
+/// The copy is kept for its device, and runs again as long as all that it was copied from is as it was: its address word,
+/// its words and lists, and the frames of the pages of its data. Of a minidisk's program, which is not copied, the same is
+/// kept, so that it need not be looked at again. A system reset, a loading, LOGON and LOGOFF drop what is kept.
 #[derive(Drop)]
 pub(crate) struct Resident {
     disks: UserDisks,
+    reuse: Reuse,
     alloc: Global,
 }
 
@@ -37,11 +43,13 @@ impl Resident {
     ghost use Rattle.cp_core.specs.Resident.{hung_on};
     ghost use Rattle.cp_volumes.specs.Shared.{IsUsers, stands_of};
 
-    /// The channels on which a user's minidisks hang, with the volumes on which these stand. It takes no memory.
+    /// The channels on which a user's minidisks hang, with the volumes on which these stand, and the programs of his
+    /// devices that are kept. It takes no memory.
     pub(crate) fn take(
         alloc: Global,
         volumes: &mut Volumes,
         minidisks: &mut Vec<SharedDisk>,
+        reuse: &mut Reuse,
     ) -> Resident
         requires { IsUsers volumes.old (stands_of minidisks.old.items) }
         ensures { hung_on result ≡ record { volumes = volumes.old; minidisks = minidisks.old.items } }
@@ -50,23 +58,33 @@ impl Resident {
         let disks = replace(minidisks, Vec::new(alloc));
         Resident {
             disks: UserDisks::new(taken, disks),
+            reuse: reuse.take(alloc),
             alloc,
         }
     }
 
-    /// Gives minidisks and volumes back. It takes no memory.
-    pub(crate) fn give(self, volumes: &mut Volumes, minidisks: &mut Vec<SharedDisk>)
+    /// Gives minidisks, volumes and programs back. It takes no memory.
+    pub(crate) fn give(
+        self,
+        volumes: &mut Volumes,
+        minidisks: &mut Vec<SharedDisk>,
+        reuse: &mut Reuse,
+    )
         ensures volumes { volumes.new ≡ (hung_on self).volumes }
         ensures minidisks { minidisks.new.items ≡ (hung_on self).minidisks }
     {
         let (taken, disks) = self.disks.into_parts();
         *volumes = taken;
         *minidisks = disks;
+        *reuse = self.reuse;
     }
 }
 
 impl Disks for Resident {
-    ghost use Rattle.cp_core.specs.Resident.{KeepsHung, disks_on, hung_further, hung_same};
+    ghost use Rattle.std.specs.Prelude.{◌≡◌, map};
+    ghost use Rattle.cp_channels.specs.Disks.{cleared_disk, reset_disk};
+    ghost use Rattle.cp_core.specs.Resident.{KeepsHung, disks_on, hung_further, hung_same, reuse_of};
+    ghost use Rattle.cp_core.specs.Reuse.{IsEmpty};
 
     ghost disks = { disks_on };
 
@@ -76,11 +94,23 @@ impl Disks for Resident {
         self.disks.disk_at(device)
     }
 
-    fn reset_disks(&mut self) {
+    /// A program that was kept is kept no longer.
+    fn reset_disks(&mut self)
+        ensures reset { disks_on self.new ≡ map reset_disk (disks_on self.old) }
+        ensures others { KeepsHung self.old self.new }
+        ensures dropped { IsEmpty (reuse_of self.new) }
+    {
+        self.reuse.clear();
         self.disks.reset();
     }
 
-    fn clear_disks(&mut self) {
+    /// The same.
+    fn clear_disks(&mut self)
+        ensures cleared { disks_on self.new ≡ map cleared_disk (disks_on self.old) }
+        ensures others { KeepsHung self.old self.new }
+        ensures dropped { IsEmpty (reuse_of self.new) }
+    {
+        self.reuse.clear();
         self.disks.clear();
     }
 
@@ -104,12 +134,28 @@ impl<'a> Channels<Dat<'a>> for Resident {
         &mut self,
         storage: &mut Dat<'a>,
         start: Caw,
+        unit: UnitRecord,
         device: &mut D,
     ) -> Result<Ending, ChannelError> {
-        match needed_at(self.alloc, storage, start.address.get()) {
-            Ok(Wanted::Page(page)) => Err(ChannelError::Absent(page)),
-            Ok(Wanted::Fixed) => run_translated(self.alloc, storage, start, device),
-            Ok(Wanted::Whole) => run_resident(storage, start, device),
+        if let Some(kept) = self.reuse.of_unit(unit, storage, &start) {
+            let ended = run_again(kept, storage, &start, device);
+            self.reuse.count();
+            return ended;
+        }
+        match look_at(self.alloc, storage, start.address.get()) {
+            Ok(Found::Page(page)) => Err(ChannelError::Absent(page)),
+            Ok(Found::Fixed(text, _)) => match keep(self.alloc, storage, copy_of(&start), text) {
+                Ok(kept) => {
+                    let ended = run_again(&kept, storage, &start, device);
+                    self.reuse.put_unit(unit, Some(kept));
+                    ended
+                }
+                Err(_) => Err(ChannelError::Memory),
+            },
+            Ok(Found::Whole) => {
+                self.reuse.put_unit(unit, None);
+                run_resident(storage, start, device)
+            }
             Err(_) => Err(ChannelError::Memory),
         }
     }
@@ -120,10 +166,29 @@ impl<'a> Channels<Dat<'a>> for Resident {
         start: Caw,
         index: usize,
     ) -> Result<Ending, ChannelError> {
-        let address = start.address.get();
-        match wanted_page(self.alloc, storage, address) {
-            Ok(Some(page)) => Err(ChannelError::Absent(page)),
-            Ok(None) => Ok(self.disks.run_disk(storage, start, index)),
+        if self.reuse.has_disk(index, storage, &start) {
+            self.reuse.count();
+            return Ok(self.disks.run_disk(storage, start, index));
+        }
+        match look_at(self.alloc, storage, start.address.get()) {
+            Ok(Found::Page(page)) => Err(ChannelError::Absent(page)),
+            Ok(Found::Fixed(text, pages)) => match know(
+                self.alloc,
+                storage,
+                copy_of(&start),
+                text,
+                &pages,
+            ) {
+                Ok(known) => {
+                    self.reuse.put_disk(index, Some(known));
+                    Ok(self.disks.run_disk(storage, start, index))
+                }
+                Err(_) => Err(ChannelError::Memory),
+            },
+            Ok(Found::Whole) => {
+                self.reuse.put_disk(index, None);
+                Ok(self.disks.run_disk(storage, start, index))
+            }
             Err(_) => Err(ChannelError::Memory),
         }
     }
@@ -133,44 +198,39 @@ impl<'a> Channels<Dat<'a>> for Resident {
     }
 }
 
-/// What has to be so before the program at this address can run.
-fn needed_at(alloc: Global, storage: &Dat<'_>, address: u32) -> Result<Wanted, AllocError>
+/// What has to be so before the program at this address can run, with its words and the pages of its areas.
+fn look_at(alloc: Global, storage: &Dat<'_>, address: u32) -> Result<Found, AllocError>
     ensures away { IfOk result
-        (λ told. IfPage told (IsAway (length (lent_bytes storage.now)) (is_lent_page storage.now))) }
+        (λ found. IfFound found (IsAway (length (lent_bytes storage.now)) (is_lent_page storage.now))) }
     ensures needed { IfOk result
-        (λ told. IfPage told (ProgramNeeds (memory_of (lent_bytes storage.now) (lent_keys storage.now)) address)) }
+        (λ found. IfFound found (ProgramNeeds (memory_of (lent_bytes storage.now) (lent_keys storage.now)) address)) }
+    ensures even { IfOk result (λ found. IfText found (λ text. address % 8 ≡ 0)) }
     ensures fixed { IfOk result
-        (λ told. IfFixed told (IsFixed (memory_of (lent_bytes storage.now) (lent_keys storage.now)) address
-        × IsHeld (memory_of (lent_bytes storage.now) (lent_keys storage.now)) address (is_lent_page storage.now))) }
-    ensures even { IfOk result (λ told. IfFixed told (address % 8 ≡ 0)) }
-    ensures whole { IfOk result
-        (λ told. IfWhole told (IsResident (length (lent_bytes storage.now)) (is_lent_page storage.now))) }
+        (λ found. IfText found (λ text. IsFixed (memory_of (lent_bytes storage.now) (lent_keys storage.now)) address)) }
+    ensures held { IfOk result
+        (λ found. IfText found (λ text. IsHeld (memory_of (lent_bytes storage.now) (lent_keys storage.now)) address
+        (is_lent_page storage.now))) }
+    ensures text { IfOk result
+        (λ found. IfText found (IsText (memory_of (lent_bytes storage.now) (lent_keys storage.now)) address)) }
+    ensures only { IfOk result
+        (λ found. IfText found (IsTextOnly (memory_of (lent_bytes storage.now) (lent_keys storage.now)) address)) }
+    ensures stands { IfOk result
+        (λ found. IfText found (All (IsAsItStood (lent_bytes storage.now) (is_lent_page storage.now)))) }
+    ensures pages { IfOk result
+        (λ found. IfPages found (IsPaged (memory_of (lent_bytes storage.now) (lent_keys storage.now)) address)) }
+    ensures pages_only { IfOk result
+        (λ found. IfPages found (IsPagedOnly (memory_of (lent_bytes storage.now) (lent_keys storage.now)) address)) }
+    ensures all { IfOk result
+        (λ found. IfWhole found (IsResident (length (lent_bytes storage.now)) (is_lent_page storage.now))) }
 {
     // No program is started elsewhere.
     if address % 8 != 0 {
         return match absent_page(storage) {
-            Some(page) => Ok(Wanted::Page(page)),
-            None => Ok(Wanted::Whole),
+            Some(page) => Ok(Found::Page(page)),
+            None => Ok(Found::Whole),
         };
     }
-    needed(alloc, storage, address)
-}
-
-/// A page that the program at this address needs and that stands in no frame.
-fn wanted_page(alloc: Global, storage: &Dat<'_>, address: u32) -> Result<Option<Page>, AllocError>
-    ensures away { IfOk result (λ found. IfSome found
-        (λ page. IsAway (length (lent_bytes storage.now)) (is_lent_page storage.now) page.0)) }
-    ensures needed { IfOk result (λ found. IfSome found
-        (λ page. ProgramNeeds (memory_of (lent_bytes storage.now) (lent_keys storage.now)) address page.0)) }
-    ensures enough { IfOk result (λ found. IfNone found
-        (IsEnough (memory_of (lent_bytes storage.now) (lent_keys storage.now)) (is_lent_page storage.now) address)) }
-{
-    match needed_at(alloc, storage, address) {
-        Ok(Wanted::Page(page)) => Ok(Some(page)),
-        Ok(Wanted::Fixed) => Ok(None),
-        Ok(Wanted::Whole) => Ok(None),
-        Err(error) => Err(error),
-    }
+    look(alloc, storage, address)
 }
 
 /// The first page of a storage that stands in no frame.
@@ -214,19 +274,23 @@ fn run_resident<D: Device>(
     run_held(storage, start.address.get(), &limits, device)
 }
 
-/// The same for a program that is fixed, whose pages stand in frames: a copy of it with real addresses runs.
-fn run_translated<D: Device>(
-    alloc: Global,
+/// The same address word.
+fn copy_of(start: &Caw) -> Caw
+    ensures { result ≡ start.now }
+{
+    *start
+}
+
+/// The same for a program that was kept, where all that it was copied from is as it was.
+fn run_again<D: Device>(
+    kept: &Kept,
     storage: &mut Dat<'_>,
-    start: Caw,
+    start: &Caw,
     device: &mut D,
 ) -> Result<Ending, ChannelError>
-    requires even { start.address % 8 ≡ 0 }
-    requires fixed { IsFixed (memory_of (lent_bytes storage.old) (lent_keys storage.old)) start.address }
-    requires held { IsHeld (memory_of (lent_bytes storage.old) (lent_keys storage.old)) start.address
-        (is_lent_page storage.old) }
+    requires { IsAtBase kept.now storage.old start.now }
     ensures walk { IfOk result
-        (λ ending. Walks as_reached D.machine start
+        (λ ending. Walks as_reached D.machine start.now
         (memory_of (lent_bytes storage.old) (lent_keys storage.old)) device.old ending
         (memory_of (lent_bytes storage.new) (lent_keys storage.new)) device.new) }
     ensures memory { IfErr result (λ error. error ≡ errors.Memory) }
@@ -238,5 +302,5 @@ fn run_translated<D: Device>(
         commands: MOST_COMMANDS,
         prefix: 0,
     };
-    run_fixed(alloc, storage, start.address.get(), &limits, device)
+    run_kept(kept, storage, *start, &limits, device)
 }

@@ -1,8 +1,9 @@
 //! A device of a user is served, a line is typed, and a machine is loaded, with the pages that this needs.
-ghost use Rattle.std.specs.Prelude.{◌≡◌, ◌≤◌, ℕ, Err, IfOk, IsSome, List, OnErr, OnOk, false, length, true};
+ghost use Rattle.std.specs.Prelude.{◌≡◌, ◌<◌, ◌≤◌, ℕ, Err, IfOk, IsSome, List, OnErr, OnOk, false, length, true};
 ghost use Rattle.s370_intr.specs.Run.{AllNeeded, IsLacking};
 ghost use Rattle.s370_subchannels.specs.Programs.{program_of};
 ghost use Rattle.cp_devices.specs.Equipped.{equipped};
+ghost use Rattle.cp_devices.specs.Lent.{KeepsBeside, devices_on};
 ghost use Rattle.cp_devices.specs.Serve.{IsServedAt, ServeNeeds};
 ghost use Rattle.cp_panel.specs.declared.line.LineError.TheVariants as errors;
 ghost use Rattle.cp_frames.specs.Paging.{IsRefused};
@@ -19,6 +20,7 @@ use cp_console::responses::Response;
 use cp_dat::Dat;
 use cp_devices::{Devices, Kind, Told, World};
 use cp_panel::{LineError, Machine};
+use cp_spool::Queues;
 use s370_channel::ChannelError;
 use s370_num::DevAddr;
 use s370_store::{FramesOut, Supply};
@@ -27,38 +29,41 @@ use std::alloc::Global;
 /// Serves a device whose program runs as a whole or not at all, after each page was brought that it lacks.
 pub(crate) fn serve_supplied<S: Supply, C: Channels<S>>(
     devices: &mut Devices,
+    queues: &mut Queues,
     machine: &mut Machine,
     storage: &mut S,
     channels: &mut C,
     device: DevAddr,
 ) -> Result<bool, LineError>
-    requires { C.is_whole ≡ true }
-    ensures served { let before = equipped machine.old devices.old (C.Disks.disks channels.old)
+    requires whole { C.is_whole ≡ true }
+    requires owner { devices.old.user < length queues.old.users }
+    ensures served { let before = equipped machine.old (devices_on devices.old queues.old) (C.Disks.disks channels.old)
         (S.Storage.bytes storage.old) (S.Storage.keys storage.old) in
-        let after = equipped machine.new devices.new (C.Disks.disks channels.new) (S.Storage.bytes storage.new)
+        let after = equipped machine.new (devices_on devices.new queues.new) (C.Disks.disks channels.new) (S.Storage.bytes storage.new)
         (S.Storage.keys storage.new) in
         IfOk result (λ done. IsServedAt C.reads device before done after) }
-    ensures same { let before = equipped machine.old devices.old (C.Disks.disks channels.old)
+    ensures same { let before = equipped machine.old (devices_on devices.old queues.old) (C.Disks.disks channels.old)
         (S.Storage.bytes storage.old) (S.Storage.keys storage.old) in
-        let after = equipped machine.new devices.new (C.Disks.disks channels.new) (S.Storage.bytes storage.new)
+        let after = equipped machine.new (devices_on devices.new queues.new) (C.Disks.disks channels.new) (S.Storage.bytes storage.new)
         (S.Storage.keys storage.new) in
         result ≡ Err errors.FramesOut → after ≡ before }
-    ensures frames { let before = equipped machine.old devices.old (C.Disks.disks channels.old)
+    ensures frames { let before = equipped machine.old (devices_on devices.old queues.old) (C.Disks.disks channels.old)
         (S.Storage.bytes storage.old) (S.Storage.keys storage.old) in
         result ≡ Err errors.FramesOut
         → IsLacking (ServeNeeds C.needs device before) (length (S.Storage.bytes storage.old)) (S.IsShort storage.new) }
     ensures memory { result ≡ Err errors.Memory → IsSome (program_of device machine.old.subchannels) }
-    ensures supply { let before = equipped machine.old devices.old (C.Disks.disks channels.old)
+    ensures supply { let before = equipped machine.old (devices_on devices.old queues.old) (C.Disks.disks channels.old)
         (S.Storage.bytes storage.old) (S.Storage.keys storage.old) in
         (pages : List ℕ) × S.Brought storage.old pages storage.new × AllNeeded (ServeNeeds C.needs device before) pages }
     ensures size { length (S.Storage.bytes storage.new) ≡ length (S.Storage.bytes storage.old) }
     ensures others { C.Disks.KeepsOthers channels.old channels.new }
+    ensures beside { KeepsBeside devices.old queues.old devices.new queues.new }
 {
     if machine.program(device).is_none() {
         return Ok(false);
     }
     loop {
-        match devices.serve(machine, storage, channels, device) {
+        match devices.serve(queues, machine, storage, channels, device) {
             Ok(done) => return Ok(done),
             Err(ChannelError::Memory) => return Err(LineError::Memory),
             Err(ChannelError::Absent(page)) => match storage.bring(page) {
@@ -73,40 +78,43 @@ pub(crate) fn serve_supplied<S: Supply, C: Channels<S>>(
 pub(crate) fn type_supplied<W: World>(
     alloc: Global,
     devices: &mut Devices,
+    queues: &mut Queues,
     machine: &mut Machine,
     storage: &mut Dat<'_>,
     channels: &mut Resident,
     world: &W,
     typed: &[u8],
 ) -> Result<Told, LineError>
-    requires { 8192 ≤ length (lent_bytes storage.old) }
-    ensures ok { let before = equipped machine.old devices.old (disks_on channels.old) (lent_bytes storage.old)
+    requires size { 8192 ≤ length (lent_bytes storage.old) }
+    requires owner { devices.old.user < length queues.old.users }
+    ensures ok { let before = equipped machine.old (devices_on devices.old queues.old) (disks_on channels.old) (lent_bytes storage.old)
         (lent_keys storage.old) in
-        let after = equipped machine.new devices.new (disks_on channels.new) (lent_bytes storage.new)
+        let after = equipped machine.new (devices_on devices.new queues.new) (disks_on channels.new) (lent_bytes storage.new)
         (lent_keys storage.new) in
         IfOk result (λ told. IsWholeLine (W.known world.now) typed.now before told after) }
-    ensures same { let before = equipped machine.old devices.old (disks_on channels.old) (lent_bytes storage.old)
+    ensures same { let before = equipped machine.old (devices_on devices.old queues.old) (disks_on channels.old) (lent_bytes storage.old)
         (lent_keys storage.old) in
-        let after = equipped machine.new devices.new (disks_on channels.new) (lent_bytes storage.new)
+        let after = equipped machine.new (devices_on devices.new queues.new) (disks_on channels.new) (lent_bytes storage.new)
         (lent_keys storage.new) in
         result ≡ Err errors.FramesOut → after ≡ before }
-    ensures kept { let before = equipped machine.old devices.old (disks_on channels.old) (lent_bytes storage.old)
+    ensures kept { let before = equipped machine.old (devices_on devices.old queues.old) (disks_on channels.old) (lent_bytes storage.old)
         (lent_keys storage.old) in
-        let after = equipped machine.new devices.new (disks_on channels.new) (lent_bytes storage.new)
+        let after = equipped machine.new (devices_on devices.new queues.new) (disks_on channels.new) (lent_bytes storage.new)
         (lent_keys storage.new) in
         result ≡ Err errors.Memory → is_ipl (requested typed.now before) ≡ false → after ≡ before }
-    ensures memory { let before = equipped machine.old devices.old (disks_on channels.old) (lent_bytes storage.old)
+    ensures memory { let before = equipped machine.old (devices_on devices.old queues.old) (disks_on channels.old) (lent_bytes storage.old)
         (lent_keys storage.old) in
         result ≡ Err errors.Memory → LineMay typed.now before }
-    ensures lent { let before = equipped machine.old devices.old (disks_on channels.old) (lent_bytes storage.old)
+    ensures lent { let before = equipped machine.old (devices_on devices.old queues.old) (disks_on channels.old) (lent_bytes storage.old)
         (lent_keys storage.old) in
         IsLineLent typed.now before storage.old storage.new result }
     ensures size { length (lent_bytes storage.new) ≡ length (lent_bytes storage.old) }
     ensures others { KeepsHung channels.old channels.new }
+    ensures beside { KeepsBeside devices.old queues.old devices.new queues.new }
 {
-    match devices.line(alloc, machine, storage, channels, world, typed) {
+    match devices.line(alloc, queues, machine, storage, channels, world, typed) {
         Ok(first) => match first.loads_from() {
-            Some(device) => load_supplied(devices, machine, storage, channels, device),
+            Some(device) => load_supplied(devices, queues, machine, storage, channels, device),
             None => Ok(first),
         },
         Err(error) => Err(error),
@@ -117,20 +125,22 @@ pub(crate) fn type_supplied<W: World>(
 /// frame.
 fn load_supplied(
     devices: &mut Devices,
+    queues: &mut Queues,
     machine: &mut Machine,
     storage: &mut Dat<'_>,
     channels: &mut Resident,
     device: DevAddr,
 ) -> Result<Told, LineError>
-    requires { 8192 ≤ length (lent_bytes storage.old) }
-    ensures ok { let before = equipped machine.old devices.old (disks_on channels.old) (lent_bytes storage.old)
+    requires size { 8192 ≤ length (lent_bytes storage.old) }
+    requires owner { devices.old.user < length queues.old.users }
+    ensures ok { let before = equipped machine.old (devices_on devices.old queues.old) (disks_on channels.old) (lent_bytes storage.old)
         (lent_keys storage.old) in
-        let after = equipped machine.new devices.new (disks_on channels.new) (lent_bytes storage.new)
+        let after = equipped machine.new (devices_on devices.new queues.new) (disks_on channels.new) (lent_bytes storage.new)
         (lent_keys storage.new) in
         IfOk result (λ told. IsIpl device before told after) }
-    ensures same { let before = equipped machine.old devices.old (disks_on channels.old) (lent_bytes storage.old)
+    ensures same { let before = equipped machine.old (devices_on devices.old queues.old) (disks_on channels.old) (lent_bytes storage.old)
         (lent_keys storage.old) in
-        let after = equipped machine.new devices.new (disks_on channels.new) (lent_bytes storage.new)
+        let after = equipped machine.new (devices_on devices.new queues.new) (disks_on channels.new) (lent_bytes storage.new)
         (lent_keys storage.new) in
         result ≡ Err errors.FramesOut → after ≡ before }
     ensures frames { result ≡ Err errors.FramesOut
@@ -139,6 +149,7 @@ fn load_supplied(
     ensures supply { (pages : List ℕ) × Supplied storage.old pages storage.new × AllNeeded LoadNeeds pages }
     ensures size { length (lent_bytes storage.new) ≡ length (lent_bytes storage.old) }
     ensures others { KeepsHung channels.old channels.new }
+    ensures beside { KeepsBeside devices.old queues.old devices.new queues.new }
 {
     match devices.kind_at(channels, device.get()) {
         Some(Kind::Reader) => {}
@@ -149,7 +160,7 @@ fn load_supplied(
         Ok(()) => {}
         Err(FramesOut) => return Err(LineError::FramesOut),
     }
-    match devices.ipl(machine, storage, channels, device) {
+    match devices.ipl(queues, machine, storage, channels, device) {
         Ok(told) => Ok(told),
         Err(LineError::Memory) => Err(LineError::Memory),
         // Every page of the storage is present.

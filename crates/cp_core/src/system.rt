@@ -1,5 +1,5 @@
 //! The system: its users, their machines with their devices, and the frames that they share.
-ghost use Rattle.std.specs.Prelude.{◌≡◌, ◌<◌, ◌≤◌, ◌↔◌, ℕ, [], ◌∷◌, ◌++◌, Err, Some, true, false, IfSome, IsOk, IfOk, OnErr, OnOk, length, option_copied, slice_get, slice_set};
+ghost use Rattle.std.specs.Prelude.{◌≡◌, ◌<◌, ◌≤◌, ◌↔◌, ℕ, [], ◌∷◌, ◌++◌, ◌^◌, Err, Some, true, false, IfSome, IsOk, IfOk, OnErr, OnOk, length, option_copied, slice_get, slice_set};
 ghost use Rattle.s370_channel.specs.Reading.{as_reached};
 ghost use Rattle.cp_dat.specs.Supplied.{IsBetweenUnits};
 ghost use Rattle.cp_devices.specs.Life.{Leaves};
@@ -9,7 +9,7 @@ ghost use Rattle.cp_core.specs.Files.{next_file};
 ghost use Rattle.cp_core.specs.Histories.{EachIsBare, IsStep};
 ghost use Rattle.cp_core.specs.Local.{IsApplied};
 ghost use Rattle.cp_core.specs.Memory.{IsCutShort, MayTakeMemory, is_cut_short};
-ghost use Rattle.cp_core.specs.Parcels.{contents, note_of};
+ghost use Rattle.cp_core.specs.Parcels.{IsThere, contents, note_of};
 ghost use Rattle.cp_core.specs.Stated.{LacksDevice, states_device};
 ghost use Rattle.cp_core.specs.Supply.{IsSupplied, IsSuppliedInPart};
 ghost use Rattle.cp_volumes.specs.Shared.{IsConfined};
@@ -22,10 +22,11 @@ use crate::files::FileNote;
 use crate::user_machine::UserMachine;
 use crate::work::{Service, Tick, Units, Work};
 use ckd_volume::Volume;
-use cp_devices::{Devices, FileKind, Told};
+use cp_devices::{FileKind, SeenDevices, Told};
 use cp_directory::Directory;
 use cp_frames::Frames;
 use cp_panel::{LineError, notice_of};
+use cp_spool::Queues;
 use cp_users::UserNo;
 use cp_volumes::Volumes;
 use s370_num::DevAddr;
@@ -40,28 +41,32 @@ pub struct System {
     pub(crate) users: Vec<UserMachine>,
     pub(crate) frames: Frames,
     pub(crate) files: Vec<FileNote>,
+    pub(crate) queues: Queues,
     pub(crate) volumes: Volumes,
     pub(crate) is_spent: bool,
 }
 
 impl Model for System {
     ghost use Rattle.cp_core.specs.System.{SystemView, deliveries_of, stands_among, users_of};
+    ghost use Rattle.cp_core.specs.Owners.{AreOwners};
+    ghost use Rattle.cp_core.specs.UserMachines.{seats_on};
     ghost use Rattle.cp_core.specs.Whole.{IsSystem};
 
     ghost Value = { SystemView };
 
     ghost view = { λ s. record {
-      users = users_of s.users.items s.volumes s.frames.storages;
+      users = users_of (seats_on s.queues s.users.items) s.volumes s.frames.storages;
       directory = s.directory;
       supply = s.frames.supply;
       files = s.files.items;
-      deliveries = deliveries_of s.users.items;
+      deliveries = deliveries_of (seats_on s.queues s.users.items);
       volumes = s.volumes;
-      stands = stands_among s.users.items;
+      stands = stands_among (seats_on s.queues s.users.items);
       is_spent = s.is_spent;
     } };
 
-    ghost invariant = { λ s. IsSystem s.users.items s.volumes s.frames s.directory };
+    ghost invariant = { λ s. IsSystem (seats_on s.queues s.users.items) s.volumes s.frames s.directory
+        × AreOwners s.users.items s.queues };
 }
 
 impl System {
@@ -93,6 +98,7 @@ impl System {
             users: _,
             frames: _,
             files: _,
+            queues: _,
             volumes: _,
             is_spent,
         } = self;
@@ -104,6 +110,16 @@ impl System {
         ensures { result ≡ self.now.supply.page_ins }
     {
         self.frames.page_ins()
+    }
+
+    /// How many programs of devices were run again as they were kept, since boot. It stays at its greatest value. Nothing
+    /// is said of the work that was saved.
+    pub fn reuses(&self) -> u64 {
+        let mut sum = 0u64;
+        for user in &self.users {
+            sum = sum.saturating_add(user.reuse.reuses());
+        }
+        sum
     }
 
     /// What each file was when it got its number, and whose it is: the first has number 1.
@@ -127,9 +143,10 @@ impl System {
         self.volumes.volume(index)
     }
 
-    /// The number of the next file.
+    /// The number of the next file. A list ends before numbers do, so none is used again.
     pub(crate) fn next_file(&self) -> u64
         ensures value { result ≡ next_file self.now.files }
+        ensures fits { result ≤ 2 ^ 63 }
         ensures between { IsBetweenUnits self.now.supply }
     {
         self.files.len() as u64 + 1
@@ -186,12 +203,12 @@ impl System {
         UserNo::new(user as u8)
     }
 
-    /// The devices of a user.
-    pub(crate) fn devices_of(&self, user: usize) -> &Devices
+    /// The devices of a user, with their files.
+    pub(crate) fn devices_of(&self, user: usize) -> SeenDevices<'_>
         requires { user < length self.now.users }
-        ensures { result.now ≡ (user_at self.now user).devices }
+        ensures { result ≡ (user_at self.now user).devices }
     {
-        &self.users[user].devices
+        SeenDevices::new(&self.users[user].devices, &self.queues)
     }
 
     /// How many lines the console of a user has printed.
@@ -222,6 +239,7 @@ impl System {
         machine.lend(
             &mut self.frames,
             &mut self.volumes,
+            &mut self.queues,
             number,
             &self.directory,
             work,
@@ -230,15 +248,16 @@ impl System {
 
     /// A parcel comes to a user. Where memory is refused, each user's machine stays.
     pub(crate) fn deliver(&mut self, to: usize, parcel: Parcel) -> Result<(), AllocError>
-        requires { to < length self.old.users }
-        ensures ok { OnOk result (Leaves as_reached (contents parcel) (user_at self.old to) (user_at self.new to)) }
+        requires to { to < length self.old.users }
+        requires there { IsThere self.old parcel }
+        ensures ok { OnOk result (Leaves as_reached (contents self.old parcel) (user_at self.old to) (user_at self.new to)) }
         ensures rest { OnOk result (self.new ≡ record self.old {
           users = slice_set self.old.users to (user_at self.new to);
           deliveries = slice_set self.old.deliveries to (deliveries_at self.old to ++ note_of parcel ∷ []);
         }) }
         ensures err { OnErr result (self.new ≡ record self.old { deliveries = self.new.deliveries }) }
     {
-        self.users[to].receive(parcel)
+        self.users[to].receive(&mut self.queues, parcel)
     }
 
     /// A file of a user gets the next number.

@@ -6,14 +6,14 @@ ghost use Rattle.std.specs.Option.{option_map};
 ghost use Rattle.cp_console.specs.Responses.{text_of};
 ghost use Rattle.cp_channels.specs.Disks.{is_disk_at};
 ghost use Rattle.cp_volumes.specs.Seen.{seen_disk};
-ghost use Rattle.cp_core.specs.UserMachines.{user_with};
+ghost use Rattle.cp_core.specs.UserMachines.{seat_with, user_with};
 ghost use Rattle.cp_core.specs.System.{deliveries_at, machine_at, user_at};
 
 use crate::delivery::Delivery;
 use crate::system::System;
 use crate::user_machine::UserMachine;
 use cp_console::responses::Response;
-use cp_devices::Devices;
+use cp_devices::SeenDevices;
 use cp_panel::Mode;
 use cp_users::UserNo;
 use cp_volumes::SeenDisk;
@@ -28,7 +28,8 @@ impl System {
         ensures some { IsSome result ↔ (user < length self.now.users) }
         ensures user { IfSome result
             (λ found. user_at self.now user
-            ≡ user_with found.now self.now.volumes (machine_at self.now user).core.processor.bytes) }
+            ≡ user_with (seat_with (user_at self.now user).devices found.now) self.now.volumes
+            (machine_at self.now user).core.processor.bytes) }
         ensures deliveries { IfSome result (λ found. deliveries_at self.now user ≡ found.now.deliveries) }
     {
         let place = user.index();
@@ -149,14 +150,15 @@ impl System {
 
     /// The console, reader, punch and printer: the reader's decks with their numbers, the open files of punch and
     /// printer, and those that they have closed, each with its target.
-    pub fn spool(&self, user: UserNo) -> Option<&Devices>
+    pub fn spool(&self, user: UserNo) -> Option<SeenDevices<'_>>
         ensures some { IsSome result ↔ (user < length self.now.users) }
-        ensures value { IfSome result (λ devices. devices.now ≡ (user_at self.now user).devices) }
+        ensures value { IfSome result (λ devices. devices ≡ (user_at self.now user).devices) }
     {
-        match self.user(user) {
-            Some(user) => Some(&user.devices),
-            None => None,
+        let place = user.index();
+        if place >= self.users() {
+            return None;
         }
+        Some(self.devices_of(place))
     }
 
     /// The disk at this address: its cylinders, its arm and its sense; `None` where the user has none there.

@@ -1,14 +1,16 @@
 //! What is done with the machine of one user while its storage is lent from frames: a run, a tick, a line,
 //! a serve.
-ghost use Rattle.std.specs.Prelude.{◌≡◌, ℕ, ◌≤◌, List, length};
+ghost use Rattle.std.specs.Prelude.{◌≡◌, ℕ, ◌<◌, ◌≤◌, List, length};
 ghost use Rattle.cp_directory.specs.Users.{DirectoryUser};
 ghost use Rattle.cp_frames.specs.Layout.{FrameSupply};
 ghost use Rattle.cp_dat.specs.Lent.{KeepsFrames, lent_bytes, lent_keys, lent_pool, user_of};
 ghost use Rattle.cp_dat.specs.Supplied.{IsBetweenUnits};
 ghost use Rattle.cp_devices.specs.Equipped.{Equipped, equipped};
+ghost use Rattle.cp_devices.specs.Lent.{KeepsBeside, devices_on};
 ghost use Rattle.cp_volumes.specs.Shared.{IsUsers, KeepsNeighbours, disks_on, stands_of};
 
 use crate::resident::Resident;
+use crate::reuse::Reuse;
 use crate::serving::{serve_supplied, type_supplied};
 use crate::world::Among;
 use arrayvec::ArrayVec;
@@ -16,6 +18,7 @@ use cp_dat::Dat;
 use cp_devices::{Devices, Told};
 use cp_directory::Directory;
 use cp_panel::{LineError, Machine};
+use cp_spool::Queues;
 use cp_trap::VirtualCpu;
 use cp_users::UserNo;
 use cp_volumes::{SharedDisk, Volumes};
@@ -33,27 +36,31 @@ pub(crate) trait Work {
     ghost Does: { Self → List DirectoryUser → ℕ → Equipped → FrameSupply → Self.Answer → Equipped → FrameSupply
         → Type 0 };
 
-    /// Does it, with these minidisks on volumes that others share. No frame is pinned before and after.
+    /// Does it, with these minidisks on volumes that others share, and these programs of the devices that are kept. No frame is pinned before and after.
     fn work(
         &self,
         directory: &Directory,
         machine: &mut Machine,
         devices: &mut Devices,
+        queues: &mut Queues,
         volumes: &mut Volumes,
         minidisks: &mut Vec<SharedDisk>,
+        reuse: &mut Reuse,
         storage: &mut Dat<'_>,
     ) -> Self::Answer
         requires large { 8192 ≤ length (lent_bytes storage.old) }
         requires between { IsBetweenUnits (lent_pool storage.old).supply }
         requires users { IsUsers volumes.old (stands_of minidisks.old.items) }
-        ensures does { let before = equipped machine.old devices.old (disks_on volumes.old minidisks.old.items)
+        requires owner { devices.old.user < length queues.old.users }
+        ensures does { let before = equipped machine.old (devices_on devices.old queues.old) (disks_on volumes.old minidisks.old.items)
             (lent_bytes storage.old) (lent_keys storage.old) in
-            let after = equipped machine.new devices.new (disks_on volumes.new minidisks.new.items)
+            let after = equipped machine.new (devices_on devices.new queues.new) (disks_on volumes.new minidisks.new.items)
             (lent_bytes storage.new) (lent_keys storage.new) in
             Does self.now directory.now (user_of storage.old) before (lent_pool storage.old).supply result after (lent_pool storage.new).supply }
         ensures kept { KeepsFrames storage.old storage.new }
         ensures size { length (lent_bytes storage.new) ≡ length (lent_bytes storage.old) }
         ensures between { IsBetweenUnits (lent_pool storage.new).supply }
+        ensures beside { KeepsBeside devices.old queues.old devices.new queues.new }
         ensures neighbours { KeepsNeighbours (record { volumes = volumes.old; minidisks = minidisks.old.items })
             (record { volumes = volumes.new; minidisks = minidisks.new.items }) };
 }
@@ -75,8 +82,10 @@ impl Work for Units {
         _directory: &Directory,
         machine: &mut Machine,
         _devices: &mut Devices,
+        _queues: &mut Queues,
         _volumes: &mut Volumes,
         _minidisks: &mut Vec<SharedDisk>,
+        _reuse: &mut Reuse,
         storage: &mut Dat<'_>,
     ) -> Ran {
         machine.run::<VirtualCpu, Dat<'_>>(storage, self.0)
@@ -99,8 +108,10 @@ impl Work for Tick {
         _directory: &Directory,
         machine: &mut Machine,
         _devices: &mut Devices,
+        _queues: &mut Queues,
         _volumes: &mut Volumes,
         _minidisks: &mut Vec<SharedDisk>,
+        _reuse: &mut Reuse,
         storage: &mut Dat<'_>,
     ) -> Result<(), FramesOut> {
         machine.tick(storage)
@@ -131,8 +142,10 @@ impl<'a> Work for Line<'a> {
         directory: &Directory,
         machine: &mut Machine,
         devices: &mut Devices,
+        queues: &mut Queues,
         volumes: &mut Volumes,
         minidisks: &mut Vec<SharedDisk>,
+        reuse: &mut Reuse,
         storage: &mut Dat<'_>,
     ) -> Result<Told, LineError> {
         let world = Among {
@@ -140,17 +153,18 @@ impl<'a> Work for Line<'a> {
             own: self.user,
             on: self.on.as_slice(),
         };
-        let mut channels = Resident::take(self.alloc, volumes, minidisks);
+        let mut channels = Resident::take(self.alloc, volumes, minidisks, reuse);
         let told = type_supplied(
             self.alloc,
             devices,
+            queues,
             machine,
             storage,
             &mut channels,
             &world,
             self.typed,
         );
-        channels.give(volumes, minidisks);
+        channels.give(volumes, minidisks, reuse);
         storage.let_go();
         told
     }
@@ -175,13 +189,22 @@ impl Work for Service {
         _directory: &Directory,
         machine: &mut Machine,
         devices: &mut Devices,
+        queues: &mut Queues,
         volumes: &mut Volumes,
         minidisks: &mut Vec<SharedDisk>,
+        reuse: &mut Reuse,
         storage: &mut Dat<'_>,
     ) -> Result<bool, LineError> {
-        let mut channels = Resident::take(self.alloc, volumes, minidisks);
-        let served = serve_supplied(devices, machine, storage, &mut channels, self.device);
-        channels.give(volumes, minidisks);
+        let mut channels = Resident::take(self.alloc, volumes, minidisks, reuse);
+        let served = serve_supplied(
+            devices,
+            queues,
+            machine,
+            storage,
+            &mut channels,
+            self.device,
+        );
+        channels.give(volumes, minidisks, reuse);
         storage.let_go();
         served
     }

@@ -2,8 +2,9 @@ mod Attached
 pub mod Requested
 pub mod Switched
 pub mod Printed
-pub mod Cards
 pub mod Copies
 pub mod Marks
 pub mod Attention
 pub mod Staying
+pub mod Fed
+pub mod Beside

@@ -8,6 +8,7 @@ use Rattle.s370_subchannels.specs.Subchannels.{found, new_device}
 use Rattle.unit_record.specs.declared.output.Target.{Target}
 use Rattle.unit_record.specs.declared.output.Target.TheVariants.{System}
 use Rattle.unit_record.specs.Console.{ConsoleState, console_new}
+use Rattle.unit_record.specs.Output.{FileValue}
 use Rattle.unit_record.specs.Reader.{ReaderState, reader_new}
 use Rattle.unit_record.specs.Punch.{PunchState, punch_new}
 use Rattle.unit_record.specs.Printer.{PrinterState, printer_new}
@@ -25,6 +26,9 @@ pub record DevicesValue : Type 0 where
   pub printer : PrinterState
   -- for whom the punch's file is, when it is closed
   pub target : Target
+  -- the files that punch and printer closed, each in order
+  pub punched : List FileValue
+  pub printed : List FileValue
 
 -- no address leads to any of them
 abbrev pub no_places : Places
@@ -40,6 +44,8 @@ devices_new places =
       punch = punch_new;
       printer = printer_new;
       target = System;
+      punched = [];
+      printed = [];
     }
 
 -- ---- which device has an address
@@ -49,21 +55,27 @@ is_there None device = false
 is_there (Some address) device = address == device
 
 -- Which of console, reader, punch and printer has this address, in this order.
-abbrev pub part_at : DevicesValue → ℕ → Option Kind
-part_at d device =
-    if is_there d.places.console device then Some kinds.Console
-    else if is_there d.places.reader device then Some kinds.Reader
-    else if is_there d.places.punch device then Some kinds.Punch
-    else if is_there d.places.printer device then Some kinds.Printer
+abbrev pub place_at : Places → ℕ → Option Kind
+place_at places device =
+    if is_there places.console device then Some kinds.Console
+    else if is_there places.reader device then Some kinds.Reader
+    else if is_there places.punch device then Some kinds.Punch
+    else if is_there places.printer device then Some kinds.Printer
     else None
+
+abbrev pub part_at : DevicesValue → ℕ → Option Kind
+part_at d device = place_at d.places device
 
 -- The first of all that has this address, the disks last; of a disk, its index.
 abbrev pub part_or_disk : Option Kind → Option ℕ → Option Kind
 part_or_disk (Some part) disk = Some part
 part_or_disk None disk = option_map kinds.Disk disk
 
+abbrev pub kind_in : Places → List DiskAt → ℕ → Option Kind
+kind_in places disks device = part_or_disk (place_at places device) (position (is_disk_at device) disks)
+
 abbrev pub kind_at : DevicesValue → List DiskAt → ℕ → Option Kind
-kind_at d disks device = part_or_disk (part_at d device) (position (is_disk_at device) disks)
+kind_at d disks device = kind_in d.places disks device
 
 -- Where it is a disk, there is a disk of its index.
 abbrev pub IsAttached : List DiskAt → Kind → Type 0

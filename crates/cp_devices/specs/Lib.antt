@@ -11,3 +11,4 @@ pub mod Lines
 pub mod Life
 pub mod Attention
 pub mod Files
+pub mod Lent

@@ -1,12 +1,13 @@
 -- What the control program does with the files and decks of a machine.
-use Rattle.std.specs.Prelude.{ℕ, ◌-◌, Bool, true, false, if◌then◌else◌, List, [], ◌++◌, length, map, take, replicate, slice_get, Option, Some, None}
+use Rattle.std.specs.Prelude.{ℕ, Bool, true, false, if◌then◌else◌, slice_get, Option, Some, None}
 use Rattle.unit_record.specs.declared.output.Target.{Target}
 use Rattle.unit_record.specs.declared.output.Target.TheVariants.{System}
 use Rattle.unit_record.specs.declared.reader.Sender.{Sender}
-use Rattle.unit_record.specs.Output.{EntryValue, FileValue, has_entries}
+use Rattle.unit_record.specs.Output.{closed_with, has_entries}
 use Rattle.unit_record.specs.Reader.{DeckValue, with_deck, with_deck_back, queued_at, purged}
-use Rattle.unit_record.specs.Punch.{punch_closed}
-use Rattle.unit_record.specs.Printer.{printer_closed}
+use Rattle.unit_record.specs.Punch.{punch_emptied}
+use Rattle.unit_record.specs.Printer.{printer_emptied}
+use Rattle.cp_spool.specs.Queues.{cards_of}
 use Rattle.cp_devices.specs.declared.places.Kind.{Kind}
 use Rattle.cp_devices.specs.declared.places.Kind.TheVariants as kinds
 use Rattle.cp_devices.specs.Devices.{DevicesValue, part_at}
@@ -37,11 +38,11 @@ output_of d (Some (kinds.Disk index)) = None
 output_of d None = None
 
 abbrev pub with_punch_closed : DevicesValue → DevicesValue
-with_punch_closed d = record d { punch = punch_closed d.punch d.target }
+with_punch_closed d = record d { punch = punch_emptied d.punch; punched = closed_with d.punched d.target d.punch.entries }
 
 -- What is printed is for the operator.
 abbrev pub with_printer_closed : DevicesValue → DevicesValue
-with_printer_closed d = record d { printer = printer_closed d.printer System }
+with_printer_closed d = record d { printer = printer_emptied d.printer; printed = closed_with d.printed System d.printer.entries }
 
 -- LOGOFF closes both open files, and puts the current deck back into the queue.
 abbrev pub devices_logged_off : DevicesValue → DevicesValue
@@ -59,18 +60,7 @@ with_deck_purged d id = record d { reader = purged d.reader (queued_at d.reader 
 abbrev pub with_deck_put_back : DevicesValue → DevicesValue
 with_deck_put_back d = record d { reader = with_deck_back d.reader }
 
--- A card has the bytes of what was punched: 80, with blanks for those that are missing.
-abbrev pub card_of : List ℕ → List ℕ
-card_of bytes = take 80 bytes ++ replicate (80 - length bytes) 0x40
-
-abbrev pub card_of_entry : EntryValue → List ℕ
-card_of_entry entry = card_of entry.bytes
-
 -- The deck of a closed file has a card for each entry, in order. A file that is not there has no cards.
-abbrev pub cards_of : Option FileValue → List (List ℕ)
-cards_of (Some file) = map card_of_entry file.entries
-cards_of None = []
-
 abbrev pub deck_punched : DevicesValue → ℕ → ℕ → Sender → DeckValue
 deck_punched d index label sender =
-    record { label = label; sender = sender; cards = cards_of (slice_get d.punch.closed index) }
+    record { label = label; sender = sender; cards = cards_of (slice_get d.punched index) }

@@ -3,6 +3,8 @@ ghost use Rattle.std.specs.List.{list_any};
 ghost use Rattle.std.specs.Prelude.{◌≡◌, ◌==◌, IfOk, List, map};
 ghost use Rattle.cp_channels.specs.Disks.{DiskAt};
 ghost use Rattle.cp_devices.specs.Devices.{AreAttached, attached, has_at};
+ghost use Rattle.cp_devices.specs.Lent.{devices_with};
+ghost use Rattle.cp_spool.specs.Queues.{UserFiles, no_files};
 
 use crate::devices::Devices;
 use cp_channels::AttachedDisk;
@@ -31,7 +33,7 @@ impl Devices {
         alloc: Global,
         disks: &[AttachedDisk],
     ) -> Result<Subchannels, AttachError>
-        ensures { IfOk result (AreAttached self.now disks.now) }
+        ensures { (files : UserFiles) → IfOk result (AreAttached (devices_with self.now files) disks.now) }
     {
         match addresses_of(alloc, disks) {
             Ok(addresses) => self.subchannels_at(alloc, &addresses),
@@ -45,8 +47,8 @@ impl Devices {
         alloc: Global,
         addresses: &[DevAddr],
     ) -> Result<Subchannels, AttachError>
-        ensures { (disks : List DiskAt) → addresses.now ≡ map (λ disk. disk.address) disks
-            → IfOk result (AreAttached self.now disks) }
+        ensures { (files : UserFiles) (disks : List DiskAt) → addresses.now ≡ map (λ disk. disk.address) disks
+            → IfOk result (AreAttached (devices_with self.now files) disks) }
     {
         let mut subchannels = Subchannels::new(alloc);
         for address in 0..PAST_DEVICES {
@@ -61,7 +63,7 @@ impl Devices {
 
     /// Whether one of these devices, or of disks at these addresses, has this one.
     fn has_device(&self, addresses: &[DevAddr], device: u16) -> bool
-        ensures { result ≡ has_at self.now addresses.now device }
+        ensures { result ≡ has_at (devices_with self.now no_files) addresses.now device }
     {
         match self.part_at(device) {
             Some(_) => true,

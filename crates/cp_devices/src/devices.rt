@@ -1,16 +1,19 @@
 //! The parts of the devices of one machine.
 ghost use Rattle.std.specs.Prelude.{◌≡◌, IfSome};
-ghost use Rattle.cp_devices.specs.Devices.{IsAttached, devices_new, kind_at, part_at};
-ghost use Rattle.cp_devices.specs.Resets.{devices_reset};
+ghost use Rattle.cp_devices.specs.Devices.{IsAttached, kind_in, place_at};
+ghost use Rattle.cp_devices.specs.Lent.{parts_new, parts_reset};
 
 use crate::places::{Kind, Places, is_there};
 use cp_channels::Disks;
+use cp_spool::Reader;
+use cp_users::UserNo;
 use std::alloc::Global;
 use std::marker::Model;
-use unit_record::{Console, Printer, Punch, Reader, Target};
+use unit_record::{Console, Printer, Punch, Target};
 
-/// The parts of the devices of one machine, but for its disks. Console, reader, punch and printer are there also where
-/// no address leads to them.
+/// The parts of the devices of one machine, but for its disks and its files, which stand among those of all users
+/// ([`Queues`](cp_spool::Queues)) and are lent to each call. Console, reader, punch and printer are there also where no
+/// address leads to them.
 #[derive(Drop)]
 pub struct Devices {
     pub(crate) places: Places,
@@ -19,12 +22,13 @@ pub struct Devices {
     pub(crate) punch: Punch,
     pub(crate) printer: Printer,
     pub(crate) target: Target,
+    pub(crate) user: UserNo,
 }
 
 impl Model for Devices {
-    ghost use Rattle.cp_devices.specs.Devices.{DevicesValue};
+    ghost use Rattle.cp_devices.specs.Lent.{DevicesParts};
 
-    ghost Value = { DevicesValue };
+    ghost Value = { DevicesParts };
 
     ghost view = { λ d. record {
       places = d.places;
@@ -33,27 +37,30 @@ impl Model for Devices {
       punch = d.punch;
       printer = d.printer;
       target = d.target;
+      user = d.user;
     } };
 }
 
 impl Devices {
-    /// Devices at these places that have done nothing. What is punched is for the operator.
-    pub fn new(alloc: Global, places: Places) -> Devices
-        ensures { result ≡ devices_new places }
+    /// Devices at these places that have done nothing, whose files are those of this user. What is punched is for the
+    /// operator.
+    pub fn new(alloc: Global, places: Places, user: UserNo) -> Devices
+        ensures { result ≡ parts_new places user }
     {
         Devices {
             places,
             console: Console::new(alloc),
-            reader: Reader::new(alloc),
+            reader: Reader::new(),
             punch: Punch::new(alloc),
             printer: Printer::new(alloc),
             target: Target::System,
+            user,
         }
     }
 
     /// Which of console, reader, punch and printer has this address, if any has.
     pub fn part_at(&self, device: u16) -> Option<Kind>
-        ensures { result ≡ part_at self.now device }
+        ensures { result ≡ place_at self.now.places device }
     {
         let places = self.places;
         if is_there(places.console, device) {
@@ -71,7 +78,7 @@ impl Devices {
 
     /// What has this address, if anything has, these disks included.
     pub fn kind_at<D: Disks>(&self, disks: &D, device: u16) -> Option<Kind>
-        ensures kind { result ≡ kind_at self.now (D.disks disks.now) device }
+        ensures kind { result ≡ kind_in self.now.places (D.disks disks.now) device }
         ensures inside { IfSome result (IsAttached (D.disks disks.now)) }
     {
         match self.part_at(device) {
@@ -86,10 +93,10 @@ impl Devices {
     /// A system reset of all but the disks: no command is under way, no console line waits, and no device has sense.
     /// Files, decks, the lines that were written and the punch's target stay.
     pub fn reset(&mut self)
-        ensures { self.new ≡ devices_reset self.old }
+        ensures { self.new ≡ parts_reset self.old }
     {
         self.console.reset();
-        self.reader.reset();
+        self.reader = Reader::new();
         self.punch.reset();
         self.printer.reset();
     }
@@ -117,11 +124,18 @@ impl Devices {
         &self.console
     }
 
-    /// The card reader.
+    /// What the card reader has beside its decks.
     pub fn reader(&self) -> &Reader
         ensures { result.now ≡ self.now.reader }
     {
         &self.reader
+    }
+
+    /// The user whose files are theirs.
+    pub fn user(&self) -> UserNo
+        ensures { result ≡ self.now.user }
+    {
+        self.user
     }
 
     /// The card punch.

@@ -3,9 +3,10 @@ ghost use Rattle.std.specs.Prelude.{◌≡◌, IfOk, map};
 ghost use Rattle.cp_devices.specs.Files.{deck_line, sender_name};
 
 use cp_console::printing::file_line;
+use cp_spool::SeenDeck;
 use cp_users::Named;
 use std::alloc::{AllocError, Global};
-use unit_record::{Deck, Sender};
+use unit_record::Sender;
 
 /// What a file was when it got its number.
 #[derive(Clone, Copy, Debug, PartialEq, Eq)]
@@ -24,14 +25,18 @@ pub enum FileKind {
 /// ```text
 /// let line = deck_line(alloc, &users, deck)?; // b"FILE 0001 FROM A CARDS 3"
 /// ```
-pub fn deck_line<N: Named>(alloc: Global, users: &[N], deck: &Deck) -> Result<Vec<u8>, AllocError>
+pub fn deck_line<N: Named>(
+    alloc: Global,
+    users: &[N],
+    deck: &SeenDeck<'_>,
+) -> Result<Vec<u8>, AllocError>
     ensures { IfOk result (λ line. line.items ≡ deck_line (map N.name users.now) deck.now) }
 {
     file_line(
         alloc,
         deck.label(),
         sender_name(users, deck.sender()),
-        deck.cards().len(),
+        deck.count(),
     )
 }
 

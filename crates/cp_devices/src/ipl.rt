@@ -4,16 +4,23 @@ ghost use Rattle.s370_store.specs.Access.{IsAway};
 ghost use Rattle.cp_channels.specs.Channels.{Brings, LacksRoom};
 ghost use Rattle.cp_channels.specs.Disks.{reset_disk};
 ghost use Rattle.cp_devices.specs.Equipped.{equipped};
+<<<<<<< HEAD
 ghost use Rattle.cp_devices.specs.Lines.{IplNeeds, IsIpl, KindLoads, LoadsDisk, LoadsReader, ipl_told};
 ghost use Rattle.cp_devices.specs.declared.places.Kind.TheVariants as kinds;
+=======
+ghost use Rattle.cp_devices.specs.Lent.{KeepsBeside, devices_on};
+ghost use Rattle.cp_devices.specs.Lines.{IsIpl, LoadsDisk, LoadsReader, ipl_told};
+>>>>>>> main
 
 use crate::devices::Devices;
+use crate::feeding::load_fed;
 use crate::line::Told;
 use crate::loading::start_loaded;
 use crate::places::Kind;
 use cp_channels::Channels;
 use cp_console::responses::Response;
 use cp_panel::{LineError, Machine};
+use cp_spool::Queues;
 use s370_channel::ChannelError;
 use s370_num::DevAddr;
 use s370_store::Storage;
@@ -35,16 +42,23 @@ impl Devices {
     /// obeyed, nothing is said of the machine.
     pub fn ipl<S: Storage, C: Channels<S>>(
         &mut self,
+        queues: &mut Queues,
         machine: &mut Machine,
         storage: &mut S,
         channels: &mut C,
         device: DevAddr,
     ) -> Result<Told, LineError>
         requires size { 8192 ≤ length (S.bytes storage.old) }
+<<<<<<< HEAD
         requires ready { C.IsReady storage.old }
         ensures ok { let before = equipped machine.old self.old (C.disks channels.old) (S.bytes storage.old)
+=======
+        requires user { self.old.user < length queues.old.users }
+        requires there { C.is_whole ≡ true → IsAllThere (length (S.bytes storage.old)) (S.present storage.old) }
+        ensures ok { let before = equipped machine.old (devices_on self.old queues.old) (C.disks channels.old) (S.bytes storage.old)
+>>>>>>> main
             (S.keys storage.old) in
-            let after = equipped machine.new self.new (C.disks channels.new) (S.bytes storage.new)
+            let after = equipped machine.new (devices_on self.new queues.new) (C.disks channels.new) (S.bytes storage.new)
             (S.keys storage.new) in
             IfOk result (λ told. IsIpl device before told after) }
         ensures lacks { C.is_whole ≡ false → result ≡ Err LineError.FramesOut
@@ -64,10 +78,17 @@ impl Devices {
             Brings C.Came storage.old (IplNeeds device before) storage.new }
         ensures ready { C.IsReady storage.new }
         ensures others { C.KeepsOthers channels.old channels.new }
+<<<<<<< HEAD
+=======
+        ensures beside { KeepsBeside self.old queues.old self.new queues.new }
+        ensures rest { S.Keeps storage.old storage.new }
+>>>>>>> main
     {
         match self.kind_at(channels, device.get()) {
-            Some(Kind::Reader) => self.load_reader(machine, storage, channels, device),
-            Some(Kind::Disk(index)) => self.load_disk(machine, storage, channels, device, index),
+            Some(Kind::Reader) => self.load_reader(queues, machine, storage, channels, device),
+            Some(Kind::Disk(index)) => self.load_disk(
+                queues, machine, storage, channels, device, index,
+            ),
             _ => Ok(Told::Said(Response::DeviceNotFound)),
         }
     }
@@ -75,16 +96,22 @@ impl Devices {
     /// The machine is loaded from the reader.
     fn load_reader<S: Storage, C: Channels<S>>(
         &mut self,
+        queues: &mut Queues,
         machine: &mut Machine,
         storage: &mut S,
         channels: &mut C,
         device: DevAddr,
     ) -> Result<Told, LineError>
         requires size { 8192 ≤ length (S.bytes storage.old) }
+<<<<<<< HEAD
         requires ready { C.IsReady storage.old }
         ensures ok { let before = equipped machine.old self.old (C.disks channels.old) (S.bytes storage.old)
+=======
+        requires user { self.old.user < length queues.old.users }
+        ensures ok { let before = equipped machine.old (devices_on self.old queues.old) (C.disks channels.old) (S.bytes storage.old)
+>>>>>>> main
             (S.keys storage.old) in
-            let after = equipped machine.new self.new (C.disks channels.new) (S.bytes storage.new)
+            let after = equipped machine.new (devices_on self.new queues.new) (C.disks channels.new) (S.bytes storage.new)
             (S.keys storage.new) in
             IfOk result (λ told. LoadsReader device before told after) }
         ensures lacks { C.is_whole ≡ false → result ≡ Err LineError.FramesOut
@@ -104,6 +131,11 @@ impl Devices {
             Brings C.Came storage.old (KindLoads (Some kinds.Reader) before) storage.new }
         ensures ready { C.IsReady storage.new }
         ensures others { C.KeepsOthers channels.old channels.new }
+<<<<<<< HEAD
+=======
+        ensures beside { KeepsBeside self.old queues.old self.new queues.new }
+        ensures rest { S.Keeps storage.old storage.new }
+>>>>>>> main
     {
         match machine.make_room(1) {
             Ok(()) => {}
@@ -116,8 +148,19 @@ impl Devices {
         };
         self.reset_beside();
         channels.reset_disks();
+<<<<<<< HEAD
         machine.reset();
         match start_loaded(machine, storage, device, &ending) {
+=======
+        match load_fed(
+            machine,
+            storage,
+            device,
+            &mut self.reader,
+            queues,
+            self.user,
+        ) {
+>>>>>>> main
             Ok(well) => Ok(loaded(well)),
             // The page of the PSW is not present.
             Err(_) => Err(LineError::FramesOut),
@@ -127,6 +170,7 @@ impl Devices {
     /// The machine is loaded from the disk of this index.
     fn load_disk<S: Storage, C: Channels<S>>(
         &mut self,
+        queues: &Queues,
         machine: &mut Machine,
         storage: &mut S,
         channels: &mut C,
@@ -136,9 +180,9 @@ impl Devices {
         requires size { 8192 ≤ length (S.bytes storage.old) }
         requires ready { C.IsReady storage.old }
         requires inside { index < length (C.disks channels.old) }
-        ensures ok { let before = equipped machine.old self.old (C.disks channels.old) (S.bytes storage.old)
+        ensures ok { let before = equipped machine.old (devices_on self.old queues.now) (C.disks channels.old) (S.bytes storage.old)
             (S.keys storage.old) in
-            let after = equipped machine.new self.new (C.disks channels.new) (S.bytes storage.new)
+            let after = equipped machine.new (devices_on self.new queues.now) (C.disks channels.new) (S.bytes storage.new)
             (S.keys storage.new) in
             IfOk result (λ told. LoadsDisk index (slice_get (map reset_disk (C.disks channels.old)) index) device before told after) }
         ensures lacks { C.is_whole ≡ false → result ≡ Err LineError.FramesOut
@@ -158,6 +202,11 @@ impl Devices {
             Brings C.Came storage.old (KindLoads (Some (kinds.Disk index)) before) storage.new }
         ensures ready { C.IsReady storage.new }
         ensures others { C.KeepsOthers channels.old channels.new }
+<<<<<<< HEAD
+=======
+        ensures user { self.new.user ≡ self.old.user }
+        ensures rest { S.Keeps storage.old storage.new }
+>>>>>>> main
     {
         match machine.make_room(1) {
             Ok(()) => {}

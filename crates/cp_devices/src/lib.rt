@@ -5,14 +5,14 @@
 //! name stays as it was. Where memory is refused all stay.
 //!
 //! ```
-//! let mut devices = Devices::new(alloc, places);
-//! devices.spool(0x00D, Target::User(3));
-//! let closed = devices.log_off(alloc)?;
+//! let mut devices = Devices::new(alloc, places, user);
+//! devices.log_off(alloc, &mut queues)?;
 //! ```
 #![tactic(auto)]
 
 mod attaching;
 mod devices;
+mod feeding;
 mod files;
 mod ipl;
 mod laws;
@@ -21,6 +21,7 @@ mod loading;
 mod obey;
 mod places;
 mod request;
+mod seen;
 mod serve;
 mod spooling;
 mod world;
@@ -31,5 +32,6 @@ pub use files::{FileKind, deck_line};
 pub use laws::attention_agrees;
 pub use line::Told;
 pub use places::{Kind, Places};
+pub use seen::SeenDevices;
 pub use spooling::copy_of;
 pub use world::{World, is_logged_on};

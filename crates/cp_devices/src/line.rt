@@ -1,10 +1,12 @@
 //! Lines that are typed to a machine with devices.
-ghost use Rattle.std.specs.Prelude.{◌≡◌, ◌≤◌, ℕ, List, [], IfOk, OnErr, OnOk, Err, false, true, length};
+ghost use Rattle.std.specs.Prelude.{◌≡◌, ◌<◌, ◌≤◌, ℕ, List, [], IfOk, OnErr, OnOk, Err, false, true, length};
 ghost use Rattle.s370_store.specs.Access.{Touches};
 ghost use Rattle.cp_channels.specs.Disks.{DiskAt};
 ghost use Rattle.s370_intr.specs.Run.{AllNeeded, IsLacking};
 ghost use Rattle.cp_panel.specs.Panel.{line_needs, switches};
+ghost use Rattle.cp_spool.specs.Queues.{UserFiles};
 ghost use Rattle.cp_devices.specs.Equipped.{equipped};
+ghost use Rattle.cp_devices.specs.Lent.{KeepsBeside, devices_on, devices_with};
 ghost use Rattle.cp_devices.specs.Lines.{IsLine, MayTakeMemory, loads_from, logged_off, outcome, said, requested, typed_at, was_reset};
 
 use crate::devices::Devices;
@@ -15,6 +17,7 @@ use cp_console::console_line::ConsoleLine;
 use cp_console::lines::ConsoleText;
 use cp_console::responses::Response;
 use cp_panel::{LineError, Machine};
+use cp_spool::Queues;
 use s370_num::DevAddr;
 use s370_store::Supply;
 use std::alloc::Global;
@@ -66,6 +69,7 @@ impl Devices {
     pub fn line<S: Supply, D: Disks, W: World>(
         &mut self,
         alloc: Global,
+        queues: &mut Queues,
         machine: &mut Machine,
         storage: &mut S,
         disks: &mut D,
@@ -73,36 +77,38 @@ impl Devices {
         typed: &[u8],
     ) -> Result<Told, LineError>
         requires size { 8192 ≤ length (S.Storage.bytes storage.old) }
-        ensures ok { let before = equipped machine.old self.old (D.disks disks.old) (S.Storage.bytes storage.old)
+        requires user { self.old.user < length queues.old.users }
+        ensures ok { let before = equipped machine.old (devices_on self.old queues.old) (D.disks disks.old) (S.Storage.bytes storage.old)
             (S.Storage.keys storage.old) in
-            let after = equipped machine.new self.new (D.disks disks.new) (S.Storage.bytes storage.new)
+            let after = equipped machine.new (devices_on self.new queues.new) (D.disks disks.new) (S.Storage.bytes storage.new)
             (S.Storage.keys storage.new) in
             IfOk result (λ told. IsLine (W.known world.now) typed.now before told after) }
-        ensures err { let before = equipped machine.old self.old (D.disks disks.old) (S.Storage.bytes storage.old)
+        ensures err { let before = equipped machine.old (devices_on self.old queues.old) (D.disks disks.old) (S.Storage.bytes storage.old)
             (S.Storage.keys storage.old) in
-            let after = equipped machine.new self.new (D.disks disks.new) (S.Storage.bytes storage.new)
+            let after = equipped machine.new (devices_on self.new queues.new) (D.disks disks.new) (S.Storage.bytes storage.new)
             (S.Storage.keys storage.new) in
             OnErr result (after ≡ before) }
-        ensures memory { let before = equipped machine.old self.old (D.disks disks.old) (S.Storage.bytes storage.old)
+        ensures memory { let before = equipped machine.old (devices_on self.old queues.old) (D.disks disks.old) (S.Storage.bytes storage.old)
             (S.Storage.keys storage.old) in
             result ≡ Err LineError.Memory → MayTakeMemory (requested typed.now before) typed.now before }
-        ensures frames { let before = equipped machine.old self.old (D.disks disks.old) (S.Storage.bytes storage.old)
+        ensures frames { let before = equipped machine.old (devices_on self.old queues.old) (D.disks disks.old) (S.Storage.bytes storage.old)
             (S.Storage.keys storage.old) in
             result ≡ Err LineError.FramesOut
             → IsLacking (Touches (line_needs typed.now before.machine)) (length (S.Storage.bytes storage.old))
             (S.IsShort storage.new) }
-        ensures cleared { let before = equipped machine.old self.old (D.disks disks.old) (S.Storage.bytes storage.old)
+        ensures cleared { let before = equipped machine.old (devices_on self.old queues.old) (D.disks disks.old) (S.Storage.bytes storage.old)
             (S.Storage.keys storage.old) in
             switches typed.now before.machine ≡ true → OnOk result (S.Cleared storage.old storage.new) }
-        ensures not_cleared { let before = equipped machine.old self.old (D.disks disks.old)
+        ensures not_cleared { let before = equipped machine.old (devices_on self.old queues.old) (D.disks disks.old)
             (S.Storage.bytes storage.old) (S.Storage.keys storage.old) in
             switches typed.now before.machine ≡ true → OnErr result (S.Brought storage.old [] storage.new) }
-        ensures supply { let before = equipped machine.old self.old (D.disks disks.old) (S.Storage.bytes storage.old)
+        ensures supply { let before = equipped machine.old (devices_on self.old queues.old) (D.disks disks.old) (S.Storage.bytes storage.old)
             (S.Storage.keys storage.old) in
             switches typed.now before.machine ≡ false
             → ((pages : List ℕ) × S.Brought storage.old pages storage.new
             × AllNeeded (Touches (line_needs typed.now before.machine)) pages) }
         ensures others { D.KeepsOthers disks.old disks.new }
+        ensures beside { KeepsBeside self.old queues.old self.new queues.new }
         ensures size { length (S.Storage.bytes storage.new) ≡ length (S.Storage.bytes storage.old) }
     {
         let text = ConsoleText::new(typed);
@@ -114,10 +120,10 @@ impl Devices {
                 disks.clear_disks();
                 Ok(Told::Said(Response::LogonOk))
             }
-            Request::LogsOff => self.leave(alloc, machine, storage, disks),
+            Request::LogsOff => self.leave(alloc, queues, machine, storage, disks),
             Request::Resets => self.reset_machine(machine, disks),
             Request::Types => self.type_line(machine, text.as_slice()),
-            Request::Asks(command) => self.obey(alloc, world, &command),
+            Request::Asks(command) => self.obey(alloc, queues, world, &command),
             Request::Elsewhere => match machine.line(storage, typed) {
                 Ok(response) => Ok(Told::of(response)),
                 Err(error) => Err(error),
@@ -129,28 +135,31 @@ impl Devices {
     fn leave<S: Supply, D: Disks>(
         &mut self,
         alloc: Global,
+        queues: &mut Queues,
         machine: &mut Machine,
         storage: &mut S,
         disks: &mut D,
     ) -> Result<Told, LineError>
-        ensures ok { let before = equipped machine.old self.old (D.disks disks.old) (S.Storage.bytes storage.old)
+        requires { self.old.user < length queues.old.users }
+        ensures ok { let before = equipped machine.old (devices_on self.old queues.old) (D.disks disks.old) (S.Storage.bytes storage.old)
             (S.Storage.keys storage.old) in
-            let after = equipped machine.new self.new (D.disks disks.new) (S.Storage.bytes storage.new)
+            let after = equipped machine.new (devices_on self.new queues.new) (D.disks disks.new) (S.Storage.bytes storage.new)
             (S.Storage.keys storage.new) in
             IfOk result (λ told. outcome after told ≡ logged_off before) }
-        ensures err { let before = equipped machine.old self.old (D.disks disks.old) (S.Storage.bytes storage.old)
+        ensures err { let before = equipped machine.old (devices_on self.old queues.old) (D.disks disks.old) (S.Storage.bytes storage.old)
             (S.Storage.keys storage.old) in
-            let after = equipped machine.new self.new (D.disks disks.new) (S.Storage.bytes storage.new)
+            let after = equipped machine.new (devices_on self.new queues.new) (D.disks disks.new) (S.Storage.bytes storage.new)
             (S.Storage.keys storage.new) in
             OnErr result (after ≡ before) }
         ensures memory { result ≡ Err LineError.FramesOut → ⊥ }
         ensures cleared { OnOk result (S.Cleared storage.old storage.new) }
         ensures not_cleared { OnErr result (S.Brought storage.old [] storage.new) }
         ensures others { D.KeepsOthers disks.old disks.new }
+        ensures beside { KeepsBeside self.old queues.old self.new queues.new }
         ensures size { length (S.Storage.bytes storage.new) ≡ length (S.Storage.bytes storage.old) }
     {
-        match self.log_off(alloc) {
-            Ok(_) => {}
+        match self.log_off(alloc, queues) {
+            Ok(()) => {}
             Err(_) => return Err(LineError::Memory),
         }
         machine.switch_off(storage);
@@ -165,13 +174,14 @@ impl Devices {
         machine: &mut Machine,
         disks: &mut D,
     ) -> Result<Told, LineError>
-        ensures ok { (bytes keys : List ℕ)
-            → IfOk result (λ told. outcome (equipped machine.new self.new (D.disks disks.new) bytes keys) told
-            ≡ was_reset (equipped machine.old self.old (D.disks disks.old) bytes keys)) }
-        ensures err { (bytes keys : List ℕ)
-            → OnErr result (equipped machine.new self.new (D.disks disks.new) bytes keys
-            ≡ equipped machine.old self.old (D.disks disks.old) bytes keys) }
+        ensures ok { (files : UserFiles) (bytes keys : List ℕ)
+            → IfOk result (λ told. outcome (equipped machine.new (devices_with self.new files) (D.disks disks.new) bytes keys) told
+            ≡ was_reset (equipped machine.old (devices_with self.old files) (D.disks disks.old) bytes keys)) }
+        ensures err { (files : UserFiles) (bytes keys : List ℕ)
+            → OnErr result (equipped machine.new (devices_with self.new files) (D.disks disks.new) bytes keys
+            ≡ equipped machine.old (devices_with self.old files) (D.disks disks.old) bytes keys) }
         ensures memory { result ≡ Err LineError.FramesOut → ⊥ }
+        ensures user { self.new.user ≡ self.old.user }
         ensures others { D.KeepsOthers disks.old disks.new }
     {
         match machine.system_reset() {
@@ -186,13 +196,14 @@ impl Devices {
     /// A line for the console.
     fn type_line(&mut self, machine: &mut Machine, text: &[u8]) -> Result<Told, LineError>
         requires { length text.now ≤ 132 }
-        ensures ok { (disks : List DiskAt) (bytes keys : List ℕ)
-            → IfOk result (λ told. outcome (equipped machine.new self.new disks bytes keys) told
-            ≡ typed_at self.old.places.console text.now (equipped machine.old self.old disks bytes keys)) }
-        ensures err { (disks : List DiskAt) (bytes keys : List ℕ)
-            → OnErr result (equipped machine.new self.new disks bytes keys
-            ≡ equipped machine.old self.old disks bytes keys) }
+        ensures ok { (files : UserFiles) (disks : List DiskAt) (bytes keys : List ℕ)
+            → IfOk result (λ told. outcome (equipped machine.new (devices_with self.new files) disks bytes keys) told
+            ≡ typed_at self.old.places.console text.now (equipped machine.old (devices_with self.old files) disks bytes keys)) }
+        ensures err { (files : UserFiles) (disks : List DiskAt) (bytes keys : List ℕ)
+            → OnErr result (equipped machine.new (devices_with self.new files) disks bytes keys
+            ≡ equipped machine.old (devices_with self.old files) disks bytes keys) }
         ensures memory { result ≡ Err LineError.FramesOut → ⊥ }
+        ensures user { self.new.user ≡ self.old.user }
     {
         let Some(device) = self.places.console else {
             return Ok(Told::Silent);

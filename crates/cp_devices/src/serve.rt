@@ -4,16 +4,24 @@ ghost use Rattle.cp_channels.specs.Channels.{Brings, ProgramNeeds, WhereOut};
 ghost use Rattle.unit_record.specs.Console.{console_machine};
 ghost use Rattle.cp_devices.specs.Equipped.{storage_in};
 ghost use Rattle.cp_devices.specs.Devices.{IsAttached};
+ghost use Rattle.cp_devices.specs.declared.places.Kind.TheVariants as kinds;
 ghost use Rattle.cp_devices.specs.Equipped.{equipped};
+<<<<<<< HEAD
 ghost use Rattle.cp_devices.specs.Serve.{IsServedAt, KindNeeds, RunsConsole, RunsKind, ServeNeeds};
+=======
+ghost use Rattle.cp_devices.specs.Lent.{KeepsBeside, devices_on};
+ghost use Rattle.cp_devices.specs.Serve.{IsServedAt, RunsConsole, RunsKind, ServeNeeds};
+>>>>>>> main
 ghost use Rattle.cp_devices.specs.Stopped.{StopsAt, StopsConsole, StopsKind};
 
 use crate::devices::Devices;
+use crate::feeding::feed;
 use crate::places::Kind;
-use cp_channels::Channels;
+use cp_channels::{Channels, UnitRecord};
 use cp_console::console_line::ConsoleLine;
 use cp_console::responses::Response;
 use cp_panel::Machine;
+use cp_spool::Queues;
 use s370_channel::{Caw, ChannelError};
 use s370_num::DevAddr;
 use s370_store::Storage;
@@ -27,28 +35,41 @@ impl Devices {
     /// room for that page then, and nothing has happened but that pages came which the program needs.
     pub fn serve<S: Storage, C: Channels<S>>(
         &mut self,
+        queues: &mut Queues,
         machine: &mut Machine,
         storage: &mut S,
         channels: &mut C,
         device: DevAddr,
     ) -> Result<bool, ChannelError>
+<<<<<<< HEAD
         requires { C.IsReady storage.old }
         ensures served { let before = equipped machine.old self.old (C.disks channels.old) (S.bytes storage.old)
+=======
+        requires user { self.old.user < length queues.old.users }
+        ensures served { let before = equipped machine.old (devices_on self.old queues.old) (C.disks channels.old) (S.bytes storage.old)
+>>>>>>> main
             (S.keys storage.old) in
-            let after = equipped machine.new self.new (C.disks channels.new) (S.bytes storage.new)
+            let after = equipped machine.new (devices_on self.new queues.new) (C.disks channels.new) (S.bytes storage.new)
             (S.keys storage.new) in
             IfOk result (λ done. IsServedAt C.reads device before done after) }
-        ensures whole { let before = equipped machine.old self.old (C.disks channels.old) (S.bytes storage.old)
+        ensures whole { let before = equipped machine.old (devices_on self.old queues.old) (C.disks channels.old) (S.bytes storage.old)
             (S.keys storage.old) in
-            let after = equipped machine.new self.new (C.disks channels.new) (S.bytes storage.new)
+            let after = equipped machine.new (devices_on self.new queues.new) (C.disks channels.new) (S.bytes storage.new)
             (S.keys storage.new) in
             let needs = ServeNeeds C.holds device before in
             C.is_whole ≡ true
+<<<<<<< HEAD
             → IfErr result (WhereOut (length (S.bytes storage.old)) needs (C.IsOut storage.new needs) (after ≡ before)) }
         ensures stopped { let before = equipped machine.old self.old (C.disks channels.old) (S.bytes storage.old)
+=======
+            → IfErr result (WhereAbsent (length (S.bytes storage.old)) (S.present storage.old)
+            (ServeNeeds C.needs device before) (after ≡ before)) }
+        ensures stopped { let before = equipped machine.old (devices_on self.old queues.old) (C.disks channels.old) (S.bytes storage.old)
+>>>>>>> main
             (S.keys storage.old) in
             C.is_whole ≡ false → IfErr result (StopsAt C.reads (S.present storage.old) device before) }
         ensures others { C.KeepsOthers channels.old channels.new }
+        ensures beside { KeepsBeside self.old queues.old self.new queues.new }
         ensures keys { S.keys storage.new ≡ S.keys storage.old }
         ensures came { let before = equipped machine.old self.old (C.disks channels.old) (S.bytes storage.old)
             (S.keys storage.old) in
@@ -61,7 +82,7 @@ impl Devices {
         let Some(start) = machine.program(device) else {
             return Ok(false);
         };
-        match self.run_kind(machine, storage, channels, kind, device, start) {
+        match self.run_kind(queues, machine, storage, channels, kind, device, start) {
             Ok(()) => Ok(true),
             Err(error) => Err(error),
         }
@@ -70,6 +91,7 @@ impl Devices {
     /// The program of the device of this kind, at this address, runs.
     fn run_kind<S: Storage, C: Channels<S>>(
         &mut self,
+        queues: &mut Queues,
         machine: &mut Machine,
         storage: &mut S,
         channels: &mut C,
@@ -78,23 +100,35 @@ impl Devices {
         start: Caw,
     ) -> Result<(), ChannelError>
         requires attached { IsAttached (C.disks channels.old) kind }
+<<<<<<< HEAD
         requires ready { C.IsReady storage.old }
         ensures runs { let before = equipped machine.old self.old (C.disks channels.old) (S.bytes storage.old)
+=======
+        requires user { self.old.user < length queues.old.users }
+        ensures runs { let before = equipped machine.old (devices_on self.old queues.old) (C.disks channels.old) (S.bytes storage.old)
+>>>>>>> main
             (S.keys storage.old) in
-            let after = equipped machine.new self.new (C.disks channels.new) (S.bytes storage.new)
+            let after = equipped machine.new (devices_on self.new queues.new) (C.disks channels.new) (S.bytes storage.new)
             (S.keys storage.new) in
             OnOk result (RunsKind C.reads kind device start before after) }
-        ensures whole { let before = equipped machine.old self.old (C.disks channels.old) (S.bytes storage.old)
+        ensures whole { let before = equipped machine.old (devices_on self.old queues.old) (C.disks channels.old) (S.bytes storage.old)
             (S.keys storage.old) in
-            let after = equipped machine.new self.new (C.disks channels.new) (S.bytes storage.new)
+            let after = equipped machine.new (devices_on self.new queues.new) (C.disks channels.new) (S.bytes storage.new)
             (S.keys storage.new) in
             let needs = KindNeeds C.holds kind start before in
             C.is_whole ≡ true
+<<<<<<< HEAD
             → IfErr result (WhereOut (length (S.bytes storage.old)) needs (C.IsOut storage.new needs) (after ≡ before)) }
         ensures stopped { let before = equipped machine.old self.old (C.disks channels.old) (S.bytes storage.old)
+=======
+            → IfErr result (WhereAbsent (length (S.bytes storage.old)) (S.present storage.old)
+            (C.needs (memory_of (S.bytes storage.old) (S.keys storage.old)) start.address) (after ≡ before)) }
+        ensures stopped { let before = equipped machine.old (devices_on self.old queues.old) (C.disks channels.old) (S.bytes storage.old)
+>>>>>>> main
             (S.keys storage.old) in
             C.is_whole ≡ false → IfErr result (StopsKind C.reads (S.present storage.old) kind start before) }
         ensures others { C.KeepsOthers channels.old channels.new }
+        ensures beside { KeepsBeside self.old queues.old self.new queues.new }
         ensures keys { S.keys storage.new ≡ S.keys storage.old }
         ensures came { let before = equipped machine.old self.old (C.disks channels.old) (S.bytes storage.old)
             (S.keys storage.old) in
@@ -102,6 +136,7 @@ impl Devices {
         ensures ready { C.IsReady storage.new }
     {
         let key = start.key;
+<<<<<<< HEAD
         let ending = match kind {
             Kind::Console => return self.run_console(machine, storage, channels, device, start),
             Kind::Reader => match channels.run(storage, start, &mut self.reader) {
@@ -120,37 +155,65 @@ impl Devices {
                 Ok(ending) => ending,
                 Err(error) => return Err(error),
             },
+=======
+        let ended = match kind {
+            Kind::Console => return self.run_console(
+                queues, machine, storage, channels, device, start,
+            ),
+            Kind::Reader => return self.run_reader(
+                queues, machine, storage, channels, device, start,
+            ),
+            Kind::Punch => channels.run(storage, start, UnitRecord::Punch, &mut self.punch),
+            Kind::Printer => channels.run(storage, start, UnitRecord::Printer, &mut self.printer),
+            Kind::Disk(index) => channels.run_disk(storage, start, index),
+>>>>>>> main
         };
         machine.end_program(device, key, ending);
         Ok(())
     }
 
-    /// The program of the console runs.
-    fn run_console<S: Storage, C: Channels<S>>(
+    /// The program of the reader runs.
+    fn run_reader<S: Storage, C: Channels<S>>(
         &mut self,
+        queues: &mut Queues,
         machine: &mut Machine,
         storage: &mut S,
         channels: &mut C,
         device: DevAddr,
         start: Caw,
     ) -> Result<(), ChannelError>
+<<<<<<< HEAD
         requires { C.IsReady storage.old }
         ensures runs { let before = equipped machine.old self.old (C.disks channels.old) (S.bytes storage.old)
+=======
+        requires { self.old.user < length queues.old.users }
+        ensures runs { let before = equipped machine.old (devices_on self.old queues.old) (C.disks channels.old) (S.bytes storage.old)
+>>>>>>> main
             (S.keys storage.old) in
-            let after = equipped machine.new self.new (C.disks channels.new) (S.bytes storage.new)
+            let after = equipped machine.new (devices_on self.new queues.new) (C.disks channels.new) (S.bytes storage.new)
             (S.keys storage.new) in
-            OnOk result (RunsConsole C.reads device start before after) }
-        ensures whole { let before = equipped machine.old self.old (C.disks channels.old) (S.bytes storage.old)
+            OnOk result (RunsKind C.reads kinds.Reader device start before after) }
+        ensures whole { let before = equipped machine.old (devices_on self.old queues.old) (C.disks channels.old) (S.bytes storage.old)
             (S.keys storage.old) in
-            let after = equipped machine.new self.new (C.disks channels.new) (S.bytes storage.new)
+            let after = equipped machine.new (devices_on self.new queues.new) (C.disks channels.new) (S.bytes storage.new)
             (S.keys storage.new) in
             let needs = ProgramNeeds C.holds console_machine start (storage_in before.machine) before.devices.console in
             C.is_whole ≡ true
+<<<<<<< HEAD
             → IfErr result (WhereOut (length (S.bytes storage.old)) needs (C.IsOut storage.new needs) (after ≡ before)) }
         ensures stopped { let before = equipped machine.old self.old (C.disks channels.old) (S.bytes storage.old)
             (S.keys storage.old) in
             C.is_whole ≡ false → IfErr result (StopsConsole C.reads (S.present storage.old) start before) }
+=======
+            → IfErr result (WhereAbsent (length (S.bytes storage.old)) (S.present storage.old)
+            (C.needs (memory_of (S.bytes storage.old) (S.keys storage.old)) start.address) (after ≡ before)) }
+        ensures stopped { let before = equipped machine.old (devices_on self.old queues.old) (C.disks channels.old) (S.bytes storage.old)
+            (S.keys storage.old) in
+            C.is_whole ≡ false → IfErr result (StopsKind C.reads (S.present storage.old) kinds.Reader start before) }
+        ensures away { IfErr result (TellsAway (S.present storage.old)) }
+>>>>>>> main
         ensures others { C.KeepsOthers channels.old channels.new }
+        ensures beside { KeepsBeside self.old queues.old self.new queues.new }
         ensures keys { S.keys storage.new ≡ S.keys storage.old }
         ensures came { let before = equipped machine.old self.old (C.disks channels.old) (S.bytes storage.old)
             (S.keys storage.old) in
@@ -158,7 +221,55 @@ impl Devices {
         ensures ready { C.IsReady storage.new }
     {
         let key = start.key;
-        let ending = match channels.run(storage, start, &mut self.console) {
+        match feed(
+            &mut self.reader,
+            queues,
+            self.user,
+            storage,
+            channels,
+            start,
+        ) {
+            Ok(ending) => {
+                machine.end_program(device, key, ending);
+                Ok(())
+            }
+            Err(error) => Err(error),
+        }
+    }
+
+    /// The program of the console runs.
+    fn run_console<S: Storage, C: Channels<S>>(
+        &mut self,
+        queues: &Queues,
+        machine: &mut Machine,
+        storage: &mut S,
+        channels: &mut C,
+        device: DevAddr,
+        start: Caw,
+    ) -> Result<(), ChannelError>
+        ensures runs { let before = equipped machine.old (devices_on self.old queues.now) (C.disks channels.old) (S.bytes storage.old)
+            (S.keys storage.old) in
+            let after = equipped machine.new (devices_on self.new queues.now) (C.disks channels.new) (S.bytes storage.new)
+            (S.keys storage.new) in
+            OnOk result (RunsConsole C.reads device start before after) }
+        ensures whole { let before = equipped machine.old (devices_on self.old queues.now) (C.disks channels.old) (S.bytes storage.old)
+            (S.keys storage.old) in
+            let after = equipped machine.new (devices_on self.new queues.now) (C.disks channels.new) (S.bytes storage.new)
+            (S.keys storage.new) in
+            C.is_whole ≡ true
+            → IfErr result (WhereAbsent (length (S.bytes storage.old)) (S.present storage.old)
+            (C.needs (memory_of (S.bytes storage.old) (S.keys storage.old)) start.address) (after ≡ before)) }
+        ensures stopped { let before = equipped machine.old (devices_on self.old queues.now) (C.disks channels.old) (S.bytes storage.old)
+            (S.keys storage.old) in
+            C.is_whole ≡ false → IfErr result (StopsConsole C.reads (S.present storage.old) start before) }
+        ensures away { IfErr result (TellsAway (S.present storage.old)) }
+        ensures others { C.KeepsOthers channels.old channels.new }
+        ensures user { self.new.user ≡ self.old.user }
+        ensures keys { S.keys storage.new ≡ S.keys storage.old }
+        ensures rest { S.Keeps storage.old storage.new }
+    {
+        let key = start.key;
+        let ending = match channels.run(storage, start, UnitRecord::Console, &mut self.console) {
             Ok(ending) => ending,
             Err(error) => return Err(error),
         };

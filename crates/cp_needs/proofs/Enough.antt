@@ -13,10 +13,10 @@ use Rattle.s370_walk.specs.Stuck.{IsStuck, size_in}
 use Rattle.s370_walk.specs.Walk.{Setting, Fetching, live}
 use Rattle.cp_needs.specs.Words.{IsEnough}
 use Rattle.cp_needs.proofs.Sizes.{reach_size}
-use Rattle.cp_needs.proofs.Walking.{never_stuck}
+use Rattle.cp_needs.proofs.Walking.{kept_never_stuck}
 
 not_stuck : {D : Type 0} (h : Setting D) (present : ℕ → Bool) (spot : Spot) (m : Memory) (d : D) (page : ℕ) → IsEnough m present spot.at → IsStuck guest_written h present (Fetching spot m d) page → ⊥
-not_stuck h present spot m d page (inl (fixed, held)) stuck = never_stuck h present spot m d page fixed held stuck
+not_stuck h present spot m d page (inl still) stuck = kept_never_stuck h present spot still.memory m d page still.fixed still.held still.kept stuck
 not_stuck h present spot m d page (inr all) stuck =
     let size : size_in stuck.state ≡ length m.bytes = reach_size h (length m.bytes) (live guest_written) (Fetching spot m d) stuck.state stuck.comes refl in
     let inside = stuck.away.inside in

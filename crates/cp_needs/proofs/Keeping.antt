@@ -10,21 +10,17 @@ use Rattle.s370_channel.specs.Words.{ccw_of}
 use Rattle.s370_channel.specs.Guest.{guest_text, area_block, later, list_of, list_word, said_by, word_at}
 use Rattle.s370_walk.specs.declared.parts.Word.{Word}
 use Rattle.s370_walk.specs.Blocks.{block_number, straight}
-use Rattle.s370_walk.specs.Hardware.{Memory, area, byte_at, fault_of, is_in, put_byte}
+use Rattle.s370_walk.specs.Hardware.{Memory, area, fault_of, is_in, put_byte}
 use Rattle.s370_walk.specs.Walk.{is_indirect}
 use Rattle.channel_laws.proofs.Mapping.{get_other}
 use Rattle.channel_laws.specs.Tracks.{has_area}
 use Rattle.cp_needs.specs.Areas.{IsBegun}
+use Rattle.s370_store.specs.Access.{is_passed, is_permitted, is_permitted_from}
+use Rattle.cp_needs.specs.Kept.{IsKept}
 use Rattle.cp_needs.specs.Needs.{IsReached, IsTextByte}
 
--- The words and lists of the program stand as they stood in m0.
-pub record IsKept (m0 : Memory) (start : ℕ) (m : Memory) : Type 0 where
-  pub size : length m.bytes ≡ length m0.bytes
-  pub keys : m.keys ≡ m0.keys
-  pub text : (address a : ℕ) → IsReached m0 start address → IsTextByte m0 address a → byte_at m a ≡ byte_at m0 a
-
 pub kept_first : (m0 : Memory) (start : ℕ) → IsKept m0 start m0
-kept_first m0 start = record { size = refl; keys = refl; text = λ address a reached byte. refl }
+kept_first m0 start = record { size = refl; text = λ address a reached byte. refl }
 
 slice-more : (bytes : List ℕ) (a n : ℕ) → a < length bytes → slice_range bytes a (a + suc n) ≡ slice_index bytes a ∷ slice_range bytes (a + 1) (a + 1 + n)
 slice-more bytes a n lt =
@@ -45,9 +41,16 @@ slices_same xs ys (suc n) a long inside same =
     let rest = slices_same xs ys n (a + 1) long (omega (arith, inside)) (λ k lt. (let on : a + 1 + k ≡ a + (k + 1) = omega arith in rw on (same (k + 1) (omega (arith, lt))))) in
     slice-more xs a n (omega (arith, inside, long)) ∙ ap (λ x. x ∷ slice_range xs (a + 1) (a + 1 + n)) first ∙ ap (λ l. slice_index ys a ∷ l) rest ∙ sym (slice-more ys a n (omega (arith, inside)))
 
--- a range lies in one storage as in another of that size with those keys
+-- the key zero passes each block
+pub permitted_zero : (keys : List ℕ) (start n : ℕ) → is_permitted_from keys 0 Fetch start n ≡ true
+unfolding is_passed
+permitted_zero keys start zero = refl
+permitted_zero keys start (suc n) = permitted_zero keys start n
+
+-- a range lies in one storage as in another of that size
 in_same : (m0 : Memory) (start : ℕ) (m : Memory) (a n : ℕ) → IsKept m0 start m → is_in m a n ≡ is_in m0 a n
-in_same m0 start m a n kept = rw (kept.size, kept.keys) refl
+unfolding is_permitted
+in_same m0 start m a n kept = rw (kept.size, permitted_zero m.keys a n, permitted_zero m0.keys a n) refl
 
 pub in_fits : (m : Memory) (a n : ℕ) → 0 < n → is_in m a n ≡ true → a + n ≤ length m.bytes
 in_fits m a n some e = fits (length m.bytes) m.keys 0 Fetch a n (none_is (fault_of m 0 (area Fetch a n)) e) some
@@ -90,6 +93,5 @@ pub kept_put : (m0 : Memory) (start : ℕ) (m : Memory) (a b : ℕ) → IsKept m
 kept_put m0 start m a b kept lt apart =
     record {
       size = length-put m.bytes (b ∷ []) a (omega (arith, lt)) ∙ kept.size;
-      keys = kept.keys;
       text = λ address c reached byte. get_other m.bytes a b c lt (λ same. apart address reached (subst (λ x. IsTextByte m0 address x) same byte)) ∙ kept.text address c reached byte;
     }

@@ -8,3 +8,5 @@ pub mod Meeting
 pub mod Clearing
 pub mod Sizes
 pub mod Enough
+pub mod Standing
+pub mod Paging

@@ -30,7 +30,8 @@ use Rattle.channel_laws.specs.Tracks.{has_area}
 use Rattle.cp_needs.specs.Areas.{byte_place, IsBefore}
 use Rattle.cp_needs.specs.Needs.{IsFixed, IsHeld, IsProgramPage, IsReached}
 use Rattle.cp_needs.specs.Laws.{IsSteadyInWords}
-use Rattle.cp_needs.proofs.Keeping.{IsKept, kept_block, kept_first, kept_put, kept_word}
+use Rattle.cp_needs.specs.Kept.{IsKept}
+use Rattle.cp_needs.proofs.Keeping.{kept_block, kept_first, kept_put, kept_word}
 
 -- ---- Where the next byte lies
 
@@ -325,28 +326,34 @@ module _ {D : Type 0} (m0 : Memory) (start : ℕ) (h : Setting D) where
       area_page p m d page (place_in guest_written m p) on.1 on.0.size inside some (sym place) touches
   asked_page (Over e m d) page on inside asked = absurd asked
 
--- Where the pages of such a program are present, it is never stuck.
-pub never_stuck : {D : Type 0} (h : Setting D) (present : ℕ → Bool) (spot : Spot) (m : Memory) (d : D) (page : ℕ) → IsFixed m spot.at → IsHeld m spot.at present → IsStuck guest_written h present (Fetching spot m d) page → ⊥
-never_stuck {D = D} h present spot m d page fixed held stuck =
-    let begun : IsOn m spot.at h (Fetching spot m d) = (kept_first m spot.at, (false, starts)) in
-    let walked : IsOn m spot.at h (walk (live guest_written) h stuck.comes.steps (Fetching spot m d)) = walk_on m spot.at h stuck.comes.steps (Fetching spot m d) fixed begun in
-    let on : IsOn m spot.at h stuck.state = rw (← stuck.comes.comes) walked in
-    let yes = held page (asked_page m spot.at h stuck.state page on stuck.away.inside stuck.asked) in
+-- Where the pages of such a program are present, and its words stand as they stood, it is never stuck.
+pub kept_never_stuck : {D : Type 0} (h : Setting D) (present : ℕ → Bool) (spot : Spot) (m0 m : Memory) (d : D) (page : ℕ) → IsFixed m0 spot.at → IsHeld m0 spot.at present → IsKept m0 spot.at m → IsStuck guest_written h present (Fetching spot m d) page → ⊥
+kept_never_stuck {D = D} h present spot m0 m d page fixed held kept stuck =
+    let begun : IsOn m0 spot.at h (Fetching spot m d) = (kept, (false, starts)) in
+    let walked : IsOn m0 spot.at h (walk (live guest_written) h stuck.comes.steps (Fetching spot m d)) = walk_on m0 spot.at h stuck.comes.steps (Fetching spot m d) fixed begun in
+    let on : IsOn m0 spot.at h stuck.state = rw (← stuck.comes.comes) walked in
+    let yes = held page (asked_page m0 spot.at h stuck.state page on stuck.away.inside stuck.asked) in
     absurd (true≢false (sym yes ∙ stuck.away.away))
 
--- Its words and places are as they were at first.
-pub stays_as_begun : {D : Type 0} (h : Setting D) (spot : Spot) (m : Memory) (d : D) → IsFixed m spot.at → IsSteadyInWords h m (Fetching spot m d)
-stays_as_begun {D = D} h spot m d fixed =
+pub never_stuck : {D : Type 0} (h : Setting D) (present : ℕ → Bool) (spot : Spot) (m : Memory) (d : D) (page : ℕ) → IsFixed m spot.at → IsHeld m spot.at present → IsStuck guest_written h present (Fetching spot m d) page → ⊥
+never_stuck h present spot m d page fixed held stuck = kept_never_stuck h present spot m m d page fixed held (kept_first m spot.at) stuck
+
+-- Its words and places are as they stood.
+pub stays_as_kept : {D : Type 0} (h : Setting D) (spot : Spot) (m0 m : Memory) (d : D) → IsFixed m0 spot.at → IsKept m0 spot.at m → IsSteadyInWords h m0 (Fetching spot m d)
+stays_as_kept {D = D} h spot m0 m d fixed kept =
     record {
-      words = λ n to m' d' e. (let on = at n (Fetching to m' d') e in kept_word m spot.at m' to.at on.0 on.1);
+      words = λ n to m' d' e. (let on = at n (Fetching to m' d') e in kept_word m0 spot.at m' to.at on.0 on.1);
       places = λ n p m' d' e going. (let on = at n (Moving p m' d') e in
           let some = moves_some h.machine p d' going in
           let plain = moves_plain h.machine p d' going in
-          place_kept m spot.at m' p on.0 on.1 some plain ∙ sym (place_kept m spot.at m p (kept_first m spot.at) on.1 some plain));
+          place_kept m0 spot.at m' p on.0 on.1 some plain ∙ sym (place_kept m0 spot.at m0 p (kept_first m0 spot.at) on.1 some plain));
     }
   where
-    at : (n : ℕ) (s : State D) → walk (live guest_written) h n (Fetching spot m d) ≡ s → IsOn m spot.at h s
+    at : (n : ℕ) (s : State D) → walk (live guest_written) h n (Fetching spot m d) ≡ s → IsOn m0 spot.at h s
     at n s e =
-        let begun : IsOn m spot.at h (Fetching spot m d) = (kept_first m spot.at, (false, starts)) in
-        let walked : IsOn m spot.at h (walk (live guest_written) h n (Fetching spot m d)) = walk_on m spot.at h n (Fetching spot m d) fixed begun in
+        let begun : IsOn m0 spot.at h (Fetching spot m d) = (kept, (false, starts)) in
+        let walked : IsOn m0 spot.at h (walk (live guest_written) h n (Fetching spot m d)) = walk_on m0 spot.at h n (Fetching spot m d) fixed begun in
         rw (← e) walked
+
+pub stays_as_begun : {D : Type 0} (h : Setting D) (spot : Spot) (m : Memory) (d : D) → IsFixed m spot.at → IsSteadyInWords h m (Fetching spot m d)
+stays_as_begun h spot m d fixed = stays_as_kept h spot m m d fixed (kept_first m spot.at)

@@ -4,3 +4,5 @@ pub mod Words
 pub mod Noted
 pub mod Laws
 pub mod Told
+pub mod Kept
+pub mod Judged

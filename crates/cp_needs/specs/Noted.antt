@@ -1,13 +1,14 @@
 -- What is noted of a program: the fullwords in which its words and lists lie, and the pieces of storage that its inputs could
 -- fill.
 use Rattle.std.specs.Prelude.{ℕ, ◌+◌, ◌*◌, ◌/◌, ◌<◌, ◌≤◌, ◌≡◌, false, true, List, ◌++◌, Contains, slice_index, Some}
+use Rattle.s370_store.specs.declared.Page.{Page}
 use Rattle.s370_store.specs.declared.Range.{Range}
 use Rattle.s370_channel.specs.Guest.{guest_text, later}
 use Rattle.s370_walk.specs.declared.parts.Word.{Word}
 use Rattle.s370_walk.specs.Hardware.{Memory}
 use Rattle.s370_walk.specs.Walk.{is_indirect, skips}
 use Rattle.cp_needs.specs.Areas.{IsAreaByte}
-use Rattle.cp_needs.specs.Needs.{IsTextByte}
+use Rattle.cp_needs.specs.Needs.{IsDataByte, IsTextByte}
 
 abbrev pub IsInPiece : Range → ℕ → Type 0
 IsInPiece piece a = (piece.start ≤ a) × (a < piece.start + piece.count)
@@ -33,6 +34,16 @@ pub record AreStored (IsOne : ℕ → Type 0) (old new : List Range) : Type 0 wh
   pub stored : (a : ℕ) → IsOne a → IsInSome rest a
   pub only : (a : ℕ) → IsInSome rest a → IsOne a
 
+abbrev pub page_at : ℕ → Page
+page_at a = record { 0 = a / 4096 }
+
+-- The pages of these bytes, and no others, were added.
+pub record ArePaged (IsOne : ℕ → Type 0) (old new : List Page) : Type 0 where
+  pub rest : List Page
+  pub is : new ≡ old ++ rest
+  pub paged : (a : ℕ) → IsOne a → Contains rest (page_at a)
+  pub only : (page : Page) → Contains rest page → (a : ℕ) × IsOne a × (page_at a ≡ page)
+
 -- a byte of the word of a word's list that says where a block begins
 abbrev pub IsEntryByte : Word → ℕ → ℕ → Type 0
 IsEntryByte w number a = (is_indirect w ≡ true) × (k : ℕ) × (k < 4) × (a ≡ later w.address (4 * number) + k)
@@ -56,3 +67,7 @@ IsTextOf m words n a = (i : ℕ) × (i < n) × IsTextByte m (slice_index words i
 -- a byte that an input of one of them could fill
 abbrev pub IsFilledBy : Memory → List ℕ → ℕ → ℕ → Type 0
 IsFilledBy m words n a = (i : ℕ) × (i < n) × IsFilledAt m (slice_index words i) a
+
+-- a byte of the area of one of the first n of these words
+abbrev pub IsDataOf : Memory → List ℕ → ℕ → ℕ → Type 0
+IsDataOf m words n a = (i : ℕ) × (i < n) × IsDataByte m (slice_index words i) a

@@ -2,6 +2,7 @@
 use Rattle.std.specs.Prelude.{ℕ, ◌*◌, ◌/◌, ◌%◌, ◌<◌, ◌≡◌, ◌≢◌, ◌⊎◌, Bool, true, List, [], ◌∷◌, ◌++◌, length, slice_index, Some}
 use Rattle.cp_graph.specs.Table.{leads_next, leads_skipped}
 use Rattle.cp_needs.specs.Areas.{IsAreaByte, IsListByte}
+use Rattle.cp_needs.specs.Kept.{IsKept}
 use Rattle.cp_needs.specs.Needs.{IsClash, IsDataByte, IsFixed, IsHeld, IsProgramPage, IsReached, IsTextByte}
 use Rattle.s370_channel.specs.Guest.{guest_text}
 use Rattle.s370_walk.specs.declared.parts.Word.{Word}
@@ -58,6 +59,13 @@ pub record AreWords (m : Memory) (start : ℕ) (words : List ℕ) : Type 0 where
 abbrev pub IsNeeded : Memory → ℕ → ℕ → Type 0
 IsNeeded m start page = IsProgramPage m start page ⊎ IsClash m start
 
+-- the program was fixed with these words and lists, as which they stand still, and the pages that it needed are present
+pub record IsFixedStill (m : Memory) (present : ℕ → Bool) (start : ℕ) : Type 0 where
+  pub memory : Memory
+  pub fixed : IsFixed memory start
+  pub held : IsHeld memory start present
+  pub kept : IsKept memory start m
+
 -- the pages of a program that is fixed are present, or all pages are
 abbrev pub IsEnough : Memory → (ℕ → Bool) → ℕ → Type 0
-IsEnough m present start = (IsFixed m start × IsHeld m start present) ⊎ ((page : ℕ) → IsHere (length m.bytes) present page)
+IsEnough m present start = IsFixedStill m present start ⊎ ((page : ℕ) → IsHere (length m.bytes) present page)

@@ -19,6 +19,7 @@
 mod areas;
 mod demand;
 mod fixed;
+mod kept;
 mod laws;
 mod notes;
 mod pages;
@@ -26,6 +27,7 @@ mod running;
 mod words;
 
 pub use demand::{Wanted, needed};
+pub use kept::{Found, Fullword, look, stands};
 pub use laws::fixed_programs_need_their_pages;
 pub use running::run_held;
 pub use words::missing;

@@ -1,16 +1,16 @@
 //! What is noted of a program's words, to see whether an input of it could change one of them.
 ghost use Rattle.std.specs.Prelude.{[], ◌≡◌, ◌<◌, ◌≤◌, ◌%◌, IfOk, OnOk, length, slice_index, true, ℕ};
 ghost use Rattle.channel_laws.specs.Tracks as tracks;
-ghost use Rattle.cp_needs.specs.Areas.{IsListByte};
-ghost use Rattle.cp_needs.specs.Needs.{IsTextByte};
-ghost use Rattle.cp_needs.specs.Noted.{AreMarked, AreStored, IsEntryByte, IsFilled, IsFilledAt, IsFilledBy, IsPieceByte, IsTextOf};
+ghost use Rattle.cp_needs.specs.Areas.{IsAreaByte, IsListByte};
+ghost use Rattle.cp_needs.specs.Needs.{IsDataByte, IsTextByte};
+ghost use Rattle.cp_needs.specs.Noted.{AreMarked, AreStored, ArePaged, IsDataOf, IsEntryByte, IsFilled, IsFilledAt, IsFilledBy, IsPieceByte, IsTextOf};
 ghost use Rattle.cp_needs.specs.Words.{IsAreaPage, IsHere, IsPageAt};
 ghost use Rattle.s370_walk.specs.Hardware.{memory_of};
 
 use crate::areas::{block_here, bytes_in_block, list_address};
 use cp_graph::has_area;
 use s370_channel::fetch_word;
-use s370_store::{Range, Storage};
+use s370_store::{PAGE_SIZE, Page, Range, Storage};
 use s370_walk::{Flags, Word};
 use std::alloc::{AllocError, Global};
 
@@ -21,6 +21,8 @@ pub(crate) struct Notes {
     pub(crate) text: Vec<u32>,
     /// The pieces that their inputs could fill.
     pub(crate) filled: Vec<Range>,
+    /// The pages on which their areas lie, of words that skip too.
+    pub(crate) pages: Vec<Page>,
 }
 
 /// Notes the word of a word's list that says where a block of its area begins.
@@ -54,6 +56,9 @@ fn note_area<S: Storage>(storage: &S, word: &Word, notes: &mut Notes) -> Result<
     ensures stored { OnOk result
         (AreStored (IsFilled (memory_of (S.bytes storage.now) (S.keys storage.now)) word.now)
         notes.old.filled.items notes.new.filled.items) }
+    ensures paged { OnOk result
+        (ArePaged (IsAreaByte (memory_of (S.bytes storage.now) (S.keys storage.now)) word.now)
+        notes.old.pages.items notes.new.pages.items) }
 {
     if !has_area(word) {
         return Ok(());
@@ -76,6 +81,7 @@ fn note_area<S: Storage>(storage: &S, word: &Word, notes: &mut Notes) -> Result<
             count: bytes,
         };
         note_piece(&mut notes.filled, word, piece)?;
+        notes.pages.push(Page(start / PAGE_SIZE))?;
         byte += bytes;
     }
     Ok(())
@@ -92,6 +98,9 @@ fn note_word<S: Storage>(storage: &S, address: u32, notes: &mut Notes) -> Result
     ensures stored { OnOk result
         (AreStored (IsFilledAt (memory_of (S.bytes storage.now) (S.keys storage.now)) address)
         notes.old.filled.items notes.new.filled.items) }
+    ensures paged { OnOk result
+        (ArePaged (IsDataByte (memory_of (S.bytes storage.now) (S.keys storage.now)) address)
+        notes.old.pages.items notes.new.pages.items) }
 {
     notes.text.push(address / 4)?;
     notes.text.push(address / 4 + 1)?;
@@ -122,10 +131,14 @@ pub(crate) fn notes_of<S: Storage>(
     ensures stored { IfOk result
         (λ notes. AreStored (IsFilledBy (memory_of (S.bytes storage.now) (S.keys storage.now)) words.now (length words.now))
         [] notes.filled.items) }
+    ensures paged { IfOk result
+        (λ notes. ArePaged (IsDataOf (memory_of (S.bytes storage.now) (S.keys storage.now)) words.now (length words.now))
+        [] notes.pages.items) }
 {
     let mut notes = Notes {
         text: Vec::new(alloc),
         filled: Vec::new(alloc),
+        pages: Vec::new(alloc),
     };
     for address in words {
         note_word(storage, *address, &mut notes)?;

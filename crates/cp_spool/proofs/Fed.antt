@@ -1,23 +1,21 @@
 -- What a reader finds in the queue that it feeds from.
-use Rattle.std.proofs.Common.{◌≡◌, ℕ, zero, suc, List, [], ◌∷◌, drop, map, Option, Some, None, refl, ap}
+use Rattle.std.proofs.Common.{◌≡◌, ℕ, zero, suc, List, [], ◌∷◌, drop, Option, Some, None, refl, ap}
 use Rattle.std.specs.Prelude.{slice_get, unwrap_or}
-use Rattle.unit_record.specs.Reader.{Nothing, found, card_found, place_of}
-use Rattle.cp_spool.specs.File.{SpoolFileValue, cards_in}
-use Rattle.cp_spool.specs.Reader.{deck_of}
+use Rattle.unit_record.specs.Reader.{DeckValue, Nothing, found, card_found, place_of}
 
-pub found_none : (files : List SpoolFileValue) (index place : ℕ) → slice_get files index ≡ None → found (drop index (map deck_of files)) place ≡ Nothing
+pub found_none : (decks : List DeckValue) (index place : ℕ) → slice_get decks index ≡ None → found (drop index decks) place ≡ Nothing
 found_none [] zero place e = refl
 found_none [] (suc index) place e = refl
-found_none (file ∷ files) zero place e = absurd (cc)
-found_none (file ∷ files) (suc index) place e = found_none files index place e
+found_none (deck ∷ decks) zero place e = absurd (cc)
+found_none (deck ∷ decks) (suc index) place e = found_none decks index place e
 
-pub found_some : (files : List SpoolFileValue) (index place : ℕ) (file : SpoolFileValue) → slice_get files index ≡ Some file → found (drop index (map deck_of files)) place ≡ card_found place (slice_get (cards_in file.contents) place)
-found_some [] zero place file e = absurd (cc)
-found_some [] (suc index) place file e = absurd (cc)
-found_some (first ∷ files) zero place file e =
-    let same : first ≡ file = cc in
-    ap (λ (f : SpoolFileValue). card_found place (slice_get (cards_in f.contents) place)) same
-found_some (first ∷ files) (suc index) place file e = found_some files index place file e
+pub found_some : (decks : List DeckValue) (index place : ℕ) (deck : DeckValue) → slice_get decks index ≡ Some deck → found (drop index decks) place ≡ card_found place (slice_get deck.cards place)
+found_some [] zero place deck e = absurd (cc)
+found_some [] (suc index) place deck e = absurd (cc)
+found_some (first ∷ decks) zero place deck e =
+    let same : first ≡ deck = cc in
+    ap (λ (d : DeckValue). card_found place (slice_get d.cards place)) same
+found_some (first ∷ decks) (suc index) place deck e = found_some decks index place deck e
 
 pub place_is : (place : Option ℕ) → unwrap_or place 0 ≡ place_of place
 place_is None = refl

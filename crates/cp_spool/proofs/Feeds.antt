@@ -6,9 +6,8 @@ use Rattle.unit_record.specs.Front.{is_sense}
 use Rattle.unit_record.specs.Reader.{DeckValue, Found, Nothing, Card, End, ReaderState, reader_machine, reader_started}
 use Rattle.unit_record.specs.Reader.{read_started as reader_read}
 use Rattle.cp_spool.specs.Alike.{reader_of}
-use Rattle.cp_spool.specs.File.{SpoolFileValue}
 use Rattle.cp_spool.specs.Queues.{UserFiles, read_on}
-use Rattle.cp_spool.specs.Reader.{FeedState, deck_of, feed_machine, feed_started, next_card, read_started}
+use Rattle.cp_spool.specs.Reader.{FeedState, feed_machine, feed_started, next_card, read_started}
 use Rattle.cp_spool.proofs.Again.{drop_one_more}
 use Rattle.cp_spool.proofs.Walks.{IsSeen, IsKept}
 
@@ -16,16 +15,10 @@ use Rattle.cp_spool.proofs.Walks.{IsSeen, IsKept}
 abbrev pub seen : FeedState → ReaderState
 seen f = record { decks = drop f.ended f.decks; place = f.place; sense = f.part.sense; giving = f.part.giving }
 
-map-drop : (files : List SpoolFileValue) (n : ℕ) → drop n (map deck_of files) ≡ map deck_of (drop n files)
-map-drop files zero = refl
-map-drop [] (suc n) = refl
-map-drop (file ∷ files) (suc n) = map-drop files n
-
 -- and so is the reader whose queue was told
-pub seen_is : (files : UserFiles) (f : FeedState) → f.decks ≡ map deck_of files.decks → seen f ≡ reader_of (read_on f.ended f.place files) f.part
+pub seen_is : (files : UserFiles) (f : FeedState) → f.decks ≡ files.decks → seen f ≡ reader_of (read_on f.ended f.place files) f.part
 seen_is files f same =
-    ap (λ (ds : List DeckValue). let r : ReaderState = record { decks = ds; place = f.place; sense = f.part.sense; giving = f.part.giving } in r)
-    (ap (λ (ds : List DeckValue). drop f.ended ds) same ∙ map-drop files.decks f.ended)
+    ap (λ (ds : List DeckValue). let r : ReaderState = record { decks = drop f.ended ds; place = f.place; sense = f.part.sense; giving = f.part.giving } in r) same
 
 read_alike : (f : FeedState) (n : Found) → reader_read (seen f) n ≡ seen (read_started f n)
 read_alike f Nothing = refl

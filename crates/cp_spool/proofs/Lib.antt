@@ -1,9 +1,10 @@
-pub mod Apart
-pub mod Steps
-pub mod Sent
-pub mod Moves
-pub mod Search
 pub mod Again
+pub mod Cards
 pub mod Fed
-pub mod Walks
+pub mod Feeding
 pub mod Feeds
+pub mod Moves
+pub mod Others
+pub mod Search
+pub mod Sound
+pub mod Walks

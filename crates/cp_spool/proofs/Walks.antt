@@ -1,6 +1,8 @@
 -- Two devices of which one is seen as the other walk alike.
 use Rattle.std.proofs.Common.{◌≡◌, ℕ, zero, suc, ◌+◌, ◌-◌, Bool, true, false, Option, Some, None, refl, sym, ◌∙◌, ap, List}
-use Rattle.std.specs.Prelude.{if◌then◌else◌, not, ◌==◌, ◌&&◌}
+use Rattle.std.specs.Prelude.{if◌then◌else◌, nat_lt, not, ◌==◌, ◌&&◌}
+use Rattle.s370_store.specs.Access.{IsAway}
+use Rattle.s370_walk.specs.Stuck.{IsAsked, IsStuck, is_skipped, moves, size_in}
 use Rattle.s370_store.specs.declared.Fault.{Fault}
 use Rattle.s370_store.specs.declared.Fault.TheVariants.{Addressing, Protection, Absent}
 use Rattle.s370_walk.specs.declared.bits.UnitStatus.{UnitStatus}
@@ -18,7 +20,7 @@ use Rattle.s370_walk.specs.declared.parts.Progress.TheVariants.{At, Ended}
 use Rattle.s370_walk.specs.declared.parts.Word.{Word}
 use Rattle.s370_walk.specs.Hardware.{Memory, Machine, put_byte, fault_of, area}
 use Rattle.s370_store.specs.declared.Access.TheVariants.{Fetch, Store}
-use Rattle.s370_walk.specs.Walk.{Form, Setting, State, Fetching, Moving, Over, Verdict, Bad, Jump, Good, ending, state_of, stops, fails, closed, closes, answered, order_of, entered, obeyed, fetched, judged, stepped, given_at, given_to, taken_at, taken_from, byte_moved, skips, chains_data, tells_length, counted_out, moved, rest, next, walk, moving, transfer_of}
+use Rattle.s370_walk.specs.Walk.{Form, Setting, State, Fetching, Moving, Over, Verdict, Bad, Jump, Good, ending, state_of, stops, fails, closed, closes, answered, order_of, entered, obeyed, fetched, judged, stepped, given_at, given_to, taken_at, taken_from, byte_moved, skips, chains_data, tells_length, counted_out, moved, rest, next, walk, moving, transfer_of, Written, Reaches, live}
 
 -- the one, as it is seen, does what the other does
 pub record IsSeen {D E : Type 0} (m : Machine D) (n : Machine E) (seen : D → E) : Type 0 where
@@ -65,7 +67,7 @@ module _ {D E : Type 0} (m : Machine D) (n : Machine E) (seen : D → E) (is : I
   answered_alike spot w (answers.Output count) s d = refl
   answered_alike spot w (answers.OutputUpTo count) s d = refl
 
-  entered_alike : (spot : Spot) (w : Word) (role : Option Transfer) (s : Memory) (d : D) → entered other spot w role s (seen d) ≡ state_seen (entered one spot w role s d)
+  pub entered_alike : (spot : Spot) (w : Word) (role : Option Transfer) (s : Memory) (d : D) → entered other spot w role s (seen d) ≡ state_seen (entered one spot w role s d)
   entered_alike spot w None s d =
       rw (is.answer d (order_of prefix spot w), is.started d (order_of prefix spot w)) (answered_alike spot w (m.answer d (order_of prefix spot w)) s (m.started d (order_of prefix spot w)))
   entered_alike spot w (Some transfer) s d = refl
@@ -134,6 +136,27 @@ module _ {D E : Type 0} (m : Machine D) (n : Machine E) (seen : D → E) (is : I
   walk_alike form zero s = refl
   walk_alike form (suc steps) s = ap (λ (t : State E). walk form other steps t) (next_alike form s) ∙ walk_alike form steps (next form one s)
 
+  moves_alike : (p : Position) (d : D) → moves n p (seen d) ≡ moves m p d
+  moves_alike p d = ap (λ (left : ℕ). nat_lt 0 p.count && nat_lt 0 left && not (is_skipped p p.transfer.kind)) (rest_alike p d)
+
+  asked_alike : (w : Written) (s : State D) (page : ℕ) → IsAsked w m s page → IsAsked w n (state_seen s) page
+  asked_alike w (Fetching spot s d) page h = h
+  asked_alike w (Moving p s d) page h = (moves_alike p d ∙ h.0, h.1)
+  asked_alike w (Over e s d) page h = h
+
+  away_alike : (present : ℕ → Bool) (s : State D) (page : ℕ) → IsAway (size_in s) present page → IsAway (size_in (state_seen s)) present page
+  away_alike present (Fetching spot s d) page h = h
+  away_alike present (Moving p s d) page h = h
+  away_alike present (Over e s d) page h = h
+
+  pub stuck_alike : (w : Written) (present : ℕ → Bool) (from : State D) (page : ℕ) → IsStuck w one present from page → IsStuck w other present (state_seen from) page
+  stuck_alike w present from page h = record {
+    state = state_seen h.state;
+    comes = record { steps = h.comes.steps; comes = walk_alike (live w) h.comes.steps from ∙ ap state_seen h.comes.comes };
+    asked = asked_alike w h.state page h.asked;
+    away = away_alike present h.state page h.away;
+  }
+
 -- ---- what no step of a device changes stays
 
 pub record IsKept {D X : Type 0} (m : Machine D) (p : D → X) : Type 0 where
@@ -166,7 +189,7 @@ module _ {D X : Type 0} (h : Setting D) (p : D → X) (is : IsKept h.machine p) 
   answered_kept spot w (answers.Output count) s d = refl
   answered_kept spot w (answers.OutputUpTo count) s d = refl
 
-  entered_kept : (spot : Spot) (w : Word) (role : Option Transfer) (s : Memory) (d : D) → kept_in (entered h spot w role s d) ≡ p d
+  pub entered_kept : (spot : Spot) (w : Word) (role : Option Transfer) (s : Memory) (d : D) → kept_in (entered h spot w role s d) ≡ p d
   entered_kept spot w None s d = answered_kept spot w (h.machine.answer d (order_of h.prefix spot w)) s (h.machine.started d (order_of h.prefix spot w)) ∙ is.started d (order_of h.prefix spot w)
   entered_kept spot w (Some transfer) s d = refl
 

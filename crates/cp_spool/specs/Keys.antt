@@ -1,41 +1,49 @@
--- How files are kept: in a slab, and of each user the keys of his decks.
-use Rattle.std.specs.Prelude.{ℕ, ◌+◌, ◌-◌, ◌<◌, ◌≤◌, ◌≡◌, ◌≢◌, Bool, true, false, List, [], ◌∷◌, ◌++◌, length, map, remove, slice_index_or, slice_set, Option, Some, None, unwrap_or, IsSomeAnd}
-use Rattle.std.specs.Option.{option_map}
+-- How files are kept: in a slab, and of each user the keys of his decks and of his closed files.
+use Rattle.std.specs.Prelude.{ℕ, ◌-◌, ◌+◌, ◌<◌, ◌≡◌, ◌≢◌, Bool, true, false, List, [], ◌∷◌, ◌++◌, length, map, remove, slice_index_or, slice_set, Option, Some, None, unwrap_or, IsSomeAnd}
 use Rattle.slab.specs.Slab.{Slab, get}
 use Rattle.unit_record.specs.declared.output.Target.TheVariants as targets
-use Rattle.unit_record.specs.declared.reader.Sender.{Sender}
-use Rattle.unit_record.specs.declared.reader.Sender.TheVariants as senders
-use Rattle.cp_spool.specs.File.{SpoolFileValue, Cards}
-use Rattle.cp_spool.specs.declared.delivery.Outgoing.{Outgoing}
-use Rattle.cp_spool.specs.Queues.{UserFiles, receiver}
+use Rattle.unit_record.specs.Output.{FileValue}
+use Rattle.unit_record.specs.Reader.{DeckValue}
+use Rattle.cp_spool.specs.declared.queue.Waiting.{Waiting}
+use Rattle.cp_spool.specs.File.{SpoolFileValue, Cards, cards_in, closed_file, is_deck}
+use Rattle.cp_spool.specs.Queues.{UserFiles}
 
--- the keys of one user's decks, how much was read of the first, and for how many more there is room
+-- the decks of one user's reader, how much was read of the first, the keys of what his punch and his printer closed, and for how
+-- many more of these there is room
 pub record QueueKeys : Type 0 where
-  pub keys : List ℕ
+  pub decks : List Waiting
   pub place : Option ℕ
-  pub room : ℕ
+  pub punched : List ℕ
+  pub printed : List ℕ
+  pub punch_room : ℕ
+  pub print_room : ℕ
 
 abbrev pub no_keys : QueueKeys
-no_keys = record { keys = []; place = None; room = 0 }
+no_keys = record { decks = []; place = None; punched = []; printed = []; punch_room = 0; print_room = 0 }
 
 abbrev pub no_file : SpoolFileValue
-no_file = record { id = 0; sender = senders.System; target = targets.System; contents = Cards [] }
+no_file = record { target = targets.System; contents = Cards [] }
 
 abbrev pub file_at : Slab SpoolFileValue → ℕ → SpoolFileValue
 file_at files key = unwrap_or (get files key) no_file
 
+-- ---- what the keys stand for
+
+abbrev pub deck_at : Slab SpoolFileValue → Waiting → DeckValue
+deck_at files w = record { label = w.label; sender = w.sender; cards = cards_in ((file_at files w.key).contents) }
+
+abbrev pub closed_at : Slab SpoolFileValue → ℕ → FileValue
+closed_at files key = closed_file (file_at files key)
+
 abbrev pub user_files : Slab SpoolFileValue → QueueKeys → UserFiles
-user_files files queue = record { decks = map (file_at files) queue.keys; place = queue.place }
+user_files files q = record {
+  decks = map (deck_at files) q.decks;
+  place = q.place;
+  punched = map (closed_at files) q.punched;
+  printed = map (closed_at files) q.printed;
+}
 
-abbrev pub numbered_files : Slab SpoolFileValue → List (Option ℕ) → List (Option SpoolFileValue)
-numbered_files files numbered = map (option_map (file_at files)) numbered
-
--- a deck comes to the end of a queue, or leaves it
-abbrev pub with_key : ℕ → QueueKeys → QueueKeys
-with_key key queue = record { keys = queue.keys ++ key ∷ []; place = queue.place; room = queue.room - 1 }
-
-abbrev pub without_key : ℕ → QueueKeys → QueueKeys
-without_key index queue = record { keys = remove queue.keys index; place = queue.place; room = queue.room + 1 }
+-- ---- what comes and goes
 
 abbrev pub queue_of : List QueueKeys → ℕ → QueueKeys
 queue_of queues user = slice_index_or queues user no_keys
@@ -43,53 +51,53 @@ queue_of queues user = slice_index_or queues user no_keys
 abbrev pub with_queue : ℕ → QueueKeys → List QueueKeys → List QueueKeys
 with_queue user queue queues = slice_set queues user queue
 
-abbrev pub keys_of : List QueueKeys → ℕ → List ℕ
-keys_of queues user = (queue_of queues user).keys
+abbrev pub with_waiting : Waiting → QueueKeys → QueueKeys
+with_waiting w q = record q { decks = q.decks ++ w ∷ [] }
 
--- whether the operator gave it
-abbrev pub is_system : Sender → Bool
-is_system senders.System = true
-is_system (senders.User user) = false
+abbrev pub without_waiting : ℕ → QueueKeys → QueueKeys
+without_waiting index q = record q { decks = remove q.decks index }
 
+abbrev pub with_punched_key : ℕ → QueueKeys → QueueKeys
+with_punched_key key q = record q { punched = q.punched ++ key ∷ []; punch_room = q.punch_room - 1 }
+
+abbrev pub with_printed_key : ℕ → QueueKeys → QueueKeys
+with_printed_key key q = record q { printed = q.printed ++ key ∷ []; print_room = q.print_room - 1 }
+
+-- ---- what is always so
+
+abbrev pub keys_in : QueueKeys → List ℕ
+keys_in q = map (λ (w : Waiting). w.key) q.decks
+
+-- whether it is a deck that was given
 abbrev pub is_given : Option SpoolFileValue → Bool
-is_given (Some file) = is_system file.sender
+is_given (Some file) = is_deck file.contents
 is_given None = false
 
--- a file that the operator gave stands in the reader for which it is, and nowhere else
+-- a deck that was given stands in the reader for which it is, and nowhere else
 abbrev pub StandsWith : ℕ → SpoolFileValue → Type 0
-StandsWith user file = file.sender ≡ senders.System → file.target ≡ targets.User user
+StandsWith user file = is_deck file.contents ≡ true → file.target ≡ targets.User user
 
 abbrev pub IsMade : SpoolFileValue → Type 0
-IsMade file = file.sender ≡ senders.System → ⊥
+IsMade file = is_deck file.contents ≡ false
 
-pub record IsSound (files : Slab SpoolFileValue) (queues : List QueueKeys) (numbered : List (Option ℕ)) : Type 0 where
-  pub few : length queues ≤ 64
-  -- each key has its file
-  pub made : (n key : ℕ) → slice_index_or numbered n None ≡ Some key → IsSomeAnd (get files key) IsMade
-  pub waiting : (user i : ℕ) → i < length (keys_of queues user) → IsSomeAnd (get files (slice_index_or (keys_of queues user) i 0)) (StandsWith user)
-  -- no deck stands twice in one reader
-  pub once : (user i j : ℕ) → i < length (keys_of queues user) → j < length (keys_of queues user)
-      → slice_index_or (keys_of queues user) i 0 ≡ slice_index_or (keys_of queues user) j 0 → i ≡ j
+-- each of these keys has such a file
+abbrev pub AllAt : Slab SpoolFileValue → (SpoolFileValue → Type 0) → List ℕ → Type 0
+AllAt files P keys = (i : ℕ) → i < length keys → IsSomeAnd (get files (slice_index_or keys i 0)) P
 
-abbrev pub outgoing_file : Slab SpoolFileValue → Option Outgoing → Option SpoolFileValue
-outgoing_file files None = None
-outgoing_file files (Some sent) = Some (file_at files sent.key)
+-- none of these keys is this one
+abbrev pub Lacks : List ℕ → ℕ → Type 0
+Lacks keys key = (i : ℕ) → i < length keys → slice_index_or keys i 0 ≢ key
 
--- made by a punch, for this user
-pub record IsFor (user : ℕ) (file : SpoolFileValue) : Type 0 where
-  pub receiver : receiver file.target file.contents ≡ Some user
-  pub made : IsMade file
+-- no deck that was given stands there twice
+abbrev pub Once : Slab SpoolFileValue → List ℕ → Type 0
+Once files keys = (i j : ℕ) → i < length keys → j < length keys → slice_index_or keys i 0 ≡ slice_index_or keys j 0
+    → is_given (get files (slice_index_or keys i 0)) ≡ true → i ≡ j
 
--- the file of this key goes to the reader of this user, where it does not stand yet, and there is a place for it
-pub record IsSent (files : Slab SpoolFileValue) (queues : List QueueKeys) (key user : ℕ) : Type 0 where
-  pub file : IsSomeAnd (get files key) (IsFor user)
-  pub room : 1 ≤ (queue_of queues user).room
-  pub apart : (i : ℕ) → i < length (keys_of queues user) → slice_index_or (keys_of queues user) i 0 ≢ key
+pub record IsSoundOf (files : Slab SpoolFileValue) (user : ℕ) (q : QueueKeys) : Type 0 where
+  pub waiting : AllAt files (StandsWith user) (keys_in q)
+  pub once : Once files (keys_in q)
+  pub punched : AllAt files IsMade q.punched
+  pub printed : AllAt files IsMade q.printed
 
-abbrev pub IsOutgoing : Slab SpoolFileValue → List QueueKeys → Option Outgoing → Type 0
-IsOutgoing files queues None = Unit {0}
-IsOutgoing files queues (Some sent) = IsSent files queues sent.key sent.reader
-
-pub record IsWhole (files : Slab SpoolFileValue) (queues : List QueueKeys) (numbered : List (Option ℕ)) (outgoing : Option Outgoing) : Type 0 where
-  pub sound : IsSound files queues numbered
-  pub sent : IsOutgoing files queues outgoing
+abbrev pub IsSound : Slab SpoolFileValue → List QueueKeys → Type 0
+IsSound files queues = (user : ℕ) → IsSoundOf files user (queue_of queues user)

@@ -1,13 +1,12 @@
 -- A card reader that feeds from a queue (GA24-3543, "3505 Card Reader", for the command). A program that runs on it leaves the
 -- queue as it is, and says how many of its decks came to their end.
-use Rattle.std.specs.Prelude.{ℕ, ◌+◌, ◌==◌, false, if◌then◌else◌, List, [], ◌∷◌, drop, map, slice_index, Option, Some, None}
+use Rattle.std.specs.Prelude.{ℕ, ◌+◌, ◌==◌, false, if◌then◌else◌, List, [], ◌∷◌, drop, slice_index, Option, Some, None}
 use Rattle.s370_walk.specs.declared.parts.Order.{Order}
 use Rattle.s370_walk.specs.declared.parts.Answer.{Answer}
 use Rattle.s370_walk.specs.declared.parts.Answer.TheVariants.{Refused, Immediate, Input}
 use Rattle.s370_walk.specs.Hardware.{Machine}
 use Rattle.unit_record.specs.Front.{is_sense, nothing_to_say, unit_check, command_reject, intervention_required}
 use Rattle.unit_record.specs.Reader.{DeckValue, Found, Nothing, Card, End, found, place_of, read_answer}
-use Rattle.cp_spool.specs.File.{SpoolFileValue, cards_in}
 use Rattle.cp_spool.specs.Queues.{UserFiles}
 
 -- what a reader keeps beside its decks: its sense byte, and the bytes that are still to be given
@@ -26,11 +25,8 @@ pub record FeedState : Type 0 where
   pub place : Option ℕ
   pub part : ReaderPart
 
-abbrev pub deck_of : SpoolFileValue → DeckValue
-deck_of file = record { label = file.id; sender = file.sender; cards = cards_in file.contents }
-
 abbrev pub fed_by : UserFiles → ReaderPart → FeedState
-fed_by files part = record { decks = map deck_of files.decks; ended = 0; place = files.place; part = part }
+fed_by files part = record { decks = files.decks; ended = 0; place = files.place; part = part }
 
 abbrev pub next_card : FeedState → Found
 next_card f = found (drop f.ended f.decks) (place_of f.place)

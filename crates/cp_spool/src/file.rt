@@ -1,24 +1,27 @@
 //! Spool files.
-ghost use Rattle.std.specs.Prelude.{◌≡◌, ◌<◌, slice_get, IfSome};
+ghost use Rattle.std.specs.Prelude.{◌≡◌, ◌<◌, length, slice_get, IfSome};
+ghost use Rattle.cp_spool.specs.File.{card_of};
 
 use std::marker::Model;
-use unit_record::{Card, Entry, Sender, Target};
+use unit_record::{Card, Entry, Target};
+
+/// Columns of a card.
+const COLUMNS: usize = 80;
+/// What stands in columns that nothing was punched into.
+const BLANK: u8 = 0x40;
 
 /// What a spool file has.
 #[derive(Drop)]
 pub enum Contents {
-    /// Cards, in order: a deck, or what a punch made.
+    /// Cards, in order: a deck that was given.
     Cards(Vec<Card>),
-    /// Entries, in order: what a printer made.
-    Lines(Vec<Entry>),
+    /// Entries, in order: what a punch or a printer made.
+    Entries(Vec<Entry>),
 }
 
-/// A spool file: a deck of cards or what was printed, with the id by which it is found, the one who made it and the one
-/// for whom it is.
+/// A spool file: a deck of cards or what a punch or a printer made, and for whom it is.
 #[derive(Drop)]
 pub struct SpoolFile {
-    id: u64,
-    sender: Sender,
     target: Target,
     contents: Contents,
 }
@@ -28,36 +31,17 @@ impl Model for SpoolFile {
 
     ghost Value = { SpoolFileValue };
 
-    ghost view = { λ f. record { id = f.id; sender = f.sender; target = f.target; contents = contents_of f.contents } };
+    ghost view = { λ f. record { target = f.target; contents = contents_of f.contents } };
 }
 
 impl SpoolFile {
-    ghost use Rattle.cp_spool.specs.File.{cards_in, contents_of, is_printed, lines_in};
+    ghost use Rattle.cp_spool.specs.File.{cards_in, contents_of, entries_in, is_deck};
 
-    /// A file of this id.
-    pub(crate) fn new(id: u64, sender: Sender, target: Target, contents: Contents) -> SpoolFile
-        ensures { result ≡ record { id = id; sender = sender; target = target; contents = contents_of contents } }
+    /// A file for this target.
+    pub(crate) fn new(target: Target, contents: Contents) -> SpoolFile
+        ensures { result ≡ record { target = target; contents = contents_of contents } }
     {
-        SpoolFile {
-            id,
-            sender,
-            target,
-            contents,
-        }
-    }
-
-    /// Its id, which is the label of a deck.
-    pub fn id(&self) -> u64
-        ensures { result ≡ self.now.id }
-    {
-        self.id
-    }
-
-    /// Who made it: a user whose punch or printer did, or the operator.
-    pub fn sender(&self) -> Sender
-        ensures { result ≡ self.now.sender }
-    {
-        self.sender
+        SpoolFile { target, contents }
     }
 
     /// For whom it is.
@@ -67,46 +51,66 @@ impl SpoolFile {
         self.target
     }
 
-    /// Its cards, in order: none of what was printed.
-    pub fn cards(&self) -> &[Card]
-        ensures { result.now ≡ cards_in self.now.contents }
+    /// Whether it is a deck that was given.
+    pub(crate) fn is_deck(&self) -> bool
+        ensures { result ≡ is_deck self.now.contents }
     {
         match &self.contents {
-            Contents::Cards(cards) => cards.as_slice(),
-            Contents::Lines(_) => &[],
+            Contents::Cards(_) => true,
+            Contents::Entries(_) => false,
         }
     }
 
-    /// A card of a deck.
+    /// How many cards it has as a deck.
+    pub fn count(&self) -> usize
+        ensures { result ≡ length (cards_in self.now.contents) }
+    {
+        match &self.contents {
+            Contents::Cards(cards) => cards.len(),
+            Contents::Entries(entries) => entries.len(),
+        }
+    }
+
+    /// A card of it as a deck.
     pub fn card(&self, index: usize) -> Option<Card>
         ensures value { result ≡ slice_get (cards_in self.now.contents) index }
         ensures fits { IfSome result (λ _. index < usize.MAX) }
     {
-        let cards = self.cards();
-        if index < cards.len() {
-            Some(cards[index])
-        } else {
-            None
+        match &self.contents {
+            Contents::Cards(cards) => {
+                if index < cards.len() {
+                    Some(cards[index])
+                } else {
+                    None
+                }
+            }
+            Contents::Entries(entries) => {
+                if index < entries.len() {
+                    Some(card_of(entries[index].bytes()))
+                } else {
+                    None
+                }
+            }
         }
     }
 
-    /// Its printed entries, in order: none of a deck.
-    pub fn lines(&self) -> &[Entry]
-        ensures { result.now ≡ lines_in self.now.contents }
+    /// Its entries, in order, where a punch or a printer made it.
+    pub fn entries(&self) -> &[Entry]
+        ensures { result.now ≡ entries_in self.now.contents }
     {
         match &self.contents {
             Contents::Cards(_) => &[],
-            Contents::Lines(lines) => lines.as_slice(),
+            Contents::Entries(entries) => entries.as_slice(),
         }
     }
+}
 
-    /// Whether it was printed.
-    pub fn is_printed(&self) -> bool
-        ensures { result ≡ is_printed self.now.contents }
-    {
-        match &self.contents {
-            Contents::Cards(_) => false,
-            Contents::Lines(_) => true,
-        }
-    }
+/// The card with these bytes.
+fn card_of(bytes: &[u8]) -> Card
+    ensures { result ≡ card_of bytes.now }
+{
+    let mut card = [BLANK; COLUMNS];
+    let punched = COLUMNS.min(bytes.len());
+    card[..punched].copy_from_slice(&bytes[..punched]);
+    card
 }

@@ -1,48 +1,89 @@
-//! How files are kept: under keys, which queues and numbers hold.
-ghost use Rattle.std.specs.Prelude.{◌≡◌, ℕ, ◌+◌, ◌<◌, ◌≤◌, ◌∷◌, ◌++◌, [], Some, None, true, false, map, vec_capacity, vec_len, if◌then◌else◌, length, replicate, slice_index_or, IfOk};
-ghost use Rattle.slab.specs.Slab.{get, slab_len, HasRoomFor, Updates, Slab as Files};
+//! How files are kept: under keys, which the queues of users hold.
+ghost use Rattle.std.specs.Prelude.{◌≡◌, ℕ, ◌<◌, ◌≤◌, [], None, true, false, map, length, replicate, slice_index_or, IfOk, OnErr, OnOk};
+ghost use Rattle.slab.specs.Slab.{get, Updates, Slab as Files};
 ghost use Rattle.cp_spool.specs.File.{SpoolFileValue};
-ghost use Rattle.cp_spool.specs.Keys.{is_given, keys_of, queue_of, user_files, with_queue, with_key};
+ghost use Rattle.cp_spool.specs.Keys.{is_given, no_keys, queue_of, user_files, with_printed_key, with_punched_key, with_queue, with_waiting, without_waiting, keys_in};
 ghost use Rattle.cp_spool.specs.Queues.{no_files};
 
 use crate::file::SpoolFile;
-use crate::queue::DeckQueue;
+use crate::queue::{UserQueue, Waiting};
 use cp_users::UserNo;
 use slab::Slab;
 use std::alloc::{AllocError, Global};
-use unit_record::Sender;
 
-/// A file gets the next number, as one that is held under it or not, and tells its key. This takes no memory.
-pub(crate) fn number(
-    files: &mut Slab<SpoolFile>,
-    numbered: &mut Vec<Option<usize>>,
-    file: SpoolFile,
-    is_made: bool,
-) -> usize
-    requires files { HasRoomFor files.old 1 }
-    requires numbers { vec_len numbered.old < vec_capacity numbered.old }
-    ensures vacant { get files.old result ≡ None }
-    ensures file { Updates files.old files.new result (Some file) }
-    ensures number { numbered.new.items ≡ numbered.old.items ++ (if is_made then Some result else None) ∷ [] }
-    ensures len { slab_len files.new ≡ slab_len files.old + 1 }
-    ensures capacity { files.new.capacity ≡ files.old.capacity }
-    ensures numbers { vec_len numbered.new ≡ vec_len numbered.old + 1 }
-    ensures numbers_capacity { vec_capacity numbered.new ≡ vec_capacity numbered.old }
+/// A deck comes to the end of the queue of this user's reader.
+pub(crate) fn push_waiting(
+    users: &mut Vec<UserQueue>,
+    user: UserNo,
+    waiting: Waiting,
+) -> Result<(), AllocError>
+    requires { user < length users.old.items }
+    ensures ok { OnOk result
+        (users.new.items ≡ with_queue user (with_waiting waiting (queue_of users.old.items user)) users.old.items) }
+    ensures err { OnErr result (users.new.items ≡ users.old.items) }
 {
-    let key = files.insert_reserved(file);
-    numbered.push_reserved(if is_made { Some(key) } else { None });
-    key
+    users[user.index()].push(waiting)
 }
 
-/// The deck of this key comes to the reader of this user. This takes no memory.
-pub(crate) fn push_key(users: &mut Vec<DeckQueue>, user: UserNo, key: usize)
-    requires { 1 ≤ (queue_of users.old.items user).room }
-    ensures { users.new.items ≡ with_queue user (with_key key (queue_of users.old.items user)) users.old.items }
+/// The punch of this user closed the file of this key. This takes no memory.
+pub(crate) fn push_punched(users: &mut Vec<UserQueue>, user: UserNo, key: usize)
+    requires { 1 ≤ (queue_of users.old.items user).punch_room }
+    ensures { users.new.items ≡ with_queue user (with_punched_key key (queue_of users.old.items user)) users.old.items }
 {
-    users[user.index()].push(key);
+    users[user.index()].push_punched(key);
 }
 
-/// The file of this key is gone, where the operator gave it; one that a punch made is held on under its number.
+/// The printer of this user closed the file of this key. This takes no memory.
+pub(crate) fn push_printed(users: &mut Vec<UserQueue>, user: UserNo, key: usize)
+    requires { 1 ≤ (queue_of users.old.items user).print_room }
+    ensures { users.new.items ≡ with_queue user (with_printed_key key (queue_of users.old.items user)) users.old.items }
+{
+    users[user.index()].push_printed(key);
+}
+
+/// Makes room for one more file that this user's punch closes, and one that his printer does.
+pub(crate) fn reserve_closed(users: &mut Vec<UserQueue>, user: UserNo) -> Result<(), AllocError>
+    requires { user < length users.old.items }
+    ensures rest { let queue = queue_of users.new.items user in
+        users.new.items ≡ with_queue user (record (queue_of users.old.items user) {
+          punch_room = queue.punch_room;
+          print_room = queue.print_room;
+        }) users.old.items }
+    ensures punched { OnOk result (1 ≤ (queue_of users.new.items user).punch_room) }
+    ensures printed { OnOk result (1 ≤ (queue_of users.new.items user).print_room) }
+{
+    users[user.index()].reserve()
+}
+
+/// The deck of this index leaves the queue of this user's reader; its key is told.
+pub(crate) fn take_waiting(users: &mut Vec<UserQueue>, user: UserNo, index: usize) -> usize
+    requires user { user < length users.old.items }
+    requires index { index < length (queue_of users.old.items user).decks }
+    ensures key { result ≡ slice_index_or (keys_in (queue_of users.old.items user)) index 0 }
+    ensures after { users.new.items
+        ≡ with_queue user (without_waiting index (queue_of users.old.items user)) users.old.items }
+{
+    users[user.index()].remove(index)
+}
+
+/// So many cards of this user's first deck were read; None where it is not current.
+pub(crate) fn place_reader(users: &mut Vec<UserQueue>, user: UserNo, place: Option<usize>)
+    requires { user < length users.old.items }
+    ensures { users.new.items
+        ≡ with_queue user (record (queue_of users.old.items user) { place = place }) users.old.items }
+{
+    users[user.index()].set_place(place);
+}
+
+/// What is kept of this user, who is there.
+pub(crate) fn queue_at(users: &[UserQueue], user: UserNo) -> &UserQueue
+    requires { user < length users.now }
+    ensures { result.now ≡ queue_of users.now user }
+{
+    &users[user.index()]
+}
+
+/// The file of this key is gone, where it was given; one that was made is held on.
 pub(crate) fn discard(files: &mut Slab<SpoolFile>, key: usize)
     ensures given { is_given (get files.old key) ≡ true → Updates files.old files.new key None }
     ensures made { is_given (get files.old key) ≡ false → files.new ≡ files.old }
@@ -52,37 +93,27 @@ pub(crate) fn discard(files: &mut Slab<SpoolFile>, key: usize)
     }
 }
 
-/// Whether the file of this key was given by the operator.
+/// Whether the file of this key was given.
 fn is_given(files: &Slab<SpoolFile>, key: usize) -> bool
     ensures { result ≡ is_given (get files.now key) }
 {
     match files.get(key) {
-        Some(file) => file.sender() == Sender::System,
+        Some(file) => file.is_deck(),
         None => false,
     }
 }
 
-/// The key that is held under a number, if there is one.
-pub(crate) fn key_at(numbered: &[Option<usize>], number: usize) -> Option<usize>
-    ensures { result ≡ slice_index_or numbered.now number None }
-{
-    if number < numbered.len() {
-        numbered[number]
-    } else {
-        None
-    }
-}
-
-/// So many queues without decks.
-pub(crate) fn empty_queues(alloc: Global, count: usize) -> Result<Vec<DeckQueue>, AllocError>
-    ensures len { IfOk result (λ queues. length queues.items ≡ count) }
-    ensures keys { IfOk result (λ queues. (user : ℕ) → keys_of queues.items user ≡ []) }
+/// So many queues in which nothing is kept.
+pub(crate) fn empty_queues(alloc: Global, count: usize) -> Result<Vec<UserQueue>, AllocError>
+    ensures decks { IfOk result (λ queues. (user : ℕ) → (queue_of queues.items user).decks ≡ []) }
+    ensures punched { IfOk result (λ queues. (user : ℕ) → (queue_of queues.items user).punched ≡ []) }
+    ensures printed { IfOk result (λ queues. (user : ℕ) → (queue_of queues.items user).printed ≡ []) }
     ensures files { (files : Files SpoolFileValue)
         → IfOk result (λ queues. map (user_files files) queues.items ≡ replicate count no_files) }
 {
     let mut queues = Vec::with_capacity(alloc, count)?;
     for _made in 0..count {
-        queues.push(DeckQueue::new(alloc))?;
+        queues.push(UserQueue::new(alloc))?;
     }
     Ok(queues)
 }

@@ -1,13 +1,13 @@
-//! The spool files of all users, and the queues of their readers.
+//! The spool files of all users: the decks in their readers, and the files that their punches and printers closed.
 //!
-//! Its one theorem: the queues are lists ([`Queues`]). A contract sees the decks of each user's reader in order, and by
-//! number each file that a punch or a printer made; what a call does to them is one equation of `specs/Queues.antt`,
-//! and a call that refuses leaves them as they were. An id is the last plus one.
+//! Its one theorem: the files are lists ([`Queues`]). A contract sees of each user the decks of his reader in order, how
+//! far the first is read, and the files that his punch and his printer closed; what a call does to them is one equation
+//! of `specs/Queues.antt`, and a call that is refused memory leaves them as they were.
 //!
-//! A file is kept once, in a slab, and named by its key. What a punch made for a user moves: its key comes to the queue
-//! of that user's reader, and its cards are never copied. The key stays under the file's number, too, since a user's
-//! closed files are part of what he is shown. A deck that the operator gave is kept by its reader alone, and is gone
-//! when it was read or purged.
+//! A file is kept once, in a slab, and named by its key. What a punch made for a user moves: its entries come into the
+//! slab as they stand ([`Queues::close_punched`]), its key comes to the queue of that user's reader
+//! ([`Queues::deliver`]), and no card is copied. The key stays with the punch, too, since a user's closed files are part
+//! of what he is shown. A deck that was given is kept by its reader alone, and is gone when it was read or purged.
 //!
 //! A reader feeds from the queue of its user ([`FedReader`]): it is a [`Device`](s370_walk::Device) that leaves the
 //! queue as it is while a program runs, and says afterwards what it has read.
@@ -15,9 +15,9 @@
 //! ```
 //! let mut queues = Queues::new(alloc, 2)?;
 //! let (a, b) = (UserNo::new(0), UserNo::new(1));
-//! queues.make_room(Target::User(1))?;
-//! let id = queues.close(a, Target::User(1), Contents::Cards(cards)); // 1
-//! let told = queues.deliver(); // Some(Delivery { reader: b, id: 1 })
+//! queues.make_room(a)?;
+//! queues.close_punched(a, Target::User(1), entries);
+//! queues.deliver(a, 0, b, 1, Sender::User(0))?;
 //! let mut reader = FedReader::new(&queues, b, Reader::new());
 //! reader.command(order)?;
 //! let (reader, progress) = reader.into_parts();
@@ -25,7 +25,6 @@
 //! ```
 #![tactic(auto)]
 
-mod delivery;
 mod error;
 mod file;
 mod keeping;
@@ -34,11 +33,12 @@ mod progress;
 mod queue;
 mod queues;
 mod reader;
+mod seen;
 
-pub use delivery::Delivery;
 pub use error::SpoolError;
 pub use file::{Contents, SpoolFile};
 pub use laws::a_fed_reader_is_a_reader;
 pub use progress::Progress;
 pub use queues::Queues;
 pub use reader::{FedReader, Reader};
+pub use seen::SeenDeck;

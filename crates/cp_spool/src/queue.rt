@@ -1,70 +1,106 @@
-//! The reader's queue of one user.
-ghost use Rattle.std.specs.Prelude.{◌≡◌, ◌<◌, ◌≤◌, [], length, slice_get, slice_index, None, IfSome, OnOk};
+//! What is kept of one user: the queue of his reader, and what his punch and his printer closed.
+ghost use Rattle.std.specs.Prelude.{◌≡◌, ◌<◌, ◌≤◌, [], ◌∷◌, ◌++◌, length, map, slice_get, slice_index_or, None, IfSome, OnOk, OnErr};
 ghost use Rattle.unit_record.specs.Reader.{currents};
-ghost use Rattle.cp_spool.specs.Keys.{with_key, without_key};
+ghost use Rattle.cp_spool.specs.Keys.{no_keys, with_printed_key, with_punched_key, with_waiting, without_waiting};
 
 use std::alloc::{AllocError, Global};
 use std::collections::VecDeque;
 use std::marker::Model;
+use unit_record::Sender;
 
-/// The keys of one user's decks, in order, and how many cards of the first were read; None where it is not current.
-#[derive(Drop)]
-pub(crate) struct DeckQueue {
-    keys: VecDeque<usize>,
-    place: Option<usize>,
+/// A deck in a queue: its label, from whom it comes, and the key of its file.
+#[derive(Clone, Copy)]
+pub(crate) struct Waiting {
+    pub(crate) label: u64,
+    pub(crate) sender: Sender,
+    pub(crate) key: usize,
 }
 
-impl Model for DeckQueue {
-    ghost use Rattle.std.specs.Prelude.{◌-◌};
-    ghost use Rattle.std.specs.VecDeque.{deque_capacity, deque_len};
+/// One user's decks, in order, and how many cards of the first were read, None where it is not current; and the keys of
+/// the files that his punch and his printer closed.
+#[derive(Drop)]
+pub(crate) struct UserQueue {
+    decks: VecDeque<Waiting>,
+    place: Option<usize>,
+    punched: Vec<usize>,
+    printed: Vec<usize>,
+}
+
+impl Model for UserQueue {
+    ghost use Rattle.std.specs.Prelude.{◌-◌, vec_capacity, vec_len};
     ghost use Rattle.cp_spool.specs.Keys.{QueueKeys};
 
     ghost Value = { QueueKeys };
 
     ghost view = { λ q. record {
-      keys = q.keys.items;
+      decks = q.decks.items;
       place = q.place;
-      room = deque_capacity q.keys - deque_len q.keys;
+      punched = q.punched.items;
+      printed = q.printed.items;
+      punch_room = vec_capacity q.punched - vec_len q.punched;
+      print_room = vec_capacity q.printed - vec_len q.printed;
     } };
 }
 
-impl DeckQueue {
-    /// A queue without decks.
-    pub(crate) fn new(alloc: Global) -> DeckQueue
-        ensures keys { result.keys ≡ [] }
+impl UserQueue {
+    /// Nothing is kept.
+    pub(crate) fn new(alloc: Global) -> UserQueue
+        ensures decks { result.decks ≡ [] }
         ensures place { result.place ≡ None }
+        ensures punched { result.punched ≡ [] }
+        ensures printed { result.printed ≡ [] }
     {
-        DeckQueue {
-            keys: VecDeque::new(alloc),
+        UserQueue {
+            decks: VecDeque::new(alloc),
             place: None,
+            punched: Vec::new(alloc),
+            printed: Vec::new(alloc),
         }
     }
 
-    /// Makes room for so many more decks.
-    pub(crate) fn reserve(&mut self, count: usize) -> Result<(), AllocError>
-        ensures rest { self.new ≡ record self.old { room = self.new.room } }
-        ensures room { OnOk result (count ≤ self.new.room) }
-        ensures kept { self.old.room ≤ self.new.room }
+    /// A deck comes to the end.
+    pub(crate) fn push(&mut self, waiting: Waiting) -> Result<(), AllocError>
+        ensures ok { OnOk result (self.new ≡ with_waiting waiting self.old) }
+        ensures err { OnErr result (self.new ≡ self.old) }
     {
-        self.keys.reserve(count)
+        self.decks.push_back(waiting)?;
+        Ok(())
     }
 
-    /// A deck comes to the end. This takes no memory.
-    pub(crate) fn push(&mut self, key: usize)
-        requires { 1 ≤ self.old.room }
-        ensures { self.new ≡ with_key key self.old }
+    /// Makes room for one more file that the punch closes, and one that the printer does.
+    pub(crate) fn reserve(&mut self) -> Result<(), AllocError>
+        ensures rest { self.new ≡ record self.old { punch_room = self.new.punch_room; print_room = self.new.print_room } }
+        ensures punched { OnOk result (1 ≤ self.new.punch_room) }
+        ensures printed { OnOk result (1 ≤ self.new.print_room) }
     {
-        self.keys.push_back_reserved(key);
+        self.punched.reserve(1)?;
+        self.printed.reserve(1)
+    }
+
+    /// The punch closed the file of this key. This takes no memory.
+    pub(crate) fn push_punched(&mut self, key: usize)
+        requires { 1 ≤ self.old.punch_room }
+        ensures { self.new ≡ with_punched_key key self.old }
+    {
+        self.punched.push_reserved(key);
+    }
+
+    /// The printer closed the file of this key. This takes no memory.
+    pub(crate) fn push_printed(&mut self, key: usize)
+        requires { 1 ≤ self.old.print_room }
+        ensures { self.new ≡ with_printed_key key self.old }
+    {
+        self.printed.push_reserved(key);
     }
 
     /// Takes the deck of this index away, and tells its key.
     pub(crate) fn remove(&mut self, index: usize) -> usize
-        requires { index < length self.old.keys }
-        ensures key { result ≡ slice_index self.old.keys index }
-        ensures after { self.new ≡ without_key index self.old }
+        requires { index < length self.old.decks }
+        ensures key { result ≡ slice_index_or (map (λ deck. deck.key) self.old.decks) index 0 }
+        ensures after { self.new ≡ without_waiting index self.old }
     {
-        match self.keys.remove(index) {
-            Some(key) => key,
+        match self.decks.remove(index) {
+            Some(waiting) => waiting.key,
             None => unreachable!(),
         }
     }
@@ -83,33 +119,53 @@ impl DeckQueue {
         self.place
     }
 
-    /// How many decks do not wait: the current one.
-    pub(crate) fn currents(&self) -> usize
-        ensures { result ≡ currents self.now.place }
-    {
-        match self.place {
-            None => 0,
-            Some(_) => 1,
-        }
-    }
-
     /// How many decks there are.
     pub(crate) fn len(&self) -> usize
-        ensures { result ≡ length self.now.keys }
+        ensures { result ≡ length self.now.decks }
     {
-        self.keys.len()
+        self.decks.len()
     }
 
-    /// The key of the deck of this index.
-    pub(crate) fn key(&self, index: usize) -> Option<usize>
-        ensures value { result ≡ slice_get self.now.keys index }
-        ensures inside { IfSome result (λ _. index < length self.now.keys) }
+    /// The deck of this index.
+    pub(crate) fn deck(&self, index: usize) -> Option<Waiting>
+        ensures value { result ≡ slice_get self.now.decks index }
+        ensures inside { IfSome result (λ _. index < length self.now.decks) }
         ensures fits { IfSome result (λ _. index < usize.MAX) }
     {
-        if index < self.keys.len() {
-            self.keys.get(index).copied()
+        if index < self.decks.len() {
+            self.decks.get(index).copied()
         } else {
             None
         }
+    }
+
+    /// The key of the punch's closed file of this index.
+    pub(crate) fn punched(&self, index: usize) -> Option<usize>
+        ensures value { result ≡ slice_get self.now.punched index }
+        ensures inside { IfSome result (λ _. index < length self.now.punched) }
+    {
+        self.punched.get(index).copied()
+    }
+
+    /// The key of the printer's closed file of this index.
+    pub(crate) fn printed(&self, index: usize) -> Option<usize>
+        ensures value { result ≡ slice_get self.now.printed index }
+        ensures inside { IfSome result (λ _. index < length self.now.printed) }
+    {
+        self.printed.get(index).copied()
+    }
+
+    /// How many files the punch closed.
+    pub(crate) fn punched_count(&self) -> usize
+        ensures { result ≡ length self.now.punched }
+    {
+        self.punched.len()
+    }
+
+    /// How many files the printer closed.
+    pub(crate) fn printed_count(&self) -> usize
+        ensures { result ≡ length self.now.printed }
+    {
+        self.printed.len()
     }
 }

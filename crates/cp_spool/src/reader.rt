@@ -99,14 +99,13 @@ pub struct FedReader<'a> {
 }
 
 impl<'a> Model for FedReader<'a> {
-    ghost use Rattle.std.specs.Prelude.{map, length, ◌≤◌};
     ghost use Rattle.cp_spool.specs.Queues.{files_of};
-    ghost use Rattle.cp_spool.specs.Reader.{FeedState, deck_of};
+    ghost use Rattle.cp_spool.specs.Reader.{FeedState};
 
     ghost Value = { FeedState };
 
     ghost view = { λ f. record {
-      decks = map deck_of (files_of f.queues.now.held f.user).decks;
+      decks = (files_of f.queues.now.users f.user).decks;
       ended = f.progress.ended;
       place = f.progress.place;
       part = f.reader;
@@ -168,7 +167,7 @@ impl<'a> FedReader<'a> {
 
     /// This reader, which feeds from the queue of this user.
     pub fn new(queues: &'a Queues, user: UserNo, reader: Reader) -> FedReader<'a>
-        ensures { result ≡ fed_by (files_of queues.now.held user) reader }
+        ensures { result ≡ fed_by (files_of queues.now.users user) reader }
     {
         FedReader {
             progress: Progress {

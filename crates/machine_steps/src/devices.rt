@@ -1,5 +1,4 @@
-//! Steps over a processor, its channels, its devices and images of volumes.
-use crate::disk::Disk;
+//! Steps over a processor, its channels and its devices.
 use crate::machine::Machine;
 use crate::spelling::cut;
 use crate::unit::DiskUnit;
@@ -13,7 +12,6 @@ use step_table::compare;
 struct Work {
     machine: Machine,
     units: Units,
-    disk: Disk,
     unit: DiskUnit,
 }
 
@@ -23,7 +21,6 @@ impl Work {
         Ok(Work {
             machine: Machine::new(alloc)?,
             units: Units::new(alloc),
-            disk: Disk::new(alloc)?,
             unit: DiskUnit::new(alloc)?,
         })
     }
@@ -37,7 +34,6 @@ impl Work {
             "reader" => self.units.take_reader(alloc, rest),
             "punch" => self.units.take_punch(alloc, rest),
             "printer" => self.units.take_printer(alloc, rest),
-            "disk" => self.disk.take(alloc, rest),
             "unit" => self.unit.take(alloc, rest),
             _ => bail!("no step begins with {what}"),
         }

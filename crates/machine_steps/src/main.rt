@@ -1,18 +1,17 @@
 //! Does the steps of tables over the parts of a machine, and compares what comes of each with what its table says: a
-//! processor's single instructions, small storages, and a machine with its devices and images of volumes.
+//! processor's single instructions, small storages, and a machine with its devices.
 //!
 //! The words of the program are the tables, each of which has one step a line, with what comes of it behind an equals
 //! sign; their first lines tell the steps.
 //!
 //! - `processor.txt`: which operation codes there are, what is asked of devices, and keys of a page that is not there.
-//!   What instructions leave is shown by `s370_vectors` and `promise_checks`.
+//!   What instructions leave is shown by scripts, and by `promise_checks`.
 //! - `storage.txt`: accesses by their keys, absent pages, blocks that are found; and a lender, as an example of how to
 //!   meet the trait.
-//! - `devices.txt`: a processor, its channels, its devices and images of volumes.
+//! - `devices.txt`: a processor, its channels and its devices.
 #![tactic(auto)]
 
 mod devices;
-mod disk;
 mod instruction;
 mod lender;
 mod machine;

@@ -1,12 +1,11 @@
 //! A disk unit, whose commands are done one by one.
-use crate::disk::text_of;
 use crate::spelling::{bytes, cut};
 use crate::units::order_of;
 use anyhow::{Result, bail};
 use ckd_text::make_volume;
 use ckd_volume::{Arm, HEADS, Sense, Unit, Volume};
 use s370_walk::{Answer, Device};
-use std::alloc::Global;
+use std::alloc::{AllocError, Global};
 use step_table::decimal;
 
 /// A unit over a volume of a text.
@@ -31,6 +30,15 @@ fn unit_over(alloc: Global, volume: Volume, cylinder: usize, head: usize) -> Res
         },
     };
     Ok(Unit::new(alloc, volume, arm)?)
+}
+
+/// A text in which `|` stands for each LF.
+fn text_of(alloc: Global, spelled: &str) -> Result<Vec<u8>, AllocError> {
+    let mut text = Vec::new(alloc);
+    for byte in spelled.as_bytes() {
+        text.push(if *byte == b'|' { b'\n' } else { *byte })?;
+    }
+    Ok(text)
 }
 
 impl DiskUnit {
@@ -60,7 +68,7 @@ impl DiskUnit {
         let (cylinder, rest) = cut(operand);
         let (head, spelled) = cut(rest);
         let (cylinder, head) = (decimal(cylinder)? as usize, decimal(head)? as usize);
-        let volume = make_volume(alloc, &text_of(alloc, spelled, 0)?)?;
+        let volume = make_volume(alloc, &text_of(alloc, spelled)?)?;
         self.unit = unit_over(alloc, volume, cylinder, head)?;
         Ok(())
     }

@@ -4,9 +4,7 @@ use anyhow::{Result, bail};
 use s370_walk::{Answer, Command, Device, Flags, Order};
 use std::alloc::{AllocError, Global};
 use step_table::{byte, decimal};
-use unit_record::{
-    Console, Deck, Entry, File, Printer, Punch, RECORD_LENGTH, Reader, Sender, Target,
-};
+use unit_record::{Console, Deck, Entry, Printer, Punch, RECORD_LENGTH, Reader, Sender};
 
 /// One device of each kind.
 #[derive(Drop)]
@@ -72,26 +70,6 @@ fn told_entries(alloc: Global, entries: &[Entry]) -> Result<String> {
     Ok(text)
 }
 
-/// Whom each closed file is for, and what it has.
-fn told_files(alloc: Global, files: &[File]) -> Result<String> {
-    let mut text = format!(in alloc; "{}", files.len())?;
-    for file in files {
-        let entries = told_entries(alloc, file.entries())?;
-        let part = format!(in alloc; ", for {:?}: {entries}", file.target())?;
-        text.push_str(part.as_str())?;
-    }
-    Ok(text)
-}
-
-/// Whom a file is closed for: a user by number, or nobody's reader.
-fn target_of(word: &str) -> Result<Target> {
-    if word.is_empty() {
-        Ok(Target::System)
-    } else {
-        Ok(Target::User(byte(word)?))
-    }
-}
-
 /// A deck, `LABEL BYTE ..`, whose cards have each of the bytes in all columns.
 fn deck_of(alloc: Global, operand: &str) -> Result<Deck> {
     let (label, columns) = cut(operand);
@@ -155,8 +133,6 @@ impl Units {
         match verb {
             "new" => *punch = Punch::new(alloc),
             "do" => return perform(alloc, punch, operand),
-            "close" => return close_punch(alloc, punch, operand),
-            "files" => return told_files(alloc, punch.closed()),
             "entries" => {}
             _ => bail!("no step of a punch is {verb}"),
         }
@@ -171,7 +147,6 @@ impl Units {
             "new" => *printer = Printer::new(alloc),
             "reset" => printer.reset(),
             "do" => return perform(alloc, printer, operand),
-            "close" => return close_printer(alloc, printer, operand),
             "sense" => return Ok(format!(in alloc; "{:02X}", printer.sense())?),
             "entries" => {}
             _ => bail!("no step of a printer is {verb}"),
@@ -184,18 +159,6 @@ impl Units {
 fn purge(alloc: Global, reader: &mut Reader, operand: &str) -> Result<String> {
     let gone = reader.purge(u64::from(decimal(operand)?));
     Ok(format!(in alloc; "{gone}")?)
-}
-
-/// Closes what was punched, and tells whether there was anything.
-fn close_punch(alloc: Global, punch: &mut Punch, operand: &str) -> Result<String> {
-    let closed = punch.close(alloc, target_of(operand)?)?;
-    Ok(format!(in alloc; "{closed}")?)
-}
-
-/// Closes what was printed, and tells whether there was anything.
-fn close_printer(alloc: Global, printer: &mut Printer, operand: &str) -> Result<String> {
-    let closed = printer.close(alloc, target_of(operand)?)?;
-    Ok(format!(in alloc; "{closed}")?)
 }
 
 /// Types a line of host characters, and tells whether it is kept.

@@ -4,30 +4,29 @@
 //! The words of the program are its parts, each of which prints how much agrees, and what does not.
 //!
 //! - `halfwords`: each first halfword of an instruction, in both states, by a user beside a neighbour.
-//! - `cases.txt`: instructions at the edges of the table, which leave what was worked out by hand.
+//! - `commands`: scripts of commands of several users, with good and bad operands.
 //! - `many-users`: sixty-four users with programs of their own, in turns.
 //! - `talking-users`: sixteen users who talk, punch cards for each other, log off and on.
 #![tactic(auto)]
 
-mod case;
-mod edge_cases;
+mod commands;
 mod guest;
 mod halfwords;
 mod happening;
-mod image;
 mod many_users;
 mod program;
 mod setting;
+mod spelling;
 mod talking;
 
 use anyhow::{Result, bail};
-use std::{env, fs};
+use std::env;
 
 fn main(rt: HostRuntime) -> Result<()> {
     for part in env::args(&rt)?.skip(1) {
         match part.as_str() {
             "halfwords" => halfwords::carry_out_each(&rt)?,
-            "cases.txt" => edge_cases::run_all(&rt, &fs::read_to_string(&rt, &part)?)?,
+            "commands" => commands::play_all(&rt)?,
             "many-users" => many_users::play(&rt)?,
             "talking-users" => talking::play(&rt)?,
             _ => bail!("{part} is no part"),

@@ -1,93 +1,47 @@
-//! The failures of the program.
-use anyhow::{Context, Result, bail};
+//! Failures of the program that no script brings about: their lines, and the exit statuses.
+use crate::events::see;
+use anyhow::Result;
 use ckd_image::ImageError;
 use cp_core::BootError;
-use cp_directory::{DirError, Volser};
-use cp_users::{MOST_USERS, UserNo};
-use s370_num::DevAddr;
+use cp_directory::DirError;
 use std::alloc::Global;
-use step_table::{byte, decimal, halfword};
 use vm370::boot_faults::boot_failure;
 use vm370::faults::{Failure, fault_line, outcome};
 
-/// `fault script 3`: the exit status of a failure, and its line; `fault none`: the status where there is none.
-pub fn failure(alloc: Global, words: &[&str]) -> Result<String> {
-    if let ["none"] = words {
-        return Ok(format!(in alloc; "{}", outcome(&Ok(())))?);
-    }
-    let failure = failure_of(alloc, words)?;
-    let line = fault_line(alloc, &failure)?;
-    let status = outcome(&Err(failure));
-    Ok(format!(in alloc; "{status} {line}")?)
+/// Whether a failure has this exit status and this line.
+fn see_told(alloc: Global, failure: Failure, status: u8, line: &str) -> Result<()> {
+    let told = fault_line(alloc, &failure)?;
+    see(told.as_str() == line, "a failure has its line")?;
+    let ended = outcome(&Err(failure));
+    see(ended == status, "a failure has its exit status")
 }
 
-/// The failure of these words.
-fn failure_of(alloc: Global, words: &[&str]) -> Result<Failure> {
-    Ok(match words {
-        ["user-again", user] => Failure::Directory(DirError::DuplicateUser(
-            decimal(user)? as usize,
-        )),
-        ["overlap", one, other] => Failure::Directory(DirError::Overlap(
-            decimal(one)? as usize,
-            decimal(other)? as usize,
-        )),
-        ["directory-memory"] => Failure::Directory(DirError::Memory),
-        ["image", name @ ..] => Failure::from(image_error(name)?),
-        ["unsaved", path] => Failure::Unsaved(
-            ImageError::Device(1),
-            String::from_str(alloc, path)?,
-        ),
-        ["boot", name @ ..] => unbooted(alloc, name)?,
-        ["script", line] => Failure::Script(u64::from(decimal(line)?)),
-        ["file", count] => Failure::File(u64::from(decimal(count)?)),
-        ["memory"] => Failure::Memory,
-        ["spent"] => Failure::Spent,
-        ["usage"] => Failure::Usage,
-        _ => bail!("no such failure"),
-    })
+/// Those of a host that refuses memory.
+fn failures_of_memory(alloc: Global) -> Result<()> {
+    const LINE: &str = "fault: memory Memory";
+    see_told(alloc, Failure::Memory, 4, LINE)?;
+    see_told(alloc, Failure::Directory(DirError::Memory), 4, LINE)?;
+    see_told(alloc, Failure::from(ImageError::Memory), 4, LINE)?;
+    let unbooted = boot_failure(alloc, Vec::new(alloc), BootError::Memory);
+    see_told(alloc, unbooted, 4, LINE)?;
+    see_told(alloc, Failure::Spent, 4, "fault: memory Spent")
 }
 
-/// The fault of an image of these words.
-fn image_error(words: &[&str]) -> Result<ImageError> {
-    Ok(match words {
-        ["memory"] => ImageError::Memory,
-        ["magic"] => ImageError::BadMagic,
-        ["truncated"] => ImageError::Truncated,
-        ["track", cylinder, head] => ImageError::BadTrack(halfword(cylinder)?, byte(head)?),
-        ["trailing"] => ImageError::Trailing,
-        ["file", count] => ImageError::Device(u64::from(decimal(count)?)),
-        ["total"] => ImageError::BadTotal,
-        _ => bail!("no such fault of an image"),
-    })
+/// Those of files that fail in their middle, of two devices at an address, and of wrong words.
+fn other_failures(alloc: Global) -> Result<()> {
+    let read = Failure::from(ImageError::Device(2));
+    see_told(alloc, read, 3, "fault: file Device 2")?;
+    let path = String::from_str(alloc, "work.image")?;
+    let unsaved = Failure::Unsaved(ImageError::Device(1), path);
+    see_told(alloc, unsaved, 3, "fault: file Device 1")?;
+    let unbooted = boot_failure(alloc, Vec::new(alloc), BootError::DuplicateDevice);
+    see_told(alloc, unbooted, 1, "fault: boot DuplicateDevice")?;
+    let usage = "usage: vm370 DIRECTORY SCRIPT [VOLUME]...";
+    see_told(alloc, Failure::Usage, 2, usage)
 }
 
-/// The failure of a boot of these words, in a directory of the users that they name last.
-fn unbooted(alloc: Global, words: &[&str]) -> Result<Failure> {
-    let mut names = Vec::new(alloc);
-    let error = match words {
-        ["memory"] => BootError::Memory,
-        ["too-few-frames"] => BootError::TooFewFrames,
-        ["volume-twice"] => BootError::DuplicateVolume,
-        ["no-volume", volser] => {
-            BootError::NoVolume(Volser::new(volser.as_bytes()).context("no serial number")?)
-        }
-        ["past-end", user, address, users @ ..] => {
-            for name in users {
-                names.push(String::from_str(alloc, name)?)?;
-            }
-            BootError::ExtentPastEnd(user_no(user)?, DevAddr::new(halfword(address)?))
-        }
-        ["address-twice"] => BootError::DuplicateDevice,
-        _ => bail!("no such fault of a boot"),
-    };
-    Ok(boot_failure(alloc, names, error))
-}
-
-/// The user of this number.
-fn user_no(number: &str) -> Result<UserNo> {
-    let number = byte(number)?;
-    if usize::from(number) >= MOST_USERS {
-        bail!("no user has the number {number}");
-    }
-    Ok(UserNo::new(number))
+/// Looks at all of them.
+pub fn look_at_failures(alloc: Global) -> Result<()> {
+    failures_of_memory(alloc)?;
+    other_failures(alloc)
 }

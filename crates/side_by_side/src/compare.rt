@@ -68,9 +68,9 @@ impl SideBySide {
             return Err(SideError::NoSuchUser);
         };
         compare_console_device(devices.console(), bare.devices().console())?;
-        compare_reader(devices.reader(), bare.devices().reader())?;
-        compare_punch(devices.punch(), bare.devices().punch())?;
-        compare_printer(devices.printer(), bare.devices().printer())?;
+        compare_reader(&devices, &bare.devices())?;
+        compare_punch(&devices, &bare.devices())?;
+        compare_printer(&devices, &bare.devices())?;
         let target = devices.target() == bare.devices().target();
         same(target, View::Punch)?;
         self.compare_deliveries(user)

@@ -1,7 +1,9 @@
 //! Whether two devices are the same.
 use crate::machines::same;
 use crate::view::{SideError, View};
-use unit_record::{Console, Deck, Entry, File, Printer, Punch, Reader, Record};
+use cp_devices::SeenDevices;
+use cp_spool::{SeenDeck, SpoolFile};
+use unit_record::{Console, Entry, Record};
 
 /// Whether two records have the same bytes.
 fn is_same_record(one: Option<&Record>, other: Option<&Record>) -> bool {
@@ -29,26 +31,40 @@ pub(crate) fn compare_console_device(one: &Console, other: &Console) -> Result<(
 }
 
 /// Whether two decks are the same, their numbers and senders too.
-fn is_same_deck(one: Option<&Deck>, other: Option<&Deck>) -> bool {
+fn is_same_deck(one: Option<SeenDeck<'_>>, other: Option<SeenDeck<'_>>) -> bool {
     match (one, other) {
         (Some(one), Some(other)) => {
             one.label() == other.label()
                 && one.sender() == other.sender()
-                && one.cards() == other.cards()
+                && one.count() == other.count()
+                && are_same_cards(&one, &other)
         }
         (None, None) => true,
         _ => false,
     }
 }
 
+/// Whether each card of the one is that of the other.
+fn are_same_cards(one: &SeenDeck<'_>, other: &SeenDeck<'_>) -> bool {
+    for index in 0..other.count() {
+        if one.card(index) != other.card(index) {
+            return false;
+        }
+    }
+    true
+}
+
 /// Compares two readers: their decks, and the place in the first.
-pub(crate) fn compare_reader(one: &Reader, other: &Reader) -> Result<(), SideError> {
-    same(one.len() == other.len(), View::Reader)?;
-    for deck in 0..other.len() {
-        same(is_same_deck(one.get(deck), other.get(deck)), View::Reader)?;
+pub(crate) fn compare_reader(
+    one: &SeenDevices<'_>,
+    other: &SeenDevices<'_>,
+) -> Result<(), SideError> {
+    same(one.decks() == other.decks(), View::Reader)?;
+    for deck in 0..other.decks() {
+        same(is_same_deck(one.deck(deck), other.deck(deck)), View::Reader)?;
     }
     same(one.place() == other.place(), View::Reader)?;
-    same(one.sense() == other.sense(), View::Sense)
+    same(one.reader_sense() == other.reader_sense(), View::Sense)
 }
 
 /// Whether two lists of entries are the same.
@@ -58,30 +74,54 @@ fn are_same_entries(one: &[Entry], other: &[Entry]) -> bool {
     one.len() == other.len() && are_same
 }
 
-/// Whether two lists of closed files are the same, and whom each file is for.
-fn are_same_files(one: &[File], other: &[File]) -> bool {
-    let are_same = one.iter().zip(other.iter()).all(|(one, other)| {
-        one.target() == other.target() && are_same_entries(one.entries(), other.entries())
-    });
-    one.len() == other.len() && are_same
+/// Whether two closed files are the same, and for the same.
+fn is_same_file(one: Option<&SpoolFile>, other: Option<&SpoolFile>) -> bool {
+    match (one, other) {
+        (Some(one), Some(other)) => {
+            one.target() == other.target() && are_same_entries(one.entries(), other.entries())
+        }
+        (None, None) => true,
+        _ => false,
+    }
 }
 
 /// Compares two punches: the open file, and the closed ones.
-pub(crate) fn compare_punch(one: &Punch, other: &Punch) -> Result<(), SideError> {
+pub(crate) fn compare_punch(
+    one: &SeenDevices<'_>,
+    other: &SeenDevices<'_>,
+) -> Result<(), SideError> {
     same(
-        are_same_entries(one.entries(), other.entries()),
+        are_same_entries(one.punch().entries(), other.punch().entries()),
         View::Punch,
     )?;
-    same(are_same_files(one.closed(), other.closed()), View::Punch)?;
-    same(one.sense() == other.sense(), View::Sense)
+    same(one.punched_count() == other.punched_count(), View::Punch)?;
+    for file in 0..other.punched_count() {
+        same(
+            is_same_file(one.punched(file), other.punched(file)),
+            View::Punch,
+        )?;
+    }
+    same(one.punch().sense() == other.punch().sense(), View::Sense)
 }
 
 /// Compares two printers: the open file, and the closed ones.
-pub(crate) fn compare_printer(one: &Printer, other: &Printer) -> Result<(), SideError> {
+pub(crate) fn compare_printer(
+    one: &SeenDevices<'_>,
+    other: &SeenDevices<'_>,
+) -> Result<(), SideError> {
     same(
-        are_same_entries(one.entries(), other.entries()),
+        are_same_entries(one.printer().entries(), other.printer().entries()),
         View::Printer,
     )?;
-    same(are_same_files(one.closed(), other.closed()), View::Printer)?;
-    same(one.sense() == other.sense(), View::Sense)
+    same(one.printed_count() == other.printed_count(), View::Printer)?;
+    for file in 0..other.printed_count() {
+        same(
+            is_same_file(one.printed(file), other.printed(file)),
+            View::Printer,
+        )?;
+    }
+    same(
+        one.printer().sense() == other.printer().sense(),
+        View::Sense,
+    )
 }

@@ -7,10 +7,11 @@ use cp_console::console_line::ConsoleLine;
 use cp_console::responses::Response;
 use cp_core::{Delivered, Delivery, Ended, Event};
 use cp_devices::{Told, copy_of, is_logged_on};
+use cp_spool::SpoolFile;
 use cp_users::{MOST_USERS, UserNo};
 use s370_num::DevAddr;
 use std::alloc::{AllocError, Global};
-use unit_record::{Card, Deck, Sender, Target};
+use unit_record::{Card, Sender, Target};
 
 /// How many lines a machine has printed, and how many files its punch and its printer have closed.
 #[derive(Clone, Copy)]
@@ -24,8 +25,8 @@ impl Before {
     fn of(bare: &Bare) -> Before {
         Before {
             lines: bare.printed(),
-            punched: bare.devices().punch().closed().len(),
-            printed: bare.devices().printer().closed().len(),
+            punched: bare.devices().punched_count(),
+            printed: bare.devices().printed_count(),
         }
     }
 }
@@ -54,6 +55,17 @@ fn on_of(alloc: Global, machines: &[Beside]) -> Result<Vec<bool>, AllocError> {
         on.push(is_logged_on(beside.bare.mode()))?;
     }
     Ok(on)
+}
+
+/// The cards of a closed file.
+fn cards_of(alloc: Global, file: &SpoolFile) -> Result<Vec<Card>, AllocError> {
+    let mut cards = Vec::new(alloc);
+    for index in 0..file.count() {
+        if let Some(card) = file.card(index) {
+            cards.push(card)?;
+        }
+    }
+    Ok(cards)
 }
 
 impl SideBySide {
@@ -138,22 +150,26 @@ impl SideBySide {
         number: u64,
     ) -> Result<Option<Delivered>, SideError> {
         let devices = self.bare(user)?.devices();
-        let Some(file) = devices.punch().closed().get(index) else {
+        let Some(file) = devices.punched(index) else {
             return Ok(None);
         };
         let Target::User(to) = file.target() else {
             return Ok(None);
         };
-        let sender = Sender::User(user.number());
-        let deck = devices.deck_of_punched(alloc, index, number, sender)?;
-        self.take_deck(to, deck)
+        let cards = cards_of(alloc, file)?;
+        self.take_deck(to, number, Sender::User(user.number()), cards)
     }
 
     /// A deck comes to the reader of the user of this number.
-    fn take_deck(&mut self, to: u8, deck: Deck) -> Result<Option<Delivered>, SideError> {
-        let number = deck.label();
+    fn take_deck(
+        &mut self,
+        to: u8,
+        number: u64,
+        sender: Sender,
+        cards: Vec<Card>,
+    ) -> Result<Option<Delivered>, SideError> {
         match self.machines.get_mut(usize::from(to)) {
-            Some(beside) => beside.bare.take_deck(deck)?,
+            Some(beside) => beside.bare.take_deck(number, sender, cards)?,
             None => return Ok(None),
         }
         self.note(to, Delivery::Deck(number))
@@ -183,8 +199,8 @@ impl SideBySide {
         }
         if !cards.is_empty() {
             self.files = self.files.saturating_add(1);
-            let deck = Deck::new(self.files, Sender::System, copy_of(alloc, cards)?);
-            self.delivered = self.take_deck(user.number(), deck)?;
+            let copy = copy_of(alloc, cards)?;
+            self.delivered = self.take_deck(user.number(), self.files, Sender::System, copy)?;
         }
         let mut wanted = reply(Ended::Done, Told::Silent, 0);
         wanted.delivered = self.delivered;

@@ -4,7 +4,7 @@ use crate::view::{SideError, View};
 use bare_installation::Bare;
 use ckd_volume::Volume;
 use cp_core::{Delivered, Delivery, Ended, Event, Reply, Sizes, System};
-use cp_devices::{Devices, Places, Told};
+use cp_devices::{Places, Told};
 use cp_directory::{User, UserDevices, read_directory};
 use cp_users::UserNo;
 use s370_intr::{Ran, Reason};
@@ -43,9 +43,8 @@ fn places_in(devices: UserDevices) -> Places {
 /// The bare machine of a user, with disks that have the cylinders of his minidisks on these volumes.
 fn machine_of(alloc: Global, user: &User, volumes: &[Volume]) -> Result<Bare, SideError> {
     let storage = PlainStorage::new(alloc, user.storage().blocks())?;
-    let devices = Devices::new(alloc, places_in(user.devices()));
     let disks = disks_of(alloc, user, volumes)?;
-    Ok(Bare::new(alloc, storage, devices, disks)?)
+    Ok(Bare::new(alloc, storage, places_in(user.devices()), disks)?)
 }
 
 /// A bare machine for each user.

@@ -3,7 +3,6 @@
 //!
 //! A table is a text of which each line is a step, but for empty lines and those that begin with `#`, which tell its
 //! form. A line that does not agree is told by its number, with what came of it; at the end it is told how many agree.
-//! `lists` has what tables list of storage and keys.
 //!
 //! ```text
 //! let table = table(&rt)?;
@@ -15,9 +14,6 @@
 //! ```
 #![tactic(auto)]
 
-mod bed;
-mod digits;
-pub mod lists;
 mod numbers;
 
 use anyhow::{Context, Result};

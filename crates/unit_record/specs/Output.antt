@@ -12,12 +12,10 @@ pub record FileValue : Type 0 where
   pub target : Target
   pub entries : List EntryValue
 
--- The entries of the open file, the closed files in order, and for how many more entries and closed files there is room.
+-- The entries of the open file, and for how many more there is room.
 pub record OutputValue : Type 0 where
   pub entries : List EntryValue
-  pub closed : List FileValue
   pub room : ℕ
-  pub file_room : ℕ
 
 -- An open file without an entry is none.
 abbrev pub has_entries : List EntryValue → Bool

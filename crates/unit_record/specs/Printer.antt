@@ -4,15 +4,13 @@ use Rattle.s370_walk.specs.declared.parts.Order.{Order}
 use Rattle.s370_walk.specs.declared.parts.Answer.{Answer}
 use Rattle.s370_walk.specs.declared.parts.Answer.TheVariants.{Refused, Immediate, Input, OutputUpTo}
 use Rattle.s370_walk.specs.Hardware.{Machine}
-use Rattle.unit_record.specs.declared.output.Target.{Target}
 use Rattle.unit_record.specs.Front.{is_sense, nothing_to_say, unit_check, command_reject}
-use Rattle.unit_record.specs.Output.{EntryValue, FileValue, closed_with}
+use Rattle.unit_record.specs.Output.{EntryValue}
 
 -- State
 pub record PrinterState : Type 0 where
-  -- the entries of the open file, and the files that were closed
+  -- the entries of the open file
   pub entries : List EntryValue
-  pub closed : List FileValue
   pub sense : ℕ
   -- the write that is under way, and the bytes of its line
   pub printing : Option ℕ
@@ -70,12 +68,12 @@ printer_machine =
       finished = λ p. printed p p.printing;
     }
 
--- From outside: a reset, and the close of the open file. Both find no command under way, or end it.
+-- From outside: a reset, and the open file taken to be closed. Both find no command under way, or end it.
 abbrev pub printer_new : PrinterState
-printer_new = record { entries = []; closed = []; sense = 0; printing = None; line = [] }
+printer_new = record { entries = []; sense = 0; printing = None; line = [] }
 
 abbrev pub printer_reset : PrinterState → PrinterState
 printer_reset p = record p { sense = 0; printing = None; line = [] }
 
-abbrev pub printer_closed : PrinterState → Target → PrinterState
-printer_closed p target = record p { entries = []; closed = closed_with p.closed target p.entries; printing = None; line = [] }
+abbrev pub printer_emptied : PrinterState → PrinterState
+printer_emptied p = record p { entries = []; printing = None; line = [] }

@@ -4,15 +4,13 @@ use Rattle.s370_walk.specs.declared.parts.Order.{Order}
 use Rattle.s370_walk.specs.declared.parts.Answer.{Answer}
 use Rattle.s370_walk.specs.declared.parts.Answer.TheVariants.{Refused, Immediate, Input, Output}
 use Rattle.s370_walk.specs.Hardware.{Machine}
-use Rattle.unit_record.specs.declared.output.Target.{Target}
 use Rattle.unit_record.specs.Front.{is_sense, nothing_to_say, unit_check, command_reject}
-use Rattle.unit_record.specs.Output.{EntryValue, FileValue, closed_with}
+use Rattle.unit_record.specs.Output.{EntryValue}
 
 -- State
 pub record PunchState : Type 0 where
-  -- the cards of the open file, and the files that were closed
+  -- the cards of the open file
   pub entries : List EntryValue
-  pub closed : List FileValue
   pub sense : ℕ
   -- whether a card is being punched, and the bytes that it has
   pub is_punching : Bool
@@ -65,12 +63,12 @@ punch_machine =
       finished = punch_finished;
     }
 
--- From outside: a reset, and the close of the open file. Both find no command under way, or end it.
+-- From outside: a reset, and the open file taken to be closed. Both find no command under way, or end it.
 abbrev pub punch_new : PunchState
-punch_new = record { entries = []; closed = []; sense = 0; is_punching = false; card = [] }
+punch_new = record { entries = []; sense = 0; is_punching = false; card = [] }
 
 abbrev pub punch_reset : PunchState → PunchState
 punch_reset p = record p { sense = 0; is_punching = false; card = [] }
 
-abbrev pub punch_closed : PunchState → Target → PunchState
-punch_closed p target = record p { entries = []; closed = closed_with p.closed target p.entries; is_punching = false; card = [] }
+abbrev pub punch_emptied : PunchState → PunchState
+punch_emptied p = record p { entries = []; is_punching = false; card = [] }

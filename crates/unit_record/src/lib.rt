@@ -17,7 +17,6 @@
 //! ```
 #![tactic(auto)]
 
-mod closing;
 mod console;
 mod front;
 mod laws;
@@ -29,13 +28,12 @@ mod reader;
 mod record;
 mod trials;
 
-pub use closing::{Closed, close_both};
 pub use console::{Arrival, Console};
 pub use front::{COMMAND_REJECT, INTERVENTION_REQUIRED};
 pub use laws::{
     a_punch_adds_one_card, a_write_adds_one_entry, decks_are_read_in_order, written_text_is_kept,
 };
-pub use output::{Entry, File, Target};
+pub use output::{Entry, Target};
 pub use printer::Printer;
 pub use punch::Punch;
 pub use reader::{Card, Deck, Reader, Sender};

@@ -1,22 +1,22 @@
 //! The line printer.
-ghost use Rattle.std.specs.Prelude.{◌≡◌, ◌==◌, length, not, IfOk, OnOk, OnErr};
-ghost use Rattle.unit_record.specs.Printer.{printer_new, printer_reset, printer_closed, is_write, is_space};
+ghost use Rattle.std.specs.Prelude.{◌≡◌};
+ghost use Rattle.unit_record.specs.Printer.{printer_new, printer_reset, printer_emptied, is_write, is_space};
 
 use crate::front::{COMMAND_REJECT, NO_OPERATION, is_sense};
-use crate::output::{Entry, File, Output, Target};
+use crate::output::{Entry, Output};
 use crate::record::{RECORD_LENGTH, Record};
 use s370_walk::{Answer, Device, Order, UnitStatus};
 use std::alloc::{AllocError, Global};
 use std::marker::Model;
 use std::mem;
 
-/// A line printer: the entries of its open file, and its closed files.
+/// A line printer: the entries of its open file.
 #[derive(Drop)]
 pub struct Printer {
-    pub(crate) output: Output,
+    output: Output,
     sense: u8,
-    pub(crate) printing: Option<u8>,
-    pub(crate) line: Record,
+    printing: Option<u8>,
+    line: Record,
 }
 
 impl Model for Printer {
@@ -27,7 +27,6 @@ impl Model for Printer {
 
     ghost view = { λ p. record {
       entries = p.output.entries;
-      closed = p.output.closed;
       sense = p.sense;
       printing = p.printing;
       line = p.line;
@@ -117,16 +116,14 @@ impl Printer {
         self.line = Record::new();
     }
 
-    /// Closes the open file, for this target, and tells whether there was any: it is then the last of the closed files.
-    pub fn close(&mut self, alloc: Global, target: Target) -> Result<bool, AllocError>
-        ensures any { IfOk result (λ any. any ≡ not (length self.old.entries == 0)) }
-        ensures closed { OnOk result (self.new ≡ printer_closed self.old target) }
-        ensures err { OnErr result (self.new ≡ self.old) }
+    /// Takes the entries of the open file, to be closed; the file has none then. This takes no memory.
+    pub fn take_entries(&mut self, alloc: Global) -> Vec<Entry>
+        ensures taken { result.items ≡ self.old.entries }
+        ensures after { self.new ≡ printer_emptied self.old }
     {
-        let any = self.output.close(alloc, target)?;
         self.printing = None;
         self.line = Record::new();
-        Ok(any)
+        self.output.take(alloc)
     }
 
     /// The entries of the open file, in order.
@@ -134,13 +131,6 @@ impl Printer {
         ensures { result.now ≡ self.now.entries }
     {
         self.output.entries()
-    }
-
-    /// The closed files, in order.
-    pub fn closed(&self) -> &[File]
-        ensures { result.now ≡ self.now.closed }
-    {
-        self.output.closed()
     }
 
     /// The sense byte of the last unit check.

@@ -1,9 +1,9 @@
 //! The card punch.
-ghost use Rattle.std.specs.Prelude.{◌≡◌, ◌==◌, length, not, IfOk, OnOk, OnErr};
-ghost use Rattle.unit_record.specs.Punch.{punch_new, punch_reset, punch_closed};
+ghost use Rattle.std.specs.Prelude.{◌≡◌};
+ghost use Rattle.unit_record.specs.Punch.{punch_new, punch_reset, punch_emptied};
 
 use crate::front::{COMMAND_REJECT, NO_OPERATION, is_sense};
-use crate::output::{Entry, File, Output, Target};
+use crate::output::{Entry, Output};
 use crate::record::Record;
 use s370_walk::{Answer, Device, Order, UnitStatus};
 use std::alloc::{AllocError, Global};
@@ -17,13 +17,13 @@ const PUNCH: u8 = 0x01;
 /// What stands in columns that nothing was punched into.
 const BLANK: u8 = 0x40;
 
-/// A card punch: the cards of its open file, and its closed files.
+/// A card punch: the cards of its open file.
 #[derive(Drop)]
 pub struct Punch {
-    pub(crate) output: Output,
+    output: Output,
     sense: u8,
-    pub(crate) is_punching: bool,
-    pub(crate) card: Record,
+    is_punching: bool,
+    card: Record,
 }
 
 impl Model for Punch {
@@ -34,7 +34,6 @@ impl Model for Punch {
 
     ghost view = { λ p. record {
       entries = p.output.entries;
-      closed = p.output.closed;
       sense = p.sense;
       is_punching = p.is_punching;
       card = p.card;
@@ -119,16 +118,14 @@ impl Punch {
         self.card = Record::new();
     }
 
-    /// Closes the open file, for this target, and tells whether there was any: it is then the last of the closed files.
-    pub fn close(&mut self, alloc: Global, target: Target) -> Result<bool, AllocError>
-        ensures any { IfOk result (λ any. any ≡ not (length self.old.entries == 0)) }
-        ensures closed { OnOk result (self.new ≡ punch_closed self.old target) }
-        ensures err { OnErr result (self.new ≡ self.old) }
+    /// Takes the entries of the open file, to be closed; the file has none then. This takes no memory.
+    pub fn take_entries(&mut self, alloc: Global) -> Vec<Entry>
+        ensures taken { result.items ≡ self.old.entries }
+        ensures after { self.new ≡ punch_emptied self.old }
     {
-        let any = self.output.close(alloc, target)?;
         self.is_punching = false;
         self.card = Record::new();
-        Ok(any)
+        self.output.take(alloc)
     }
 
     /// The cards of the open file, in order.
@@ -136,13 +133,6 @@ impl Punch {
         ensures { result.now ≡ self.now.entries }
     {
         self.output.entries()
-    }
-
-    /// The closed files, in order.
-    pub fn closed(&self) -> &[File]
-        ensures { result.now ≡ self.now.closed }
-    {
-        self.output.closed()
     }
 
     /// The sense byte of the last unit check.

@@ -73,8 +73,8 @@ count_of is_such (x ∷ xs) = if is_such x then count_of is_such xs + 1 else cou
 -- the closed file that this note is of, where these were noted before it: of the files that a punch has closed the one after as many as
 -- it has closed before, and so of a printer
 abbrev pub closed_in : SystemView → List FileNote → ℕ → FileKind → Option FileValue
-closed_in s before user kinds.Punch = slice_get (user_at s user).devices.punch.closed (count_of (is_punched user) before)
-closed_in s before user kinds.Printer = slice_get (user_at s user).devices.printer.closed (count_of (is_printed user) before)
+closed_in s before user kinds.Punch = slice_get (user_at s user).devices.punched (count_of (is_punched user) before)
+closed_in s before user kinds.Printer = slice_get (user_at s user).devices.printed (count_of (is_printed user) before)
 closed_in s before user kinds.Deck = None
 
 -- the lines of a file that was noted so, after these: its number is one more than theirs

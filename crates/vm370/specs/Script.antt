@@ -1,5 +1,6 @@
 -- What scripts say to the control program.
 use Rattle.std.specs.Prelude.{◌≡◌, ℕ, ◌<◌, Bool, true, List, IfSome, map, slice_get}
+use Rattle.cp_script.specs.Cards.{cards_of}
 use Rattle.std.specs.List.{list_all}
 use Rattle.cp_core.specs.Stated.{LacksDevice, states_device}
 use Rattle.cp_core.specs.System.{SystemView}
@@ -57,14 +58,14 @@ IsApplicable (scripts.Auto turns) = ⊥
 abbrev pub IsStated : SystemView → Event → Type 0
 IsStated s event = LacksDevice s event → ⊥
 
--- an event that a script says with all that it has: no deck, whose cards are still to be made, and no turns
-abbrev pub IsWhole : ScriptEvent → Type 0
-IsWhole (scripts.Run user units) = Unit {0}
-IsWhole (scripts.Line user text) = Unit {0}
-IsWhole (scripts.Tick user) = Unit {0}
-IsWhole (scripts.Serve user device) = Unit {0}
-IsWhole (scripts.Deck user cards) = ⊥
-IsWhole (scripts.Auto turns) = ⊥
+-- the cards that an event gives: those of a deck
+abbrev pub HasCards : ScriptEvent → List (List ℕ) → Type 0
+HasCards (scripts.Run user units) cards = Unit {0}
+HasCards (scripts.Line user text) cards = Unit {0}
+HasCards (scripts.Tick user) cards = Unit {0}
+HasCards (scripts.Serve user device) cards = Unit {0}
+HasCards (scripts.Deck user deck) cards = cards ≡ cards_of deck
+HasCards (scripts.Auto turns) cards = Unit {0}
 
 -- each program in the line is of a device that the directory gives its user
 abbrev pub is_stated : SystemView → Program → Bool

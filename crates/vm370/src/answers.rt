@@ -1,8 +1,8 @@
 //! An event that is applied, its lines that are written, and the line of programs after it.
 ghost use Rattle.std.specs.Prelude.{◌≡◌, ◌<◌, ◌⊎◌, ℕ, Err, IfOk, OnErr, OnOk, false, length, true};
-ghost use Rattle.cp_script.specs.Script.{Deck, said};
+ghost use Rattle.cp_script.specs.Script.{said};
 ghost use Rattle.vm370.specs.Schedule.{line_after};
-ghost use Rattle.vm370.specs.Script.{IsApplicable, IsOfStated, IsOfUser, IsWhole, as_said, number_of};
+ghost use Rattle.vm370.specs.Script.{HasCards, IsApplicable, IsOfStated, IsOfUser, as_said, number_of};
 ghost use Rattle.vm370.specs.Session.{CountsWriter, HasHappened, IsAnswered, IsAnsweredPartly, IsSpent, IsUnanswered};
 
 use crate::session::SessionError;
@@ -14,7 +14,7 @@ use cp_script::ScriptEvent;
 use cp_users::UserNo;
 use s370_num::DevAddr;
 use s370_num::host::{HostWriter, write_all};
-use std::alloc::Global;
+use std::alloc::{AllocError, Global};
 use unit_record::Card;
 
 /// Applies an event, and writes its reply's lines. The programs that have ended or were withdrawn by it stand in the line
@@ -110,40 +110,26 @@ fn happen(
     ensures why { OnErr result ((result ≡ Err SessionError.Memory)
         ⊎ ((result ≡ Err SessionError.Spent) × (system.old.is_spent ≡ true))) }
 {
-    match event {
-        ScriptEvent::Deck(user, cards) => {
-            let cards = cards.to_vec(alloc)?;
-            give(system, *user, &cards)
-        }
-        _ => ask(system, event),
-    }
+    let cards = cards_in(alloc, event)?;
+    ask(system, event, &cards)
 }
 
-/// The operator gives a deck of these cards to a user.
-fn give(system: &mut System, user: UserNo, cards: &[Card]) -> Result<Reply, SessionError>
-    requires user { user < length system.old.directory }
-    ensures ok { IfOk result (λ reply. HasHappened (Deck user cards.now) system.old system.new reply) }
-    ensures err { OnErr result ((system.new ≡ system.old) ⊎ IsSpent system.old system.new) }
-    ensures directory { system.new.directory ≡ system.old.directory }
-    ensures alive { OnOk result (system.new.is_spent ≡ false) }
-    ensures why { OnErr result ((result ≡ Err SessionError.Memory)
-        ⊎ ((result ≡ Err SessionError.Spent) × (system.old.is_spent ≡ true))) }
+/// The cards that an event gives.
+fn cards_in(alloc: Global, event: &ScriptEvent<'_>) -> Result<Vec<Card>, AllocError>
+    ensures { IfOk result (λ cards. HasCards event.now cards.items) }
 {
-    let _device = DevAddr::new(0);
-    match system.apply(Event::Deck(user, cards)) {
-        Ok(reply) => Ok(reply),
-        Err(CpError::Memory) => Err(SessionError::Memory),
-        Err(CpError::Spent) => Err(SessionError::Spent),
-        Err(CpError::NoSuchUser) => unreachable!(),
-        Err(CpError::NoSuchDevice) => unreachable!(),
+    match event {
+        ScriptEvent::Deck(_, cards) => cards.to_vec(alloc),
+        _ => Ok(Vec::new(alloc)),
     }
 }
 
-/// Applies an event of a user and a device that the directory has.
-fn ask(system: &mut System, event: &ScriptEvent<'_>) -> Result<Reply, SessionError>
+/// Applies an event of a user and a device that the directory has, which gives these cards.
+fn ask(system: &mut System, event: &ScriptEvent<'_>, cards: &[Card]) -> Result<Reply, SessionError>
     requires user { IsOfUser (length system.old.directory) event.now }
     requires device { IsOfStated system.old.directory event.now }
-    requires event { IsWhole event.now }
+    requires event { IsApplicable event.now }
+    requires cards { HasCards event.now cards.now }
     ensures ok { IfOk result (λ reply. HasHappened (said event.now) system.old system.new reply) }
     ensures err { OnErr result ((system.new ≡ system.old) ⊎ IsSpent system.old system.new) }
     ensures directory { system.new.directory ≡ system.old.directory }
@@ -152,7 +138,7 @@ fn ask(system: &mut System, event: &ScriptEvent<'_>) -> Result<Reply, SessionErr
         ⊎ ((result ≡ Err SessionError.Spent) × (system.old.is_spent ≡ true))) }
 {
     let _device = DevAddr::new(0);
-    match system.apply(event_of(event)) {
+    match system.apply(event_of(event, cards)) {
         Ok(reply) => Ok(reply),
         Err(CpError::Memory) => Err(SessionError::Memory),
         Err(CpError::Spent) => Err(SessionError::Spent),
@@ -161,9 +147,10 @@ fn ask(system: &mut System, event: &ScriptEvent<'_>) -> Result<Reply, SessionErr
     }
 }
 
-/// The event that a line of a script says with all that it has.
-fn event_of<'a>(event: &ScriptEvent<'a>) -> Event<'a>
-    requires { IsWhole event.now }
+/// The event that a line of a script says, which gives these cards.
+fn event_of<'a>(event: &ScriptEvent<'a>, cards: &'a [Card]) -> Event<'a>
+    requires event { IsApplicable event.now }
+    requires cards { HasCards event.now cards.now }
     ensures said { as_said result ≡ said event.now }
 {
     match *event {
@@ -171,6 +158,7 @@ fn event_of<'a>(event: &ScriptEvent<'a>) -> Event<'a>
         ScriptEvent::Line(user, typed) => Event::Line(user, typed),
         ScriptEvent::Tick(user) => Event::Tick(user),
         ScriptEvent::Serve(user, device) => Event::Serve(user, DevAddr::new(device)),
-        ScriptEvent::Deck(_, _) | ScriptEvent::Auto(_) => unreachable!(),
+        ScriptEvent::Deck(user, _) => Event::Deck(user, cards),
+        ScriptEvent::Auto(_) => unreachable!(),
     }
 }

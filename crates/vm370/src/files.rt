@@ -1,6 +1,7 @@
 //! The files that were closed for the operator, by their numbers: the last part of a transcript.
 ghost use Rattle.std.specs.Prelude.{◌≡◌, ◌++◌, ◌∷◌, ◌<◌, [], IfOk, OnOk, Some, length, map, slice_get, take};
-ghost use Rattle.std.specs.Option.{option_copied};
+ghost use Rattle.std.specs.Option.{option_copied, option_map};
+ghost use Rattle.cp_spool.specs.File.{closed_file};
 ghost use Rattle.std.specs.String.{string_bytes};
 ghost use Rattle.cp_console.specs.Responses.{file_number};
 ghost use Rattle.s370_num.specs.Address.{two_digits};
@@ -9,10 +10,11 @@ ghost use Rattle.vm370.specs.Transcript.{ended};
 
 use cp_core::{FileNote, System};
 use cp_devices::FileKind;
+use cp_spool::SpoolFile;
 use cp_users::{UserNo, name_of};
 use s370_num::ebcdic::printable;
 use std::alloc::{AllocError, Global};
-use unit_record::{Entry, File, Target};
+use unit_record::{Entry, Target};
 
 /// The lines of all files that were closed for the operator, by their numbers, each ended by LF.
 pub fn print_files(alloc: Global, system: &System) -> Result<Vec<u8>, AllocError>
@@ -80,10 +82,10 @@ fn print_found(
     kind: FileKind,
     number: u64,
     name: &[u8],
-    file: Option<&File>,
+    file: Option<&SpoolFile>,
 ) -> Result<(), AllocError>
     ensures { OnOk result (out.new.items
-        ≡ out.old.items ++ ended (found_lines kind number name.now (option_copied file.entry))) }
+        ≡ out.old.items ++ ended (found_lines kind number name.now (option_map closed_file (option_copied file.entry)))) }
 {
     match file {
         Some(file) => print_file(alloc, out, kind, number, name, file),
@@ -97,13 +99,13 @@ pub(crate) fn closed_file<'a>(
     before: &[FileNote],
     user: UserNo,
     kind: FileKind,
-) -> Option<&'a File>
-    ensures { option_copied result ≡ closed_in system.now before.now user kind }
+) -> Option<&'a SpoolFile>
+    ensures { option_map closed_file (option_copied result) ≡ closed_in system.now before.now user kind }
 {
     let devices = system.spool(user)?;
     match kind {
-        FileKind::Punch => devices.punch().closed().get(punched_by(before, user)),
-        FileKind::Printer => devices.printer().closed().get(printed_by(before, user)),
+        FileKind::Punch => devices.punched(punched_by(before, user)),
+        FileKind::Printer => devices.printed(printed_by(before, user)),
         FileKind::Deck => None,
     }
 }
@@ -163,9 +165,10 @@ pub fn print_file(
     kind: FileKind,
     number: u64,
     name: &[u8],
-    file: &File,
+    file: &SpoolFile,
 ) -> Result<(), AllocError>
-    ensures { OnOk result (out.new.items ≡ out.old.items ++ ended (file_lines kind number name.now file.now)) }
+    ensures { OnOk result (out.new.items ≡ out.old.items
+        ++ ended (file_lines kind number name.now (closed_file file.now))) }
 {
     match file.target() {
         Target::System => {

@@ -8,13 +8,12 @@ ghost use Rattle.vm370.specs.Transcript.{CutsBack, delivered_lines, ended, endin
 
 use cp_console::printing;
 use cp_core::{Delivered, Delivery, Ended, Reply, System};
-use cp_devices::{Told, deck_line};
+use cp_devices::{SeenDevices, Told, deck_line};
 use cp_script::ScriptEvent;
 use cp_users::{Named, UserNo, name_of};
 use s370_intr::{Ran, Reason};
 use s370_num::DevAddr;
 use std::alloc::{AllocError, Global};
-use unit_record::Reader;
 
 /// The transcript's lines for the reply that the system has just answered to an event of this user, each ended by LF:
 /// what was said to the user, what has been written at his console, what stands at another's terminal, and then how the
@@ -38,7 +37,7 @@ pub fn print_reply(
         unreachable!();
     };
     let mut text = Vec::new(alloc);
-    print_said(alloc, &mut text, users, name, devices.reader(), reply.said)?;
+    print_said(alloc, &mut text, users, name, &devices, reply.said)?;
     print_written(alloc, &mut text, system, user, name, reply)?;
     print_delivered(&mut text, users, reply.delivered)?;
     print_ending(alloc, &mut text, name, event, reply.ended)?;
@@ -51,18 +50,18 @@ fn print_said<N: Named>(
     out: &mut Vec<u8>,
     users: &[N],
     name: &[u8],
-    reader: &Reader,
+    devices: &SeenDevices<'_>,
     said: Told,
 ) -> Result<(), AllocError>
     ensures { OnOk result (out.new.items ≡ out.old.items
-        ++ ended (said_lines (map N.name users.now) name.now reader.now.decks said)) }
+        ++ ended (said_lines (map N.name users.now) name.now devices.now.reader.decks said)) }
 {
     match said {
         Told::Said(response) => {
             let text = printing::reply(alloc, &response)?;
             print_line(out, name, &text)
         }
-        Told::Files => print_queue(alloc, out, users, name, reader),
+        Told::Files => print_queue(alloc, out, users, name, devices),
         Told::Silent | Told::Sent(_, _) | Told::Loads(_) | Told::Closed => Ok(()),
     }
 }
@@ -74,16 +73,16 @@ fn print_queue<N: Named>(
     out: &mut Vec<u8>,
     users: &[N],
     name: &[u8],
-    reader: &Reader,
+    devices: &SeenDevices<'_>,
 ) -> Result<(), AllocError>
     ensures { OnOk result (out.new.items ≡ out.old.items
-        ++ ended (queue_lines (map N.name users.now) name.now reader.now.decks)) }
+        ++ ended (queue_lines (map N.name users.now) name.now devices.now.reader.decks)) }
 {
-    for index in 0..reader.len() {
-        let Some(deck) = reader.get(index) else {
+    for index in 0..devices.decks() {
+        let Some(deck) = devices.deck(index) else {
             unreachable!();
         };
-        let line = deck_line(alloc, users, deck)?;
+        let line = deck_line(alloc, users, &deck)?;
         print_line(out, name, &line)?;
     }
     Ok(())

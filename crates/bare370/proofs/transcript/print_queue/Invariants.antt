@@ -5,4 +5,4 @@ use Rattle.bare370.proofs.transcript.print_queue.Given as goal
 
 -- with the lines of the decks that are left, all lines are there
 abbrev pub invariant-loop-index : goal.invariant-loop-index
-invariant-loop-index l = l.out.items ++ ended (queue_lines (drop l.index l.reader.decks)) ≡ l.initial.out.items ++ ended (queue_lines l.reader.decks)
+invariant-loop-index l = l.out.items ++ ended (queue_lines (drop l.index l.devices.reader.decks)) ≡ l.initial.out.items ++ ended (queue_lines l.devices.reader.decks)

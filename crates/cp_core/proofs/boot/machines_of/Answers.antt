@@ -1,12 +1,15 @@
-use Rattle.std.proofs.Common.{◌≡◌, ◌∙◌, ◌*◌, ◌+◌, ◌++◌, [], ◌∷◌, List, ℕ, ap, sym, arith, take, replicate, subst, false}
-use Rattle.std.proofs.lemmas.List.{take_more}
+use Rattle.std.proofs.Common.{◌≡◌, ◌∙◌, ◌*◌, ◌+◌, ◌++◌, [], ◌∷◌, List, ℕ, ap, sym, arith, length, map, take, replicate, subst, false}
+use Rattle.std.proofs.lemmas.List.{length-append, map-append, take_more}
+use Rattle.cp_spool.specs.Queues.{no_files}
+use Rattle.cp_devices.specs.Lent.{DevicesParts, devices_with}
+use Rattle.cp_core.proofs.Owned.{owners_more}
 use Rattle.cp_directory.specs.Users.{DirectoryUser}
 use Rattle.cp_directory.specs.declared.minidisk.Minidisk.{Minidisk}
 use Rattle.cp_channels.specs.Disks.{DiskAt}
 use Rattle.cp_devices.specs.Devices.{devices_new}
 use Rattle.cp_devices.specs.declared.places.Places.{Places}
 use Rattle.cp_core.specs.Boot.{places_in}
-use Rattle.cp_core.specs.UserMachines.{IsUnused}
+use Rattle.cp_core.specs.UserMachines.{IsUnused, unowned}
 use Rattle.cp_seating.specs.Seating.{AreDisks, AreLawful, seats_of}
 use Rattle.cp_seating.proofs.Seated.{are_disks}
 use Rattle.cp_volumes.specs.Shared.{SharedMinidisk, disks_on}
@@ -33,16 +36,22 @@ loop-user-preserved c =
     let disks : AreDisks volumes user.minidisks (disks_on volumes machine.minidisks) = subst (λ (m : List SharedMinidisk). AreDisks volumes user.minidisks (disks_on volumes m)) (sym seated) (are_disks volumes user.minidisks there) in
     let unused : IsUnused machine.parts (devices_new (places_in user.devices)) (disks_on volumes machine.minidisks) =
     rw c.in_ok-machine.ensures.minidisks (subst (λ (p : Places). IsUnused machine.parts (devices_new p) (disks_on volumes c.in-Ok.minidisks.items)) places (c.in_ok-machine.ensures.parts volumes)) in
-    let new : IsNew volumes machine user = record {
-      off = off_new volumes machine user keys disks unused (c.in_ok-machine.ensures.devices ∙ ap devices_new places);
+    let new : IsNew volumes (unowned machine) user = record {
+      off = off_new volumes (unowned machine) user keys disks unused (ap (λ (d : DevicesParts). devices_with d no_files) c.in_ok-machine.ensures.devices ∙ ap devices_new places);
       seated = seated;
       none = c.in_ok-machine.ensures.deliveries;
       sized = omega (arith, pages, c.pages.ensures.least);
     } in
-    let more = new_more volumes c.loop-user.machines.items (take i users) machine user c.loop-user.invariant.new new in
+    let more = new_more volumes (map unowned c.loop-user.machines.items) (take i users) (unowned machine) user c.loop-user.invariant.new new in
+    let number : machine.devices.user ≡ length c.loop-user.machines.items = ap (λ (d : DevicesParts). d.user) c.in_ok-machine.ensures.devices ∙ omega (arith, c.new-number.ensures, c.len.ensures) in
     let taken : take (i + 1) users ≡ take i users ++ user ∷ [] = take_more users i user c.loop-user-test.true ∙ ap (λ (u : DirectoryUser). take i users ++ u ∷ []) (sym c.user-item.is) in
     let is : AreLawful user.minidisks = subst AreLawful c.minidisks.ensures c.in-Ok.ensures.lawful in
-    rw (c.in-Ok-push.ensures.items, taken) (record { new = more; lawful = lawful_on (take i users) user c.loop-user.invariant.lawful is })
+    rw (c.in-Ok-push.ensures.items, taken) (record {
+      new = rw (map-append unowned c.loop-user.machines.items (machine ∷ [])) more;
+      owners = owners_more c.loop-user.machines.items machine number c.loop-user.invariant.owners;
+      count = omega (arith, length-append c.loop-user.machines.items (machine ∷ []), c.loop-user.invariant.count);
+      lawful = lawful_on (take i users) user c.loop-user.invariant.lawful is;
+    })
 
 pub seats_of-requires : goal.seats_of-requires
 seats_of-requires c =

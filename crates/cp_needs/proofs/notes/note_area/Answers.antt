@@ -1,9 +1,10 @@
-use Rattle.std.proofs.Common.{◌≡◌, ◌∙◌, sym, arith, true}
+use Rattle.std.proofs.Common.{◌≡◌, ◌∙◌, refl, sym, arith, true}
 use Rattle.s370_channel.specs.Guest.{area_block}
 use Rattle.s370_walk.specs.Hardware.{memory_of}
 use Rattle.channel_laws.specs.Tracks as tracks
 use Rattle.cp_needs.proofs.Blocks.{asked_of, begun_on}
 use Rattle.cp_needs.proofs.Noting.{filled_done, filled_on, filled_past, list_done, list_on, list_past, not_away}
+use Rattle.cp_needs.proofs.Paging.{area_done, area_none, area_on, area_past}
 use Rattle.cp_needs.proofs.notes.note_area.Goals as goal
 
 pub returns-in-Ok-None-clause-marked : goal.returns-in-Ok-None-clause-marked
@@ -19,6 +20,11 @@ returns-in-Ok-None-clause-stored g c =
     let m = memory_of (g.S.Storage.bytes c.args.storage.now) (g.S.Storage.keys c.args.storage.now) in
     let w = c.args.word.now in
     filled_past m w c.blocks-2.byte _ _ (c.blocks-2.invariant.begun c.blocks-2-test.true) (sym c.in-Ok-None.ensures.said ∙ c.in-Ok-None.field-0-is) c.blocks-2.invariant.stored
+
+pub returns-in-Ok-None-clause-paged : goal.returns-in-Ok-None-clause-paged
+returns-in-Ok-None-clause-paged g c =
+    let m = memory_of (g.S.Storage.bytes c.args.storage.now) (g.S.Storage.keys c.args.storage.now) in
+    area_past m c.args.word.now c.blocks-2.byte _ _ (c.blocks-2.invariant.begun c.blocks-2-test.true) (sym c.in-Ok-None.ensures.said ∙ c.in-Ok-None.field-0-is) c.blocks-2.invariant.paged
 
 pub unreachable-requires : goal.unreachable-requires
 unreachable-requires g c =
@@ -44,6 +50,7 @@ blocks-2-preserved g c =
       begun = λ more. begun_on (area_block m w) c.blocks-2.byte c.in-Ok-Some.start c.bytes_in_block-bytes.result begun said low part.some (part.whole (omega (arith, more)));
       marked = list_on m w c.blocks-2.byte c.in-Ok-Some.start c.bytes_in_block-bytes.result _ _ _ has (omega (arith, c.blocks-2-test.true, c.blocks-2.invariant.counted)) part.some begun said low part.block c.blocks-2.invariant.marked c.in_ok-note_entry.ensures.marked;
       stored = filled_on m w c.blocks-2.byte _ _ _ _ has (omega (arith, part.within, c.blocks-2-test.true, c.blocks-2.invariant.counted)) begun said low part.block c.blocks-2.invariant.stored c.in_ok-note_piece.ensures.stored;
+      paged = area_on m w c.blocks-2.byte c.in-Ok-Some.start c.bytes_in_block-bytes.result _ _ _ _ has (omega (arith, part.within, c.blocks-2-test.true, c.blocks-2.invariant.counted)) part.some begun said low part.block refl c.blocks-2.invariant.paged c.in_ok-push.ensures.items;
     }
 
 pub returns-clause-marked : goal.returns-clause-marked
@@ -51,3 +58,6 @@ returns-clause-marked g c = list_done _ c.args.word.now c.blocks-2.byte _ _ (ome
 
 pub returns-clause-stored : goal.returns-clause-stored
 returns-clause-stored g c = filled_done _ c.args.word.now c.blocks-2.byte _ _ (omega (arith, c.blocks-2-test.false, c.blocks-2.invariant.counted)) c.blocks-2.invariant.stored
+
+pub returns-clause-paged : goal.returns-clause-paged
+returns-clause-paged g c = area_done _ c.args.word.now c.blocks-2.byte _ _ (omega (arith, c.blocks-2-test.false, c.blocks-2.invariant.counted)) c.blocks-2.invariant.paged

@@ -1,6 +1,8 @@
-use Rattle.std.proofs.Common.{refl}
+use Rattle.std.proofs.Common.{◌≡◌, [], ℕ, arith, length, refl, subst}
 use Rattle.s370_walk.specs.Hardware.{memory_of}
+use Rattle.cp_needs.specs.Noted.{AreMarked, ArePaged, IsDataOf, IsTextOf}
 use Rattle.cp_needs.proofs.Noting.{filled_by_on, text_on}
+use Rattle.cp_needs.proofs.Paging.{data_on}
 use Rattle.cp_needs.proofs.notes.notes_of.Goals as goal
 
 pub note_word-requires-clause-here : goal.note_word-requires-clause-here
@@ -12,4 +14,17 @@ loop-address-preserved g c =
     record {
       marked = text_on m c.args.words.now c.loop-address.address-index _ _ _ _ refl c.loop-address.invariant.marked c.in_ok-note_word.ensures.marked;
       stored = filled_by_on m c.args.words.now c.loop-address.address-index _ _ _ _ refl c.loop-address.invariant.stored c.in_ok-note_word.ensures.stored;
+      paged = data_on m c.args.words.now c.loop-address.address-index _ _ _ _ refl c.loop-address.invariant.paged c.in_ok-note_word.ensures.paged;
     }
+
+pub returns-clause-marked : goal.returns-clause-marked
+returns-clause-marked g c =
+    let m = memory_of (g.S.Storage.bytes c.args.storage.now) (g.S.Storage.keys c.args.storage.now) in
+    let is : c.loop-address.address-index ≡ length c.args.words.now = omega (arith, c.loop-address.auto.address-index-end, c.loop-address-test.false) in
+    subst (λ (n : ℕ). AreMarked (IsTextOf m c.args.words.now n) [] c.loop-address.notes.text.items) is c.loop-address.invariant.marked
+
+pub returns-clause-paged : goal.returns-clause-paged
+returns-clause-paged g c =
+    let m = memory_of (g.S.Storage.bytes c.args.storage.now) (g.S.Storage.keys c.args.storage.now) in
+    let is : c.loop-address.address-index ≡ length c.args.words.now = omega (arith, c.loop-address.auto.address-index-end, c.loop-address-test.false) in
+    subst (λ (n : ℕ). ArePaged (IsDataOf m c.args.words.now n) [] c.loop-address.notes.pages.items) is c.loop-address.invariant.paged

@@ -1,12 +1,13 @@
-use Rattle.std.proofs.Common.{◌≡◌, ℕ, [], length, map, replicate}
+use Rattle.std.proofs.Common.{◌≡◌, ℕ, [], map, replicate}
 use Rattle.slab.specs.Slab.{Slab}
 use Rattle.cp_spool.specs.File.{SpoolFileValue}
-use Rattle.cp_spool.specs.Keys.{keys_of, user_files}
+use Rattle.cp_spool.specs.Keys.{queue_of, user_files}
 use Rattle.cp_spool.specs.Queues.{no_files}
 use Rattle.cp_spool.proofs.keeping.empty_queues.Given as goal
 
 abbrev pub invariant-loop-made : goal.invariant-loop-made
 invariant-loop-made l =
-    (length l.queues.items ≡ l._made)
-    × ((user : ℕ) → keys_of l.queues.items user ≡ [])
+    ((user : ℕ) → (queue_of l.queues.items user).decks ≡ [])
+    × ((user : ℕ) → (queue_of l.queues.items user).punched ≡ [])
+    × ((user : ℕ) → (queue_of l.queues.items user).printed ≡ [])
     × ((files : Slab SpoolFileValue) → map (user_files files) l.queues.items ≡ replicate l._made no_files)

@@ -4,4 +4,4 @@ use Rattle.vm370.proofs.transcript.print_queue.Given as goal
 
 -- with the lines of the decks that are left, all lines are there
 abbrev pub invariant-loop-index : goal.invariant-loop-index
-invariant-loop-index g l = l.out.items ++ ended (queue_lines (map g.N.Named.name l.users) l.name (drop l.index l.reader.decks)) ≡ l.fn.out.items ++ ended (queue_lines (map g.N.Named.name l.users) l.name l.reader.decks)
+invariant-loop-index g l = l.out.items ++ ended (queue_lines (map g.N.Named.name l.users) l.name (drop l.index l.devices.reader.decks)) ≡ l.fn.out.items ++ ended (queue_lines (map g.N.Named.name l.users) l.name l.devices.reader.decks)

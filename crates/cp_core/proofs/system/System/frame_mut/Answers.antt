@@ -1,26 +1,28 @@
 use Rattle.std.proofs.Common.{◌≡◌, ◌∙◌, ap, refl, subst, sym}
 use Rattle.cp_frames.specs.Layout.{Pool}
 use Rattle.cp_core.specs.System.{SystemView}
+use Rattle.cp_core.specs.Owners.{AreOwners}
 use Rattle.cp_core.specs.Whole.{IsSystem}
 use Rattle.cp_core.specs.Loan.{written_frame}
 use Rattle.cp_core.proofs.Loans.{seen_with, seen_written, system_written}
+use Rattle.cp_core.specs.UserMachines.{seats_on}
 use Rattle.cp_core.proofs.system.System.frame_mut.Goals as goal
 
 pub invariant_of-self-lent : goal.invariant_of-self-lent
 invariant_of-self-lent c =
-    let seats = c.self.inside.users.items in
+    let seats = (seats_on c.self.inside.queues c.self.inside.users.items) in
     let users = c.self.inside.directory in
     let volumes = c.self.inside.volumes in
     let pool = c.self.inside.frames in
-    let fits : (p q : Pool) → p ≡ q → IsSystem seats volumes q users → IsSystem seats volumes p users = λ p q e whole. subst (λ (p : Pool). IsSystem seats volumes p users) (sym e) whole in
+    let fits : (p q : Pool) → p ≡ q → IsSystem seats volumes q users → IsSystem seats volumes p users × AreOwners c.self.inside.users.items c.self.inside.queues = λ p q e whole. (subst (λ (p : Pool). IsSystem seats volumes p users) (sym e) whole, c.self.invariant.1) in
     λ lent. (
-      λ w. fits (c.frame_mut.follows.lender w) _ (c.frame_mut.follows.holds w) (system_written seats volumes pool users c.args.frame.0 w c.self.invariant),
-      fits c.frame_mut.follows.lender-at-none pool c.frame_mut.follows.holds-at-none c.self.invariant,
+      λ w. fits (c.frame_mut.follows.lender w) _ (c.frame_mut.follows.holds w) (system_written seats volumes pool users c.args.frame.0 w c.self.invariant.0),
+      fits c.frame_mut.follows.lender-at-none pool c.frame_mut.follows.holds-at-none c.self.invariant.0,
     )
 
 pub returns : goal.returns
 returns c =
-    let seats = c.self.inside.users.items in
+    let seats = (seats_on c.self.inside.queues c.self.inside.users.items) in
     let users = c.self.inside.directory in
     let volumes = c.self.inside.volumes in
     let pool = c.self.inside.frames in

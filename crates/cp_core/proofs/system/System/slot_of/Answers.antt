@@ -4,6 +4,7 @@ use Rattle.cp_frames.specs.Layout.{IsZeroPage, frame_of}
 use Rattle.cp_core.specs.System.{SystemView, machine_at}
 use Rattle.cp_core.proofs.Loans.{slot_once, none_so, past_zero, told_inside, told_past}
 use Rattle.cp_core.proofs.Systems.{bytes_are}
+use Rattle.cp_core.specs.UserMachines.{seats_on}
 use Rattle.cp_core.proofs.system.System.slot_of.Goals as goal
 
 pub returns-then-not-has_page-clause-slot : goal.returns-then-not-has_page-clause-slot
@@ -21,7 +22,7 @@ pub slot_of-requires : goal.slot_of-requires
 slot_of-requires c =
     let bytes = (machine_at c.args.self.now c.args.user).core.processor.bytes in
     let inside : nat_lt (c.args.page.0 * 4096) (length bytes) ≡ true = sym c.has_page.ensures.inside ∙ c.if-not-has_page.false in
-    let stored = bytes_are c.self.inside.users.items c.self.inside.volumes c.self.inside.frames.storages c.self.inside.directory c.args.self.now.users c.args.user c.self.invariant.whole (ap (λ (s : SystemView). s.users) c.self.view_is) (c.has_page.ensures.user c.if-not-has_page.false) in
+    let stored = bytes_are (seats_on c.self.inside.queues c.self.inside.users.items) c.self.inside.volumes c.self.inside.frames.storages c.self.inside.directory c.args.self.now.users c.args.user c.self.invariant.0.whole (ap (λ (s : SystemView). s.users) c.self.view_is) (c.has_page.ensures.user c.if-not-has_page.false) in
     let less : c.args.page.0 * 4096 < length bytes = grind (arith, nat_tests) in
     omega (arith, less, ap (λ (xs : List ℕ). length xs) stored)
 
@@ -51,5 +52,5 @@ returns-clause-zero c =
     let bytes = (machine_at c.args.self.now c.args.user).core.processor.bytes in
     let inside : nat_lt (c.args.page.0 * 4096) (length bytes) ≡ true = sym c.has_page.ensures.inside ∙ c.if-not-has_page.false in
     let same = ap (λ (s : SystemView). frame_of s.supply.owners c.args.user c.args.page.0) c.self.view_is in
-    let stored = bytes_are c.self.inside.users.items c.self.inside.volumes c.self.inside.frames.storages c.self.inside.directory c.args.self.now.users c.args.user c.self.invariant.whole (ap (λ (s : SystemView). s.users) c.self.view_is) (c.has_page.ensures.user c.if-not-has_page.false) in
+    let stored = bytes_are (seats_on c.self.inside.queues c.self.inside.users.items) c.self.inside.volumes c.self.inside.frames.storages c.self.inside.directory c.args.self.now.users c.args.user c.self.invariant.0.whole (ap (λ (s : SystemView). s.users) c.self.view_is) (c.has_page.ensures.user c.if-not-has_page.false) in
     none_so c.slot_of.result _ _ (λ zero nowhere. subst (λ (bs : List ℕ). IsZeroPage bs c.args.page.0) stored (zero (same ∙ sym (told_inside (nat_lt (c.args.page.0 * 4096) (length bytes)) (frame_of c.args.self.now.supply.owners c.args.user c.args.page.0) inside) ∙ nowhere))) c.slot_of.ensures.zero

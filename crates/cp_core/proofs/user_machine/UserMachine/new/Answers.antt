@@ -1,7 +1,9 @@
 use Rattle.std.proofs.Common.{◌≡◌, ◌∙◌, ℕ, List, ap, map, sym, subst}
 use Rattle.ckd_volume.specs.Volume.{VolumeFormat}
 use Rattle.cp_channels.specs.Disks.{DiskAt}
+use Rattle.cp_spool.specs.Queues.{no_files}
 use Rattle.cp_devices.specs.Devices.{AreAttached, DevicesValue}
+use Rattle.cp_devices.specs.Lent.{DevicesParts, devices_with}
 use Rattle.cp_volumes.specs.Shared.{SharedMinidisk, disks_on}
 use Rattle.cp_core.proofs.Boots.{disk_addresses}
 use Rattle.cp_core.proofs.user_machine.UserMachine.new.Goals as goal
@@ -13,6 +15,6 @@ returns-in-Ok-subchannels_at-clause-parts c = λ volumes.
     c.deref-2.ensures.value ∙ c.in-Ok-addresses_of.ensures ∙ ap (λ (ds : List SharedMinidisk). map (λ (d : SharedMinidisk). d.address) ds) c.deref.ensures.value ∙ disk_addresses volumes minidisks in
     record {
       subchannels = c.in-Ok-subchannels_at.subchannels;
-      attached = subst (λ (d : DevicesValue). AreAttached d (disks_on volumes minidisks) c.in-Ok-subchannels_at.subchannels) c.new-devices.ensures (c.in-Ok-subchannels_at.ensures (disks_on volumes minidisks) addresses);
+      attached = subst (λ (d : DevicesValue). AreAttached d (disks_on volumes minidisks) c.in-Ok-subchannels_at.subchannels) (ap (λ (d : DevicesParts). devices_with d no_files) c.new-devices.ensures) (c.in-Ok-subchannels_at.ensures no_files (disks_on volumes minidisks) addresses);
       off = c.new.ensures.machine;
     }

@@ -2,6 +2,7 @@ use Rattle.std.proofs.Common.{◌≡◌, refl, subst, sym, Err, Result, false, L
 use Rattle.std.specs.Prelude.{IfOk}
 use Rattle.cp_dat.specs.Lent.{lent_bytes, lent_keys, user_of}
 use Rattle.cp_devices.specs.Equipped.{Equipped, equipped}
+use Rattle.cp_devices.specs.Lent.{devices_on}
 use Rattle.cp_devices.specs.Lines.{IsWholeLine, requested}
 use Rattle.cp_panel.specs.declared.line.LineError.TheVariants as errors
 use Rattle.cp_volumes.specs.Shared.{DisksValue, KeepsNeighbours, SharedMinidisk, seen}
@@ -15,13 +16,13 @@ use Rattle.cp_core.proofs.work.LineWork.work.Goals as goal
 
 pub returns-clause-kept : goal.returns-clause-kept
 returns-clause-kept c =
-    let before = equipped c.args.machine.now c.args.devices.now (disks_on c.take-channels.result) (lent_bytes c.args.storage.now) (lent_keys c.args.storage.now) in
+    let before = equipped c.args.machine.now (devices_on c.args.devices.now c.args.queues.now) (disks_on c.take-channels.result) (lent_bytes c.args.storage.now) (lent_keys c.args.storage.now) in
     let told = c.type_supplied-told in
     work_keeps c.args.self.now.typed.now before c.args.storage.now told.new.storage c.let_go.new.self told.result told.ensures.lent c.let_go.ensures.let_go
 
 pub returns-clause-between : goal.returns-clause-between
 returns-clause-between c =
-    let before = equipped c.args.machine.now c.args.devices.now (disks_on c.take-channels.result) (lent_bytes c.args.storage.now) (lent_keys c.args.storage.now) in
+    let before = equipped c.args.machine.now (devices_on c.args.devices.now c.args.queues.now) (disks_on c.take-channels.result) (lent_bytes c.args.storage.now) (lent_keys c.args.storage.now) in
     let told = c.type_supplied-told in
     work_between c.args.self.now.typed.now before c.args.storage.now told.new.storage c.let_go.new.self told.result c.requires.between told.ensures.lent c.let_go.ensures.let_go
 
@@ -37,8 +38,8 @@ returns-clause-does c =
     let told = c.type_supplied-told in
     let r = told.result in
     let start : DisksValue = record { volumes = c.args.volumes.now; minidisks = c.args.minidisks.now.items } in
-    let from : DisksValue → Equipped = λ d. equipped c.args.machine.now c.args.devices.now (seen d) (lent_bytes c.args.storage.now) (lent_keys c.args.storage.now) in
-    let after = equipped told.new.machine told.new.devices (disks_on told.new.channels) (lent_bytes told.new.storage) (lent_keys told.new.storage) in
+    let from : DisksValue → Equipped = λ d. equipped c.args.machine.now (devices_on c.args.devices.now c.args.queues.now) (seen d) (lent_bytes c.args.storage.now) (lent_keys c.args.storage.now) in
+    let after = equipped told.new.machine (devices_on told.new.devices told.new.queues) (disks_on told.new.channels) (lent_bytes told.new.storage) (lent_keys told.new.storage) in
     let typed = c.args.self.now.typed.now in
     let world = world_among c.users.result.now c.args.self.now.user c.as_slice.result.now in
     let Facts : DisksValue → Type 0 = λ d.

@@ -3,6 +3,7 @@ use Rattle.std.specs.Prelude.{IfOk}
 use Rattle.s370_channel.specs.Reading.{as_reached}
 use Rattle.cp_dat.specs.Lent.{lent_bytes, lent_keys, user_of}
 use Rattle.cp_devices.specs.Equipped.{Equipped, equipped}
+use Rattle.cp_devices.specs.Lent.{devices_on}
 use Rattle.cp_devices.specs.Serve.{IsServedAt}
 use Rattle.cp_panel.specs.declared.line.LineError.TheVariants as errors
 use Rattle.cp_volumes.specs.Shared.{DisksValue, KeepsNeighbours, seen}
@@ -22,8 +23,8 @@ returns-clause-does c =
     let served = c.serve_supplied-served in
     let r = served.result in
     let start : DisksValue = record { volumes = c.args.volumes.now; minidisks = c.args.minidisks.now.items } in
-    let from : DisksValue → Equipped = λ d. equipped c.args.machine.now c.args.devices.now (seen d) (lent_bytes c.args.storage.now) (lent_keys c.args.storage.now) in
-    let after = equipped served.new.machine served.new.devices (disks_on served.new.channels) (lent_bytes served.new.storage) (lent_keys served.new.storage) in
+    let from : DisksValue → Equipped = λ d. equipped c.args.machine.now (devices_on c.args.devices.now c.args.queues.now) (seen d) (lent_bytes c.args.storage.now) (lent_keys c.args.storage.now) in
+    let after = equipped served.new.machine (devices_on served.new.devices served.new.queues) (disks_on served.new.channels) (lent_bytes served.new.storage) (lent_keys served.new.storage) in
     let Facts : DisksValue → Type 0 = λ d.
     IfOk r (λ done. IsServedAt as_reached c.args.self.now.device (from d) done after)
     × (r ≡ Err errors.FramesOut → after ≡ from d) in

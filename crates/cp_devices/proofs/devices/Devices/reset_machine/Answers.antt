@@ -7,6 +7,7 @@ use Rattle.cp_devices.specs.declared.line.Told.TheVariants.{Said}
 use Rattle.cp_devices.specs.Lines.{outcome}
 use Rattle.cp_devices.specs.Equipped.{Equipped}
 use Rattle.cp_devices.specs.Devices.{DevicesValue}
+use Rattle.cp_devices.specs.Lent.{devices_with}
 use Rattle.cp_devices.specs.Resets.{devices_reset}
 use Rattle.cp_devices.proofs.devices.Devices.reset_machine.Goals as goal
 
@@ -14,7 +15,7 @@ abbrev with : DevicesValue → List DiskAt → Machine → Equipped
 with d disks m = record { machine = m; devices = d; disks = disks }
 
 pub returns-in-Err-clause-err : goal.returns-in-Err-clause-err
-returns-in-Err-clause-err g c = λ bytes keys. ap (λ (m : Machine). with c.args.self.now (g.D.Disks.disks c.args.disks.now) m) (c.in-Err.ensures.err bytes keys)
+returns-in-Err-clause-err g c = λ files bytes keys. ap (λ (m : Machine). with (devices_with c.args.self.now files) (g.D.Disks.disks c.args.disks.now) m) (c.in-Err.ensures.err bytes keys)
 
 pub returns-clause-ok : goal.returns-clause-ok
-returns-clause-ok g c = λ bytes keys. rw (c.reset.ensures, c.reset_disks.ensures.reset) (ap (λ (a : Answer). outcome (with (devices_reset c.args.self.now) (map reset_disk (g.D.Disks.disks c.args.disks.now)) a.machine) (Said SystemReset)) (sym (c.in-Ok.ensures.ok bytes keys)))
+returns-clause-ok g c = λ files bytes keys. rw (c.reset.ensures, c.reset_disks.ensures.reset) (ap (λ (a : Answer). outcome (with (devices_reset (devices_with c.args.self.now files)) (map reset_disk (g.D.Disks.disks c.args.disks.now)) a.machine) (Said SystemReset)) (sym (c.in-Ok.ensures.ok bytes keys)))

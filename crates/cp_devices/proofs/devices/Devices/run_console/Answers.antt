@@ -1,5 +1,7 @@
 use Rattle.std.proofs.Common.{ap, subst}
 use Rattle.cp_devices.specs.Devices.{DevicesValue}
+use Rattle.cp_spool.specs.Queues.{files_of}
+use Rattle.cp_devices.specs.Lent.{DevicesParts, devices_on, devices_with}
 use Rattle.cp_devices.specs.Equipped.{equipped}
 use Rattle.cp_devices.specs.Serve.{RunsConsole}
 use Rattle.unit_record.specs.Console.{ConsoleState}
@@ -18,9 +20,11 @@ returns-clause-runs g c =
     let keys_left = g.S.Storage.keys c.run.new.storage in
     let disks = g.C.Disks.disks c.args.channels.now in
     let disks_left = g.C.Disks.disks c.run.new.self in
-    let old : DevicesValue = record { places = c.self.inside.places; console = c.self.inside.console; reader = c.self.inside.reader; punch = c.self.inside.punch; printer = c.self.inside.printer; target = c.self.inside.target } in
+    let files = files_of c.args.queues.now.users c.self.inside.user in
+    let parts : DevicesParts = record { places = c.self.inside.places; console = c.self.inside.console; reader = c.self.inside.reader; punch = c.self.inside.punch; printer = c.self.inside.printer; target = c.self.inside.target; user = c.self.inside.user } in
+    let old : DevicesValue = devices_with parts files in
     let new : DevicesValue = with_console old c.forget_lines.new.self in
-    subst (λ (d : DevicesValue). RunsConsole g.C.Channels.reads c.args.device c.args.start (equipped c.args.machine.now d disks bytes keys) (equipped c.print_written.new.machine new disks_left bytes_left keys_left)) c.self.view_is
+    subst (λ (d : DevicesParts). RunsConsole g.C.Channels.reads c.args.device c.args.start (equipped c.args.machine.now (devices_on d c.args.queues.now) disks bytes keys) (equipped c.print_written.new.machine new disks_left bytes_left keys_left)) c.self.view_is
     (record {
       ending = c.in-Ok.ending;
       console = c.run.new.device;

@@ -1,31 +1,42 @@
-use Rattle.std.proofs.Common.{◌<◌, ◌≡◌, ℕ, List, length, subst, sym, ◌∙◌, ap, Option}
-use Rattle.std.proofs.lemmas.Result.{on_ok_weaker}
-use Rattle.slab.specs.Slab.{Slab}
+use Rattle.std.proofs.Common.{◌≡◌, ◌<◌, ℕ, List, length, map, set, subst, sym, refl, ◌∙◌, ap}
+use Rattle.slab.specs.Slab.{Slab, get}
 use Rattle.cp_spool.specs.File.{SpoolFileValue}
-use Rattle.cp_spool.specs.Keys.{numbered_files, outgoing_file}
-use Rattle.cp_spool.specs.Queues.{QueuesValue}
-use Rattle.cp_spool.proofs.Moves.{held_is, room_now, user_inside, users_roomier}
+use Rattle.cp_spool.specs.Keys.{IsSound, QueueKeys, queue_of, user_files}
+use Rattle.cp_spool.specs.Queues.{QueuesValue, UserFiles}
+use Rattle.cp_spool.proofs.Sound.{sound_like}
+use Rattle.cp_spool.proofs.Moves.{inside_of, roomier_sound, users_roomier}
 use Rattle.cp_spool.proofs.queues.Queues.reserve.Goals as goal
 
-pub returns-in-Some-clause-held : goal.returns-in-Some-clause-held
-returns-in-Some-clause-held c =
-    let inside = c.self.inside in
-    let queues = inside.users.items in
-    let user : c.in-Some.user < length queues = user_inside inside.files queues _ c.in-Some.user (ap (λ (v : QueuesValue). v.held.users) c.self.view_is) (c.requires c.in-Some.user c.in-Some.is) in
-    let place : c.index.result < length queues = subst (λ (n : ℕ). n < length queues) (sym c.index.ensures.value) user in
-    held_is _ _ _ _ _ _
-    (users_roomier inside.files c.reserve.new.self queues c.index.result c.index_mut.result.now c.reserve-in-Some.new.self c.reserve.ensures.rest_kept place c.index_mut.ensures.value c.reserve-in-Some.ensures.rest)
-    (ap (λ (s : Slab SpoolFileValue). numbered_files s c.reserve-2.new.self.items) c.reserve.ensures.rest_kept ∙ ap (λ (ns : List (Option ℕ)). numbered_files inside.files ns) c.reserve-2.ensures.items)
-    (ap (λ (s : Slab SpoolFileValue). outgoing_file s inside.outgoing) c.reserve.ensures.rest_kept)
-    ∙ ap (λ (v : QueuesValue). v.held) c.self.view_is
+module _ (files files' : Slab SpoolFileValue) (same : files' ≡ record files { capacity = files'.capacity }) (queues queues' : List QueueKeys) (users : List UserFiles) (user : ℕ) (seen : map (user_files files) queues ≡ users) (inside : user < length users) (rest : (let q = queue_of queues' user in queues' ≡ set queues user (record (queue_of queues user) { punch_room = q.punch_room; print_room = q.print_room }))) where
+  sound_now : IsSound files queues → IsSound files' queues'
+  sound_now sound =
+      subst (λ (qs : List QueueKeys). IsSound files' qs) (sym rest)
+      (roomier_sound files' queues user (queue_of queues' user).punch_room (queue_of queues' user).print_room (inside_of files queues users user seen inside)
+      (sound_like files files' (λ k. ap (λ (s : Slab SpoolFileValue). get s k) same) queues sound))
 
-pub returns-in-Some-clause-decks : goal.returns-in-Some-clause-decks
-returns-in-Some-clause-decks c =
-    let inside = c.self.inside in
-    let queues = inside.users.items in
-    on_ok_weaker c.reserve-in-Some.result
-    (λ room. λ user is.
-    let there : user < length queues = user_inside inside.files queues _ user (ap (λ (v : QueuesValue). v.held.users) c.self.view_is) (c.requires user is) in
-    let same : c.in-Some.user ≡ user = cc (c.in-Some.is, is) in
-    room_now queues user c.index.result 2 c.reserve-in-Some.new.self there (c.index.ensures.value ∙ same) room)
-    c.reserve-in-Some.ensures.room
+  users_now : map (user_files files') queues' ≡ users
+  users_now =
+      ap (λ (qs : List QueueKeys). map (user_files files') qs) rest
+      ∙ users_roomier files' queues user (queue_of queues' user).punch_room (queue_of queues' user).print_room
+      ∙ ap (λ (s : Slab SpoolFileValue). map (user_files s) queues) same
+      ∙ seen
+
+pub invariant_of-self : goal.invariant_of-self
+invariant_of-self c =
+    sound_like c.self.inside.files c.reserve.new.self (λ k. ap (λ (s : Slab SpoolFileValue). get s k) c.reserve.ensures.rest_kept) c.self.inside.users.items c.self.invariant
+
+pub invariant_of-self-in_err-reserve_closed : goal.invariant_of-self-in_err-reserve_closed
+invariant_of-self-in_err-reserve_closed c =
+    sound_now c.self.inside.files c.reserve.new.self c.reserve.ensures.rest_kept c.self.inside.users.items c.reserve_closed.new.users.items c.args.self.now.users c.args.user (ap (λ (v : QueuesValue). v.users) c.self.view_is) c.requires c.reserve_closed.ensures.rest c.self.invariant
+
+pub returns-in_err-reserve_closed-clause-users : goal.returns-in_err-reserve_closed-clause-users
+returns-in_err-reserve_closed-clause-users c =
+    users_now c.self.inside.files c.reserve.new.self c.reserve.ensures.rest_kept c.self.inside.users.items c.reserve_closed.new.users.items c.args.self.now.users c.args.user (ap (λ (v : QueuesValue). v.users) c.self.view_is) c.requires c.reserve_closed.ensures.rest
+
+pub invariant_of-self-2 : goal.invariant_of-self-2
+invariant_of-self-2 c =
+    sound_now c.self.inside.files c.reserve.new.self c.reserve.ensures.rest_kept c.self.inside.users.items c.reserve_closed.new.users.items c.args.self.now.users c.args.user (ap (λ (v : QueuesValue). v.users) c.self.view_is) c.requires c.reserve_closed.ensures.rest c.self.invariant
+
+pub returns-clause-users : goal.returns-clause-users
+returns-clause-users c =
+    users_now c.self.inside.files c.reserve.new.self c.reserve.ensures.rest_kept c.self.inside.users.items c.reserve_closed.new.users.items c.args.self.now.users c.args.user (ap (λ (v : QueuesValue). v.users) c.self.view_is) c.requires c.reserve_closed.ensures.rest

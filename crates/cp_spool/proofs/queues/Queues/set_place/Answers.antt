@@ -1,14 +1,20 @@
-use Rattle.std.proofs.Common.{◌<◌, List, length, ◌∙◌, ap, arith}
-use Rattle.cp_spool.specs.Keys.{numbered_files, outgoing_file}
-use Rattle.cp_spool.specs.Queues.{Held, QueuesValue, UserFiles, files_of, with_files, with_place}
-use Rattle.cp_spool.proofs.Moves.{users_placed}
+use Rattle.std.proofs.Common.{◌<◌, List, length, map, subst, sym, ◌∙◌, ap, arith}
+use Rattle.cp_spool.specs.Keys.{IsSound, QueueKeys, user_files}
+use Rattle.cp_spool.specs.Queues.{QueuesValue, files_of, with_files, with_place}
+use Rattle.cp_spool.proofs.Moves.{placed_sound, users_placed}
 use Rattle.cp_spool.proofs.queues.Queues.set_place.Goals as goal
+
+pub invariant_of-self : goal.invariant_of-self
+invariant_of-self c =
+    let queues = c.self.inside.users.items in
+    let user : c.args.user < length queues = omega arith in
+    subst (λ (qs : List QueueKeys). IsSound c.self.inside.files qs) (sym c.place_reader.ensures)
+    (placed_sound c.self.inside.files queues c.args.user c.args.place user c.self.invariant)
 
 pub returns-then-index-len : goal.returns-then-index-len
 returns-then-index-len c =
-    let inside = c.self.inside in
-    let queues = inside.users.items in
-    let user : c.args.user < length queues = omega arith in
-    ap (λ (us : List UserFiles). let h : Held = record { users = us; numbered = numbered_files inside.files inside.numbered.items; outgoing = outgoing_file inside.files inside.outgoing } in h)
-    (users_placed inside.files queues c.args.user c.index-then-index-len.result c.index_mut.result.now c.set_place.new.self c.args.place user c.index-then-index-len.ensures.value c.index_mut.ensures.value c.set_place.ensures)
-    ∙ ap (λ (v : QueuesValue). with_files c.args.user (with_place c.args.place (files_of v.held c.args.user)) v.held) c.self.view_is
+    let files = c.self.inside.files in
+    let queues = c.self.inside.users.items in
+    ap (λ (qs : List QueueKeys). map (user_files files) qs) c.place_reader.ensures
+    ∙ users_placed files queues c.args.user c.args.place
+    ∙ ap (λ (v : QueuesValue). with_files c.args.user (with_place c.args.place (files_of v.users c.args.user)) v.users) c.self.view_is

@@ -4,5 +4,5 @@ use Rattle.cp_spool.proofs.queues.Queues.take_back.Given as goal
 
 abbrev pub invariant-loop-done : goal.invariant-loop-done
 invariant-loop-done l =
-    let f = files_of l.initial.self.held l.user in
-    l.self.held ≡ with_files l.user (record f { decks = drop l._done f.decks }) l.initial.self.held
+    let f = files_of l.initial.self.users l.user in
+    l.self.users ≡ with_files l.user (record f { decks = drop l._done f.decks }) l.initial.self.users

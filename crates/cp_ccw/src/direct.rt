@@ -1,0 +1,109 @@
+//! When a program that was known may run again where it stands.
+ghost use Rattle.std.specs.Prelude.{◌≡◌, ◌%◌, ◌*◌, ◌+◌, ◌≤◌, All, Contains, IfOk, OnOk, length, true};
+ghost use Rattle.cp_dat.specs.Lent.{is_lent_page, lent_bytes};
+ghost use Rattle.cp_needs.specs.Kept.{IsAsItStood, IsPaged, IsPagedOnly, IsText, IsTextOnly};
+ghost use Rattle.cp_needs.specs.Needs.{IsFixed, IsHeld};
+ghost use Rattle.cp_needs.specs.Words.{IsFixedStill};
+ghost use Rattle.cp_ccw.specs.Kept.{IsFrame};
+ghost use Rattle.cp_ccw.specs.Known.{ArePlaced, ArePlacedOnly, IsAsKnown};
+ghost use Rattle.cp_ccw.specs.Placed.{IsPlacedOne};
+ghost use Rattle.cp_ccw.specs.Runs.{lent_memory};
+
+use crate::kept::Held;
+use crate::known::Known;
+use crate::reuse::are_in_frames;
+use cp_dat::Dat;
+use cp_needs::{Fullword, stands};
+use s370_channel::Caw;
+use s370_store::{Page, Storage};
+use std::alloc::{AllocError, Global};
+
+/// Notes a page that lies whole in storage, with the frame in which it stands.
+fn place(dat: &Dat, page: Page, held: &mut Vec<Held>) -> Result<(), AllocError>
+    requires { page.0 * 4096 + 4096 ≤ length (lent_bytes dat.now) → is_lent_page dat.now page.0 ≡ true }
+    ensures placed { OnOk result (IsPlacedOne dat.now page held.old.items held.new.items) }
+{
+    if u64::from(page.0) * 4096 + 4096 > u64::from(dat.size()) {
+        return Ok(());
+    }
+    match dat.frame_of(page) {
+        Some(frame) => {
+            held.push(Held { page, frame })?;
+            Ok(())
+        }
+        // Each of them stands in a frame.
+        None => unreachable!(),
+    }
+}
+
+/// The frames of these pages, of those that lie whole in storage.
+fn places_of(alloc: Global, dat: &Dat, pages: &[Page]) -> Result<Vec<Held>, AllocError>
+    requires { (page : Page) → Contains pages.now page → page.0 * 4096 + 4096 ≤ length (lent_bytes dat.now)
+        → is_lent_page dat.now page.0 ≡ true }
+    ensures placed { IfOk result (λ held. ArePlaced (length (lent_bytes dat.now)) pages.now held.items) }
+    ensures only { IfOk result (λ held. ArePlacedOnly pages.now held.items) }
+    ensures stand { IfOk result (λ held. All (IsFrame dat.now) held.items) }
+{
+    let mut held = Vec::new(alloc);
+    for page in pages {
+        place(dat, *page, &mut held)?;
+    }
+    Ok(held)
+}
+
+/// What is to be known of a program, of which [`cp_needs::look`] told that no input can change it, with its words and
+/// the pages of its areas.
+pub fn know(
+    alloc: Global,
+    dat: &Dat,
+    caw: Caw,
+    text: Vec<Fullword>,
+    pages: &[Page],
+) -> Result<Known, AllocError>
+    requires fixed { IsFixed (lent_memory dat.now) caw.address }
+    requires held { IsHeld (lent_memory dat.now) caw.address (is_lent_page dat.now) }
+    requires text { IsText (lent_memory dat.now) caw.address text.items }
+    requires only { IsTextOnly (lent_memory dat.now) caw.address text.items }
+    requires stands { All (IsAsItStood (lent_bytes dat.now) (is_lent_page dat.now)) text.items }
+    requires pages { IsPaged (lent_memory dat.now) caw.address pages.now }
+    requires pages_only { IsPagedOnly (lent_memory dat.now) caw.address pages.now }
+    ensures { IfOk result (λ known. IsAsKnown known dat.now caw) }
+{
+    let held = places_of(alloc, dat, pages)?;
+    Ok(Known {
+        caw,
+        size: dat.size(),
+        text,
+        held,
+    })
+}
+
+/// Whether all that is known of a program is as it was, for this address word.
+fn is_as_known(known: &Known, dat: &Dat, caw: Caw) -> bool
+    ensures same { result ≡ true → IsAsKnown known.now dat.now caw }
+    ensures other { IsAsKnown known.now dat.now caw → result ≡ true }
+{
+    if known.caw != caw {
+        return false;
+    }
+    if known.size != dat.size() {
+        return false;
+    }
+    if !stands(dat, &known.text) {
+        return false;
+    }
+    are_in_frames(dat, &known.held)
+}
+
+/// Whether a program that was known may run for this address word where it stands: yes exactly where all that is known
+/// of it is as it was: the address word, the words and lists, each on a page that stands in a frame, and the frames of
+/// its areas.
+pub fn runs_still(known: &Known, dat: &Dat, caw: Caw) -> bool
+    ensures same { result ≡ true → IsAsKnown known.now dat.now caw }
+    ensures other { IsAsKnown known.now dat.now caw → result ≡ true }
+    ensures still { result ≡ true → IsFixedStill (lent_memory dat.now) (is_lent_page dat.now) caw.address }
+{
+    // What is always so of it.
+    let _size = known.size;
+    is_as_known(known, dat, caw)
+}

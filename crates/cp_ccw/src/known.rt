@@ -1,0 +1,30 @@
+//! A program that is read where it stands and is known to be fixed.
+use crate::kept::Held;
+use cp_needs::Fullword;
+use s370_channel::Caw;
+use std::marker::Model;
+
+/// What is known of a program that is read where it stands: its address word, the words and lists, and the frames of the
+/// pages on which its areas lie.
+#[derive(Drop)]
+pub struct Known {
+    pub(crate) caw: Caw,
+    pub(crate) size: u32,
+    pub(crate) text: Vec<Fullword>,
+    pub(crate) held: Vec<Held>,
+}
+
+impl Model for Known {
+    ghost use Rattle.cp_ccw.specs.Known.{IsKnown, KnownProgram};
+
+    ghost Value = { KnownProgram };
+
+    ghost view = { λ k. record {
+      caw = k.caw;
+      size = k.size;
+      text = k.text.items;
+      held = k.held.items;
+    } };
+
+    ghost invariant = { λ k. IsKnown k.caw.address k.size k.text.items k.held.items };
+}

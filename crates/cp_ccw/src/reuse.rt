@@ -1,0 +1,175 @@
+//! When a copied program that was kept may run again.
+ghost use Rattle.std.specs.Prelude.{◌≡◌, ℕ, ◌%◌, ◌*◌, ◌/◌, ◌<◌, ◌^◌, ◌⊎◌, All, Contains, IfErr, IfOk, OnOk, length, true};
+ghost use Rattle.s370_channel.specs.Guest.{guest_written};
+ghost use Rattle.s370_channel.specs.declared.running.ChannelError.TheVariants as errors;
+ghost use Rattle.s370_walk.specs.Walk.{live};
+ghost use Rattle.cp_dat.specs.Lent.{KeepsRest, is_lent_page, lent_bytes, lent_keys};
+ghost use Rattle.cp_graph.specs.Table.{program_of};
+ghost use Rattle.cp_needs.specs.Kept.{IsAsItStood, IsText, IsTextOnly};
+ghost use Rattle.cp_needs.specs.Needs.{IsFixed, IsHeld};
+ghost use Rattle.cp_ccw.specs.Kept.{AreNoted, AreNotedOnly, Grows, IsAtBase, IsFrame, IsNoted, IsOf, IsOfList};
+ghost use Rattle.cp_ccw.specs.declared.kept.Held.{Held};
+ghost use Rattle.cp_ccw.specs.Runs.{IsRunOf, lent_memory};
+
+use crate::kept::{Held, Kept};
+use crate::running::run_lent;
+use crate::table::{Table, nodes_to_real};
+use cp_dat::Dat;
+use cp_graph::{Copied, CopyError, Node, copy};
+use cp_needs::{Fullword, stands};
+use s370_channel::{Caw, ChannelError, Limits};
+use s370_store::{Page, Storage};
+use s370_walk::{Device, Ending};
+use std::alloc::{AllocError, Global};
+
+/// Notes the page of an address, and its frame.
+fn note_entry(dat: &Dat, said: Option<u32>, held: &mut Vec<Held>) -> Result<(), AllocError>
+    ensures grows { OnOk result (Grows held.old.items held.new.items) }
+    ensures noted { OnOk result (IsNoted dat.now held.new.items said) }
+    ensures only { OnOk result
+        ((h : Held) → Contains held.new.items h → Contains held.old.items h ⊎ IsOf said h) }
+    ensures stand { OnOk result (All (IsFrame dat.now) held.old.items → All (IsFrame dat.now) held.new.items) }
+{
+    let Some(address) = said else {
+        return Ok(());
+    };
+    let page = address / 4096;
+    if page as u64 * 4096 + 4096 > dat.size() as u64 {
+        return Ok(());
+    }
+    let Some(frame) = dat.frame_of(Page(page)) else {
+        return Ok(());
+    };
+    held.push(Held {
+        page: Page(page),
+        frame,
+    })?;
+    Ok(())
+}
+
+/// Notes the pages of the addresses of a list, and their frames.
+fn note_list(dat: &Dat, list: &[Option<u32>], held: &mut Vec<Held>) -> Result<(), AllocError>
+    ensures grows { OnOk result (Grows held.old.items held.new.items) }
+    ensures noted { OnOk result (All (IsNoted dat.now held.new.items) list.now) }
+    ensures only { OnOk result
+        ((h : Held) → Contains held.new.items h → Contains held.old.items h ⊎ IsOfList list.now h) }
+    ensures stand { OnOk result (All (IsFrame dat.now) held.old.items → All (IsFrame dat.now) held.new.items) }
+{
+    for said in list {
+        note_entry(dat, *said, held)?;
+    }
+    Ok(())
+}
+
+/// The pages that the lists of a program name, and their frames.
+fn frames_of(alloc: Global, dat: &Dat, nodes: &[Node]) -> Result<Vec<Held>, AllocError>
+    ensures noted { IfOk result (λ held. AreNoted dat.now held.items (program_of nodes.now)) }
+    ensures only { IfOk result (λ held. AreNotedOnly held.items (program_of nodes.now)) }
+    ensures stand { IfOk result (λ held. All (IsFrame dat.now) held.items) }
+{
+    let mut held = Vec::new(alloc);
+    for node in nodes {
+        note_list(dat, &node.list, &mut held)?;
+    }
+    Ok(held)
+}
+
+/// Whether a page stands in the frame in which it stood.
+fn is_in_frame(dat: &Dat, held: &Held) -> bool
+    ensures same { result ≡ true → IsFrame dat.now held.now }
+    ensures other { IsFrame dat.now held.now → result ≡ true }
+{
+    if held.page.0 as u64 * 4096 >= dat.size() as u64 {
+        return false;
+    }
+    match dat.frame_of(held.page) {
+        Some(frame) => frame == held.frame,
+        None => false,
+    }
+}
+
+/// Whether each of these pages stands in the frame in which it stood.
+pub(crate) fn are_in_frames(dat: &Dat, held: &[Held]) -> bool
+    ensures same { result ≡ true → All (IsFrame dat.now) held.now }
+    ensures other { All (IsFrame dat.now) held.now → result ≡ true }
+{
+    for one in held {
+        if !is_in_frame(dat, one) {
+            return false;
+        }
+    }
+    true
+}
+
+/// Copies a program to be kept, of which [`cp_needs::look`] told that no input can change it, with its words.
+pub fn keep(alloc: Global, dat: &Dat, caw: Caw, text: Vec<Fullword>) -> Result<Kept, AllocError>
+    requires even { caw.address % 8 ≡ 0 }
+    requires fixed { IsFixed (lent_memory dat.now) caw.address }
+    requires held { IsHeld (lent_memory dat.now) caw.address (is_lent_page dat.now) }
+    requires text { IsText (lent_memory dat.now) caw.address text.items }
+    requires only { IsTextOnly (lent_memory dat.now) caw.address text.items }
+    requires stands { All (IsAsItStood (lent_bytes dat.now) (is_lent_page dat.now)) text.items }
+    ensures { IfOk result (λ kept. IsAtBase kept dat.now caw) }
+{
+    let Copied {
+        start,
+        places,
+        mut nodes,
+    } = match copy(alloc, dat, caw.address.get()) {
+        Ok(copied) => copied,
+        Err(CopyError::Memory) => return Err(AllocError),
+        // The program would need the page, and those that it needs stand in frames.
+        Err(CopyError::Absent(_)) => unreachable!(),
+    };
+    let held = frames_of(alloc, dat, &nodes)?;
+    nodes_to_real(dat, &mut nodes);
+    Ok(Kept {
+        caw,
+        size: dat.size(),
+        text,
+        held,
+        table: Table {
+            start,
+            places,
+            nodes,
+        },
+    })
+}
+
+/// Whether a program that was kept may run for this address word: yes exactly where all that it was copied from is as it
+/// was: the address word, the words and lists, each on a page that stands in a frame, and the frames of its data.
+pub fn reusable(kept: &Kept, dat: &Dat, caw: Caw) -> bool
+    ensures same { result ≡ true → IsAtBase kept.now dat.now caw }
+    ensures other { IsAtBase kept.now dat.now caw → result ≡ true }
+{
+    if kept.caw != caw {
+        return false;
+    }
+    if kept.size != dat.size() {
+        return false;
+    }
+    if !stands(dat, &kept.text) {
+        return false;
+    }
+    are_in_frames(dat, &kept.held)
+}
+
+/// Runs a program that was kept, where [`reusable`] tells that it may, or after [`keep`]: it ends as the program does
+/// whose words are read as they are reached. It stops for want of memory alone.
+pub fn run_kept<D: Device>(
+    kept: &Kept,
+    storage: &mut Dat<'_>,
+    caw: Caw,
+    limits: &Limits,
+    device: &mut D,
+) -> Result<Ending, ChannelError>
+    requires { IsAtBase kept.now storage.old caw }
+    ensures reaches { IfOk result
+        (λ ending. IsRunOf (live guest_written) D.machine limits.now caw.address storage.old device.old ending
+        storage.new device.new) }
+    ensures memory { IfErr result (λ error. error ≡ errors.Memory) }
+    ensures keys { lent_keys storage.new ≡ lent_keys storage.old }
+    ensures rest { KeepsRest storage.old storage.new }
+{
+    run_lent(&kept.table, storage, limits, device)
+}

@@ -1,0 +1,153 @@
+//! A program's words as they stood, and whether they stand so still.
+ghost use Rattle.std.specs.Prelude.{◌≡◌, ◌+◌, ◌*◌, ◌%◌, ◌<◌, ◌≤◌, All, Contains, IfOk, OnOk, false, length, true, ℕ};
+ghost use Rattle.s370_store.specs.Access.{IsAway, IsGranted};
+ghost use Rattle.s370_walk.specs.Hardware.{memory_of};
+ghost use Rattle.cp_needs.specs.Kept.{IsAdded, IfFound, IfPages, IfText, IfWhole, IsAsItStood, IsPaged, IsPagedOnly, IsText, IsTextOnly, fullword_at};
+ghost use Rattle.cp_needs.specs.declared.kept.Fullword.{Fullword};
+ghost use Rattle.cp_needs.specs.Needs.{IsFixed, IsHeld};
+ghost use Rattle.cp_needs.specs.Words.{IsHere, IsNeeded};
+
+use crate::demand::{Judged, judge};
+use s370_num::AccessKey;
+use s370_store::{Access, Page, Range, Storage};
+use std::alloc::{AllocError, Global};
+
+/// A fullword in which a part of a program's words or lists lies, as it stood.
+#[derive(Clone, Copy, PartialEq, Eq)]
+pub struct Fullword {
+    /// The address of its first byte.
+    pub start: u32,
+    /// Its bytes.
+    pub bytes: [u8; 4],
+}
+
+/// Whether a fullword stands, on a page that is present, as it stood.
+fn is_as_it_stood<S: Storage>(storage: &S, word: &Fullword) -> bool
+    ensures same { result ≡ true → IsAsItStood (S.bytes storage.now) (S.present storage.now) word.now }
+    ensures other { IsAsItStood (S.bytes storage.now) (S.present storage.now) word.now → result ≡ true }
+{
+    match storage.check(
+        Range {
+            start: word.start,
+            count: 4,
+        },
+        Access::Fetch,
+        AccessKey::ZERO,
+    ) {
+        Ok(()) => {}
+        Err(_) => return false,
+    }
+    let mut bytes = [0u8; 4];
+    storage.load(word.start, &mut bytes);
+    bytes == word.bytes
+}
+
+/// Whether each of these fullwords stands, on a page that is present, as it stood.
+pub fn stands<S: Storage>(storage: &S, text: &[Fullword]) -> bool
+    ensures same { result ≡ true → All (IsAsItStood (S.bytes storage.now) (S.present storage.now)) text.now }
+    ensures other { All (IsAsItStood (S.bytes storage.now) (S.present storage.now)) text.now → result ≡ true }
+{
+    for word in text {
+        if !is_as_it_stood(storage, word) {
+            return false;
+        }
+    }
+    true
+}
+
+/// The fullword with this number, as it stands.
+fn fullword_from<S: Storage>(storage: &S, start: u32) -> Fullword
+    requires { IsGranted (length (S.bytes storage.now)) (S.present storage.now) start 4 }
+    ensures { result ≡ fullword_at (S.bytes storage.now) start }
+{
+    let mut bytes = [0u8; 4];
+    storage.load(start, &mut bytes);
+    Fullword { start, bytes }
+}
+
+/// Adds the fullword of a number, a fourth of its address, as it stands, where it lies in storage.
+fn add<S: Storage>(storage: &S, number: u32, text: &mut Vec<Fullword>) -> Result<(), AllocError>
+    requires { number * 4 + 4 ≤ length (S.bytes storage.now)
+        → IsGranted (length (S.bytes storage.now)) (S.present storage.now) (number * 4) 4 }
+    ensures { OnOk result (IsAdded (S.bytes storage.now) (S.present storage.now) number text.old.items text.new.items) }
+{
+    let start = u64::from(number) * 4;
+    if start + 4 > u64::from(storage.size()) {
+        return Ok(());
+    }
+    text.push(fullword_from(storage, start as u32))?;
+    Ok(())
+}
+
+/// The fullwords of these numbers, each a fourth of an address, that lie in storage, as they stand.
+fn fullwords<S: Storage>(
+    alloc: Global,
+    storage: &S,
+    numbers: &[u32],
+) -> Result<Vec<Fullword>, AllocError>
+    requires here { (n : ℕ) → Contains numbers.now n → n * 4 + 4 ≤ length (S.bytes storage.now)
+        → IsGranted (length (S.bytes storage.now)) (S.present storage.now) (n * 4) 4 }
+    ensures all { IfOk result (λ text. (n : ℕ) → Contains numbers.now n → n * 4 + 4 ≤ length (S.bytes storage.now)
+        → Contains text.items (fullword_at (S.bytes storage.now) (n * 4))) }
+    ensures stands { IfOk result
+        (λ text. All (IsAsItStood (S.bytes storage.now) (S.present storage.now)) text.items) }
+    ensures only { IfOk result (λ text. (w : Fullword) → Contains text.items w
+        → (n : ℕ) × Contains numbers.now n × (w ≡ fullword_at (S.bytes storage.now) (n * 4))) }
+{
+    let mut text = Vec::new(alloc);
+    for number in numbers {
+        add(storage, *number, &mut text)?;
+    }
+    Ok(text)
+}
+
+/// What has to be so before a program can run, and its words where no input can change them.
+#[derive(Drop)]
+pub enum Found {
+    /// A page is not present that it needs, or one of the storage where an input could change one of its words.
+    Page(Page),
+    /// Nothing: its pages are present, and no input can change these fullwords, in which its words and lists lie; their
+    /// areas lie on these pages.
+    Fixed(Vec<Fullword>, Vec<Page>),
+    /// Nothing: each page of the storage is present.
+    Whole,
+}
+
+/// What has to be so before the program from an address on can run, as [`needed`](crate::needed), with its words. An
+/// error is memory.
+pub fn look<S: Storage>(alloc: Global, storage: &S, start: u32) -> Result<Found, AllocError>
+    requires even { start % 8 ≡ 0 }
+    requires whole { length (S.bytes storage.now) % 4 ≡ 0 }
+    ensures away { IfOk result
+        (λ found. IfFound found (IsAway (length (S.bytes storage.now)) (S.present storage.now))) }
+    ensures needed { IfOk result
+        (λ found. IfFound found (IsNeeded (memory_of (S.bytes storage.now) (S.keys storage.now)) start)) }
+    ensures fixed { IfOk result
+        (λ found. IfText found (λ text. IsFixed (memory_of (S.bytes storage.now) (S.keys storage.now)) start)) }
+    ensures held { IfOk result
+        (λ found. IfText found
+        (λ text. IsHeld (memory_of (S.bytes storage.now) (S.keys storage.now)) start (S.present storage.now))) }
+    ensures text { IfOk result
+        (λ found. IfText found (λ text. IsText (memory_of (S.bytes storage.now) (S.keys storage.now)) start text)) }
+    ensures only { IfOk result
+        (λ found. IfText found
+        (λ text. IsTextOnly (memory_of (S.bytes storage.now) (S.keys storage.now)) start text)) }
+    ensures stands { IfOk result
+        (λ found. IfText found (λ text. All (IsAsItStood (S.bytes storage.now) (S.present storage.now)) text)) }
+    ensures pages { IfOk result
+        (λ found. IfPages found (λ pages. IsPaged (memory_of (S.bytes storage.now) (S.keys storage.now)) start pages)) }
+    ensures pages_only { IfOk result
+        (λ found. IfPages found
+        (λ pages. IsPagedOnly (memory_of (S.bytes storage.now) (S.keys storage.now)) start pages)) }
+    ensures all { IfOk result
+        (λ found. IfWhole found
+        ((page : ℕ) → IsHere (length (S.bytes storage.now)) (S.present storage.now) page)) }
+{
+    let notes = match judge(alloc, storage, start)? {
+        Judged::Page(page) => return Ok(Found::Page(page)),
+        Judged::Whole => return Ok(Found::Whole),
+        Judged::Fixed(notes) => notes,
+    };
+    let text = fullwords(alloc, storage, &notes.text)?;
+    Ok(Found::Fixed(text, notes.pages))
+}

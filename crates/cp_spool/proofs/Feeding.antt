@@ -1,0 +1,45 @@
+-- A reader that feeds is a reader.
+use Rattle.std.proofs.Common.{◌≡◌, Bool, None, ap, sym, ◌∙◌}
+use Rattle.s370_walk.specs.Walk.{Over, State, live, start_spot, walk}
+use Rattle.s370_channel.specs.Guest.{guest_written}
+use Rattle.s370_channel.specs.Loading.{implied_word, loading, loading_limits}
+use Rattle.s370_channel.specs.Progress.{setting}
+use Rattle.s370_channel.specs.Runs.{begun, limited}
+use Rattle.s370_channel.specs.Start.{most_commands}
+use Rattle.s370_channel.specs.declared.running.ChannelError.TheVariants as errors
+use Rattle.unit_record.specs.Reader.{ReaderState, reader_machine}
+use Rattle.cp_spool.specs.Alike.{AFedReaderIsAReader, AFedReaderIsLoadedFrom, AFedReaderStops}
+use Rattle.cp_spool.specs.Reader.{FeedState, fed_by, feed_machine}
+use Rattle.cp_spool.proofs.Feeds.{feeds_as_reader, keeps_its_queue, seen, seen_is}
+use Rattle.cp_spool.proofs.Walks.{entered_alike, entered_kept, kept_in, state_seen, stuck_alike, walk_alike, walk_kept}
+
+pub fed_walks : AFedReaderIsAReader
+fed_walks reads start m files part e n f walks =
+    let kept : f.decks ≡ files.decks = ap (kept_in (limited feed_machine start) (λ (x : FeedState). x.decks) keeps_its_queue) (sym walks.comes)
+    ∙ walk_kept (limited feed_machine start) (λ (x : FeedState). x.decks) keeps_its_queue (reads m) walks.steps (begun start m (fed_by files part)) in
+    record {
+      steps = walks.steps;
+      comes = walk_alike feed_machine reader_machine seen feeds_as_reader start.key most_commands 0 (reads m) walks.steps (begun start m (fed_by files part))
+          ∙ ap (state_seen feed_machine reader_machine seen feeds_as_reader start.key most_commands 0) walks.comes
+          ∙ ap (λ (r : ReaderState). Over e n r) (seen_is files f kept);
+    }
+
+pub fed_loads : AFedReaderIsLoadedFrom
+fed_loads m files part e n f walks =
+    let h = setting feed_machine loading_limits in
+    let kept : f.decks ≡ files.decks = ap (kept_in h (λ (x : FeedState). x.decks) keeps_its_queue) (sym walks.comes)
+    ∙ walk_kept h (λ (x : FeedState). x.decks) keeps_its_queue (live guest_written) walks.steps (loading feed_machine m (fed_by files part))
+    ∙ entered_kept h (λ (x : FeedState). x.decks) keeps_its_queue (start_spot 0) implied_word None m (fed_by files part) in
+    let g = setting reader_machine loading_limits in
+    record {
+      steps = walks.steps;
+      comes = ap (λ (s : State ReaderState). walk (live guest_written) g walks.steps s) (entered_alike feed_machine reader_machine seen feeds_as_reader 0 most_commands 0 (start_spot 0) implied_word None m (fed_by files part))
+          ∙ walk_alike feed_machine reader_machine seen feeds_as_reader 0 most_commands 0 (live guest_written) walks.steps (loading feed_machine m (fed_by files part))
+          ∙ ap (state_seen feed_machine reader_machine seen feeds_as_reader 0 most_commands 0) walks.comes
+          ∙ ap (λ (r : ReaderState). Over e n r) (seen_is files f kept);
+    }
+
+pub fed_stops : AFedReaderStops
+fed_stops present start m files part errors.Memory short = absurd (cc short.needed)
+fed_stops present start m files part (errors.Absent page) stuck =
+    stuck_alike feed_machine reader_machine seen feeds_as_reader start.key most_commands 0 guest_written present (begun start m (fed_by files part)) page.0 stuck

@@ -1,0 +1,68 @@
+//! A deck as it is seen in its queue.
+ghost use Rattle.std.specs.Prelude.{◌≡◌, ◌<◌, length, slice_get, IfSome};
+ghost use Rattle.cp_spool.specs.File.{cards_in};
+
+use crate::file::SpoolFile;
+use std::marker::Model;
+use unit_record::{Card, Sender};
+
+/// A deck in a reader's queue: its label, from whom it comes, and its cards.
+#[derive(Drop)]
+pub struct SeenDeck<'a> {
+    pub(crate) label: u64,
+    pub(crate) sender: Sender,
+    pub(crate) file: &'a SpoolFile,
+}
+
+impl<'a> Model for SeenDeck<'a> {
+    ghost use Rattle.unit_record.specs.Reader.{DeckValue};
+    ghost use Rattle.cp_spool.specs.File.{cards_in};
+
+    ghost Value = { DeckValue };
+
+    ghost view = { λ d. record { label = d.label; sender = d.sender; cards = cards_in d.file.now.contents } };
+}
+
+impl<'a> SeenDeck<'a> {
+    /// The deck that this file is under this label.
+    pub(crate) fn new(label: u64, sender: Sender, file: &'a SpoolFile) -> SeenDeck<'a>
+        ensures label { result.label ≡ label }
+        ensures sender { result.sender ≡ sender }
+        ensures cards { result.cards ≡ cards_in file.now.contents }
+    {
+        SeenDeck {
+            label,
+            sender,
+            file,
+        }
+    }
+
+    /// Its label.
+    pub fn label(&self) -> u64
+        ensures { result ≡ self.now.label }
+    {
+        self.label
+    }
+
+    /// From whom it comes.
+    pub fn sender(&self) -> Sender
+        ensures { result ≡ self.now.sender }
+    {
+        self.sender
+    }
+
+    /// How many cards it has.
+    pub fn count(&self) -> usize
+        ensures { result ≡ length self.now.cards }
+    {
+        self.file.count()
+    }
+
+    /// A card of it.
+    pub fn card(&self, index: usize) -> Option<Card>
+        ensures value { result ≡ slice_get self.now.cards index }
+        ensures fits { IfSome result (λ _. index < usize.MAX) }
+    {
+        self.file.card(index)
+    }
+}
