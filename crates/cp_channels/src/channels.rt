@@ -8,7 +8,7 @@ ghost use Rattle.unit_record.specs.Reader.{reader_machine, reader_reset};
 ghost use Rattle.cp_channels.specs.Channels.{Brings, DiskLoads, DiskNeeds, LacksPage, LoadNeeds, LoadsDisk, ProgramNeeds, StopsDisk, WalksDisk, WalksLoading, WhereOut};
 ghost use Rattle.cp_channels.specs.Disks.{DiskAt, cleared_disk, is_disk_at, reset_disk};
 
-use cp_trial::Tried;
+use channel_trial::Tried;
 use s370_channel::{Caw, ChannelError};
 use s370_store::Storage;
 use s370_walk::Ending;

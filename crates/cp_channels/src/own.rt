@@ -8,7 +8,7 @@ use crate::disks::{AttachedDisk, clear_each, reset_each};
 use crate::running::{load_live, run_live};
 use s370_channel::{Caw, ChannelError};
 use s370_store::Storage;
-use cp_trial::Tried;
+use channel_trial::Tried;
 use s370_walk::Ending;
 use unit_record::Reader;
 
