@@ -12,7 +12,7 @@ ghost use Rattle.s370_store.specs.Access.{put};
 ghost use Rattle.std.specs.Prelude.{◌≡◌, ◌+◌, ◌*◌, ◌/◌, ◌<◌, ◌≤◌, Bool, true, false, length, replicate, slice_index_or, slice_range, slice_set, Ok, IfOk};
 
 pub use tried::{
-    Tried, a_view_is_tried_for_its_device, limits_of, try_loading, try_program, try_reader,
+    Tried, TriedLoading, a_view_is_tried_for_its_device, limits_of, try_loading, try_program,
 };
 
 use s370_channel::AmpleSupply;

@@ -4,7 +4,6 @@ ghost use Rattle.s370_channel.specs.declared.words.Caw.{Caw};
 ghost use Rattle.s370_channel.specs.Start.{most_commands};
 ghost use Rattle.s370_walk.specs.Hardware.{Machine, Memory, memory_of};
 ghost use Rattle.s370_walk.specs.Viewed.{IsViewed};
-ghost use Rattle.unit_record.specs.Reader.{reader_machine, reader_reset};
 ghost use Rattle.channel_trial.specs.Trial.{is_touched, trial_bytes, trial_flags, trial_keys};
 ghost use Rattle.channel_trial.specs.Tried.{IsLoadingTried, IsProgramTried};
 
@@ -12,7 +11,7 @@ use crate::TrialStorage;
 use s370_channel::{Caw, Limits, MOST_COMMANDS, load_supplied, run_supplied};
 use s370_walk::Device;
 use std::alloc::AllocError;
-use unit_record::{Console, Printer, Punch, Reader};
+use unit_record::{Console, Printer, Punch};
 
 /// A device of which a program can be tried: it stays as it is.
 pub trait Tried: Device {
@@ -24,10 +23,14 @@ pub trait Tried: Device {
             (trial_flags copy.new)) };
 }
 
-impl Tried for Reader {
-    fn try_on(&self, copy: &mut TrialStorage, start: Caw) -> Result<(), AllocError> {
-        try_program(copy, start, &mut self.trial())
-    }
+/// A device of which the program of an initial program loading can be tried: it stays as it is.
+pub trait TriedLoading: Device {
+    /// Tries that program on a copy of a storage, no page of which was touched.
+    fn try_load(&self, copy: &mut TrialStorage) -> Result<(), AllocError>
+        requires untouched { (page : ℕ) → is_touched copy.old page ≡ false }
+        ensures tried { OnOk result (IsLoadingTried Self.machine
+            (memory_of (trial_bytes copy.old) (trial_keys copy.old)) self.now (trial_bytes copy.new)
+            (trial_flags copy.new)) };
 }
 
 impl Tried for Console {
@@ -90,18 +93,6 @@ pub fn try_loading<T: Device>(
         Ok(_) => Ok(()),
         Err(_) => Err(AllocError),
     }
-}
-
-/// Tries the program of an initial program loading, of the reader as a system reset will leave it.
-pub fn try_reader(copy: &mut TrialStorage, reader: &Reader) -> Result<(), AllocError>
-    requires untouched { (page : ℕ) → is_touched copy.old page ≡ false }
-    ensures tried { OnOk result (IsLoadingTried reader_machine
-        (memory_of (trial_bytes copy.old) (trial_keys copy.old)) (reader_reset reader.now) (trial_bytes copy.new)
-        (trial_flags copy.new)) }
-{
-    let mut trial = reader.trial();
-    trial.reset();
-    try_loading(copy, &mut trial)
 }
 
 /// What was tried with what is seen of a device, was tried for the device.

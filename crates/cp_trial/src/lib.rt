@@ -23,16 +23,14 @@ ghost use Rattle.cp_dat.specs.Supplied.{IsBetweenUnits};
 ghost use Rattle.channel_trial.specs.Trial.{is_touched, trial_bytes, trial_flags, trial_keys};
 ghost use Rattle.channel_trial.specs.Tried.{IsLoadingTried, IsProgramTried};
 ghost use Rattle.cp_trial.specs.Tried.{EndsSomehow, LacksSuch};
-ghost use Rattle.unit_record.specs.Reader.{reader_machine, reader_reset};
 ghost use Rattle.cp_trial.specs.declared.TriedError.TheVariants as errors;
 
-use channel_trial::{TrialStorage, Tried, limits_of};
+use channel_trial::{TrialStorage, Tried, TriedLoading, limits_of};
 use cp_dat::Dat;
 use s370_channel::{Caw, load_supplied, run_supplied};
 use s370_store::{FramesOut, PAGE_SIZE, Storage};
 use s370_walk::{Device, Ending};
 use std::alloc::{AllocError, Global};
-use unit_record::Reader;
 
 /// Why a program that was tried does not run.
 #[derive(Clone, Copy, Debug, PartialEq, Eq)]
@@ -153,18 +151,17 @@ pub fn try_loading<T: Device>(
     Ok(copy)
 }
 
-/// Tries the program of an initial program loading, of the reader as a system reset will leave it.
-pub fn try_reader(
+/// Tries the program of an initial program loading, of a device that stays as it is.
+pub fn try_load<D: TriedLoading>(
     alloc: Global,
     storage: &Dat<'_>,
-    reader: &Reader,
+    device: &D,
 ) -> Result<TrialStorage, AllocError>
-    ensures { IfOk result (λ tried. IsLoadingTried reader_machine
-        (memory_of (lent_bytes storage.now) (lent_keys storage.now)) (reader_reset reader.now) (trial_bytes tried)
-        (trial_flags tried)) }
+    ensures { IfOk result (λ tried. IsLoadingTried D.Device.machine
+        (memory_of (lent_bytes storage.now) (lent_keys storage.now)) device.now (trial_bytes tried) (trial_flags tried)) }
 {
     let mut copy = copy_of(alloc, storage)?;
-    channel_trial::try_reader(&mut copy, reader)?;
+    device.try_load(&mut copy)?;
     Ok(copy)
 }
 
