@@ -14,11 +14,11 @@ ghost use Rattle.cp_trial.specs.Tried.{LacksSuch};
 ghost use Rattle.cp_trial.specs.declared.TriedError.TheVariants as errors;
 ghost use Rattle.cp_volumes.specs.Running.{KeepsVolume};
 
+use channel_trial::TrialStorage;
 use cp_dat::Dat;
 use cp_minidisk::Mounted;
 use cp_trial::{TriedError, load_tried, run_tried};
 use s370_channel::Caw;
-use channel_trial::TrialStorage;
 use s370_walk::Ending;
 use std::alloc::Global;
 

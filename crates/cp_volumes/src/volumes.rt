@@ -22,12 +22,12 @@ ghost use Rattle.cp_volumes.specs.Shared.{AreThere, IsConfined, IsSeated, disk_o
 
 use crate::running::{load_mounted, run_mounted};
 use crate::shared_disk::SharedDisk;
+use channel_trial::TrialStorage;
 use ckd_volume::{Arm, Sense, Unit, UnitTrial, Volume};
 use cp_dat::Dat;
 use cp_minidisk::Mounted;
 use cp_trial::{TriedError, try_loading, try_program};
 use s370_channel::Caw;
-use channel_trial::TrialStorage;
 use s370_walk::Ending;
 use std::alloc::{AllocError, Global};
 use std::marker::Model;
