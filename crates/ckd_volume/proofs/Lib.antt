@@ -3,3 +3,4 @@ pub mod PutBack
 pub mod Finding
 pub mod Ends
 pub mod Moves
+pub mod Overlays

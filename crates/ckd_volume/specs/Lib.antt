@@ -12,3 +12,4 @@ pub mod Lending
 pub mod Unit
 pub mod Moves
 pub mod LendingVolume
+pub mod Trial

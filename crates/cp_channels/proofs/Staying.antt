@@ -1,6 +1,6 @@
 -- A walk leaves as many bytes of storage; so what it lacks is a page of the storage that it began with.
-use Rattle.std.proofs.Common.{◌≡◌, ◌∙◌, ℕ, zero, suc, ◌==◌, ◌≤◌, Bool, true, false, [], ◌∷◌, length, Option, None, Some, refl, arith, inl, inr}
-use Rattle.std.specs.Prelude.{◌+◌, ◌*◌, ◌<◌, ◌⊎◌, ◌&&◌, if◌then◌else◌, not}
+use Rattle.std.proofs.Common.{◌≡◌, ◌∙◌, ℕ, zero, suc, ◌==◌, Bool, true, false, [], ◌∷◌, length, Option, None, Some, refl, arith, inl, inr}
+use Rattle.std.specs.Prelude.{◌+◌, ◌&&◌, if◌then◌else◌, not}
 use Rattle.s370_store.specs.declared.Fault.{Fault}
 use Rattle.s370_store.specs.declared.Page.{Page}
 use Rattle.s370_store.specs.declared.Fault.TheVariants.{Addressing, Protection, Absent}
@@ -124,8 +124,12 @@ loading_lacks w machine needs present m d page s =
     let inside = s.away.inside in
     record { inside = omega (arith, inside, size); away = s.away.away }
 
--- and so is the page that the program of a disk lacks, which needs no memory
+-- and so is the page that the program of a device lacks which needs no memory
+pub none_lacks : {D : Type 0} (machine : Machine D) (present : ℕ → Bool) (m : Memory) (d : D) (error : ChannelError) → MatchLoading guest_written machine nothing_needed present m d error → LacksPage (length m.bytes) present error
+none_lacks machine present m d errors.Memory (inl h) = let no : false ≡ true = h in cc
+none_lacks machine present m d errors.Memory (inr s) = let no : false ≡ true = s.needed in cc
+none_lacks machine present m d (errors.Absent page) s = loading_lacks guest_written machine nothing_needed present m d page s
+
+-- a disk is one
 pub disk_lacks : (present : ℕ → Bool) (m : Memory) (disk : Disk) (error : ChannelError) → MatchLoading guest_written disk_machine nothing_needed present m disk error → LacksPage (length m.bytes) present error
-disk_lacks present m disk errors.Memory (inl h) = let no : false ≡ true = h in cc
-disk_lacks present m disk errors.Memory (inr s) = let no : false ≡ true = s.needed in cc
-disk_lacks present m disk (errors.Absent page) s = loading_lacks guest_written disk_machine nothing_needed present m disk page s
+disk_lacks present m disk error s = none_lacks disk_machine present m disk error s

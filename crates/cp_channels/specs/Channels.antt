@@ -1,5 +1,5 @@
 -- The channels of a machine: the programs of its devices run on them, and its disks hang on them.
-use Rattle.std.specs.Prelude.{ℕ, ◌≡◌, ◌*◌, ◌<◌, Bool, true, List, set, slice_get, Option, Some, None}
+use Rattle.std.specs.Prelude.{ℕ, ◌≡◌, ◌*◌, ◌<◌, ◌⊎◌, Bool, true, List, set, slice_get, Option, Some, None}
 use Rattle.s370_store.specs.Access.{IsAway}
 use Rattle.s370_walk.specs.declared.parts.Ending.{Ending}
 use Rattle.s370_walk.specs.Hardware.{Machine, Memory}
@@ -12,7 +12,8 @@ use Rattle.s370_channel.specs.Guest.{guest_written}
 use Rattle.s370_channel.specs.Loading.{loading, loading_limits}
 use Rattle.s370_channel.specs.Progress.{setting}
 use Rattle.s370_channel.specs.Reading.{Reading}
-use Rattle.s370_channel.specs.Runs.{IsStopped, Walks}
+use Rattle.s370_channel.specs.Runs.{IsStopped, Walks, begun, limited}
+use Rattle.s370_channel.specs.Supplied.{EachSuch, IsTouched}
 use Rattle.ckd_volume.specs.Unit.{Disk, disk_machine, rested}
 use Rattle.cp_channels.specs.Disks.{DiskAt}
 
@@ -63,10 +64,22 @@ LoadsDisk old disks index ending new disks' = LoadsAt old disks index (slice_get
 
 -- ---- why a program is not run to its end
 
--- what holds where a page of storage is not present that is needed, which is told, and not where memory was refused
-abbrev pub WhereAbsent : ℕ → (ℕ → Bool) → (ℕ → Type 0) → Type 0 → ChannelError → Type 0
-WhereAbsent size present Needs P errors.Memory = Unit {0}
-WhereAbsent size present Needs P (errors.Absent page) = IsAway size present page.0 × Needs page.0 × P
+-- there is no room for a page, where such pages may be held with it: there is none for any page, or each that is present is held
+abbrev pub NoRoom : {S : Type 0} → (S → ℕ → Type 0) → (S → ℕ → Type 0) → (S → ℕ → Bool) → S → (ℕ → Type 0) → ℕ → Type 0
+NoRoom IsOut IsFilled present storage Needs page =
+    IsOut storage page ⊎ (IsFilled storage page × ((held : ℕ) → present storage held ≡ true → Needs held))
+
+-- there is no room for a page of a storage of this size that is needed
+pub record LacksRoom (size : ℕ) (Needs IsOut : ℕ → Type 0) : Type 0 where
+  pub page : ℕ
+  pub inside : page * 4096 < size
+  pub needed : Needs page
+  pub out : IsOut page
+
+-- that is told, with what holds then, and nothing where memory was refused
+abbrev pub WhereOut : ℕ → (ℕ → Type 0) → (ℕ → Type 0) → Type 0 → ChannelError → Type 0
+WhereOut size Needs IsOut P errors.Memory = Unit {0}
+WhereOut size Needs IsOut P (errors.Absent page) = LacksRoom size Needs IsOut × P
 
 -- a device that is never refused memory stops for want of a page alone
 abbrev pub StopsForPage : {D : Type 0} → Machine D → (ℕ → Bool) → Caw → Memory → D → ChannelError → Type 0
@@ -78,11 +91,29 @@ abbrev pub StopsDisk : (ℕ → Bool) → Caw → Memory → Option DiskAt → C
 StopsDisk present start m (Some disk) error = StopsForPage disk_machine present start m disk.unit error
 StopsDisk present start m None error = ⊥
 
--- ---- the pages of a storage
+-- from one storage to the other pages were brought, in units, each of which is such
+abbrev pub Brings : {S : Type 0} → (S → List (List ℕ) → S → Type 0) → S → (ℕ → Type 0) → S → Type 0
+Brings Came old IsSuch new = (units : List (List ℕ)) × Came old units new × EachSuch IsSuch units
 
--- each page of a storage of this size is present
-abbrev pub IsAllThere : ℕ → (ℕ → Bool) → Type 0
-IsAllThere size present = (page : ℕ) → page * 4096 < size → present page ≡ true
+-- ---- the pages that a program needs
+
+-- those that are held together for it, where it is copied, and those that its walk touches
+abbrev pub ProgramNeeds : {D : Type 0} → (Memory → ℕ → ℕ → Type 0) → Machine D → Caw → Memory → D → ℕ → Type 0
+ProgramNeeds holds machine start m part page =
+    holds m start.address page ⊎ IsTouched guest_written (limited machine start) (begun start m part) page
+
+abbrev pub DiskNeeds : (Memory → ℕ → ℕ → Type 0) → Caw → Memory → Option DiskAt → ℕ → Type 0
+DiskNeeds holds start m (Some disk) page = ProgramNeeds holds disk_machine start m disk.unit page
+DiskNeeds holds start m None page = ⊥
+
+-- those that the walk of a loading touches, and that of the PSW
+abbrev pub LoadNeeds : {D : Type 0} → Machine D → Memory → D → ℕ → Type 0
+LoadNeeds machine m part page =
+    (page ≡ 0) ⊎ IsTouched guest_written (setting machine loading_limits) (loading machine m part) page
+
+abbrev pub DiskLoads : Memory → Option DiskAt → ℕ → Type 0
+DiskLoads m (Some disk) page = LoadNeeds disk_machine m disk.unit page
+DiskLoads m None page = ⊥
 
 -- for want of a page of the storage, which is not present, and of nothing else
 abbrev pub LacksPage : ℕ → (ℕ → Bool) → ChannelError → Type 0

@@ -5,10 +5,11 @@ ghost use Rattle.cp_channels.specs.Own.{disks_of};
 
 use crate::channels::{Channels, Disks, UnitRecord};
 use crate::disks::{AttachedDisk, clear_each, reset_each};
-use crate::running::run_live;
+use crate::running::{load_live, run_live};
+use channel_trial::{Tried, TriedLoading};
 use s370_channel::{Caw, ChannelError};
 use s370_store::Storage;
-use s370_walk::{Device, Ending};
+use s370_walk::Ending;
 
 /// Each program is read as it is reached, in the machine's own storage; each disk has a volume of its own.
 #[derive(Drop)]
@@ -87,9 +88,17 @@ impl<S: Storage> Channels<S> for Own {
 
     ghost is_whole = { false };
 
-    ghost needs = { λ _ _ _. Unit {0} };
+    ghost holds = { λ _ _ _. ⊥ };
 
-    fn run<D: Device>(
+    ghost IsReady = { λ _. Unit {0} };
+
+    ghost IsOut = { λ _ _. ⊥ };
+
+    ghost IsFilled = { λ _ _. ⊥ };
+
+    ghost Came = { λ s _ t. S.Keeps s t };
+
+    fn run<D: Tried>(
         &mut self,
         storage: &mut S,
         start: Caw,
@@ -108,7 +117,24 @@ impl<S: Storage> Channels<S> for Own {
         self.disks[index].run(storage, start)
     }
 
+    fn load<D: TriedLoading>(
+        &mut self,
+        storage: &mut S,
+        device: &mut D,
+    ) -> Result<Ending, ChannelError> {
+        load_live(storage, device)
+    }
+
     fn load_disk(&mut self, storage: &mut S, index: usize) -> Result<Ending, ChannelError> {
+        self.reset();
         self.disks[index].load(storage)
     }
+
+    ghost came_none = { λ s ready. S.keeps_same s };
+
+    ghost came_kept = { λ s t u units came kept. S.keeps_on s t u came kept };
+
+    ghost ready_kept = { λ s t kept ready. tt };
+
+    ghost came_size = { λ s t units came. S.keeps_size s t came };
 }

@@ -1,5 +1,5 @@
 -- What lies in a block of which the page stands in a frame, lies in that frame.
-use Rattle.std.proofs.Common.{arith, ◌≡◌, ℕ, ◌+◌, ◌*◌, ◌/◌, ◌%◌, ◌<◌, ◌≤◌, Some}
+use Rattle.std.proofs.Common.{arith, ◌≡◌, ℕ, ◌+◌, ◌/◌, ◌%◌, ◌<◌, ◌≤◌, Some}
 use Rattle.s370_store.specs.declared.block.Block.{Block}
 use Rattle.cp_dat.specs.declared.dat.Dat.{Dat}
 use Rattle.cp_dat.specs.Lent.{lent_frame}

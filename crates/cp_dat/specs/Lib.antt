@@ -4,3 +4,4 @@ pub mod Supplied
 pub mod Bringing
 pub mod Letting
 pub mod Laws
+pub mod Copies

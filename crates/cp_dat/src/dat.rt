@@ -20,10 +20,10 @@ use s370_store::{
 /// frame among those not pinned is given up; where there is none, or no slot for it, it answers `FramesOut`.
 #[derive(Drop)]
 pub struct Dat<'a> {
-    frames: &'a mut Frames,
-    keys: &'a mut [StorageKey],
-    user: UserNo,
-    size: u32,
+    pub(crate) frames: &'a mut Frames,
+    pub(crate) keys: &'a mut [StorageKey],
+    pub(crate) user: UserNo,
+    pub(crate) size: u32,
     ghost sized: { size ≡ length (bytes_of frames.now user) },
     ghost keyed: { size ≤ 2048 * length keys.now },
     ghost whole: { size % 4096 ≡ 0 },

@@ -14,6 +14,7 @@
 //! ```
 #![tactic(auto)]
 
+mod copies;
 mod dat;
 mod laws;
 

@@ -1,5 +1,5 @@
 -- A line switches a machine with devices on or off exactly where it is a LOGON or a LOGOFF.
-use Rattle.std.proofs.Common.{◌≡◌, ◌∙◌, ℕ, Bool, true, false, List, refl, ap, sym, Result, Ok, Err, if◌then◌else◌}
+use Rattle.std.proofs.Common.{◌≡◌, ◌∙◌, ℕ, Bool, true, false, List, refl, ap, Result, Ok, Err, if◌then◌else◌}
 use Rattle.std.specs.Prelude.{is_some}
 use Rattle.cp_console.specs.Asked.{Asked, Stop, Command as ToControlProgram, Plain, asked_of}
 use Rattle.cp_console.specs.Commands.{command_of}
@@ -14,7 +14,7 @@ use Rattle.cp_devices.specs.declared.request.Request.{Request}
 use Rattle.cp_devices.specs.declared.request.Request.TheVariants.{LogsOn, LogsOff, Resets, Types, Asks, Elsewhere}
 use Rattle.cp_devices.specs.Equipped.{Equipped}
 use Rattle.cp_devices.specs.Lines.{requested}
-use Rattle.cp_devices.specs.Requests.{asked_request, command_request, off_request, plain_request, request_in}
+use Rattle.cp_devices.specs.Requests.{asked_request, command_request, off_request, request_in}
 
 -- LOGON and LOGOFF
 abbrev pub is_switch : Request → Bool

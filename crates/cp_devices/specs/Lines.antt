@@ -23,9 +23,10 @@ use Rattle.cp_devices.specs.declared.places.Kind.{Kind}
 use Rattle.cp_devices.specs.declared.places.Kind.TheVariants as kinds
 use Rattle.cp_devices.specs.declared.request.Request.{Request}
 use Rattle.cp_devices.specs.declared.request.Request.TheVariants.{LogsOn, LogsOff, Resets, Types, Asks, Elsewhere}
+use Rattle.cp_channels.specs.Channels.{DiskLoads, LoadNeeds}
 use Rattle.cp_channels.specs.Disks.{DiskAt, cleared_disk, reset_disk}
 use Rattle.cp_devices.specs.Devices.{DevicesValue, kind_at, part_at}
-use Rattle.cp_devices.specs.Equipped.{Equipped, with_attended}
+use Rattle.cp_devices.specs.Equipped.{Equipped, storage_in, with_attended}
 use Rattle.cp_devices.specs.Loading.{IsLoaded}
 use Rattle.cp_devices.specs.Requests.{request_in}
 use Rattle.cp_devices.specs.Resets.{devices_reset}
@@ -171,6 +172,18 @@ LoadsKind (Some kinds.Console) device old told new = IsNotFound old told new
 LoadsKind (Some kinds.Punch) device old told new = IsNotFound old told new
 LoadsKind (Some kinds.Printer) device old told new = IsNotFound old told new
 LoadsKind None device old told new = IsNotFound old told new
+
+-- which pages it needs: those that the walk of the loading touches, and that of the PSW
+abbrev pub KindLoads : Option Kind → Equipped → ℕ → Type 0
+KindLoads (Some kinds.Reader) e = LoadNeeds reader_machine (storage_in e.machine) (devices_reset e.devices).reader
+KindLoads (Some (kinds.Disk index)) e = DiskLoads (storage_in e.machine) (slice_get (map reset_disk e.disks) index)
+KindLoads (Some kinds.Console) e = λ page. ⊥
+KindLoads (Some kinds.Punch) e = λ page. ⊥
+KindLoads (Some kinds.Printer) e = λ page. ⊥
+KindLoads None e = λ page. ⊥
+
+abbrev pub IplNeeds : ℕ → Equipped → ℕ → Type 0
+IplNeeds device e = KindLoads (kind_at e.devices e.disks device) e
 
 -- an IPL from the device of this address, which the owner of the machine does
 abbrev pub IsIpl : ℕ → Equipped → Told → Equipped → Type 0

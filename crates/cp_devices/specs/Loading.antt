@@ -1,16 +1,13 @@
 -- IPL: the initial program loading of a machine (GA22-7000, "Initial Program Loading"; docs/COMMANDS.md).
-use Rattle.std.specs.Prelude.{ℕ, ◌≡◌, ◌==◌, ◌&&◌, ◌⊎◌, Bool, true, false, List, [], ◌∷◌, slice_range}
+use Rattle.std.specs.Prelude.{ℕ, ◌≡◌, ◌==◌, ◌&&◌, Bool, true, false, List, [], ◌∷◌, slice_range}
 use Rattle.std.specs.Int.{w16, to_be_bytes}
 use Rattle.s370_psw.specs.Fields.{loaded as loaded_psw}
-use Rattle.s370_store.specs.Access.{IsAway, Touches, put}
+use Rattle.s370_store.specs.Access.{Touches, put}
 use Rattle.s370_store.specs.declared.Access.TheVariants.{Store}
 use Rattle.s370_walk.specs.declared.parts.Ending.{Ending}
-use Rattle.s370_walk.specs.declared.parts.Order.{Order}
 use Rattle.s370_walk.specs.Hardware.{Machine as Device, area, memory_of}
 use Rattle.s370_channel.specs.declared.running.ChannelError.{ChannelError}
 use Rattle.s370_channel.specs.declared.running.ChannelError.TheVariants as errors
-use Rattle.s370_channel.specs.Guest.{guest_written}
-use Rattle.s370_channel.specs.Loading.{MatchLoading}
 use Rattle.cp_console.specs.Responses.{text_of}
 use Rattle.cp_console.specs.declared.responses.Response.TheVariants.{IplFailed}
 use Rattle.cp_panel.specs.Machine.{Machine, printed, reset, started}
@@ -46,13 +43,3 @@ pub record IsLoaded {D : Type 0} (machine : Device D) (device : ℕ) (old : Mach
 abbrev pub LacksPsw : (ℕ → Bool) → ChannelError → Type 0
 LacksPsw present errors.Memory = ⊥
 LacksPsw present (errors.Absent page) = (present page.0 ≡ false) × Touches (area Store 0 8 ∷ []) page.0
-
--- a page of the storage is lacking that is not present
-abbrev pub LacksPage : ℕ → (ℕ → Bool) → ChannelError → Type 0
-LacksPage size present errors.Memory = Unit {0}
-LacksPage size present (errors.Absent page) = IsAway size present page.0
-
--- why a machine is not loaded: the program of the loading stops, or has run and the page of its PSW is not present
-abbrev pub StopsLoading : {D : Type 0} → Device D → (D → Order → Bool) → (ℕ → Bool) → Machine → D → ChannelError → Type 0
-StopsLoading machine needs present old part error =
-    MatchLoading guest_written machine needs present (storage_in old) part error ⊎ LacksPsw present error

@@ -1,5 +1,5 @@
 -- A device that is served: the channel program that was started runs as a whole, at one moment (docs/MACHINE.md, "Channel").
-use Rattle.std.specs.Prelude.{ℕ, ◌≡◌, Bool, true, false, List, Option, Some, None}
+use Rattle.std.specs.Prelude.{ℕ, ◌≡◌, Bool, true, false, List, Option, Some, None, slice_get}
 use Rattle.unit_record.specs.Console.{ConsoleState, console_machine, wants_attention, without_lines}
 use Rattle.unit_record.specs.Reader.{reader_machine}
 use Rattle.unit_record.specs.Punch.{punch_machine}
@@ -14,7 +14,7 @@ use Rattle.s370_subchannels.specs.Subchannels.{with_attention}
 use Rattle.cp_panel.specs.Machine.{Machine, with_subchannels}
 use Rattle.cp_devices.specs.declared.places.Kind.{Kind}
 use Rattle.cp_devices.specs.declared.places.Kind.TheVariants as kinds
-use Rattle.cp_channels.specs.Channels.{WalksDisk}
+use Rattle.cp_channels.specs.Channels.{DiskNeeds, ProgramNeeds, WalksDisk}
 use Rattle.cp_devices.specs.Devices.{kind_at}
 use Rattle.cp_devices.specs.Equipped.{Equipped, storage_in, with_bytes, with_lines}
 
@@ -32,13 +32,21 @@ abbrev pub console_over : ℕ → ℕ → Ending → ConsoleState → Machine �
 console_over device key ending console m bytes =
     with_lines (with_subchannels (with_bytes m bytes) (program_ended device key ending (with_attention device (wants_attention console) m.core.subchannels))) console.lines
 
--- which pages the program needs that was started on a device, by what a program needs that begins at an address of a storage
-abbrev pub StartNeeds : (Memory → ℕ → ℕ → Type 0) → Memory → Option Caw → ℕ → Type 0
-StartNeeds needs m None page = ⊥
-StartNeeds needs m (Some start) page = needs m start.address page
+-- which pages the program needs that was started on a device, where these are held for a copy of it
+abbrev pub KindNeeds : (Memory → ℕ → ℕ → Type 0) → Kind → Caw → Equipped → ℕ → Type 0
+KindNeeds holds kinds.Console start e = ProgramNeeds holds console_machine start (storage_in e.machine) e.devices.console
+KindNeeds holds kinds.Reader start e = ProgramNeeds holds reader_machine start (storage_in e.machine) e.devices.reader
+KindNeeds holds kinds.Punch start e = ProgramNeeds holds punch_machine start (storage_in e.machine) e.devices.punch
+KindNeeds holds kinds.Printer start e = ProgramNeeds holds printer_machine start (storage_in e.machine) e.devices.printer
+KindNeeds holds (kinds.Disk index) start e = DiskNeeds holds start (storage_in e.machine) (slice_get e.disks index)
+
+abbrev pub StartNeeds : (Memory → ℕ → ℕ → Type 0) → Option Kind → Option Caw → Equipped → ℕ → Type 0
+StartNeeds holds None start e = λ page. ⊥
+StartNeeds holds (Some kind) None e = λ page. ⊥
+StartNeeds holds (Some kind) (Some start) e = KindNeeds holds kind start e
 
 abbrev pub ServeNeeds : (Memory → ℕ → ℕ → Type 0) → ℕ → Equipped → ℕ → Type 0
-ServeNeeds needs device e page = StartNeeds needs (storage_in e.machine) (program_of device e.machine.core.subchannels) page
+ServeNeeds holds device e = StartNeeds holds (kind_at e.devices e.disks device) (program_of device e.machine.core.subchannels) e
 
 -- programs are read so
 module _ (reads : Reading) where

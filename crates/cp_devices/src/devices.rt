@@ -101,6 +101,15 @@ impl Devices {
         self.printer.reset();
     }
 
+    /// The same of all but the reader.
+    pub(crate) fn reset_beside(&mut self)
+        ensures { self.new ≡ record (parts_reset self.old) { reader = self.old.reader } }
+    {
+        self.console.reset();
+        self.punch.reset();
+        self.printer.reset();
+    }
+
     /// Where the devices are.
     pub fn places(&self) -> Places
         ensures { result ≡ self.now.places }

@@ -1,11 +1,12 @@
 //! IPL, which the owner of a machine does for it.
-ghost use Rattle.std.specs.Prelude.{◌≡◌, ◌<◌, ◌≤◌, ℕ, true, Err, IfOk, length, map, slice_get};
+ghost use Rattle.std.specs.Prelude.{◌≡◌, ◌<◌, ◌≤◌, ℕ, false, true, Err, IfOk, Some, length, map, slice_get};
 ghost use Rattle.s370_store.specs.Access.{IsAway};
-ghost use Rattle.cp_channels.specs.Channels.{IsAllThere};
+ghost use Rattle.cp_channels.specs.Channels.{Brings, LacksRoom, NoRoom};
 ghost use Rattle.cp_channels.specs.Disks.{reset_disk};
 ghost use Rattle.cp_devices.specs.Equipped.{equipped};
 ghost use Rattle.cp_devices.specs.Lent.{KeepsBeside, devices_on};
-ghost use Rattle.cp_devices.specs.Lines.{IsIpl, LoadsDisk, LoadsReader, ipl_told};
+ghost use Rattle.cp_devices.specs.Lines.{IplNeeds, IsIpl, KindLoads, LoadsDisk, LoadsReader, ipl_told};
+ghost use Rattle.cp_devices.specs.declared.places.Kind.TheVariants as kinds;
 
 use crate::devices::Devices;
 use crate::feeding::load_fed;
@@ -32,8 +33,9 @@ fn loaded(well: bool) -> Told
 }
 
 impl Devices {
-    /// The machine is loaded from the device of this address, a reader or a disk. Where it is not obeyed, nothing is
-    /// said of the machine.
+    /// The machine is loaded from the device of this address, a reader or a disk. Where the channels are whole and there
+    /// is no room for a page that this needs, nothing has happened but that such pages came; else, where it is not
+    /// obeyed, nothing is said of the machine.
     pub fn ipl<S: Storage, C: Channels<S>>(
         &mut self,
         queues: &mut Queues,
@@ -44,17 +46,30 @@ impl Devices {
     ) -> Result<Told, LineError>
         requires size { 8192 ≤ length (S.bytes storage.old) }
         requires user { self.old.user < length queues.old.users }
-        requires there { C.is_whole ≡ true → IsAllThere (length (S.bytes storage.old)) (S.present storage.old) }
+        requires ready { C.IsReady storage.old }
         ensures ok { let before = equipped machine.old (devices_on self.old queues.old) (C.disks channels.old) (S.bytes storage.old)
             (S.keys storage.old) in
             let after = equipped machine.new (devices_on self.new queues.new) (C.disks channels.new) (S.bytes storage.new)
             (S.keys storage.new) in
             IfOk result (λ told. IsIpl device before told after) }
-        ensures frames { result ≡ Err LineError.FramesOut
+        ensures lacks { C.is_whole ≡ false → result ≡ Err LineError.FramesOut
             → ((page : ℕ) × IsAway (length (S.bytes storage.old)) (S.present storage.old) page) }
+        ensures same { let before = equipped machine.old (devices_on self.old queues.old) (C.disks channels.old) (S.bytes storage.old)
+            (S.keys storage.old) in
+            let after = equipped machine.new (devices_on self.new queues.new) (C.disks channels.new) (S.bytes storage.new)
+            (S.keys storage.new) in
+            C.is_whole ≡ true → result ≡ Err LineError.FramesOut → after ≡ before }
+        ensures out { let before = equipped machine.old (devices_on self.old queues.old) (C.disks channels.old) (S.bytes storage.old)
+            (S.keys storage.old) in
+            let needs = IplNeeds device before in
+            C.is_whole ≡ true → result ≡ Err LineError.FramesOut
+            → LacksRoom (length (S.bytes storage.old)) needs (NoRoom C.IsOut C.IsFilled S.present storage.new needs) }
+        ensures came { let before = equipped machine.old (devices_on self.old queues.old) (C.disks channels.old) (S.bytes storage.old)
+            (S.keys storage.old) in
+            Brings C.Came storage.old (IplNeeds device before) storage.new }
+        ensures ready { C.IsReady storage.new }
         ensures others { C.KeepsOthers channels.old channels.new }
         ensures beside { KeepsBeside self.old queues.old self.new queues.new }
-        ensures rest { S.Keeps storage.old storage.new }
     {
         match self.kind_at(channels, device.get()) {
             Some(Kind::Reader) => self.load_reader(queues, machine, storage, channels, device),
@@ -76,35 +91,47 @@ impl Devices {
     ) -> Result<Told, LineError>
         requires size { 8192 ≤ length (S.bytes storage.old) }
         requires user { self.old.user < length queues.old.users }
+        requires ready { C.IsReady storage.old }
         ensures ok { let before = equipped machine.old (devices_on self.old queues.old) (C.disks channels.old) (S.bytes storage.old)
             (S.keys storage.old) in
             let after = equipped machine.new (devices_on self.new queues.new) (C.disks channels.new) (S.bytes storage.new)
             (S.keys storage.new) in
             IfOk result (λ told. LoadsReader device before told after) }
-        ensures frames { result ≡ Err LineError.FramesOut
+        ensures lacks { C.is_whole ≡ false → result ≡ Err LineError.FramesOut
             → ((page : ℕ) × IsAway (length (S.bytes storage.old)) (S.present storage.old) page) }
+        ensures same { let before = equipped machine.old (devices_on self.old queues.old) (C.disks channels.old) (S.bytes storage.old)
+            (S.keys storage.old) in
+            let after = equipped machine.new (devices_on self.new queues.new) (C.disks channels.new) (S.bytes storage.new)
+            (S.keys storage.new) in
+            C.is_whole ≡ true → result ≡ Err LineError.FramesOut → after ≡ before }
+        ensures out { let before = equipped machine.old (devices_on self.old queues.old) (C.disks channels.old) (S.bytes storage.old)
+            (S.keys storage.old) in
+            let needs = KindLoads (Some kinds.Reader) before in
+            C.is_whole ≡ true → result ≡ Err LineError.FramesOut
+            → LacksRoom (length (S.bytes storage.old)) needs (NoRoom C.IsOut C.IsFilled S.present storage.new needs) }
+        ensures came { let before = equipped machine.old (devices_on self.old queues.old) (C.disks channels.old) (S.bytes storage.old)
+            (S.keys storage.old) in
+            Brings C.Came storage.old (KindLoads (Some kinds.Reader) before) storage.new }
+        ensures ready { C.IsReady storage.new }
         ensures others { C.KeepsOthers channels.old channels.new }
         ensures beside { KeepsBeside self.old queues.old self.new queues.new }
-        ensures rest { S.Keeps storage.old storage.new }
     {
         match machine.make_room(1) {
             Ok(()) => {}
             Err(_) => return Err(LineError::Memory),
         }
-        self.reset();
+        let ending = match load_fed(&mut self.reader, queues, self.user, storage, channels) {
+            Ok(ending) => ending,
+            Err(ChannelError::Memory) => return Err(LineError::Memory),
+            Err(ChannelError::Absent(_)) => return Err(LineError::FramesOut),
+        };
+        self.reset_beside();
         channels.reset_disks();
-        match load_fed(
-            machine,
-            storage,
-            device,
-            &mut self.reader,
-            queues,
-            self.user,
-        ) {
+        machine.reset();
+        match start_loaded(machine, storage, device, &ending) {
             Ok(well) => Ok(loaded(well)),
-            // A command of a reader is never refused memory.
-            Err(ChannelError::Memory) => unreachable!(),
-            Err(ChannelError::Absent(_)) => Err(LineError::FramesOut),
+            // The page of the PSW is not present.
+            Err(_) => Err(LineError::FramesOut),
         }
     }
 
@@ -119,32 +146,43 @@ impl Devices {
         index: usize,
     ) -> Result<Told, LineError>
         requires size { 8192 ≤ length (S.bytes storage.old) }
-        requires there { C.is_whole ≡ true → IsAllThere (length (S.bytes storage.old)) (S.present storage.old) }
+        requires ready { C.IsReady storage.old }
         requires inside { index < length (C.disks channels.old) }
         ensures ok { let before = equipped machine.old (devices_on self.old queues.now) (C.disks channels.old) (S.bytes storage.old)
             (S.keys storage.old) in
             let after = equipped machine.new (devices_on self.new queues.now) (C.disks channels.new) (S.bytes storage.new)
             (S.keys storage.new) in
             IfOk result (λ told. LoadsDisk index (slice_get (map reset_disk (C.disks channels.old)) index) device before told after) }
-        ensures frames { result ≡ Err LineError.FramesOut
+        ensures lacks { C.is_whole ≡ false → result ≡ Err LineError.FramesOut
             → ((page : ℕ) × IsAway (length (S.bytes storage.old)) (S.present storage.old) page) }
+        ensures same { let before = equipped machine.old (devices_on self.old queues.now) (C.disks channels.old) (S.bytes storage.old)
+            (S.keys storage.old) in
+            let after = equipped machine.new (devices_on self.new queues.now) (C.disks channels.new) (S.bytes storage.new)
+            (S.keys storage.new) in
+            C.is_whole ≡ true → result ≡ Err LineError.FramesOut → after ≡ before }
+        ensures out { let before = equipped machine.old (devices_on self.old queues.now) (C.disks channels.old) (S.bytes storage.old)
+            (S.keys storage.old) in
+            let needs = KindLoads (Some (kinds.Disk index)) before in
+            C.is_whole ≡ true → result ≡ Err LineError.FramesOut
+            → LacksRoom (length (S.bytes storage.old)) needs (NoRoom C.IsOut C.IsFilled S.present storage.new needs) }
+        ensures came { let before = equipped machine.old (devices_on self.old queues.now) (C.disks channels.old) (S.bytes storage.old)
+            (S.keys storage.old) in
+            Brings C.Came storage.old (KindLoads (Some (kinds.Disk index)) before) storage.new }
+        ensures ready { C.IsReady storage.new }
         ensures others { C.KeepsOthers channels.old channels.new }
         ensures user { self.new.user ≡ self.old.user }
-        ensures rest { S.Keeps storage.old storage.new }
     {
         match machine.make_room(1) {
             Ok(()) => {}
             Err(_) => return Err(LineError::Memory),
         }
-        self.reset();
-        channels.reset_disks();
-        machine.reset();
         let ending = match channels.load_disk(storage, index) {
             Ok(ending) => ending,
-            // A command of a disk is never refused memory.
-            Err(ChannelError::Memory) => unreachable!(),
+            Err(ChannelError::Memory) => return Err(LineError::Memory),
             Err(ChannelError::Absent(_)) => return Err(LineError::FramesOut),
         };
+        self.reset();
+        machine.reset();
         match start_loaded(machine, storage, device, &ending) {
             Ok(well) => Ok(loaded(well)),
             // The page of the PSW is not present.

@@ -1,47 +1,18 @@
 //! The initial program loading of a machine.
 ghost use Rattle.std.specs.Prelude.{◌≡◌, ◌<◌, ◌≤◌, IfErr, IfOk, length};
 ghost use Rattle.cp_panel.specs.Machine.{machine_of};
-ghost use Rattle.cp_devices.specs.Loading.{IsLoaded, LacksPage, LacksPsw, StopsLoading, is_good, left_by};
+ghost use Rattle.cp_devices.specs.Loading.{LacksPsw, is_good, left_by};
 
 use cp_console::responses::Response;
 use cp_panel::Machine;
-use s370_channel::{ChannelError, Guest, run_ipl};
+use s370_channel::ChannelError;
 use s370_num::{AccessKey, DevAddr};
 use s370_psw::Psw;
 use s370_store::{Access, Fault, Range, Storage, load_doubleword, store_halfword};
-use s370_walk::{ChannelStatus, Device, Ending, UnitStatus};
+use s370_walk::{ChannelStatus, Ending, UnitStatus};
 
 /// Where the device's address is stored, in the PSW that is loaded.
 const IPL_PSW: Range = Range { start: 0, count: 8 };
-
-/// Resets the machine, runs the program that the device loads, and lets the machine run where that ended well; tells
-/// whether it did. An error is told only where the program comes to a command that needs memory, or to a step that
-/// needs a page which is not present, or where the page of the PSW is not; nothing is said of the machine then. There
-/// is room for a line and for the notice of the machine's stop.
-#[tactic(auto, using(crate::proofs::Staying::loading_lacks, crate::proofs::Staying::psw_lacks))]
-pub(crate) fn load<S: Storage, D: Device>(
-    machine: &mut Machine,
-    storage: &mut S,
-    device: DevAddr,
-    part: &mut D,
-) -> Result<bool, ChannelError>
-    requires size { 8192 ≤ length (S.bytes storage.old) }
-    requires room { 1 < machine.old.room }
-    ensures loaded { let before = machine_of machine.old (S.bytes storage.old) (S.keys storage.old) in
-        let after = machine_of machine.new (S.bytes storage.new) (S.keys storage.new) in
-        IfOk result (λ well. IsLoaded D.machine device before part.old well after part.new) }
-    ensures lacks { IfErr result (LacksPage (length (S.bytes storage.old)) (S.present storage.old)) }
-    ensures stopped { let before = machine_of machine.old (S.bytes storage.old) (S.keys storage.old) in
-        IfErr result (StopsLoading D.machine D.needs_memory (S.present storage.old) before part.old) }
-    ensures keys { S.keys storage.new ≡ S.keys storage.old }
-    ensures rest { S.Keeps storage.old storage.new }
-{
-    machine.reset();
-    match run_ipl(&Guest, storage, part) {
-        Ok(ending) => start_loaded(machine, storage, device, &ending),
-        Err(error) => Err(error),
-    }
-}
 
 /// Lets a machine run whose program of loading ended well, and tells whether it did. There is room for a line and for
 /// the notice of the machine's stop.

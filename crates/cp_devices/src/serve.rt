@@ -1,13 +1,11 @@
 //! The devices of a machine are served.
 ghost use Rattle.std.specs.Prelude.{◌≡◌, ◌<◌, ◌++◌, false, true, IfErr, IfOk, OnErr, OnOk, length};
-ghost use Rattle.s370_channel.specs.Runs.{TellsAway};
-ghost use Rattle.s370_walk.specs.Hardware.{memory_of};
-ghost use Rattle.cp_channels.specs.Channels.{WhereAbsent};
+ghost use Rattle.cp_channels.specs.Channels.{Brings, NoRoom, WhereOut};
 ghost use Rattle.cp_devices.specs.Devices.{IsAttached};
 ghost use Rattle.cp_devices.specs.declared.places.Kind.TheVariants as kinds;
 ghost use Rattle.cp_devices.specs.Equipped.{equipped};
 ghost use Rattle.cp_devices.specs.Lent.{KeepsBeside, devices_on};
-ghost use Rattle.cp_devices.specs.Serve.{IsServedAt, RunsConsole, RunsKind, ServeNeeds};
+ghost use Rattle.cp_devices.specs.Serve.{IsServedAt, KindNeeds, RunsConsole, RunsKind, ServeNeeds};
 ghost use Rattle.cp_devices.specs.Stopped.{StopsAt, StopsConsole, StopsKind};
 
 use crate::devices::Devices;
@@ -27,8 +25,8 @@ use unit_record::Console;
 impl Devices {
     /// Serves the device of this address: the channel program that was started runs as a whole on these channels, and
     /// its status is pending. Tells whether there was one; else nothing has happened. An error is told only where
-    /// memory was refused, or a page is not present that the program names. Where the channels are whole, nothing has
-    /// happened in the latter case.
+    /// memory was refused, or a page is not present that the program needs. Where the channels are whole, there is no
+    /// room for that page then, and nothing has happened but that pages came which the program needs.
     pub fn serve<S: Storage, C: Channels<S>>(
         &mut self,
         queues: &mut Queues,
@@ -38,6 +36,7 @@ impl Devices {
         device: DevAddr,
     ) -> Result<bool, ChannelError>
         requires user { self.old.user < length queues.old.users }
+        requires ready { C.IsReady storage.old }
         ensures served { let before = equipped machine.old (devices_on self.old queues.old) (C.disks channels.old) (S.bytes storage.old)
             (S.keys storage.old) in
             let after = equipped machine.new (devices_on self.new queues.new) (C.disks channels.new) (S.bytes storage.new)
@@ -47,17 +46,19 @@ impl Devices {
             (S.keys storage.old) in
             let after = equipped machine.new (devices_on self.new queues.new) (C.disks channels.new) (S.bytes storage.new)
             (S.keys storage.new) in
+            let needs = ServeNeeds C.holds device before in
             C.is_whole ≡ true
-            → IfErr result (WhereAbsent (length (S.bytes storage.old)) (S.present storage.old)
-            (ServeNeeds C.needs device before) (after ≡ before)) }
+            → IfErr result (WhereOut (length (S.bytes storage.old)) needs (NoRoom C.IsOut C.IsFilled S.present storage.new needs) (after ≡ before)) }
         ensures stopped { let before = equipped machine.old (devices_on self.old queues.old) (C.disks channels.old) (S.bytes storage.old)
             (S.keys storage.old) in
             C.is_whole ≡ false → IfErr result (StopsAt C.reads (S.present storage.old) device before) }
-        ensures away { IfErr result (TellsAway (S.present storage.old)) }
         ensures others { C.KeepsOthers channels.old channels.new }
         ensures beside { KeepsBeside self.old queues.old self.new queues.new }
         ensures keys { S.keys storage.new ≡ S.keys storage.old }
-        ensures rest { S.Keeps storage.old storage.new }
+        ensures came { let before = equipped machine.old (devices_on self.old queues.old) (C.disks channels.old) (S.bytes storage.old)
+            (S.keys storage.old) in
+            Brings C.Came storage.old (ServeNeeds C.holds device before) storage.new }
+        ensures ready { C.IsReady storage.new }
     {
         let Some(kind) = self.kind_at(channels, device.get()) else {
             return Ok(false);
@@ -84,6 +85,7 @@ impl Devices {
     ) -> Result<(), ChannelError>
         requires attached { IsAttached (C.disks channels.old) kind }
         requires user { self.old.user < length queues.old.users }
+        requires ready { C.IsReady storage.old }
         ensures runs { let before = equipped machine.old (devices_on self.old queues.old) (C.disks channels.old) (S.bytes storage.old)
             (S.keys storage.old) in
             let after = equipped machine.new (devices_on self.new queues.new) (C.disks channels.new) (S.bytes storage.new)
@@ -93,37 +95,48 @@ impl Devices {
             (S.keys storage.old) in
             let after = equipped machine.new (devices_on self.new queues.new) (C.disks channels.new) (S.bytes storage.new)
             (S.keys storage.new) in
+            let needs = KindNeeds C.holds kind start before in
             C.is_whole ≡ true
-            → IfErr result (WhereAbsent (length (S.bytes storage.old)) (S.present storage.old)
-            (C.needs (memory_of (S.bytes storage.old) (S.keys storage.old)) start.address) (after ≡ before)) }
+            → IfErr result (WhereOut (length (S.bytes storage.old)) needs (NoRoom C.IsOut C.IsFilled S.present storage.new needs) (after ≡ before)) }
         ensures stopped { let before = equipped machine.old (devices_on self.old queues.old) (C.disks channels.old) (S.bytes storage.old)
             (S.keys storage.old) in
             C.is_whole ≡ false → IfErr result (StopsKind C.reads (S.present storage.old) kind start before) }
-        ensures away { IfErr result (TellsAway (S.present storage.old)) }
         ensures others { C.KeepsOthers channels.old channels.new }
         ensures beside { KeepsBeside self.old queues.old self.new queues.new }
         ensures keys { S.keys storage.new ≡ S.keys storage.old }
-        ensures rest { S.Keeps storage.old storage.new }
+        ensures came { let before = equipped machine.old (devices_on self.old queues.old) (C.disks channels.old) (S.bytes storage.old)
+            (S.keys storage.old) in
+            Brings C.Came storage.old (KindNeeds C.holds kind start before) storage.new }
+        ensures ready { C.IsReady storage.new }
     {
         let key = start.key;
-        let ended = match kind {
+        let ending = match kind {
             Kind::Console => return self.run_console(
                 queues, machine, storage, channels, device, start,
             ),
             Kind::Reader => return self.run_reader(
                 queues, machine, storage, channels, device, start,
             ),
-            Kind::Punch => channels.run(storage, start, UnitRecord::Punch, &mut self.punch),
-            Kind::Printer => channels.run(storage, start, UnitRecord::Printer, &mut self.printer),
-            Kind::Disk(index) => channels.run_disk(storage, start, index),
+            Kind::Punch => match channels.run(storage, start, UnitRecord::Punch, &mut self.punch) {
+                Ok(ending) => ending,
+                Err(error) => return Err(error),
+            },
+            Kind::Printer => match channels.run(
+                storage,
+                start,
+                UnitRecord::Printer,
+                &mut self.printer,
+            ) {
+                Ok(ending) => ending,
+                Err(error) => return Err(error),
+            },
+            Kind::Disk(index) => match channels.run_disk(storage, start, index) {
+                Ok(ending) => ending,
+                Err(error) => return Err(error),
+            },
         };
-        match ended {
-            Ok(ending) => {
-                machine.end_program(device, key, ending);
-                Ok(())
-            }
-            Err(error) => Err(error),
-        }
+        machine.end_program(device, key, ending);
+        Ok(())
     }
 
     /// The program of the reader runs.
@@ -136,7 +149,8 @@ impl Devices {
         device: DevAddr,
         start: Caw,
     ) -> Result<(), ChannelError>
-        requires { self.old.user < length queues.old.users }
+        requires user { self.old.user < length queues.old.users }
+        requires ready { C.IsReady storage.old }
         ensures runs { let before = equipped machine.old (devices_on self.old queues.old) (C.disks channels.old) (S.bytes storage.old)
             (S.keys storage.old) in
             let after = equipped machine.new (devices_on self.new queues.new) (C.disks channels.new) (S.bytes storage.new)
@@ -146,17 +160,19 @@ impl Devices {
             (S.keys storage.old) in
             let after = equipped machine.new (devices_on self.new queues.new) (C.disks channels.new) (S.bytes storage.new)
             (S.keys storage.new) in
+            let needs = KindNeeds C.holds kinds.Reader start before in
             C.is_whole ≡ true
-            → IfErr result (WhereAbsent (length (S.bytes storage.old)) (S.present storage.old)
-            (C.needs (memory_of (S.bytes storage.old) (S.keys storage.old)) start.address) (after ≡ before)) }
+            → IfErr result (WhereOut (length (S.bytes storage.old)) needs (NoRoom C.IsOut C.IsFilled S.present storage.new needs) (after ≡ before)) }
         ensures stopped { let before = equipped machine.old (devices_on self.old queues.old) (C.disks channels.old) (S.bytes storage.old)
             (S.keys storage.old) in
             C.is_whole ≡ false → IfErr result (StopsKind C.reads (S.present storage.old) kinds.Reader start before) }
-        ensures away { IfErr result (TellsAway (S.present storage.old)) }
         ensures others { C.KeepsOthers channels.old channels.new }
         ensures beside { KeepsBeside self.old queues.old self.new queues.new }
         ensures keys { S.keys storage.new ≡ S.keys storage.old }
-        ensures rest { S.Keeps storage.old storage.new }
+        ensures came { let before = equipped machine.old (devices_on self.old queues.old) (C.disks channels.old) (S.bytes storage.old)
+            (S.keys storage.old) in
+            Brings C.Came storage.old (KindNeeds C.holds kinds.Reader start before) storage.new }
+        ensures ready { C.IsReady storage.new }
     {
         let key = start.key;
         match feed(
@@ -185,6 +201,7 @@ impl Devices {
         device: DevAddr,
         start: Caw,
     ) -> Result<(), ChannelError>
+        requires { C.IsReady storage.old }
         ensures runs { let before = equipped machine.old (devices_on self.old queues.now) (C.disks channels.old) (S.bytes storage.old)
             (S.keys storage.old) in
             let after = equipped machine.new (devices_on self.new queues.now) (C.disks channels.new) (S.bytes storage.new)
@@ -194,17 +211,19 @@ impl Devices {
             (S.keys storage.old) in
             let after = equipped machine.new (devices_on self.new queues.now) (C.disks channels.new) (S.bytes storage.new)
             (S.keys storage.new) in
+            let needs = KindNeeds C.holds kinds.Console start before in
             C.is_whole ≡ true
-            → IfErr result (WhereAbsent (length (S.bytes storage.old)) (S.present storage.old)
-            (C.needs (memory_of (S.bytes storage.old) (S.keys storage.old)) start.address) (after ≡ before)) }
+            → IfErr result (WhereOut (length (S.bytes storage.old)) needs (NoRoom C.IsOut C.IsFilled S.present storage.new needs) (after ≡ before)) }
         ensures stopped { let before = equipped machine.old (devices_on self.old queues.now) (C.disks channels.old) (S.bytes storage.old)
             (S.keys storage.old) in
             C.is_whole ≡ false → IfErr result (StopsConsole C.reads (S.present storage.old) start before) }
-        ensures away { IfErr result (TellsAway (S.present storage.old)) }
         ensures others { C.KeepsOthers channels.old channels.new }
         ensures user { self.new.user ≡ self.old.user }
         ensures keys { S.keys storage.new ≡ S.keys storage.old }
-        ensures rest { S.Keeps storage.old storage.new }
+        ensures came { let before = equipped machine.old (devices_on self.old queues.now) (C.disks channels.old) (S.bytes storage.old)
+            (S.keys storage.old) in
+            Brings C.Came storage.old (KindNeeds C.holds kinds.Console start before) storage.new }
+        ensures ready { C.IsReady storage.new }
     {
         let key = start.key;
         let ending = match channels.run(storage, start, UnitRecord::Console, &mut self.console) {

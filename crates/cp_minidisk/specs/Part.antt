@@ -17,6 +17,10 @@ pub record Part : Type 0 where
 abbrev pub with_disk : Part → Disk → Part
 with_disk p d = record { below = p.below; disk = d; above = p.above }
 
+-- what its user sees
+abbrev pub disk_seen : Part → Disk
+disk_seen p = p.disk
+
 -- It does what its disk does, and the other cylinders stay.
 abbrev pub part_machine : Machine Part
 part_machine =

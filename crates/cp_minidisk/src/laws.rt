@@ -1,5 +1,7 @@
 //! What is proved of minidisks on volumes: each function is a law about definitions.
+ghost use Rattle.s370_walk.specs.Viewed.{IsViewed};
 ghost use Rattle.ckd_volume.specs.Unit.{disk_machine};
+ghost use Rattle.cp_minidisk.specs.Part.{disk_seen, part_machine};
 ghost use Rattle.cp_minidisk.specs.Kept.{Keeps};
 ghost use Rattle.cp_minidisk.specs.Laws as laws;
 ghost use Rattle.cp_minidisk.specs.PartLaws as parts;
@@ -83,4 +85,10 @@ pub fn a_part_walks_as_its_disk()
 pub fn a_part_keeps_its_extent()
     ensures extent { parts.KeepsItsExtent }
     ensures read_only { parts.NeverWrites }
+{}
+
+/// What a user sees of a part of a volume, his disk, is enough for each walk: a program that was tried on the disk was
+/// tried on the part.
+pub fn a_part_is_seen_as_its_disk()
+    ensures { IsViewed part_machine disk_machine disk_seen }
 {}

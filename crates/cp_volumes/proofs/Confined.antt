@@ -1,5 +1,5 @@
 -- What changes on a volume when a minidisk on it changes.
-use Rattle.std.specs.Prelude.{ℕ, zero, suc, ◌+◌, ◌-◌, ◌≡◌, ◌≤◌, ◌<◌, ◌⊎◌, refl, Bool, true, false, List, [], ◌∷◌, ◌++◌, length, take, drop}
+use Rattle.std.specs.Prelude.{ℕ, zero, suc, ◌+◌, ◌-◌, ◌≡◌, ◌≤◌, ◌<◌, ◌⊎◌, refl, Bool, true, false, List, [], ◌∷◌, ◌++◌, length, take, drop, slice_index_or}
 use Rattle.std.proofs.Common.{sym, ◌∙◌, ap, subst, inl, inr, arith, set, ◌==◌, get_or-set_same, get_or-set_other, length-append, length-set}
 use Rattle.std.proofs.lemmas.Bool.Decides.{nat_tests}
 use Rattle.std.proofs.lemmas.List.{take-append-le, drop-append-le, length-drop}
@@ -10,7 +10,7 @@ use Rattle.cp_minidisk.specs.Extent.{ExtentValue}
 use Rattle.cp_minidisk.specs.Minidisk.{HasExtent, slice, before, behind}
 use Rattle.ckd_volume.specs.Unit.{volume_of}
 use Rattle.cp_minidisk.specs.Minidisk.{MinidiskValue}
-use Rattle.cp_minidisk.specs.Part.{Part, part_on, unit_of}
+use Rattle.cp_minidisk.specs.Part.{Part, extent_of, minidisk_of, part_on, unit_of}
 use Rattle.cp_minidisk.proofs.Serving.{before_size, slice_size}
 use Rattle.cp_minidisk.proofs.Slicing.{in_parts}
 use Rattle.cp_volumes.specs.Running.{KeepsVolume}
@@ -135,3 +135,27 @@ confined_by volumes away new d mounted q seated inside is kept a b =
     let left : IsLeft d.minidisk.extent (volume_at volumes d.volume) (volume_of (unit_of q)) = left_by (volume_at volumes d.volume) d.minidisk q seated (subst (λ (p : Part). KeepsVolume p q) is kept) in
     let same : new ≡ set volumes d.volume (volume_of (unit_of q)) = b ∙ ap (λ (vs : List VolumeFormat). set vs d.volume (volume_of (unit_of q))) a ∙ set_twice volumes d.volume no_volume (volume_of (unit_of q)) in
     subst (λ (vs : List VolumeFormat). IsConfined (stand_of d ∷ []) volumes vs) (sym same) (confined_one volumes (stand_of d) (volume_of (unit_of q)) left inside)
+
+-- ---- a program that did not run
+
+set_back : (xs : List VolumeFormat) (i : ℕ) (v : VolumeFormat) → slice_index_or xs i no_volume ≡ v → i < length xs → set xs i v ≡ xs
+set_back [] i v is inside = refl
+set_back (x ∷ xs) zero v is inside = ap (λ (y : VolumeFormat). y ∷ xs) (sym is)
+set_back (x ∷ xs) (suc i) v is inside = ap (λ (ys : List VolumeFormat). x ∷ ys) (set_back xs i v is (omega (arith, inside)))
+
+-- what was mounted and is as it was leaves the volumes as they were
+pub same_by : (volumes away new : List VolumeFormat) (d : SharedMinidisk) (mounted q : Part) → IsSeated volumes (stand_of d) → d.volume < length volumes → mounted ≡ part_on (volume_at volumes d.volume) d.minidisk → q ≡ mounted
+    → away ≡ set volumes d.volume no_volume → new ≡ set away d.volume (volume_of (unit_of q)) → new ≡ volumes
+same_by volumes away new d mounted q seated inside is kept a b =
+    let v = volume_at volumes d.volume in
+    let whole : volume_of (unit_of (part_on v d.minidisk)) ≡ v = ap (λ (cs : List Cylinder). record v { cylinders = cs }) (in_parts v d.minidisk.extent seated) in
+    let there : volume_of (unit_of q) ≡ v = ap (λ (p : Part). volume_of (unit_of p)) (kept ∙ is) ∙ whole in
+    b ∙ ap (λ (vs : List VolumeFormat). set vs d.volume (volume_of (unit_of q))) a ∙ set_twice volumes d.volume no_volume (volume_of (unit_of q)) ∙ set_back volumes d.volume (volume_of (unit_of q)) (sym there) inside
+
+-- a minidisk stands where it stood
+pub stands_by : (volumes : List VolumeFormat) (d new : SharedMinidisk) (mounted q : Part) → IsSeated volumes (stand_of d) → mounted ≡ part_on (volume_at volumes d.volume) d.minidisk → KeepsVolume mounted q
+    → new ≡ record d { minidisk = minidisk_of q } → stand_of new ≡ stand_of d
+stands_by volumes d new mounted q seated is kept new_is =
+    let v = volume_at volumes d.volume in
+    let own : extent_of (part_on v d.minidisk) ≡ d.minidisk.extent = rw (before_size v d.minidisk.extent seated, slice_size v d.minidisk.extent seated) refl in
+    ap stand_of new_is ∙ ap (λ (e : ExtentValue). record { address = d.address; volume = d.volume; extent = e }) (kept.extent ∙ ap (λ (p : Part). extent_of p) is ∙ own)

@@ -1,31 +1,28 @@
 -- What a program leaves of a minidisk that is mounted on the unit of its volume.
-use Rattle.std.specs.Prelude.{ℕ, ◌≡◌, refl, Bool, None, length}
-use Rattle.std.proofs.Common.{sym, ◌∙◌, subst, inl, inr}
-use Rattle.std.proofs.lemmas.Bool.{false≢true, true≢false}
-use Rattle.s370_store.specs.Access.{IsAway}
+use Rattle.std.specs.Prelude.{ℕ, ◌≡◌, refl, None, IfOk, Result, Ok, Err}
+use Rattle.std.proofs.Common.{subst, sym}
 use Rattle.s370_walk.specs.declared.parts.Ending.{Ending}
 use Rattle.s370_walk.specs.Hardware.{Memory}
-use Rattle.s370_walk.specs.Short.{nothing_needed}
 use Rattle.s370_walk.specs.Walk.{Setting, State, Over, Reaches, live, start_spot}
-use Rattle.s370_channel.specs.declared.running.ChannelError.{ChannelError}
-use Rattle.s370_channel.specs.declared.running.ChannelError.TheVariants as errors
 use Rattle.s370_channel.specs.declared.words.Caw.{Caw}
 use Rattle.s370_channel.specs.Guest.{guest_written}
-use Rattle.s370_channel.specs.Loading.{MatchLoading, loading, loading_limits, implied_word}
+use Rattle.s370_channel.specs.Loading.{loading, loading_limits, implied_word}
 use Rattle.s370_channel.specs.Progress.{setting}
 use Rattle.s370_channel.specs.Reading.{as_reached}
 use Rattle.s370_channel.specs.Runs.{Walks, limited}
 use Rattle.ckd_volume.specs.Unit.{disk_machine}
-use Rattle.cp_channels.specs.Channels.{IsAllThere, WalksLoading}
-use Rattle.cp_channels.proofs.Staying.{loading_lacks}
+use Rattle.cp_channels.specs.Channels.{WalksLoading}
 use Rattle.cp_minidisk.specs.Kept.{Keeps, device_in}
-use Rattle.cp_minidisk.specs.Part.{Part, extent_of, part_machine}
+use Rattle.cp_minidisk.specs.Part.{Part, disk_seen, extent_of, part_machine}
 use Rattle.cp_minidisk.specs.PartLaws.{HasSameNeighbours}
 use Rattle.cp_minidisk.specs.Placed.{IsReadOnly}
 use Rattle.cp_minidisk.specs.Projected.{seen}
 use Rattle.cp_minidisk.proofs.Along as along
 use Rattle.cp_minidisk.proofs.Parting.{HasExtentOf, extent_kept, extent_same, follows, neighbours_kept, read_only_kept}
 use Rattle.cp_minidisk.proofs.Walked as walked
+use Rattle.s370_walk.specs.Viewed.{IsViewed}
+use Rattle.cp_trial.specs.declared.TriedError.{TriedError}
+use Rattle.cp_trial.specs.declared.TriedError.TheVariants as tries
 use Rattle.cp_volumes.specs.Running.{KeepsVolume}
 
 -- ---- what is kept in each step
@@ -89,10 +86,38 @@ loading_keeps m n p q end to =
     let first : IsKept p (device_in (loading part_machine m p)) = along.of_entry loading_part (IsKept p) (each_keeps p) (start_spot 0) implied_word None m p (at_first p) in
     kept_volume p q (along.reach_keeps loading_part (IsKept p) (each_keeps p) (live guest_written) _ _ to first)
 
--- over a storage each page of which is present the program of a loading comes to its end
-pub never_lacking : (present : ℕ → Bool) (m : Memory) (p : Part) (error : ChannelError) → IsAllThere (length m.bytes) present → MatchLoading guest_written part_machine nothing_needed present m p error → ⊥
-never_lacking present m p errors.Memory all (inl needed) = false≢true needed
-never_lacking present m p errors.Memory all (inr short) = false≢true short.needed
-never_lacking present m p (errors.Absent page) all s =
-    let lacks : IsAway (length m.bytes) present page.0 = loading_lacks guest_written part_machine nothing_needed present m p page s in
-    true≢false (sym (all page.0 lacks.inside) ∙ lacks.away)
+-- a minidisk that was mounted, and on which nothing ran, is as it was
+pub kept_same : (p : Part) → KeepsVolume p p
+kept_same p = kept_volume p p (at_first p)
+
+-- ---- a program that was tried
+
+pub part_viewed : IsViewed part_machine disk_machine disk_seen
+part_viewed = record {
+  answer = λ p order. refl;
+  started = λ p order. refl;
+  done = λ p. refl;
+  gives = λ p. refl;
+  gave = λ p. refl;
+  took = λ p byte. refl;
+  status = λ p. refl;
+  finished = λ p. refl;
+}
+
+pub walks_ok : (start : Caw) (m n : Memory) (p q : Part) (r : Result Ending TriedError) → IfOk r (λ end. Walks as_reached part_machine start m p end n q) → IfOk r (λ end. Walks as_reached disk_machine start m p.disk end n q.disk)
+walks_ok start m n p q (Ok end) walk = program_walks start m n p q end walk
+walks_ok start m n p q (Err error) walk = tt
+
+pub keeps_ok : (start : Caw) (m n : Memory) (p q : Part) (r : Result Ending TriedError) → IfOk r (λ end. Walks as_reached part_machine start m p end n q) → (r ≡ Err tries.Memory → q ≡ p) → (r ≡ Err tries.FramesOut → q ≡ p) → KeepsVolume p q
+keeps_ok start m n p q (Ok end) walk memory out = program_keeps start m n p q end walk
+keeps_ok start m n p q (Err tries.Memory) walk memory out = subst (λ (x : Part). KeepsVolume p x) (sym (memory refl)) (kept_same p)
+keeps_ok start m n p q (Err tries.FramesOut) walk memory out = subst (λ (x : Part). KeepsVolume p x) (sym (out refl)) (kept_same p)
+
+pub loads_ok : (m n : Memory) (p q : Part) (r : Result Ending TriedError) → IfOk r (λ end. WalksLoading part_machine m p end n q) → IfOk r (λ end. WalksLoading disk_machine m p.disk end n q.disk)
+loads_ok m n p q (Ok end) walk = loading_walks m n p q end walk
+loads_ok m n p q (Err error) walk = tt
+
+pub load_keeps_ok : (m n : Memory) (p q : Part) (r : Result Ending TriedError) → IfOk r (λ end. WalksLoading part_machine m p end n q) → (r ≡ Err tries.Memory → q ≡ p) → (r ≡ Err tries.FramesOut → q ≡ p) → KeepsVolume p q
+load_keeps_ok m n p q (Ok end) walk memory out = loading_keeps m n p q end walk
+load_keeps_ok m n p q (Err tries.Memory) walk memory out = subst (λ (x : Part). KeepsVolume p x) (sym (memory refl)) (kept_same p)
+load_keeps_ok m n p q (Err tries.FramesOut) walk memory out = subst (λ (x : Part). KeepsVolume p x) (sym (out refl)) (kept_same p)

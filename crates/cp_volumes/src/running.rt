@@ -1,52 +1,72 @@
-//! Programs of a minidisk that is mounted on the unit of its volume: each runs to its end.
-ghost use Rattle.std.specs.Prelude.{◌≡◌, length};
+//! Programs of a minidisk that is mounted on the unit of its volume: each was tried, and runs to its end or not at all.
+ghost use Rattle.std.specs.Prelude.{◌≡◌, IfOk, OnErr, Err};
 ghost use Rattle.s370_channel.specs.Reading.{as_reached};
 ghost use Rattle.s370_channel.specs.Runs.{Walks};
 ghost use Rattle.s370_walk.specs.Hardware.{memory_of};
 ghost use Rattle.ckd_volume.specs.Unit.{disk_machine};
-ghost use Rattle.cp_channels.specs.Channels.{IsAllThere, WalksLoading};
-ghost use Rattle.cp_needs.specs.Words.{IsEnough};
+ghost use Rattle.cp_channels.specs.Channels.{WalksLoading};
+ghost use Rattle.cp_dat.specs.Copies.{CameOnly, is_wanted};
+ghost use Rattle.cp_dat.specs.Lent.{lent_bytes, lent_keys, lent_pool};
+ghost use Rattle.cp_dat.specs.Supplied.{IsBetweenUnits};
+ghost use Rattle.channel_trial.specs.Trial.{trial_bytes, trial_flags};
+ghost use Rattle.channel_trial.specs.Tried.{IsLoadingTried, IsProgramTried};
+ghost use Rattle.cp_trial.specs.Tried.{LacksSuch};
+ghost use Rattle.cp_trial.specs.declared.TriedError.TheVariants as errors;
 ghost use Rattle.cp_volumes.specs.Running.{KeepsVolume};
 
+use channel_trial::TrialStorage;
+use cp_dat::Dat;
 use cp_minidisk::Mounted;
-use cp_needs::run_held;
-use s370_channel::{Caw, Guest, Limits, MOST_COMMANDS, run_ipl};
-use s370_store::Storage;
+use cp_trial::{TriedError, load_tried, run_tried};
+use s370_channel::Caw;
 use s370_walk::Ending;
+use std::alloc::Global;
 
-/// The program with this start runs, each word read when it is reached, over a storage that has the pages which it needs.
-pub(crate) fn run_mounted<S: Storage>(mounted: &mut Mounted, storage: &mut S, start: Caw) -> Ending
-    requires { IsEnough (memory_of (S.bytes storage.old) (S.keys storage.old)) (S.present storage.old) start.address }
-    ensures walk { Walks as_reached disk_machine start (memory_of (S.bytes storage.old) (S.keys storage.old))
-        mounted.old.disk result (memory_of (S.bytes storage.new) (S.keys storage.new)) mounted.new.disk }
+/// The program with this start, which was tried, runs.
+pub(crate) fn run_mounted(
+    alloc: Global,
+    mounted: &mut Mounted,
+    storage: &mut Dat<'_>,
+    start: Caw,
+    tried: &TrialStorage,
+) -> Result<Ending, TriedError>
+    requires tried { IsProgramTried disk_machine start (memory_of (lent_bytes storage.old) (lent_keys storage.old))
+        mounted.old.disk (trial_bytes tried.now) (trial_flags tried.now) }
+    requires between { IsBetweenUnits (lent_pool storage.old).supply }
+    ensures walk { IfOk result (λ ending. Walks as_reached disk_machine start
+        (memory_of (lent_bytes storage.old) (lent_keys storage.old)) mounted.old.disk ending
+        (memory_of (lent_bytes storage.new) (lent_keys storage.new)) mounted.new.disk) }
+    ensures same { OnErr result (mounted.new ≡ mounted.old) }
+    ensures bytes { result ≡ Err errors.FramesOut → lent_bytes storage.new ≡ lent_bytes storage.old }
+    ensures lacking { result ≡ Err errors.FramesOut → LacksSuch (is_wanted (trial_flags tried.now)) storage.new }
     ensures volume { KeepsVolume mounted.old mounted.new }
-    ensures keys { S.keys storage.new ≡ S.keys storage.old }
-    ensures rest { S.Keeps storage.old storage.new }
+    ensures came { CameOnly storage.old (is_wanted (trial_flags tried.now)) storage.new }
+    ensures between { IsBetweenUnits (lent_pool storage.new).supply }
+    ensures keys { lent_keys storage.new ≡ lent_keys storage.old }
 {
-    let limits = Limits {
-        key: start.key,
-        commands: MOST_COMMANDS,
-        prefix: 0,
-    };
-    match run_held(storage, start.address.get(), &limits, mounted) {
-        Ok(ending) => ending,
-        // No command of a disk needs memory.
-        Err(_) => unreachable!(),
-    }
+    run_tried(alloc, storage, start, mounted, tried)
 }
 
-/// The program of an initial program loading runs, over a storage each page of which is present.
-pub(crate) fn load_mounted<S: Storage>(mounted: &mut Mounted, storage: &mut S) -> Ending
-    requires { IsAllThere (length (S.bytes storage.old)) (S.present storage.old) }
-    ensures walk { WalksLoading disk_machine (memory_of (S.bytes storage.old) (S.keys storage.old))
-        mounted.old.disk result (memory_of (S.bytes storage.new) (S.keys storage.new)) mounted.new.disk }
+/// The program of an initial program loading, which was tried, runs.
+pub(crate) fn load_mounted(
+    alloc: Global,
+    mounted: &mut Mounted,
+    storage: &mut Dat<'_>,
+    tried: &TrialStorage,
+) -> Result<Ending, TriedError>
+    requires tried { IsLoadingTried disk_machine (memory_of (lent_bytes storage.old) (lent_keys storage.old))
+        mounted.old.disk (trial_bytes tried.now) (trial_flags tried.now) }
+    requires between { IsBetweenUnits (lent_pool storage.old).supply }
+    ensures walk { IfOk result (λ ending. WalksLoading disk_machine
+        (memory_of (lent_bytes storage.old) (lent_keys storage.old)) mounted.old.disk ending
+        (memory_of (lent_bytes storage.new) (lent_keys storage.new)) mounted.new.disk) }
+    ensures same { OnErr result (mounted.new ≡ mounted.old) }
+    ensures bytes { result ≡ Err errors.FramesOut → lent_bytes storage.new ≡ lent_bytes storage.old }
+    ensures lacking { result ≡ Err errors.FramesOut → LacksSuch (is_wanted (trial_flags tried.now)) storage.new }
     ensures volume { KeepsVolume mounted.old mounted.new }
-    ensures keys { S.keys storage.new ≡ S.keys storage.old }
-    ensures rest { S.Keeps storage.old storage.new }
+    ensures came { CameOnly storage.old (is_wanted (trial_flags tried.now)) storage.new }
+    ensures between { IsBetweenUnits (lent_pool storage.new).supply }
+    ensures keys { lent_keys storage.new ≡ lent_keys storage.old }
 {
-    match run_ipl(&Guest, storage, mounted) {
-        Ok(ending) => ending,
-        // Each page is present, and no command of a disk needs memory.
-        Err(_) => unreachable!(),
-    }
+    load_tried(alloc, storage, mounted, tried)
 }

@@ -1,18 +1,25 @@
 //! The minidisks of one user, with the volumes on which they stand.
-ghost use Rattle.std.specs.Prelude.{◌≡◌, ◌==◌, ◌<◌, IfSome, length, map};
+ghost use Rattle.std.specs.Prelude.{◌≡◌, ◌==◌, ◌<◌, Err, IfOk, IfSome, OnErr, length, map, slice_get};
 ghost use Rattle.std.specs.List.{position};
 ghost use Rattle.s370_channel.specs.Reading.{as_reached};
 ghost use Rattle.s370_walk.specs.Hardware.{memory_of};
-ghost use Rattle.cp_channels.specs.Channels.{IsAllThere, LoadsDisk, WalksDisk};
+ghost use Rattle.cp_channels.specs.Channels.{LoadsDisk, WalksDisk};
 ghost use Rattle.cp_channels.specs.Disks.{cleared_disk, is_disk_at, reset_disk};
-ghost use Rattle.cp_needs.specs.Words.{IsEnough};
+ghost use Rattle.cp_dat.specs.Copies.{CameOnly};
+ghost use Rattle.cp_dat.specs.Lent.{lent_bytes, lent_keys, lent_pool};
+ghost use Rattle.cp_dat.specs.Supplied.{IsBetweenUnits};
+ghost use Rattle.cp_trial.specs.Tried.{LacksSuch};
+ghost use Rattle.cp_trial.specs.declared.TriedError.TheVariants as errors;
+ghost use Rattle.cp_volumes.specs.Running.{DiskLoadTouches, DiskTouches};
 ghost use Rattle.cp_volumes.specs.Shared.{IsUsers, KeepsNeighbours, cleared_minidisk, reset_minidisk, seen, stands_of};
 
 use crate::shared_disk::SharedDisk;
 use crate::volumes::Volumes;
+use cp_dat::Dat;
+use cp_trial::TriedError;
 use s370_channel::Caw;
-use s370_store::Storage;
 use s370_walk::Ending;
+use std::alloc::Global;
 use std::marker::Model;
 
 /// The minidisks of a user on volumes that others share: no two of his stand where one of them is written.
@@ -74,32 +81,64 @@ impl UserDisks {
         clear_each(&mut self.minidisks);
     }
 
-    /// The program with this start runs on the minidisk of this index, over a storage that has the pages which it needs.
-    pub fn run_disk<S: Storage>(&mut self, storage: &mut S, start: Caw, index: usize) -> Ending
+    /// The program with this start runs on the minidisk of this index: where there is room for the pages that it touches, and
+    /// else not at all.
+    pub fn run_disk(
+        &mut self,
+        alloc: Global,
+        storage: &mut Dat<'_>,
+        start: Caw,
+        index: usize,
+    ) -> Result<Ending, TriedError>
         requires inside { index < length (seen self.old) }
-        requires enough { IsEnough (memory_of (S.bytes storage.old) (S.keys storage.old)) (S.present storage.old)
-            start.address }
-        ensures walk { WalksDisk as_reached start (memory_of (S.bytes storage.old) (S.keys storage.old))
-            (seen self.old) index result (memory_of (S.bytes storage.new) (S.keys storage.new)) (seen self.new) }
+        requires between { IsBetweenUnits (lent_pool storage.old).supply }
+        ensures walk { IfOk result (λ ending. WalksDisk as_reached start
+            (memory_of (lent_bytes storage.old) (lent_keys storage.old)) (seen self.old) index ending
+            (memory_of (lent_bytes storage.new) (lent_keys storage.new)) (seen self.new)) }
+        ensures same { OnErr result (self.new ≡ self.old) }
+        ensures bytes { result ≡ Err errors.FramesOut → lent_bytes storage.new ≡ lent_bytes storage.old }
+        ensures lacking { result ≡ Err errors.FramesOut → LacksSuch (DiskTouches start
+            (memory_of (lent_bytes storage.old) (lent_keys storage.old)) (slice_get (seen self.old) index)) storage.new }
+        ensures came { CameOnly storage.old (DiskTouches start
+            (memory_of (lent_bytes storage.old) (lent_keys storage.old)) (slice_get (seen self.old) index)) storage.new }
+        ensures between { IsBetweenUnits (lent_pool storage.new).supply }
         ensures others { KeepsNeighbours self.old self.new }
-        ensures keys { S.keys storage.new ≡ S.keys storage.old }
-        ensures rest { S.Keeps storage.old storage.new }
+        ensures keys { lent_keys storage.new ≡ lent_keys storage.old }
     {
-        self.volumes.run(&mut self.minidisks[index], storage, start)
+        let mut seat = self.minidisks[index];
+        let ending = self.volumes.run(alloc, &mut seat, storage, start)?;
+        self.minidisks[index] = seat;
+        Ok(ending)
     }
 
-    /// The program of an initial program loading runs on the minidisk of this index, over a storage each page of which
-    /// is present.
-    pub fn load_disk<S: Storage>(&mut self, storage: &mut S, index: usize) -> Ending
+    /// The minidisks are reset, and the program of an initial program loading runs on that of this index, likewise.
+    pub fn load_disk(
+        &mut self,
+        alloc: Global,
+        storage: &mut Dat<'_>,
+        index: usize,
+    ) -> Result<Ending, TriedError>
         requires inside { index < length (seen self.old) }
-        requires there { IsAllThere (length (S.bytes storage.old)) (S.present storage.old) }
-        ensures walk { LoadsDisk (memory_of (S.bytes storage.old) (S.keys storage.old)) (seen self.old) index result
-            (memory_of (S.bytes storage.new) (S.keys storage.new)) (seen self.new) }
+        requires between { IsBetweenUnits (lent_pool storage.old).supply }
+        ensures walk { IfOk result (λ ending. LoadsDisk
+            (memory_of (lent_bytes storage.old) (lent_keys storage.old)) (map reset_disk (seen self.old)) index ending
+            (memory_of (lent_bytes storage.new) (lent_keys storage.new)) (seen self.new)) }
+        ensures same { OnErr result (self.new ≡ self.old) }
+        ensures bytes { result ≡ Err errors.FramesOut → lent_bytes storage.new ≡ lent_bytes storage.old }
+        ensures lacking { result ≡ Err errors.FramesOut → LacksSuch (DiskLoadTouches
+            (memory_of (lent_bytes storage.old) (lent_keys storage.old)) (slice_get (map reset_disk (seen self.old)) index)) storage.new }
+        ensures came { CameOnly storage.old (DiskLoadTouches
+            (memory_of (lent_bytes storage.old) (lent_keys storage.old)) (slice_get (map reset_disk (seen self.old)) index)) storage.new }
+        ensures between { IsBetweenUnits (lent_pool storage.new).supply }
         ensures others { KeepsNeighbours self.old self.new }
-        ensures keys { S.keys storage.new ≡ S.keys storage.old }
-        ensures rest { S.Keeps storage.old storage.new }
+        ensures keys { lent_keys storage.new ≡ lent_keys storage.old }
     {
-        self.volumes.load(&mut self.minidisks[index], storage)
+        let mut seat = self.minidisks[index];
+        seat.reset();
+        let ending = self.volumes.load(alloc, &mut seat, storage)?;
+        reset_each(&mut self.minidisks);
+        self.minidisks[index] = seat;
+        Ok(ending)
     }
 }
 

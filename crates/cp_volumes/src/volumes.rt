@@ -1,20 +1,33 @@
 //! The volumes of a system, each once and on a unit of its own.
-ghost use Rattle.std.specs.Prelude.{◌≡◌, ◌<◌, [], ◌∷◌, IfOk, IfSome, OnOk, length, slice_get, slice_set, Some, option_copied};
+ghost use Rattle.std.specs.Prelude.{◌≡◌, ◌<◌, [], ◌∷◌, Err, IfOk, IfSome, OnErr, OnOk, length, slice_get, slice_set, Some, option_copied};
+ghost use Rattle.s370_channel.specs.Guest.{guest_written};
+ghost use Rattle.s370_channel.specs.Loading.{loading, loading_limits};
+ghost use Rattle.s370_channel.specs.Progress.{setting};
 ghost use Rattle.s370_channel.specs.Reading.{as_reached};
+ghost use Rattle.s370_channel.specs.Runs.{begun, limited};
+ghost use Rattle.s370_channel.specs.Supplied.{IsTouched};
 ghost use Rattle.s370_walk.specs.Hardware.{memory_of};
-ghost use Rattle.ckd_volume.specs.Unit.{rested, volume_of};
-ghost use Rattle.cp_channels.specs.Channels.{IsAllThere, RestsAfter, RestsLoaded};
+ghost use Rattle.ckd_volume.specs.Unit.{disk_machine, rested, volume_of};
+ghost use Rattle.cp_channels.specs.Channels.{RestsAfter, RestsLoaded};
+ghost use Rattle.cp_dat.specs.Copies.{CameOnly};
+ghost use Rattle.cp_dat.specs.Lent.{lent_bytes, lent_keys, lent_pool};
+ghost use Rattle.cp_dat.specs.Supplied.{IsBetweenUnits};
 ghost use Rattle.cp_minidisk.specs.Minidisk.{users_disk};
 ghost use Rattle.cp_minidisk.specs.Part.{minidisk_of, part_on, unit_of};
-ghost use Rattle.cp_needs.specs.Words.{IsEnough};
+ghost use Rattle.channel_trial.specs.Trial.{trial_bytes, trial_flags};
+ghost use Rattle.channel_trial.specs.Tried.{IsLoadingTried, IsProgramTried};
+ghost use Rattle.cp_trial.specs.Tried.{LacksSuch};
+ghost use Rattle.cp_trial.specs.declared.TriedError.TheVariants as errors;
 ghost use Rattle.cp_volumes.specs.Shared.{AreThere, IsConfined, IsSeated, disk_on, no_volume, stand_of, volume_at, volume_or_none};
 
 use crate::running::{load_mounted, run_mounted};
 use crate::shared_disk::SharedDisk;
-use ckd_volume::{Arm, Sense, Unit, Volume};
+use channel_trial::TrialStorage;
+use ckd_volume::{Arm, Sense, Unit, UnitTrial, Volume};
+use cp_dat::Dat;
 use cp_minidisk::Mounted;
+use cp_trial::{TriedError, try_loading, try_program};
 use s370_channel::Caw;
-use s370_store::Storage;
 use s370_walk::Ending;
 use std::alloc::{AllocError, Global};
 use std::marker::Model;
@@ -94,48 +107,148 @@ impl Volumes {
         }
     }
 
-    /// The program with this start runs on a minidisk, over a storage that has the pages which it needs; the minidisk is
-    /// then at rest.
-    pub(crate) fn run<S: Storage>(
-        &mut self,
-        disk: &mut SharedDisk,
-        storage: &mut S,
-        start: Caw,
-    ) -> Ending
-        requires seated { IsSeated self.old (stand_of disk.old) }
-        requires enough { IsEnough (memory_of (S.bytes storage.old) (S.keys storage.old)) (S.present storage.old)
-            start.address }
-        ensures walk { RestsAfter as_reached start (memory_of (S.bytes storage.old) (S.keys storage.old))
-            (disk_on self.old disk.old) result (memory_of (S.bytes storage.new) (S.keys storage.new))
-            (disk_on self.new disk.new) }
-        ensures stands { stand_of disk.new ≡ stand_of disk.old }
-        ensures confined { IsConfined (stand_of disk.old ∷ []) self.old self.new }
-        ensures keys { S.keys storage.new ≡ S.keys storage.old }
-        ensures rest { S.Keeps storage.old storage.new }
+    /// A minidisk on trial, as its user sees it.
+    fn trial(&self, alloc: Global, disk: &SharedDisk) -> Result<UnitTrial<'_>, AllocError>
+        requires { IsSeated self.now (stand_of disk.now) }
+        ensures { IfOk result (λ trial. trial ≡ (disk_on self.now disk.now).unit) }
     {
-        let mut mounted = self.mount(disk);
-        let ending = run_mounted(&mut mounted, storage, start);
-        self.dismount(disk, mounted);
-        ending
+        let extent = disk.minidisk.extent();
+        let arm = Arm {
+            cylinder: disk.minidisk.cylinder(),
+            head: disk.minidisk.head(),
+            home: 0,
+            writable: extent.is_writable(),
+            sense: disk.minidisk.sense(),
+        };
+        let count = usize::from(extent.count());
+        match self.volume(disk.volume) {
+            Some(volume) => volume.trial(alloc, usize::from(extent.start()), count, arm),
+            // A volume on which nothing stands has no extent.
+            None => unreachable!(),
+        }
     }
 
-    /// The program of an initial program loading runs on a minidisk, over a storage each page of which is present; the
-    /// minidisk is then at rest.
-    pub(crate) fn load<S: Storage>(&mut self, disk: &mut SharedDisk, storage: &mut S) -> Ending
+    /// The program with this start is tried on a minidisk.
+    fn try_run(
+        &self,
+        alloc: Global,
+        disk: &SharedDisk,
+        storage: &Dat<'_>,
+        start: Caw,
+    ) -> Result<TrialStorage, AllocError>
+        requires { IsSeated self.now (stand_of disk.now) }
+        ensures { IfOk result (λ tried. IsProgramTried disk_machine start
+            (memory_of (lent_bytes storage.now) (lent_keys storage.now)) (disk_on self.now disk.now).unit
+            (trial_bytes tried) (trial_flags tried)) }
+    {
+        let mut trial = self.trial(alloc, disk)?;
+        try_program(alloc, storage, start, &mut trial)
+    }
+
+    /// The program of an initial program loading is tried on a minidisk.
+    fn try_load(
+        &self,
+        alloc: Global,
+        disk: &SharedDisk,
+        storage: &Dat<'_>,
+    ) -> Result<TrialStorage, AllocError>
+        requires { IsSeated self.now (stand_of disk.now) }
+        ensures { IfOk result (λ tried. IsLoadingTried disk_machine
+            (memory_of (lent_bytes storage.now) (lent_keys storage.now)) (disk_on self.now disk.now).unit
+            (trial_bytes tried) (trial_flags tried)) }
+    {
+        let mut trial = self.trial(alloc, disk)?;
+        try_loading(alloc, storage, &mut trial)
+    }
+
+    /// The program with this start runs on a minidisk, which is then at rest: where there is room for the pages that it
+    /// touches, and else not at all.
+    pub(crate) fn run(
+        &mut self,
+        alloc: Global,
+        disk: &mut SharedDisk,
+        storage: &mut Dat<'_>,
+        start: Caw,
+    ) -> Result<Ending, TriedError>
         requires seated { IsSeated self.old (stand_of disk.old) }
-        requires there { IsAllThere (length (S.bytes storage.old)) (S.present storage.old) }
-        ensures walk { RestsLoaded (memory_of (S.bytes storage.old) (S.keys storage.old))
-            (disk_on self.old disk.old) result (memory_of (S.bytes storage.new) (S.keys storage.new))
-            (disk_on self.new disk.new) }
+        requires between { IsBetweenUnits (lent_pool storage.old).supply }
+        ensures walk { IfOk result (λ ending. RestsAfter as_reached start
+            (memory_of (lent_bytes storage.old) (lent_keys storage.old)) (disk_on self.old disk.old) ending
+            (memory_of (lent_bytes storage.new) (lent_keys storage.new)) (disk_on self.new disk.new)) }
+        ensures same { OnErr result (self.new ≡ self.old) }
+        ensures bytes { result ≡ Err errors.FramesOut → lent_bytes storage.new ≡ lent_bytes storage.old }
+        ensures lacking { result ≡ Err errors.FramesOut → LacksSuch (IsTouched guest_written (limited disk_machine start)
+            (begun start (memory_of (lent_bytes storage.old) (lent_keys storage.old)) (disk_on self.old disk.old).unit))
+            storage.new }
         ensures stands { stand_of disk.new ≡ stand_of disk.old }
         ensures confined { IsConfined (stand_of disk.old ∷ []) self.old self.new }
-        ensures keys { S.keys storage.new ≡ S.keys storage.old }
-        ensures rest { S.Keeps storage.old storage.new }
+        ensures came { CameOnly storage.old (IsTouched guest_written (limited disk_machine start)
+            (begun start (memory_of (lent_bytes storage.old) (lent_keys storage.old)) (disk_on self.old disk.old).unit))
+            storage.new }
+        ensures between { IsBetweenUnits (lent_pool storage.new).supply }
+        ensures keys { lent_keys storage.new ≡ lent_keys storage.old }
     {
+        let again = Caw {
+            key: start.key,
+            address: start.address,
+        };
+        let tried = match self.try_run(alloc, disk, storage, again) {
+            Ok(tried) => tried,
+            Err(_) => return Err(TriedError::Memory),
+        };
         let mut mounted = self.mount(disk);
-        let ending = load_mounted(&mut mounted, storage);
-        self.dismount(disk, mounted);
-        ending
+        match run_mounted(alloc, &mut mounted, storage, start, &tried) {
+            Ok(ending) => {
+                self.dismount(disk, mounted);
+                Ok(ending)
+            }
+            Err(error) => {
+                self.dismount(disk, mounted);
+                Err(error)
+            }
+        }
+    }
+
+    /// The program of an initial program loading runs on a minidisk likewise.
+    pub(crate) fn load(
+        &mut self,
+        alloc: Global,
+        disk: &mut SharedDisk,
+        storage: &mut Dat<'_>,
+    ) -> Result<Ending, TriedError>
+        requires seated { IsSeated self.old (stand_of disk.old) }
+        requires between { IsBetweenUnits (lent_pool storage.old).supply }
+        ensures walk { IfOk result (λ ending. RestsLoaded
+            (memory_of (lent_bytes storage.old) (lent_keys storage.old)) (disk_on self.old disk.old) ending
+            (memory_of (lent_bytes storage.new) (lent_keys storage.new)) (disk_on self.new disk.new)) }
+        ensures same { OnErr result (self.new ≡ self.old) }
+        ensures bytes { result ≡ Err errors.FramesOut → lent_bytes storage.new ≡ lent_bytes storage.old }
+        ensures lacking { result ≡ Err errors.FramesOut → LacksSuch (IsTouched guest_written (setting disk_machine loading_limits)
+            (loading disk_machine (memory_of (lent_bytes storage.old) (lent_keys storage.old)) (disk_on self.old disk.old).unit))
+            storage.new }
+        ensures stands { stand_of disk.new ≡ stand_of disk.old }
+        ensures confined { IsConfined (stand_of disk.old ∷ []) self.old self.new }
+        ensures came { CameOnly storage.old (IsTouched guest_written (setting disk_machine loading_limits)
+            (loading disk_machine (memory_of (lent_bytes storage.old) (lent_keys storage.old)) (disk_on self.old disk.old).unit))
+            storage.new }
+        ensures between { IsBetweenUnits (lent_pool storage.new).supply }
+        ensures keys { lent_keys storage.new ≡ lent_keys storage.old }
+    {
+        let tried = match self.try_load(alloc, disk, storage) {
+            Ok(tried) => tried,
+            Err(_) => return Err(TriedError::Memory),
+        };
+        let mut mounted = self.mount(disk);
+        match load_mounted(alloc, &mut mounted, storage, &tried) {
+            Ok(ending) => {
+                self.dismount(disk, mounted);
+                Ok(ending)
+            }
+            Err(error) => {
+                self.dismount(disk, mounted);
+                Err(error)
+            }
+        }
     }
 
     /// A minidisk on the unit of its volume, which is away meanwhile.

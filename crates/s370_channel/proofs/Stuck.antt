@@ -12,11 +12,12 @@ use Rattle.s370_walk.specs.declared.parts.Kind.{Kind}
 use Rattle.s370_walk.specs.declared.parts.Kind.TheVariants.{Gives, Takes, TakesUpTo}
 use Rattle.s370_walk.specs.Hardware.{Memory, Machine, area}
 use Rattle.s370_walk.specs.Walk.{Setting, judged, Good, moving, State, Moving, Fetching, Written, Reaches, Form, next, live, rest, place_in}
-use Rattle.s370_walk.specs.Stuck.{IsStuck, moves, is_skipped, place_asks}
+use Rattle.s370_walk.specs.Stuck.{moves, is_skipped, place_asks}
 use Rattle.s370_walk.specs.Bits.{has_bits}
 use Rattle.s370_channel.specs.declared.moving.Moved.{Moved}
 use Rattle.s370_channel.specs.declared.moving.Moved.TheVariants.{Done}
-use Rattle.s370_channel.specs.Progress.{moved_state, setting, MatchStuck}
+use Rattle.s370_channel.specs.Progress.{moved_state}
+use Rattle.s370_channel.specs.Halts.{Lacks}
 use Rattle.s370_channel.specs.declared.running.ChannelError.{ChannelError}
 use Rattle.s370_channel.specs.declared.running.ChannelError.TheVariants as errors
 use Rattle.s370_channel.specs.declared.limits.Limits.{Limits}
@@ -37,48 +38,29 @@ gives_all p k e zero = rw (e, zero) refl
 is_moved : {D : Type 0} (machine : Machine D) (p : Position) (d : D) → 0 < p.count → 0 < rest machine p d → is_skipped p p.transfer.kind ≡ false → moves machine p d ≡ true
 is_moved machine p d some left all = rw (lt-ltb 0 p.count some, lt-ltb 0 (rest machine p d) left, all) refl
 
-module _ {D : Type 0} {w : Written} {h : Setting D} {present : ℕ → Bool} {p : Position} {m : Memory} {d : D} where
-  pub stuck_place : {page : ℕ} → 0 < p.count → 0 < rest h.machine p d → is_skipped p p.transfer.kind ≡ false → IsAway (length m.bytes) present page → Touches (place_asks w p) page → IsStuck w h present (Moving p m d) page
-  stuck_place some left all away asked =
-      record { state = Moving p m d; comes = reach_here (live w) h (Moving p m d); asked = (is_moved h.machine p d some left all, inl asked); away = away }
+module _ {D : Type 0} {w : Written} {machine : Machine D} {present : ℕ → Bool} {p : Position} {m : Memory} {d : D} where
+  lacks_place : {page : ℕ} → 0 < p.count → 0 < rest machine p d → is_skipped p p.transfer.kind ≡ false → IsAway (length m.bytes) present page → Touches (place_asks w p) page → Lacks w machine present (Moving p m d) page
+  lacks_place some left all away asked = record { asked = (is_moved machine p d some left all, inl asked); away = away }
 
-  pub stuck_byte : {page : ℕ} (a : ℕ) (access : Access) → 0 < p.count → 0 < rest h.machine p d → is_skipped p p.transfer.kind ≡ false → place_in w m p ≡ Some a → IsAway (length m.bytes) present page → Touches (area access a 1 ∷ []) page → IsStuck w h present (Moving p m d) page
-  stuck_byte a access some left all at away asked =
-      record { state = Moving p m d; comes = reach_here (live w) h (Moving p m d); asked = (is_moved h.machine p d some left all, inr (rw at asked)); away = away }
+  lacks_byte : {page : ℕ} (a : ℕ) (access : Access) → 0 < p.count → 0 < rest machine p d → is_skipped p p.transfer.kind ≡ false → place_in w m p ≡ Some a → IsAway (length m.bytes) present page → Touches (area access a 1 ∷ []) page → Lacks w machine present (Moving p m d) page
+  lacks_byte a access some left all at away asked = record { asked = (is_moved machine p d some left all, inr (rw at asked)); away = away }
 
 -- the same in the words of the code
-pub stuck_giving_place : {D : Type 0} {w : Written} {h : Setting D} {present : ℕ → Bool} {p : Position} {m : Memory} {d : D} {page : ℕ} → 0 < p.count → 0 < rest h.machine p d → p.transfer.kind ≡ Gives → has_bits p.word.flags.bits 16 ≡ false
-    → IsAway (length m.bytes) present page → Touches (place_asks w p) page → IsStuck w h present (Moving p m d) page
-stuck_giving_place {p = p} some left gives all away asked = stuck_place some left (gives_all p _ gives all) away asked
+pub lacks_giving_place : {D : Type 0} {w : Written} {machine : Machine D} {present : ℕ → Bool} {p : Position} {m : Memory} {d : D} {page : ℕ} → 0 < p.count → 0 < rest machine p d → p.transfer.kind ≡ Gives → has_bits p.word.flags.bits 16 ≡ false
+    → IsAway (length m.bytes) present page → Touches (place_asks w p) page → Lacks w machine present (Moving p m d) page
+lacks_giving_place {p = p} some left gives all away asked = lacks_place some left (gives_all p _ gives all) away asked
 
-pub stuck_giving_byte : {D : Type 0} {w : Written} {h : Setting D} {present : ℕ → Bool} {p : Position} {m : Memory} {d : D} {page : ℕ} (a : ℕ) (access : Access) → 0 < p.count → 0 < rest h.machine p d → p.transfer.kind ≡ Gives → has_bits p.word.flags.bits 16 ≡ false
-    → place_in w m p ≡ Some a → IsAway (length m.bytes) present page → Touches (area access a 1 ∷ []) page → IsStuck w h present (Moving p m d) page
-stuck_giving_byte {p = p} a access some left gives all at away asked = stuck_byte a access some left (gives_all p _ gives all) at away asked
+pub lacks_giving_byte : {D : Type 0} {w : Written} {machine : Machine D} {present : ℕ → Bool} {p : Position} {m : Memory} {d : D} {page : ℕ} (a : ℕ) (access : Access) → 0 < p.count → 0 < rest machine p d → p.transfer.kind ≡ Gives → has_bits p.word.flags.bits 16 ≡ false
+    → place_in w m p ≡ Some a → IsAway (length m.bytes) present page → Touches (area access a 1 ∷ []) page → Lacks w machine present (Moving p m d) page
+lacks_giving_byte {p = p} a access some left gives all at away asked = lacks_byte a access some left (gives_all p _ gives all) at away asked
 
-pub stuck_taking_place : {D : Type 0} {w : Written} {h : Setting D} {present : ℕ → Bool} {p : Position} {m : Memory} {d : D} {page : ℕ} → 0 < p.count → 0 < rest h.machine p d → p.transfer.kind ≢ Gives
-    → IsAway (length m.bytes) present page → Touches (place_asks w p) page → IsStuck w h present (Moving p m d) page
-stuck_taking_place {p = p} some left takes away asked = stuck_place some left (takes_all p _ takes) away asked
+pub lacks_taking_place : {D : Type 0} {w : Written} {machine : Machine D} {present : ℕ → Bool} {p : Position} {m : Memory} {d : D} {page : ℕ} → 0 < p.count → 0 < rest machine p d → p.transfer.kind ≢ Gives
+    → IsAway (length m.bytes) present page → Touches (place_asks w p) page → Lacks w machine present (Moving p m d) page
+lacks_taking_place {p = p} some left takes away asked = lacks_place some left (takes_all p _ takes) away asked
 
-pub stuck_taking_byte : {D : Type 0} {w : Written} {h : Setting D} {present : ℕ → Bool} {p : Position} {m : Memory} {d : D} {page : ℕ} (a : ℕ) (access : Access) → 0 < p.count → 0 < rest h.machine p d → p.transfer.kind ≢ Gives
-    → place_in w m p ≡ Some a → IsAway (length m.bytes) present page → Touches (area access a 1 ∷ []) page → IsStuck w h present (Moving p m d) page
-stuck_taking_byte {p = p} a access some left takes at away asked = stuck_byte a access some left (takes_all p _ takes) at away asked
-
--- What a walk is stuck at later, it is stuck at, where the same pages are present.
-pub stuck_later : {D : Type 0} {w : Written} {machine : Machine D} {limits other : Limits} {present later : ℕ → Bool} {r s : State D} {page : ℕ} → IsStuck w (setting machine other) later s page → Reaches (live w) (setting machine limits) r s → other ≡ limits → later ≡ present
-    → IsStuck w (setting machine limits) present r page
-stuck_later {w = w} {machine = machine} {limits = limits} {present = present} {later = later} {r = r} {s = s} {page = page} b a one two =
-    let Q : (ℕ → Bool) → Type 0 = λ f. IsStuck w (setting machine limits) f s page in
-    let R : Limits → Type 0 = λ l. IsStuck w (setting machine l) later s page in
-    let c = subst Q two (subst R one b) in
-    record { state = c.state; comes = reach_on (live w) (setting machine limits) a c.comes; asked = c.asked; away = c.away }
-
-pub match_later : {D : Type 0} (w : Written) (machine : Machine D) (needs : D → Order → Bool) (limits : Limits) {present later : ℕ → Bool} {r s : State D} (error : ChannelError) → MatchStuck w (setting machine limits) needs later s error → Reaches (live w) (setting machine limits) r s → later ≡ present
-    → MatchStuck w (setting machine limits) needs present r error
-match_later w machine needs limits errors.Memory b a e = short_on a b
-match_later w machine needs limits (errors.Absent page) b a e = stuck_later b a refl e
-
-pub stuck_next : {D : Type 0} {w : Written} {h : Setting D} {present : ℕ → Bool} {r s : State D} {page : ℕ} → IsStuck w h present s page → next (live w) h r ≡ s → IsStuck w h present r page
-stuck_next {w = w} {h = h} {r = r} {s = s} b e = record { state = b.state; comes = reach_on (live w) h (reach_next (live w) h r s e) b.comes; asked = b.asked; away = b.away }
+pub lacks_taking_byte : {D : Type 0} {w : Written} {machine : Machine D} {present : ℕ → Bool} {p : Position} {m : Memory} {d : D} {page : ℕ} (a : ℕ) (access : Access) → 0 < p.count → 0 < rest machine p d → p.transfer.kind ≢ Gives
+    → place_in w m p ≡ Some a → IsAway (length m.bytes) present page → Touches (area access a 1 ∷ []) page → Lacks w machine present (Moving p m d) page
+lacks_taking_byte {p = p} a access some left takes at away asked = lacks_byte a access some left (takes_all p _ takes) at away asked
 
 -- what a check says of an absent page
 pub absent_verdict : (size : ℕ) (keys : List ℕ) (present : ℕ → Bool) (key : ℕ) (t : Test) (r : Result ⊤ Fault) (f : Fault) (page : Page) → r ≡ Err f → f ≡ Absent page → IsVerdict size keys present key (t ∷ []) r → IsAway size present page.0 × Touches (t ∷ []) page.0
@@ -86,9 +68,6 @@ absent_verdict size keys present key t r f page e is v =
     let P : Result ⊤ Fault → Type 0 = λ x. IsVerdict size keys present key (t ∷ []) x in
     let both = subst P (e ∙ ap Err is) v in
     (both.1, both.2)
-
-pub stuck_word : {D : Type 0} {w : Written} {h : Setting D} {present : ℕ → Bool} {spot : Spot} {m : Memory} {d : D} {page : ℕ} → IsAway (length m.bytes) present page → Touches (w.word_asks spot.at) page → IsStuck w h present (Fetching spot m d) page
-stuck_word {w = w} {h = h} {spot = spot} {m = m} {d = d} away asked = record { state = Fetching spot m d; comes = reach_here (live w) h (Fetching spot m d); asked = asked; away = away }
 
 pub reach_moved : {D : Type 0} {form : Form} {h : Setting D} {s t : State D} {moved : Moved} {p : Position} (m : Memory) (d : D) → moved ≡ Done p → Reaches form h s (moved_state moved m d) → next form h (Moving p m d) ≡ t → Reaches form h s t
 reach_moved {form = form} {h = h} {s = s} m d is a e = reach_then (let P : Moved → Type 0 = λ x. Reaches form h s (moved_state x m d) in subst P is a) e

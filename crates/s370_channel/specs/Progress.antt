@@ -100,8 +100,3 @@ IsOneOn old (Stopped e) = Unit {0}
 abbrev pub MatchStuck : {D : Type 0} → Written → Setting D → (D → Order → Bool) → (ℕ → Bool) → State D → ChannelError → Type 0
 MatchStuck w h needs present from errors.Memory = IsShort (live w) h needs from
 MatchStuck w h needs present from (errors.Absent page) = IsStuck w h present from page.0
-
--- why it stops at a command that it starts: that command needs memory, or the walk is stuck after it
-abbrev pub MatchBegun : {D : Type 0} → Written → Setting D → (D → Order → Bool) → (ℕ → Bool) → Spot → Word → Memory → D → ChannelError → Type 0
-MatchBegun w h needs present spot word m d errors.Memory = needs d (order_of h.prefix spot word) ≡ true
-MatchBegun w h needs present spot word m d (errors.Absent page) = IsStuck w h present (entered h spot word None m d) page.0

@@ -21,14 +21,18 @@ mod limits;
 mod loading;
 mod moving;
 mod pieces;
+mod room;
 mod running;
 mod starting;
+mod supplied;
 mod words;
 
 pub use guest::{Guest, fetch_block, fetch_word};
 pub use judging::{Verdict, judge};
 pub use limits::Limits;
 pub use loading::run_ipl;
+pub use room::AmpleSupply;
 pub use running::{ChannelError, run};
 pub use starting::{MOST_COMMANDS, check_start};
+pub use supplied::{load_supplied, run_supplied};
 pub use words::{Caw, Ccw, Csw};

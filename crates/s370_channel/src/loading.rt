@@ -3,10 +3,11 @@ ghost use Rattle.std.specs.Prelude.{◌≡◌, IfOk, IfErr, length};
 ghost use Rattle.s370_walk.specs.Hardware.{memory_of};
 ghost use Rattle.s370_walk.specs.Walk.{Over, Reaches, live};
 ghost use Rattle.s370_channel.specs.Loading.{MatchLoading, loading, loading_limits};
+ghost use Rattle.s370_channel.specs.Halts.{MatchHaltLoading};
 ghost use Rattle.s370_channel.specs.Progress.{setting};
 
 use crate::limits::Limits;
-use crate::running::{ChannelError, begin, go_on};
+use crate::running::{ChannelError, Halt, begin, go_on};
 use crate::starting::{MOST_COMMANDS, first_spot};
 use s370_num::AccessKey;
 use s370_store::Storage;
@@ -23,11 +24,34 @@ const IMPLIED: Word = Word {
 };
 
 /// Its key is zero, and its first command counts.
-const LIMITS: Limits = Limits {
+pub(crate) const LIMITS: Limits = Limits {
     key: AccessKey::ZERO,
     commands: MOST_COMMANDS,
     prefix: 0,
 };
+
+/// Runs the program of an initial program loading, as far as pages are present.
+pub(crate) fn load<F: WordForm, S: Storage, D: Device>(
+    program: &F,
+    storage: &mut S,
+    device: &mut D,
+) -> Result<Ending, Halt>
+    ensures reaches { IfOk result
+        (λ ending. Reaches (live (F.written program.now)) (setting D.machine loading_limits)
+        (loading D.machine (memory_of (S.bytes storage.old) (S.keys storage.old)) device.old)
+        (Over ending (memory_of (S.bytes storage.new) (S.keys storage.new)) device.new)) }
+    ensures keys { S.keys storage.new ≡ S.keys storage.old }
+    ensures rest { S.Keeps storage.old storage.new }
+    ensures halts { IfErr result
+        (MatchHaltLoading (F.written program.now) D.machine D.needs_memory (S.present storage.old)
+        (memory_of (S.bytes storage.old) (S.keys storage.old)) device.old
+        (memory_of (S.bytes storage.new) (S.keys storage.new)) device.new) }
+{
+    match begin(program, storage, device, &LIMITS, &first_spot(0), IMPLIED)? {
+        Progress::At(spot) => go_on(program, storage, device, &LIMITS, spot),
+        Progress::Ended(ending) => Ok(ending),
+    }
+}
 
 /// Runs the program of an initial program loading. It has gone well where its ending has the unit status
 /// [`UnitStatus::ENDED`](s370_walk::UnitStatus::ENDED) and no channel status.
@@ -46,8 +70,8 @@ pub fn run_ipl<F: WordForm, S: Storage, D: Device>(
         (MatchLoading (F.written program.now) D.machine D.needs_memory (S.present storage.old)
         (memory_of (S.bytes storage.old) (S.keys storage.old)) device.old) }
 {
-    match begin(program, storage, device, &LIMITS, &first_spot(0), IMPLIED)? {
-        Progress::At(spot) => go_on(program, storage, device, &LIMITS, spot),
-        Progress::Ended(ending) => Ok(ending),
+    match load(program, storage, device) {
+        Ok(ending) => Ok(ending),
+        Err(halt) => Err(halt.error()),
     }
 }

@@ -3,10 +3,11 @@ ghost use Rattle.std.specs.Prelude.{◌≡◌, ℕ, ◌<◌, ◌≤◌, IfOk, If
 ghost use Rattle.s370_walk.specs.Blocks.{begins_block, after};
 ghost use Rattle.s370_walk.specs.Hardware.{FetchTells, memory_of};
 ghost use Rattle.s370_walk.specs.Walk.{Moving, next, Reaches, live, rest, stepped, place_in};
-ghost use Rattle.s370_walk.specs.Stuck.{IsStuck, place_asks};
+ghost use Rattle.s370_walk.specs.Stuck.{place_asks};
 ghost use Rattle.s370_walk.specs.declared.parts.Kind.TheVariants.{Gives};
 ghost use Rattle.s370_channel.specs.declared.moving.Moved.TheVariants.{Done};
 ghost use Rattle.s370_channel.specs.Progress.{setting, moved_state, IsOut, IsOneOn, IsFurther};
+ghost use Rattle.s370_channel.specs.Halts.{Lacks, HaltsIn, HasMovedTo};
 
 use crate::endings::{left_of, stop};
 use crate::limits::Limits;
@@ -20,6 +21,15 @@ pub(crate) enum Moved {
     Done(Position),
     /// To a check.
     Stopped(Ending),
+}
+
+/// Where a transfer lacks a page.
+#[derive(Clone, Copy)]
+pub(crate) struct Lacking {
+    /// The page.
+    pub(crate) page: Page,
+    /// The next byte.
+    pub(crate) position: Position,
 }
 
 /// Whether the next byte begins a block.
@@ -82,7 +92,7 @@ fn one_on(p: &Position, before: Option<u32>) -> Moved
 }
 
 /// Takes a byte from the device, and stores it.
-#[tactic(auto, using(crate::proofs::Stuck::stuck_giving_place, crate::proofs::Stuck::stuck_giving_byte))]
+#[tactic(auto, using(crate::proofs::Stuck::lacks_giving_place, crate::proofs::Stuck::lacks_giving_byte))]
 fn give_byte<F: WordForm, S: Storage, D: Device>(
     program: &F,
     storage: &mut S,
@@ -101,9 +111,11 @@ fn give_byte<F: WordForm, S: Storage, D: Device>(
     ensures on { IfOk result (IsOneOn p.now) }
     ensures keys { S.keys storage.new ≡ S.keys storage.old }
     ensures rest { S.Keeps storage.old storage.new }
-    ensures stuck { IfErr result
-        (λ page. IsStuck (F.written program.now) (setting D.machine limits.now) (S.present storage.old)
+    ensures lacks { IfErr result
+        (λ page. Lacks (F.written program.now) D.machine (S.present storage.old)
         (Moving p.now (memory_of (S.bytes storage.old) (S.keys storage.old)) device.old) page.0) }
+    ensures still { IfErr result (λ page. S.bytes storage.new ≡ S.bytes storage.old) }
+    ensures idle { IfErr result (λ page. device.new ≡ device.old) }
 {
     if p.word.flags.has(Flags::SKIP) {
         let _ = device.give();
@@ -139,7 +151,7 @@ fn give_byte<F: WordForm, S: Storage, D: Device>(
 }
 
 /// Loads a byte, and hands it to the device.
-#[tactic(auto, using(crate::proofs::Stuck::stuck_taking_place, crate::proofs::Stuck::stuck_taking_byte))]
+#[tactic(auto, using(crate::proofs::Stuck::lacks_taking_place, crate::proofs::Stuck::lacks_taking_byte))]
 fn take_byte<F: WordForm, S: Storage, D: Device>(
     program: &F,
     storage: &S,
@@ -156,9 +168,10 @@ fn take_byte<F: WordForm, S: Storage, D: Device>(
         (Moving p.now (memory_of (S.bytes storage.now) (S.keys storage.now)) device.old)
         ≡ moved_state r (memory_of (S.bytes storage.now) (S.keys storage.now)) device.new) }
     ensures on { IfOk result (IsOneOn p.now) }
-    ensures stuck { IfErr result
-        (λ page. IsStuck (F.written program.now) (setting D.machine limits.now) (S.present storage.now)
+    ensures lacks { IfErr result
+        (λ page. Lacks (F.written program.now) D.machine (S.present storage.now)
         (Moving p.now (memory_of (S.bytes storage.now) (S.keys storage.now)) device.old) page.0) }
+    ensures idle { IfErr result (λ page. device.new ≡ device.old) }
 {
     let Some(address) = place(program, storage, p)? else {
         return Ok(Moved::Stopped(stop(device, p.at, ChannelStatus::PROGRAM_CHECK, p.count)));
@@ -207,9 +220,11 @@ fn move_byte<F: WordForm, S: Storage, D: Device>(
     ensures on { IfOk result (IsOneOn p.now) }
     ensures keys { S.keys storage.new ≡ S.keys storage.old }
     ensures rest { S.Keeps storage.old storage.new }
-    ensures stuck { IfErr result
-        (λ page. IsStuck (F.written program.now) (setting D.machine limits.now) (S.present storage.old)
+    ensures lacks { IfErr result
+        (λ page. Lacks (F.written program.now) D.machine (S.present storage.old)
         (Moving p.now (memory_of (S.bytes storage.old) (S.keys storage.old)) device.old) page.0) }
+    ensures still { IfErr result (λ page. S.bytes storage.new ≡ S.bytes storage.old) }
+    ensures idle { IfErr result (λ page. device.new ≡ device.old) }
 {
     match p.transfer.kind {
         Kind::Gives => give_byte(program, storage, device, limits, p),
@@ -226,7 +241,7 @@ fn move_on<F: WordForm, S: Storage, D: Device>(
     device: &mut D,
     limits: &Limits,
     p: &Position,
-) -> Result<Moved, Page>
+) -> Result<Moved, Lacking>
     requires count { 0 < p.now.count }
     requires left { 0 < rest D.machine p.now device.old }
     requires within { p.now.count ≤ p.now.word.count }
@@ -237,25 +252,31 @@ fn move_on<F: WordForm, S: Storage, D: Device>(
     ensures on { IfOk result (IsFurther p.now) }
     ensures keys { S.keys storage.new ≡ S.keys storage.old }
     ensures rest { S.Keeps storage.old storage.new }
-    ensures stuck { IfErr result
-        (λ page. IsStuck (F.written program.now) (setting D.machine limits.now) (S.present storage.old)
-        (Moving p.now (memory_of (S.bytes storage.old) (S.keys storage.old)) device.old) page.0) }
+    ensures lacks { IfErr result
+        (λ lacking. Lacks (F.written program.now) D.machine (S.present storage.old)
+        (Moving p.now (memory_of (S.bytes storage.old) (S.keys storage.old)) device.old) lacking.page.0) }
+    ensures here { IfErr result (λ lacking. lacking.position ≡ p.now) }
+    ensures still { IfErr result (λ lacking. S.bytes storage.new ≡ S.bytes storage.old) }
+    ensures idle { IfErr result (λ lacking. device.new ≡ device.old) }
 {
     match move_many(program, storage, device, limits, p) {
         Some(then) => Ok(Moved::Done(then)),
-        None => move_byte(program, storage, device, limits, p),
+        None => match move_byte(program, storage, device, limits, p) {
+            Ok(moved) => Ok(moved),
+            Err(page) => Err(Lacking { page, position: *p }),
+        },
     }
 }
 
-/// Moves bytes until the count or the device has run out, or to a check.
-#[tactic(auto, using(s370_walk::proofs::Reaching::reach_on, crate::proofs::Stuck::stuck_later))]
+/// Moves bytes until the count or the device has run out, or to a check, or as far as pages are present.
+#[tactic(auto, using(s370_walk::proofs::Reaching::reach_on))]
 pub(crate) fn transfer<F: WordForm, S: Storage, D: Device>(
     program: &F,
     storage: &mut S,
     device: &mut D,
     limits: &Limits,
     position: Position,
-) -> Result<Moved, Page>
+) -> Result<Moved, Lacking>
     requires { position.count ≤ position.word.count }
     ensures reaches { IfOk result
         (λ r. Reaches (live (F.written program.now)) (setting D.machine limits.now)
@@ -264,9 +285,13 @@ pub(crate) fn transfer<F: WordForm, S: Storage, D: Device>(
     ensures out { IfOk result (IsOut D.machine position device.new) }
     ensures keys { S.keys storage.new ≡ S.keys storage.old }
     ensures rest { S.Keeps storage.old storage.new }
-    ensures stuck { IfErr result
-        (λ page. IsStuck (F.written program.now) (setting D.machine limits.now) (S.present storage.old)
-        (Moving position (memory_of (S.bytes storage.old) (S.keys storage.old)) device.old) page.0) }
+    ensures halts { IfErr result
+        (λ lacking. HaltsIn (F.written program.now) (setting D.machine limits.now) (S.present storage.old)
+        (Moving position (memory_of (S.bytes storage.old) (S.keys storage.old)) device.old)
+        (memory_of (S.bytes storage.new) (S.keys storage.new)) device.new lacking) }
+    ensures moved { IfErr result
+        (λ lacking. HasMovedTo position (memory_of (S.bytes storage.old) (S.keys storage.old)) device.old
+        lacking.position (memory_of (S.bytes storage.new) (S.keys storage.new)) device.new) }
 {
     let mut p = position;
     'bytes: while p.count > 0 && left_of(device, &p) > 0 {

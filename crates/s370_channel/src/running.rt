@@ -2,13 +2,14 @@
 ghost use Rattle.std.specs.Prelude.{◌≡◌, ℕ, ◌+◌, ◌<◌, ◌≤◌, IfOk, IfErr, None, Some, length};
 ghost use Rattle.s370_walk.specs.Hardware.{memory_of};
 ghost use Rattle.s370_walk.specs.Walk.{Moving, Fetching, Over, next, judged, moving, Good, state_of, entered, Reaches, start_spot, live};
-ghost use Rattle.s370_walk.specs.Stuck.{IsStuck};
-ghost use Rattle.s370_channel.specs.Progress.{setting, IsLighter, IsFollowed, MatchBegun, MatchStuck};
+ghost use Rattle.s370_channel.specs.Progress.{setting, IsLighter, IsFollowed, MatchStuck};
+ghost use Rattle.s370_channel.specs.Halts.{HaltsBeyond, HaltsIn, HaltsOn, HasMovedTo, IsReady, MatchHalt, MatchHaltBegun, stands};
+ghost use Rattle.s370_channel.specs.declared.running.Place.TheVariants.{Next};
 
 use crate::endings::{close, end_at, fail, finish};
 use crate::judging::{Verdict, judge};
 use crate::limits::Limits;
-use crate::moving::{Moved, transfer};
+use crate::moving::{Lacking, Moved, transfer};
 use crate::starting::first_spot;
 use s370_store::{Page, Storage};
 use s370_walk::{
@@ -24,7 +25,7 @@ fn obey<F: WordForm, S: Storage, D: Device>(
     device: &mut D,
     limits: &Limits,
     position: Position,
-) -> Result<Progress, Page>
+) -> Result<Progress, Lacking>
     requires count { 0 < position.count }
     requires within { position.count ≤ position.word.count }
     ensures reaches { IfOk result
@@ -34,9 +35,13 @@ fn obey<F: WordForm, S: Storage, D: Device>(
     ensures followed { IfOk result (IsFollowed limits.now.commands position) }
     ensures keys { S.keys storage.new ≡ S.keys storage.old }
     ensures rest { S.Keeps storage.old storage.new }
-    ensures stuck { IfErr result
-        (λ page. IsStuck (F.written program.now) (setting D.machine limits.now) (S.present storage.old)
-        (Moving position (memory_of (S.bytes storage.old) (S.keys storage.old)) device.old) page.0) }
+    ensures halts { IfErr result
+        (λ lacking. HaltsIn (F.written program.now) (setting D.machine limits.now) (S.present storage.old)
+        (Moving position (memory_of (S.bytes storage.old) (S.keys storage.old)) device.old)
+        (memory_of (S.bytes storage.new) (S.keys storage.new)) device.new lacking) }
+    ensures moved { IfErr result
+        (λ lacking. HasMovedTo position (memory_of (S.bytes storage.old) (S.keys storage.old)) device.old
+        lacking.position (memory_of (S.bytes storage.new) (S.keys storage.new)) device.new) }
 {
     match transfer(program, storage, device, limits, position)? {
         Moved::Stopped(ending) => Ok(Progress::Ended(ending)),
@@ -58,6 +63,24 @@ fn position(spot: &Spot, started: u32, word: Word, transfer: Transfer) -> Positi
     }
 }
 
+/// Where a run stands.
+#[derive(Clone, Copy)]
+pub(crate) enum Place {
+    /// Before a word.
+    Next(Spot),
+    /// Within a word, before one of its bytes.
+    Within(Position),
+}
+
+/// Why a run halts.
+#[derive(Clone, Copy)]
+pub(crate) enum Halt {
+    /// A device was refused the memory that a command needs.
+    Memory,
+    /// A page is not present that the step needs at this place; all before it was done.
+    Absent(Page, Place),
+}
+
 /// Starts a command.
 #[tactic(auto, unfolding(crate::specs::Progress::weight))]
 pub(crate) fn begin<F: WordForm, S: Storage, D: Device>(
@@ -67,7 +90,7 @@ pub(crate) fn begin<F: WordForm, S: Storage, D: Device>(
     limits: &Limits,
     spot: &Spot,
     word: Word,
-) -> Result<Progress, ChannelError>
+) -> Result<Progress, Halt>
     requires started { spot.now.started < limits.now.commands }
     requires role { spot.now.role ≡ None }
     requires count { 0 < word.count }
@@ -79,9 +102,11 @@ pub(crate) fn begin<F: WordForm, S: Storage, D: Device>(
     ensures lighter { IfOk result (IsLighter limits.now.commands spot.now) }
     ensures keys { S.keys storage.new ≡ S.keys storage.old }
     ensures rest { S.Keeps storage.old storage.new }
-    ensures stuck { IfErr result
-        (MatchBegun (F.written program.now) (setting D.machine limits.now) D.needs_memory
-        (S.present storage.old) spot.now word (memory_of (S.bytes storage.old) (S.keys storage.old)) device.old) }
+    ensures halts { IfErr result
+        (MatchHaltBegun (F.written program.now) (setting D.machine limits.now) D.needs_memory
+        (S.present storage.old) spot.now word (memory_of (S.bytes storage.old) (S.keys storage.old)) device.old
+        (memory_of (S.bytes storage.new) (S.keys storage.new)) device.new) }
+    ensures beyond { IfErr result (HaltsBeyond limits.now.commands spot.now) }
 {
     let order = Order {
         command: word.command,
@@ -91,7 +116,7 @@ pub(crate) fn begin<F: WordForm, S: Storage, D: Device>(
     let started = spot.started + 1;
     let answer = match device.command(order) {
         Ok(answer) => answer,
-        Err(_) => return Err(ChannelError::Memory),
+        Err(_) => return Err(Halt::Memory),
     };
     let wanted = match answer {
         Answer::Refused(status) => {
@@ -130,7 +155,7 @@ pub(crate) fn begin<F: WordForm, S: Storage, D: Device>(
         position(spot, started, word, wanted),
     ) {
         Ok(then) => Ok(then),
-        Err(page) => Err(ChannelError::Absent(page)),
+        Err(lacking) => Err(Halt::Absent(lacking.page, Place::Within(lacking.position))),
     }
 }
 
@@ -144,7 +169,7 @@ fn resume<F: WordForm, S: Storage, D: Device>(
     spot: &Spot,
     word: Word,
     wanted: Transfer,
-) -> Result<Progress, ChannelError>
+) -> Result<Progress, Halt>
     requires good { judged limits.now.commands spot.now word ≡ Good }
     requires role { spot.now.role ≡ Some wanted }
     requires text { (F.written program.now).text (memory_of (S.bytes storage.old) (S.keys storage.old)) spot.now.at
@@ -156,9 +181,11 @@ fn resume<F: WordForm, S: Storage, D: Device>(
     ensures lighter { IfOk result (IsLighter limits.now.commands spot.now) }
     ensures keys { S.keys storage.new ≡ S.keys storage.old }
     ensures rest { S.Keeps storage.old storage.new }
-    ensures stuck { IfErr result
-        (MatchStuck (F.written program.now) (setting D.machine limits.now) D.needs_memory (S.present storage.old)
-        (Fetching spot.now (memory_of (S.bytes storage.old) (S.keys storage.old)) device.old)) }
+    ensures halts { IfErr result
+        (MatchHalt (F.written program.now) (setting D.machine limits.now) D.needs_memory (S.present storage.old)
+        (Fetching spot.now (memory_of (S.bytes storage.old) (S.keys storage.old)) device.old)
+        (memory_of (S.bytes storage.new) (S.keys storage.new)) device.new) }
+    ensures beyond { IfErr result (HaltsBeyond limits.now.commands spot.now) }
 {
     match obey(
         program,
@@ -168,19 +195,19 @@ fn resume<F: WordForm, S: Storage, D: Device>(
         position(spot, spot.started, word, wanted),
     ) {
         Ok(then) => Ok(then),
-        Err(page) => Err(ChannelError::Absent(page)),
+        Err(lacking) => Err(Halt::Absent(lacking.page, Place::Within(lacking.position))),
     }
 }
 
 /// Fetches one word and obeys it.
-#[tactic(auto, using(s370_walk::proofs::Reaching::reach_from, s370_walk::proofs::Reaching::reach_next, crate::proofs::Stuck::stuck_next, crate::proofs::Stuck::stuck_word), unfolding(crate::specs::Progress::weight))]
+#[tactic(auto, using(s370_walk::proofs::Reaching::reach_from, s370_walk::proofs::Reaching::reach_next, crate::proofs::Halts::lacks_word), unfolding(crate::specs::Progress::weight))]
 fn one_word<F: WordForm, S: Storage, D: Device>(
     program: &F,
     storage: &mut S,
     device: &mut D,
     limits: &Limits,
     spot: &Spot,
-) -> Result<Progress, ChannelError>
+) -> Result<Progress, Halt>
     ensures reaches { IfOk result
         (λ r. Reaches (live (F.written program.now)) (setting D.machine limits.now)
         (Fetching spot.now (memory_of (S.bytes storage.old) (S.keys storage.old)) device.old)
@@ -188,13 +215,17 @@ fn one_word<F: WordForm, S: Storage, D: Device>(
     ensures lighter { IfOk result (IsLighter limits.now.commands spot.now) }
     ensures keys { S.keys storage.new ≡ S.keys storage.old }
     ensures rest { S.Keeps storage.old storage.new }
-    ensures stuck { IfErr result
-        (MatchStuck (F.written program.now) (setting D.machine limits.now) D.needs_memory (S.present storage.old)
-        (Fetching spot.now (memory_of (S.bytes storage.old) (S.keys storage.old)) device.old)) }
+    ensures halts { IfErr result
+        (MatchHalt (F.written program.now) (setting D.machine limits.now) D.needs_memory (S.present storage.old)
+        (Fetching spot.now (memory_of (S.bytes storage.old) (S.keys storage.old)) device.old)
+        (memory_of (S.bytes storage.new) (S.keys storage.new)) device.new) }
+    ensures on { IfErr result
+        (HaltsOn limits.now.commands (Next spot.now) (memory_of (S.bytes storage.old) (S.keys storage.old)) device.old
+        (memory_of (S.bytes storage.new) (S.keys storage.new)) device.new) }
 {
     let found = match program.fetch(storage, spot.at) {
         Ok(found) => found,
-        Err(page) => return Err(ChannelError::Absent(page)),
+        Err(page) => return Err(Halt::Absent(page, Place::Next(*spot))),
     };
     let Some(word) = found else {
         return Ok(Progress::Ended(fail(device, spot.role, spot.at)));
@@ -225,24 +256,42 @@ pub enum ChannelError {
     Absent(Page),
 }
 
+impl Halt {
+    ghost use Rattle.s370_channel.specs.Halts.{error_of};
+
+    /// What is told of it.
+    pub(crate) fn error(self) -> ChannelError
+        ensures { result ≡ error_of self }
+    {
+        match self {
+            Halt::Memory => ChannelError::Memory,
+            Halt::Absent(page, _) => ChannelError::Absent(page),
+        }
+    }
+}
+
 /// Goes on with the words from a spot, to the end of the program.
-#[tactic(auto, using(s370_walk::proofs::Reaching::reach_on, crate::proofs::Stuck::stuck_later))]
+#[tactic(auto, using(s370_walk::proofs::Reaching::reach_on))]
 pub(crate) fn go_on<F: WordForm, S: Storage, D: Device>(
     program: &F,
     storage: &mut S,
     device: &mut D,
     limits: &Limits,
     from: Spot,
-) -> Result<Ending, ChannelError>
+) -> Result<Ending, Halt>
     ensures reaches { IfOk result
         (λ ending. Reaches (live (F.written program.now)) (setting D.machine limits.now)
         (Fetching from (memory_of (S.bytes storage.old) (S.keys storage.old)) device.old)
         (Over ending (memory_of (S.bytes storage.new) (S.keys storage.new)) device.new)) }
     ensures keys { S.keys storage.new ≡ S.keys storage.old }
     ensures rest { S.Keeps storage.old storage.new }
-    ensures stuck { IfErr result
-        (MatchStuck (F.written program.now) (setting D.machine limits.now) D.needs_memory (S.present storage.old)
-        (Fetching from (memory_of (S.bytes storage.old) (S.keys storage.old)) device.old)) }
+    ensures halts { IfErr result
+        (MatchHalt (F.written program.now) (setting D.machine limits.now) D.needs_memory (S.present storage.old)
+        (Fetching from (memory_of (S.bytes storage.old) (S.keys storage.old)) device.old)
+        (memory_of (S.bytes storage.new) (S.keys storage.new)) device.new) }
+    ensures on { IfErr result
+        (HaltsOn limits.now.commands (Next from) (memory_of (S.bytes storage.old) (S.keys storage.old)) device.old
+        (memory_of (S.bytes storage.new) (S.keys storage.new)) device.new) }
 {
     let mut spot = from;
     'words: loop {
@@ -250,6 +299,41 @@ pub(crate) fn go_on<F: WordForm, S: Storage, D: Device>(
             Ok(Progress::At(then)) => spot = then,
             Ok(Progress::Ended(ending)) => return Ok(ending),
             Err(error) => return Err(error),
+        }
+    }
+}
+
+/// Goes on from a place, to the end of the program.
+pub(crate) fn go_from<F: WordForm, S: Storage, D: Device>(
+    program: &F,
+    storage: &mut S,
+    device: &mut D,
+    limits: &Limits,
+    from: Place,
+) -> Result<Ending, Halt>
+    requires { IsReady from }
+    ensures reaches { IfOk result
+        (λ ending. Reaches (live (F.written program.now)) (setting D.machine limits.now)
+        (stands from (memory_of (S.bytes storage.old) (S.keys storage.old)) device.old)
+        (Over ending (memory_of (S.bytes storage.new) (S.keys storage.new)) device.new)) }
+    ensures keys { S.keys storage.new ≡ S.keys storage.old }
+    ensures rest { S.Keeps storage.old storage.new }
+    ensures halts { IfErr result
+        (MatchHalt (F.written program.now) (setting D.machine limits.now) D.needs_memory (S.present storage.old)
+        (stands from (memory_of (S.bytes storage.old) (S.keys storage.old)) device.old)
+        (memory_of (S.bytes storage.new) (S.keys storage.new)) device.new) }
+    ensures on { IfErr result
+        (HaltsOn limits.now.commands from (memory_of (S.bytes storage.old) (S.keys storage.old)) device.old
+        (memory_of (S.bytes storage.new) (S.keys storage.new)) device.new) }
+{
+    match from {
+        Place::Next(spot) => go_on(program, storage, device, limits, spot),
+        Place::Within(position) => {
+            match obey(program, storage, device, limits, position) {
+                Ok(Progress::At(spot)) => go_on(program, storage, device, limits, spot),
+                Ok(Progress::Ended(ending)) => Ok(ending),
+                Err(lacking) => Err(Halt::Absent(lacking.page, Place::Within(lacking.position))),
+            }
         }
     }
 }
@@ -272,5 +356,8 @@ pub fn run<F: WordForm, S: Storage, D: Device>(
         (MatchStuck (F.written program.now) (setting D.machine limits.now) D.needs_memory (S.present storage.old)
         (Fetching (start_spot start) (memory_of (S.bytes storage.old) (S.keys storage.old)) device.old)) }
 {
-    go_on(program, storage, device, limits, first_spot(start))
+    match go_on(program, storage, device, limits, first_spot(start)) {
+        Ok(ending) => Ok(ending),
+        Err(halt) => Err(halt.error()),
+    }
 }

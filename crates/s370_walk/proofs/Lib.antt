@@ -1,3 +1,4 @@
 pub mod Moved
 pub mod Reaching
 pub mod Freezing
+pub mod Viewing

@@ -5,3 +5,4 @@ pub mod Walk
 pub mod Stuck
 pub mod Short
 pub mod Frozen
+pub mod Viewed

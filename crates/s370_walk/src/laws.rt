@@ -1,9 +1,11 @@
 //! What is so of every walk.
-ghost use Rattle.std.specs.Prelude.{◌≡◌};
+ghost use Rattle.std.specs.Prelude.{ℕ, ◌≡◌};
 ghost use Rattle.s370_walk.specs.declared.parts.Ending.{Ending};
 ghost use Rattle.s370_walk.specs.Frozen.{IsSteady, frozen};
-ghost use Rattle.s370_walk.specs.Hardware.{Memory};
-ghost use Rattle.s370_walk.specs.Walk.{Form, Over, Reaches, Setting, State};
+ghost use Rattle.s370_walk.specs.Hardware.{Machine, Memory};
+ghost use Rattle.s370_walk.specs.Viewed.{IsViewed, setting_for, viewed};
+ghost use Rattle.s370_walk.specs.Stuck.{IsAsked};
+ghost use Rattle.s370_walk.specs.Walk.{Form, Written, live, Over, Reaches, Setting, State};
 
 use crate::traits::Device;
 
@@ -18,4 +20,18 @@ pub fn a_walk_comes_to_one_end<D: Device>()
 pub fn steady_programs_end_alike<D: Device>()
     ensures { (form : Form) (h : Setting D) (began : Memory) (s t : State D) → IsSteady form h began s
         → Reaches (frozen form began) h s t → Reaches form h s t }
+{}
+
+/// A walk over a smaller machine, by which a device is seen, comes to what the walk over the device comes to: the same
+/// ending, with the same storage, for the same pages; and so the other way round.
+pub fn a_view_walks_as_its_device<D: Device, E: Device>()
+    ensures ends { (form : Form) (h : Setting D) (small : Machine E) (view : D → E) (s : State D) (e : Ending) (m : Memory)
+        (x : E) → IsViewed h.machine small view → Reaches form (setting_for small h) (viewed view s) (Over e m x)
+        → (d : D) × (view d ≡ x) × Reaches form h s (Over e m d) }
+    ensures asks { (w : Written) (h : Setting D) (small : Machine E) (view : D → E) (s : State D) (t : State E) (page : ℕ)
+        → IsViewed h.machine small view → Reaches (live w) (setting_for small h) (viewed view s) t
+        → IsAsked w small t page → (u : State D) × Reaches (live w) h s u × IsAsked w h.machine u page }
+    ensures walks { (form : Form) (h : Setting D) (small : Machine E) (view : D → E) (s t : State D)
+        → IsViewed h.machine small view → Reaches form h s t
+        → Reaches form (setting_for small h) (viewed view s) (viewed view t) }
 {}

@@ -15,6 +15,6 @@ mod parts;
 mod traits;
 
 pub use bits::{ChannelStatus, Command, Flags, UnitStatus};
-pub use laws::{a_walk_comes_to_one_end, steady_programs_end_alike};
+pub use laws::{a_view_walks_as_its_device, a_walk_comes_to_one_end, steady_programs_end_alike};
 pub use parts::{Answer, Ending, Kind, Order, Position, Progress, Spot, Transfer, Word};
 pub use traits::{Device, WordForm};

@@ -1,3 +1,4 @@
 pub mod Takes
 pub mod DeckReads
 pub mod Commands
+pub mod Seen

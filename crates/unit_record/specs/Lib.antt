@@ -6,3 +6,4 @@ pub mod Reader
 pub mod Console
 pub mod ConsoleRoom
 pub mod Laws
+pub mod Trials

@@ -38,11 +38,11 @@ pub enum Arrival {
 pub struct Console {
     lines: Vec<Record>,
     unfinished: Record,
-    waiting: VecDeque<Record>,
-    sense: u8,
+    pub(crate) waiting: VecDeque<Record>,
+    pub(crate) sense: u8,
     wanted: usize,
     ends_line: bool,
-    giving: Outgoing,
+    pub(crate) giving: Outgoing,
 }
 
 impl Model for Console {

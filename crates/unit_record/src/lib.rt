@@ -26,6 +26,7 @@ mod printer;
 mod punch;
 mod reader;
 mod record;
+mod trials;
 
 pub use console::{Arrival, Console};
 pub use front::{COMMAND_REJECT, INTERVENTION_REQUIRED};
@@ -37,3 +38,4 @@ pub use printer::Printer;
 pub use punch::Punch;
 pub use reader::{Card, Deck, Reader, Sender};
 pub use record::{RECORD_LENGTH, Record};
+pub use trials::{ConsoleTrial, PrinterTrial, PunchTrial, trials_view_their_devices};

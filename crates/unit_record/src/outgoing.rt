@@ -39,6 +39,13 @@ impl Outgoing {
         Outgoing { bytes, given: 0 }
     }
 
+    /// The same bytes once more.
+    pub fn copy(&self) -> Outgoing
+        ensures { result ≡ self.now }
+    {
+        Outgoing::of(Record::of(&self.bytes.as_slice()[self.given..]))
+    }
+
     /// How many bytes are left.
     pub fn len(&self) -> usize
         ensures { result ≡ length self.now }

@@ -1,30 +1,26 @@
-use Rattle.std.proofs.Common.{ℕ, subst, sym}
+use Rattle.std.proofs.Common.{refl}
 use Rattle.s370_walk.specs.Hardware.{memory_of}
-use Rattle.s370_walk.specs.Walk.{Fetching, Over, Reaches, start_spot}
-use Rattle.s370_channel.specs.Reading.{as_reached}
-use Rattle.s370_channel.specs.Runs.{Walks, limited}
-use Rattle.cp_minidisk.specs.Part.{part_machine}
-use Rattle.cp_needs.specs.Words.{IsEnough}
-use Rattle.cp_volumes.proofs.Parts.{program_keeps, program_walks}
+use Rattle.ckd_volume.specs.Unit.{disk_machine}
+use Rattle.cp_dat.specs.Lent.{lent_bytes, lent_keys}
+use Rattle.cp_minidisk.specs.Part.{disk_seen, part_machine}
+use Rattle.channel_trial.specs.Trial.{trial_bytes, trial_flags}
+use Rattle.channel_trial.proofs.Trying.{tried_back}
+use Rattle.cp_volumes.proofs.Parts.{keeps_ok, part_viewed, walks_ok}
 use Rattle.cp_volumes.proofs.running.run_mounted.Goals as goal
 
-pub run_held-requires : goal.run_held-requires
-run_held-requires g c = record {
-  enough = subst (λ (a : ℕ). IsEnough (memory_of (g.S.Storage.bytes c.args.storage.now) (g.S.Storage.keys c.args.storage.now)) (g.S.Storage.present c.args.storage.now) a) (sym c.get.ensures.value) c.requires;
-}
+pub run_tried-requires-clause-tried : goal.run_tried-requires-clause-tried
+run_tried-requires-clause-tried c =
+    let m = memory_of (lent_bytes c.args.storage.now) (lent_keys c.args.storage.now) in
+    tried_back part_machine disk_machine disk_seen c.args.start m c.args.mounted.now (trial_bytes c.args.tried.now) (trial_flags c.args.tried.now) part_viewed c.requires.tried
 
 pub returns-clause-walk : goal.returns-clause-walk
-returns-clause-walk g c =
-    let m = memory_of (g.S.Storage.bytes c.args.storage.now) (g.S.Storage.keys c.args.storage.now) in
-    let n = memory_of (g.S.Storage.bytes c.run_held.new.storage) (g.S.Storage.keys c.run_held.new.storage) in
-    let walked : Walks as_reached part_machine c.args.start m c.args.mounted.now c.in-Ok.ending n c.run_held.new.device =
-    subst (λ (a : ℕ). Reaches (as_reached m) (limited part_machine c.args.start) (Fetching (start_spot a) m c.args.mounted.now) (Over c.in-Ok.ending n c.run_held.new.device)) c.get.ensures.value c.in-Ok.ensures.reaches in
-    program_walks c.args.start m n c.args.mounted.now c.run_held.new.device c.in-Ok.ending walked
+returns-clause-walk c =
+    let m = memory_of (lent_bytes c.args.storage.now) (lent_keys c.args.storage.now) in
+    let n = memory_of (lent_bytes c.run_tried.new.storage) (lent_keys c.run_tried.new.storage) in
+    walks_ok c.args.start m n c.args.mounted.now c.run_tried.new.device c.run_tried.result c.run_tried.ensures.walk
 
 pub returns-clause-volume : goal.returns-clause-volume
-returns-clause-volume g c =
-    let m = memory_of (g.S.Storage.bytes c.args.storage.now) (g.S.Storage.keys c.args.storage.now) in
-    let n = memory_of (g.S.Storage.bytes c.run_held.new.storage) (g.S.Storage.keys c.run_held.new.storage) in
-    let walked : Walks as_reached part_machine c.args.start m c.args.mounted.now c.in-Ok.ending n c.run_held.new.device =
-    subst (λ (a : ℕ). Reaches (as_reached m) (limited part_machine c.args.start) (Fetching (start_spot a) m c.args.mounted.now) (Over c.in-Ok.ending n c.run_held.new.device)) c.get.ensures.value c.in-Ok.ensures.reaches in
-    program_keeps c.args.start m n c.args.mounted.now c.run_held.new.device c.in-Ok.ending walked
+returns-clause-volume c =
+    let m = memory_of (lent_bytes c.args.storage.now) (lent_keys c.args.storage.now) in
+    let n = memory_of (lent_bytes c.run_tried.new.storage) (lent_keys c.run_tried.new.storage) in
+    keeps_ok c.args.start m n c.args.mounted.now c.run_tried.new.device c.run_tried.result c.run_tried.ensures.walk (c.run_tried.ensures.spared (λ d o. refl)) (λ out. (c.run_tried.ensures.same out).1)

@@ -1,4 +1,4 @@
-use Rattle.std.proofs.Common.{arith, ◌∙◌, ap, ◌≡◌}
+use Rattle.std.proofs.Common.{arith, ◌∙◌, ap, ◌≡◌, inr}
 use Rattle.s370_walk.specs.Hardware.{memory_of}
 use Rattle.s370_walk.specs.Walk.{Moving, live}
 use Rattle.s370_walk.proofs.Reaching.{reach_on}
@@ -24,4 +24,5 @@ bytes-preserved g c =
       step = omega (arith, on.step, before.step);
       less = omega (arith, on.less, before.less);
       within = omega (arith, same, on.count, before.within);
+      on = inr (omega (arith, on.step, on.less, on.count, before.less));
     }

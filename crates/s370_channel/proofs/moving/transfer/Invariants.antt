@@ -1,4 +1,4 @@
-use Rattle.std.proofs.Common.{◌≡◌, ◌+◌, ◌≤◌, length}
+use Rattle.std.proofs.Common.{◌≡◌, ◌+◌, ◌<◌, ◌≤◌, ◌⊎◌, length}
 use Rattle.s370_walk.specs.Hardware.{memory_of}
 use Rattle.s370_walk.specs.Walk.{Moving, Reaches, live}
 use Rattle.s370_channel.specs.Progress.{setting}
@@ -14,6 +14,7 @@ invariant-bytes g l = record {
   step : l.p.count + l.fn.position.transfer.left ≡ l.fn.position.count + l.p.transfer.left;
   less : l.p.transfer.left ≤ l.fn.position.transfer.left;
   within : l.p.count ≤ l.p.word.count;
+  on : ((l.p ≡ l.fn.position) × (memory_of (g.S.Storage.bytes l.storage) (g.S.Storage.keys l.storage) ≡ memory_of (g.S.Storage.bytes l.fn.storage) (g.S.Storage.keys l.fn.storage)) × (l.device ≡ l.fn.device)) ⊎ (l.p.transfer.left < l.fn.position.transfer.left);
 }
 
 abbrev pub decreases-bytes : goal.decreases-bytes

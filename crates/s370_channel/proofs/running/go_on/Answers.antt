@@ -1,5 +1,15 @@
-use Rattle.s370_channel.proofs.Stuck.{match_later}
+use Rattle.std.proofs.Common.{inl, inr, refl}
+use Rattle.s370_walk.specs.Hardware.{memory_of}
+use Rattle.s370_walk.specs.Walk.{live}
+use Rattle.s370_channel.specs.Progress.{setting}
+use Rattle.s370_channel.proofs.Halts.{match_halts_later, on_still, lighter_still}
 use Rattle.s370_channel.proofs.running.go_on.Goals as goal
 
-pub returns-in-Err-clause-stuck : goal.returns-in-Err-clause-stuck
-returns-in-Err-clause-stuck g c = match_later (g.F.WordForm.written c.args.program.now) g.D.Device.machine g.D.Device.needs_memory c.args.limits.now c.in-Err.error c.in-Err.ensures.stuck c.words.invariant.reaches (g.met.S.Storage.keeps_present _ _ c.words.invariant.rest)
+pub returns-in-Err-clause-halts : goal.returns-in-Err-clause-halts
+returns-in-Err-clause-halts g c =
+    let m = memory_of (g.S.Storage.bytes c.one_word.new.storage) (g.S.Storage.keys c.one_word.new.storage) in
+    match_halts_later (g.F.WordForm.written c.args.program.now) (setting g.D.Device.machine c.args.limits.now) g.D.Device.needs_memory m c.one_word.new.device c.in-Err.error c.words.invariant.reaches (g.met.S.Storage.keeps_present _ _ c.words.invariant.rest) c.in-Err.ensures.halts
+
+pub returns-in-Err-clause-on : goal.returns-in-Err-clause-on
+returns-in-Err-clause-on g c =
+    on_still c.args.limits.now.commands c.args.from _ _ c.words.spot _ _ _ _ c.in-Err.error c.words.invariant.on c.in-Err.ensures.on

@@ -2,6 +2,7 @@ use Rattle.std.proofs.Common.{◌≡◌, length}
 use Rattle.s370_walk.specs.Hardware.{memory_of}
 use Rattle.s370_walk.specs.Walk.{Fetching, Reaches, live}
 use Rattle.s370_channel.specs.Progress.{setting, weight}
+use Rattle.s370_channel.proofs.Halts.{IsSameOrLighter}
 use Rattle.s370_channel.proofs.running.go_on.Given as goal
 
 abbrev pub invariant-words : goal.invariant-words
@@ -9,6 +10,7 @@ invariant-words g l = record {
   reaches : Reaches (live (g.F.WordForm.written l.fn.program)) (setting g.D.Device.machine l.fn.limits) (Fetching l.fn.from (memory_of (g.S.Storage.bytes l.fn.storage) (g.S.Storage.keys l.fn.storage)) l.fn.device) (Fetching l.spot (memory_of (g.S.Storage.bytes l.storage) (g.S.Storage.keys l.storage)) l.device);
   keys : g.S.Storage.keys l.storage ≡ g.S.Storage.keys l.fn.storage;
   rest : g.S.Storage.Keeps l.fn.storage l.storage;
+  on : IsSameOrLighter l.fn.limits.commands l.fn.from (memory_of (g.S.Storage.bytes l.fn.storage) (g.S.Storage.keys l.fn.storage)) l.fn.device l.spot (memory_of (g.S.Storage.bytes l.storage) (g.S.Storage.keys l.storage)) l.device;
 }
 
 abbrev pub decreases-words : goal.decreases-words

@@ -1,0 +1,44 @@
+use Rattle.std.proofs.Common.{◌≡◌, ◌+◌, ◌/◌, ◌%◌, ◌<◌, ◌≤◌, length, ap, ◌∙◌, rules, arith}
+use Rattle.std.specs.Prelude.{slice_range}
+use Rattle.cp_dat.specs.Lent.{lent_bytes, is_lent_page}
+use Rattle.cp_dat.proofs.Copying.{back_none, back_by, back_on, inside, put_all, length-chunk}
+use Rattle.cp_dat.proofs.dat.Dat.put_back.Goals.{then-wanted-start+in-Ok, else-wanted-start}
+use Rattle.cp_dat.proofs.dat.Dat.put_back.Goals as goal
+
+pub loop-start-init : goal.loop-start-init
+loop-start-init c = back_none c.args.self.now c.args.from.now c.args.wanted.now c.requires.stand c.requires.between
+
+pub store-requires-clause-granted : goal.store-requires-clause-granted
+store-requires-clause-granted c =
+    let before = c.loop-start.invariant in
+    let whole : length (lent_bytes c.args.self.now) % 4096 ≡ 0 = search (rules, c.args.self.now.whole, c.args.self.now.sized) in
+    let size : length (lent_bytes c.loop-start.self) ≡ length (lent_bytes c.args.self.now) = before.put.size in
+    let low : c.loop-start.start < length (lent_bytes c.args.self.now) = search (rules, c.loop-start-test.true, c.loop-start.self.sized, size) in
+    let within : c.loop-start.start + 256 ≤ length (lent_bytes c.args.self.now) = inside c.args.self.now c.args.from.now c.args.wanted.now c.loop-start.start c.loop-start.self whole low c.requires.long before in
+    let aligned = before.aligned in
+    let same : length (lent_bytes c.fetch.new.self) ≡ length (lent_bytes c.args.self.now) = ap length c.fetch.ensures.bytes ∙ size in
+    let long = c.requires.long in
+    let count : length (slice_range c.args.from.now c.loop-start.start (c.loop-start.start + 256)) ≡ 256 = length-chunk c.args.from.now c.loop-start.start (omega (arith, long, within)) in
+    record {
+      inside = omega (arith, count, same, within);
+      here = λ k few. (let page : (c.loop-start.start + k) / 4096 ≡ c.loop-start.start / 4096 = omega (arith, aligned, few, count) in
+          ap (λ i. is_lent_page c.fetch.new.self i) page ∙ c.in-Ok.ensures.there);
+    }
+
+pub loop-start-preserved : goal.loop-start-preserved
+loop-start-preserved c =
+    let before = c.loop-start.invariant in
+    let whole : length (lent_bytes c.args.self.now) % 4096 ≡ 0 = search (rules, c.args.self.now.whole, c.args.self.now.sized) in
+    let size : length (lent_bytes c.loop-start.self) ≡ length (lent_bytes c.args.self.now) = before.put.size in
+    let low : c.loop-start.start < length (lent_bytes c.args.self.now) = search (rules, c.loop-start-test.true, c.loop-start.self.sized, size) in
+    elim c.if-wanted-start.branch [
+      | then-wanted-start+in-Ok w ↦ rw w.self-is (back_on c.args.self.now c.args.from.now c.args.wanted.now c.loop-start.start c.loop-start.self whole low c.requires.long before w.fetch.new.self w.store.new.self w.if-wanted-start.true w.fetch.ensures.came w.fetch.ensures.between w.fetch.ensures.bytes w.fetch.ensures.keys w.store.ensures.rest w.store.ensures.bytes w.store.ensures.keys)
+      | else-wanted-start w ↦ rw w.self-is (back_by c.args.self.now c.args.from.now c.args.wanted.now c.loop-start.start c.loop-start.self whole low c.requires.long before c.requires.beside w.if-wanted-start.false)
+    ]
+
+pub returns-clause-bytes : goal.returns-clause-bytes
+returns-clause-bytes c =
+    let before = c.loop-start.invariant in
+    let size : length (lent_bytes c.loop-start.self) ≡ length (lent_bytes c.args.self.now) = before.put.size in
+    let all : length (lent_bytes c.args.self.now) ≤ c.loop-start.start = search (rules, c.loop-start-test.false, c.loop-start.self.sized, size) in
+    put_all c.loop-start.start c.args.from.now (lent_bytes c.args.self.now) (lent_bytes c.loop-start.self) c.requires.long before.put all

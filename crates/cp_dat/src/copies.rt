@@ -1,0 +1,151 @@
+//! A user's storage as bytes: copied out, wherever its pages stand, and put back page by page.
+//!
+//! So a program can be tried on a copy: no page is brought for that. The pages that it needs are placed then, for which
+//! there may be no room; and only once they stand somewhere are the bytes put back, which nothing refuses.
+ghost use Rattle.std.specs.Prelude.{◌≡◌, ℕ, ◌+◌, ◌*◌, ◌/◌, ◌%◌, ◌<◌, ◌≤◌, true, length, slice_range, IfOk, IfErr, OnOk, OnErr};
+ghost use Rattle.s370_store.specs.Access.{put};
+
+use crate::Dat;
+use s370_num::StorageKey;
+use s370_store::{FramesOut, PAGE_SIZE, Page, Storage, Supply, UnitSupply};
+use std::alloc::{AllocError, Global};
+
+/// How many bytes are copied at once.
+const CHUNK: u32 = 256;
+
+impl<'a> Dat<'a> {
+    ghost use Rattle.cp_dat.specs.Copies.{CameOnly, SameBeside, StandAll, is_wanted};
+    ghost use Rattle.cp_dat.specs.Lent.{lent_bytes, lent_keys, lent_pool, is_lent_page, user_of};
+    ghost use Rattle.cp_dat.specs.Supplied.{HasNoRoom, IsBetweenUnits, Stands};
+
+    /// Copies 256 bytes of a page out, wherever it stands.
+    fn copy_chunk(&self, start: u32, into: &mut [u8])
+        requires aligned { start % 256 ≡ 0 }
+        requires inside { start + 256 ≤ length (lent_bytes self.now) }
+        requires long { length into.old ≡ 256 }
+        ensures { into.new ≡ slice_range (lent_bytes self.now) start (start + 256) }
+    {
+        let page = Page(start / PAGE_SIZE);
+        match self.frame_of(page) {
+            Some(_) => return self.frames.load(self.user, start, into),
+            None => {}
+        }
+        match self.frames.slot_of(self.user, page) {
+            Some(_) => self.copy_bytes(start, into),
+            None => into.fill(0),
+        }
+    }
+
+    /// Copies 256 bytes out, one by one.
+    fn copy_bytes(&self, start: u32, into: &mut [u8])
+        requires inside { start + 256 ≤ length (lent_bytes self.now) }
+        requires long { length into.old ≡ 256 }
+        ensures { into.new ≡ slice_range (lent_bytes self.now) start (start + 256) }
+    {
+        let mut index = 0u32;
+        while index < 256 {
+            match self.frames.byte(self.user, start + index) {
+                Some(byte) => into[index as usize] = byte,
+                None => unreachable!(),
+            }
+            index += 1;
+        }
+    }
+
+    /// All bytes of the storage. No page has to stand in a frame for that.
+    pub fn copy_out(&self, alloc: Global) -> Result<Vec<u8>, AllocError>
+        ensures { IfOk result (λ made. made.items ≡ lent_bytes self.now) }
+    {
+        let mut made = Vec::with_capacity(alloc, self.size as usize)?;
+        let mut buffer = [0u8; 256];
+        let mut start = 0u32;
+        while start < self.size {
+            self.copy_chunk(start, &mut buffer);
+            made.extend_from_slice(&buffer)?;
+            start += CHUNK;
+        }
+        Ok(made)
+    }
+
+    /// The key of each block.
+    pub fn copy_keys(&self, alloc: Global) -> Result<Vec<StorageKey>, AllocError>
+        ensures { IfOk result (λ made. made.items ≡ lent_keys self.now) }
+    {
+        let mut made = Vec::with_capacity(alloc, self.keys.len())?;
+        for key in self.keys.iter() {
+            made.push(*key)?;
+        }
+        Ok(made)
+    }
+
+    /// Brings a page into a frame, where it stands in none, and lets go of it. A page that stands somewhere is never
+    /// refused.
+    fn fetch(&mut self, page: Page) -> Result<(), FramesOut>
+        requires inside { page.0 * 4096 < length (lent_bytes self.old) }
+        requires between { IsBetweenUnits (lent_pool self.old).supply }
+        ensures there { OnOk result (is_lent_page self.new page.0 ≡ true) }
+        ensures out { OnErr result (HasNoRoom (lent_pool self.new).supply (user_of self.new) page.0) }
+        ensures nowhere { OnErr result (Stands (lent_pool self.old).supply (user_of self.old) page.0 → ⊥) }
+        ensures came { CameOnly self.old (λ other. other ≡ page.0) self.new }
+        ensures between { IsBetweenUnits (lent_pool self.new).supply }
+        ensures bytes { lent_bytes self.new ≡ lent_bytes self.old }
+        ensures keys { lent_keys self.new ≡ lent_keys self.old }
+    {
+        if self.frame_of(page).is_some() {
+            return Ok(());
+        }
+        let brought = Supply::bring(self, page);
+        self.let_go();
+        brought
+    }
+
+    /// Sees that each wanted page stands somewhere, in a frame or in a slot. Where there is no room for one, this is told;
+    /// no byte has changed.
+    pub fn place(&mut self, wanted: &[bool]) -> Result<(), FramesOut>
+        requires inside { length wanted.now * 4096 ≤ length (lent_bytes self.old) }
+        requires between { IsBetweenUnits (lent_pool self.old).supply }
+        ensures stand { OnOk result (StandAll self.new wanted.now) }
+        ensures out { OnErr result ((page : ℕ) × is_wanted wanted.now page
+            × HasNoRoom (lent_pool self.new).supply (user_of self.new) page) }
+        ensures came { CameOnly self.old (is_wanted wanted.now) self.new }
+        ensures between { IsBetweenUnits (lent_pool self.new).supply }
+        ensures bytes { lent_bytes self.new ≡ lent_bytes self.old }
+        ensures keys { lent_keys self.new ≡ lent_keys self.old }
+    {
+        let mut page = 0u32;
+        while (page as usize) < wanted.len() {
+            if wanted[page as usize] {
+                self.fetch(Page(page))?;
+            }
+            page += 1;
+        }
+        Ok(())
+    }
+
+    /// Puts bytes into the wanted pages, which stand somewhere; the others have these bytes. Nothing refuses it.
+    pub fn put_back(&mut self, from: &[u8], wanted: &[bool])
+        requires long { length from.now ≡ length (lent_bytes self.old) }
+        requires flags { length wanted.now * 4096 ≡ length (lent_bytes self.old) }
+        requires beside { SameBeside wanted.now (lent_bytes self.old) from.now }
+        requires stand { StandAll self.old wanted.now }
+        requires between { IsBetweenUnits (lent_pool self.old).supply }
+        ensures bytes { lent_bytes self.new ≡ from.now }
+        ensures keys { lent_keys self.new ≡ lent_keys self.old }
+        ensures came { CameOnly self.old (is_wanted wanted.now) self.new }
+        ensures between { IsBetweenUnits (lent_pool self.new).supply }
+    {
+        let mut start = 0u32;
+        while start < self.size {
+            if wanted[(start / PAGE_SIZE) as usize] {
+                match self.fetch(Page(start / PAGE_SIZE)) {
+                    Ok(()) => {}
+                    // It stands somewhere.
+                    Err(FramesOut) => unreachable!(),
+                }
+                let first = start as usize;
+                self.store(start, &from[first..first + 256]);
+            }
+            start += CHUNK;
+        }
+    }
+}

@@ -1,0 +1,21 @@
+-- What tells of a program that was tried and then runs, or for which there is no room.
+use Rattle.std.specs.Prelude.{ℕ, ◌*◌, ◌<◌, length}
+use Rattle.s370_channel.specs.Guest.{guest_written}
+use Rattle.s370_walk.specs.declared.parts.Ending.{Ending}
+use Rattle.s370_walk.specs.Hardware.{Memory}
+use Rattle.s370_walk.specs.Walk.{Over, Reaches, Setting, State, live}
+use Rattle.cp_dat.specs.declared.dat.Dat.{Dat}
+use Rattle.cp_dat.specs.Lent.{lent_bytes, lent_pool, user_of}
+use Rattle.cp_dat.specs.Supplied.{HasNoRoom}
+
+-- there is no room for such a page of the storage
+pub record LacksSuch (IsSuch : ℕ → Type 0) (storage : Dat) : Type 0 where
+  pub page : ℕ
+  pub inside : page * 4096 < length (lent_bytes storage)
+  pub such : IsSuch page
+  pub out : HasNoRoom (lent_pool storage).supply (user_of storage) page
+
+-- the walk comes to this ending, with this device, and some storage
+pub record EndsSomehow {D : Type 0} (h : Setting D) (from : State D) (ending : Ending) (device : D) : Type 0 where
+  pub memory : Memory
+  pub comes : Reaches (live guest_written) h from (Over ending memory device)

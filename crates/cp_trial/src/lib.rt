@@ -1,0 +1,218 @@
+//! Channel programs that run as a whole or not at all, on storage that is lent from frames.
+//!
+//! A program is tried first, on a copy of its user's bytes and with what is seen of its device: nothing has happened then,
+//! and it is known which pages the program touches. These are placed; where there is no room for one, this is told, and
+//! nothing has happened. Then the program runs with its device, on a copy again, and the bytes are put back.
+//!
+//! Its one theorem: a program that is refused for want of room touches a page for which there is none; what is brought
+//! are pages that the program touches; and what runs is the walk of the storage as it stood.
+#![tactic(auto)]
+
+ghost use Rattle.std.specs.Prelude.{◌≡◌, ℕ, Bool, false, Err, IfOk, OnErr};
+ghost use Rattle.s370_channel.specs.Guest.{guest_written};
+ghost use Rattle.s370_channel.specs.Loading.{loading, loading_limits};
+ghost use Rattle.s370_channel.specs.Progress.{setting};
+ghost use Rattle.s370_channel.specs.Reading.{as_reached};
+ghost use Rattle.s370_channel.specs.Runs.{Walks, begun, limited};
+ghost use Rattle.s370_walk.specs.declared.parts.Order.{Order};
+ghost use Rattle.s370_walk.specs.Hardware.{memory_of};
+ghost use Rattle.s370_walk.specs.Walk.{Over, Reaches, live};
+ghost use Rattle.cp_dat.specs.Copies.{CameOnly, is_wanted};
+ghost use Rattle.cp_dat.specs.Lent.{lent_bytes, lent_keys, lent_pool};
+ghost use Rattle.cp_dat.specs.Supplied.{IsBetweenUnits};
+ghost use Rattle.channel_trial.specs.Trial.{is_touched, trial_bytes, trial_flags, trial_keys};
+ghost use Rattle.channel_trial.specs.Tried.{IsLoadingTried, IsProgramTried};
+ghost use Rattle.cp_trial.specs.Tried.{EndsSomehow, LacksSuch};
+ghost use Rattle.cp_trial.specs.declared.TriedError.TheVariants as errors;
+
+use channel_trial::{TrialStorage, Tried, TriedLoading, limits_of};
+use cp_dat::Dat;
+use s370_channel::{Caw, load_supplied, run_supplied};
+use s370_store::{FramesOut, PAGE_SIZE, Storage};
+use s370_walk::{Device, Ending};
+use std::alloc::{AllocError, Global};
+
+/// Why a program that was tried does not run.
+#[derive(Clone, Copy, Debug, PartialEq, Eq)]
+pub enum TriedError {
+    /// Memory was refused.
+    Memory,
+    /// There is no room for a page that it touches.
+    FramesOut,
+}
+
+/// A copy of a user's storage, no page of which was touched.
+fn copy_of(alloc: Global, storage: &Dat<'_>) -> Result<TrialStorage, AllocError>
+    ensures bytes { IfOk result (λ copy. trial_bytes copy ≡ lent_bytes storage.now) }
+    ensures keys { IfOk result (λ copy. trial_keys copy ≡ lent_keys storage.now) }
+    ensures flags { IfOk result (λ copy. (page : ℕ) → is_touched copy page ≡ false) }
+{
+    let bytes = storage.copy_out(alloc)?;
+    let keys = storage.copy_keys(alloc)?;
+    TrialStorage::new(alloc, bytes, keys, storage.size() / PAGE_SIZE)
+}
+
+/// Tries the program with this start on a copy of the storage, with a device that stands for its own. Nothing is brought.
+pub fn try_program<T: Device>(
+    alloc: Global,
+    storage: &Dat<'_>,
+    start: Caw,
+    trial: &mut T,
+) -> Result<TrialStorage, AllocError>
+    ensures { IfOk result (λ tried. IsProgramTried T.machine start
+        (memory_of (lent_bytes storage.now) (lent_keys storage.now)) trial.old (trial_bytes tried) (trial_flags tried)) }
+{
+    let mut copy = copy_of(alloc, storage)?;
+    channel_trial::try_program(&mut copy, start, trial)?;
+    Ok(copy)
+}
+
+/// Tries the program with this start on a copy of the storage, of a device that stays as it is. Nothing is brought.
+pub fn try_device<D: Tried>(
+    alloc: Global,
+    storage: &Dat<'_>,
+    start: Caw,
+    device: &D,
+) -> Result<TrialStorage, AllocError>
+    ensures { IfOk result (λ tried. IsProgramTried D.Device.machine start
+        (memory_of (lent_bytes storage.now) (lent_keys storage.now)) device.now (trial_bytes tried) (trial_flags tried)) }
+{
+    let mut copy = copy_of(alloc, storage)?;
+    device.try_on(&mut copy, start)?;
+    Ok(copy)
+}
+
+/// Runs the program with this start, which was tried: where there is room for the pages that it touches, as a whole, and
+/// else not at all.
+pub fn run_tried<D: Device>(
+    alloc: Global,
+    storage: &mut Dat<'_>,
+    start: Caw,
+    device: &mut D,
+    tried: &TrialStorage,
+) -> Result<Ending, TriedError>
+    requires tried { IsProgramTried D.machine start (memory_of (lent_bytes storage.old) (lent_keys storage.old))
+        device.old (trial_bytes tried.now) (trial_flags tried.now) }
+    requires between { IsBetweenUnits (lent_pool storage.old).supply }
+    ensures walk { IfOk result
+        (λ ending. Walks as_reached D.machine start
+        (memory_of (lent_bytes storage.old) (lent_keys storage.old)) device.old ending
+        (memory_of (lent_bytes storage.new) (lent_keys storage.new)) device.new) }
+    ensures same { result ≡ Err errors.FramesOut → (lent_bytes storage.new ≡ lent_bytes storage.old)
+        × (device.new ≡ device.old) }
+    ensures spared { ((d : D) (o : Order) → D.needs_memory d o ≡ false) → result ≡ Err errors.Memory
+        → device.new ≡ device.old }
+    ensures lacking { result ≡ Err errors.FramesOut → LacksSuch (is_wanted (trial_flags tried.now)) storage.new }
+    ensures came { CameOnly storage.old (is_wanted (trial_flags tried.now)) storage.new }
+    ensures between { IsBetweenUnits (lent_pool storage.new).supply }
+    ensures keys { lent_keys storage.new ≡ lent_keys storage.old }
+{
+    match storage.place(tried.touched()) {
+        Ok(()) => {}
+        Err(FramesOut) => return Err(TriedError::FramesOut),
+    }
+    let ran = run_apart(alloc, storage, start, device);
+    let Ok(ending) = ran else {
+        return Err(TriedError::Memory);
+    };
+    storage.put_back(tried.bytes(), tried.touched());
+    Ok(ending)
+}
+
+/// Runs the program with this start on a copy of the storage, which has then the bytes that the storage is to have.
+fn run_apart<D: Device>(
+    alloc: Global,
+    storage: &Dat<'_>,
+    start: Caw,
+    device: &mut D,
+) -> Result<Ending, AllocError>
+    ensures spared { ((d : D) (o : Order) → D.needs_memory d o ≡ false) → OnErr result (device.new ≡ device.old) }
+    ensures ends { IfOk result (λ ending. EndsSomehow (limited D.machine start)
+        (begun start (memory_of (lent_bytes storage.now) (lent_keys storage.now)) device.old) ending device.new) }
+{
+    let mut copy = copy_of(alloc, storage)?;
+    match run_supplied(&mut copy, start.address.get(), &limits_of(start), device) {
+        Ok(ending) => Ok(ending),
+        Err(_) => Err(AllocError),
+    }
+}
+
+/// Tries the program of an initial program loading, likewise.
+pub fn try_loading<T: Device>(
+    alloc: Global,
+    storage: &Dat<'_>,
+    trial: &mut T,
+) -> Result<TrialStorage, AllocError>
+    ensures { IfOk result (λ tried. IsLoadingTried T.machine
+        (memory_of (lent_bytes storage.now) (lent_keys storage.now)) trial.old (trial_bytes tried) (trial_flags tried)) }
+{
+    let mut copy = copy_of(alloc, storage)?;
+    channel_trial::try_loading(&mut copy, trial)?;
+    Ok(copy)
+}
+
+/// Tries the program of an initial program loading, of a device that stays as it is.
+pub fn try_load<D: TriedLoading>(
+    alloc: Global,
+    storage: &Dat<'_>,
+    device: &D,
+) -> Result<TrialStorage, AllocError>
+    ensures { IfOk result (λ tried. IsLoadingTried D.Device.machine
+        (memory_of (lent_bytes storage.now) (lent_keys storage.now)) device.now (trial_bytes tried) (trial_flags tried)) }
+{
+    let mut copy = copy_of(alloc, storage)?;
+    device.try_load(&mut copy)?;
+    Ok(copy)
+}
+
+/// Runs the program of an initial program loading, which was tried, likewise.
+pub fn load_tried<D: Device>(
+    alloc: Global,
+    storage: &mut Dat<'_>,
+    device: &mut D,
+    tried: &TrialStorage,
+) -> Result<Ending, TriedError>
+    requires tried { IsLoadingTried D.machine (memory_of (lent_bytes storage.old) (lent_keys storage.old))
+        device.old (trial_bytes tried.now) (trial_flags tried.now) }
+    requires between { IsBetweenUnits (lent_pool storage.old).supply }
+    ensures walk { IfOk result
+        (λ ending. Reaches (live guest_written) (setting D.machine loading_limits)
+        (loading D.machine (memory_of (lent_bytes storage.old) (lent_keys storage.old)) device.old)
+        (Over ending (memory_of (lent_bytes storage.new) (lent_keys storage.new)) device.new)) }
+    ensures same { result ≡ Err errors.FramesOut → (lent_bytes storage.new ≡ lent_bytes storage.old)
+        × (device.new ≡ device.old) }
+    ensures spared { ((d : D) (o : Order) → D.needs_memory d o ≡ false) → result ≡ Err errors.Memory
+        → device.new ≡ device.old }
+    ensures lacking { result ≡ Err errors.FramesOut → LacksSuch (is_wanted (trial_flags tried.now)) storage.new }
+    ensures came { CameOnly storage.old (is_wanted (trial_flags tried.now)) storage.new }
+    ensures between { IsBetweenUnits (lent_pool storage.new).supply }
+    ensures keys { lent_keys storage.new ≡ lent_keys storage.old }
+{
+    match storage.place(tried.touched()) {
+        Ok(()) => {}
+        Err(FramesOut) => return Err(TriedError::FramesOut),
+    }
+    let ran = load_apart(alloc, storage, device);
+    let Ok(ending) = ran else {
+        return Err(TriedError::Memory);
+    };
+    storage.put_back(tried.bytes(), tried.touched());
+    Ok(ending)
+}
+
+/// Runs the program of an initial program loading on a copy of the storage.
+fn load_apart<D: Device>(
+    alloc: Global,
+    storage: &Dat<'_>,
+    device: &mut D,
+) -> Result<Ending, AllocError>
+    ensures spared { ((d : D) (o : Order) → D.needs_memory d o ≡ false) → OnErr result (device.new ≡ device.old) }
+    ensures ends { IfOk result (λ ending. EndsSomehow (setting D.machine loading_limits)
+        (loading D.machine (memory_of (lent_bytes storage.now) (lent_keys storage.now)) device.old) ending device.new) }
+{
+    let mut copy = copy_of(alloc, storage)?;
+    match load_supplied(&mut copy, device) {
+        Ok(ending) => Ok(ending),
+        Err(_) => Err(AllocError),
+    }
+}

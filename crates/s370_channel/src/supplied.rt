@@ -1,0 +1,253 @@
+//! The run of a channel program whose absent pages are brought when it comes to them.
+//!
+//! It goes on at the very word or byte at which a page was absent: so its walk is that of a storage which is all there,
+//! and what is brought is what it touches.
+ghost use Rattle.std.specs.Prelude.{◌≡◌, ◌+◌, ◌-◌, ◌*◌, ◌^◌, ◌<◌, ◌≤◌, ℕ, List, [], ◌∷◌, IfErr, IfOk, length};
+ghost use Rattle.s370_walk.specs.Hardware.{memory_of};
+ghost use Rattle.s370_walk.specs.Stuck.{IsAsked};
+ghost use Rattle.s370_walk.specs.Walk.{Fetching, Over, Reaches, live, start_spot};
+ghost use Rattle.s370_channel.specs.Guest.{guest_written};
+ghost use Rattle.s370_channel.specs.Halts.{IsReady, place_weight, stands};
+ghost use Rattle.s370_channel.specs.Loading.{loading, loading_limits};
+ghost use Rattle.s370_channel.specs.Progress.{rest_of, setting};
+ghost use Rattle.s370_channel.specs.Supplied.{AllSuch, EachSuch, IsAskedFor, IsFarther, IsLack, IsLoadingOut, IsOutOfMemory, IsTouched, gone_state};
+
+use crate::guest::Guest;
+use crate::limits::Limits;
+use crate::loading::{LIMITS, load};
+use crate::room::AmpleSupply;
+use crate::running::{ChannelError, Halt, Place, go_from};
+use crate::starting::first_spot;
+use s370_store::FramesOut;
+use s370_walk::{Device, Ending, Transfer};
+
+/// What a step leads to, with all that follows it for which no page is lacking.
+enum Gone {
+    /// The end of the program.
+    Finished(Ending),
+    /// A later step that lacks a page.
+    Further(Place),
+}
+
+/// Why a step is not done.
+#[derive(Clone, Copy)]
+enum Lack {
+    /// A device was refused the memory that a command needs.
+    Memory,
+    /// There is no room for a page.
+    Room,
+}
+
+/// How much a transfer may still move, as it counts in the weight of a place.
+fn rest_in(role: Option<Transfer>) -> u128
+    ensures rest { result ≡ rest_of role }
+    ensures small { result < 2 ^ 34 }
+{
+    match role {
+        None => 0,
+        Some(transfer) => 2 + 2 * u128::from(transfer.left),
+    }
+}
+
+/// The commands that may still be started, as they count in the weight of a place.
+fn commands_left(commands: u32, started: u32) -> u128
+    ensures value { result ≡ (commands - started) * 2 ^ 34 }
+    ensures small { result < 2 ^ 66 }
+{
+    u128::from(commands.saturating_sub(started)) * 0x4_0000_0000
+}
+
+/// How much may still be done from a place, where so many commands may be started.
+#[tactic(auto, unfolding(crate::specs::Progress::weight))]
+fn weight_of(commands: u32, place: &Place) -> u128
+    ensures { result ≡ place_weight commands place.now }
+{
+    match *place {
+        Place::Next(spot) => {
+            let left = commands_left(commands, spot.started);
+            let jump = if spot.jumped { 0 } else { 1 };
+            2 * (left + rest_in(spot.role) + jump) + 1
+        }
+        Place::Within(position) => {
+            let left = commands_left(commands, position.started);
+            2 * (left + rest_in(Some(position.transfer)))
+        }
+    }
+}
+
+/// Goes on from a place to another at which a page is absent, after each page was brought that the step needs, each of
+/// them once.
+fn supply_step<S: AmpleSupply, D: Device>(
+    storage: &mut S,
+    device: &mut D,
+    limits: &Limits,
+    from: Place,
+) -> Result<Gone, Lack>
+    requires { IsReady from }
+    ensures reaches { IfOk result
+        (λ gone. Reaches (live guest_written) (setting D.machine limits.now)
+        (stands from (memory_of (S.Storage.bytes storage.old) (S.Storage.keys storage.old)) device.old)
+        (gone_state gone (memory_of (S.Storage.bytes storage.new) (S.Storage.keys storage.new)) device.new)) }
+    ensures farther { IfOk result (IsFarther limits.now.commands from) }
+    ensures lack { IfErr result
+        (IsLack guest_written (setting D.machine limits.now) D.needs_memory
+        (stands from (memory_of (S.Storage.bytes storage.old) (S.Storage.keys storage.old)) device.old)
+        (length (S.Storage.bytes storage.new)) (S.Supply.IsShort storage.new)) }
+    ensures supply { (pages : List ℕ) × S.Supply.Brought storage.old pages storage.new
+        × IsAskedFor guest_written D.machine
+        (stands from (memory_of (S.Storage.bytes storage.old) (S.Storage.keys storage.old)) device.old)
+        (length (S.Storage.bytes storage.old)) pages
+        × (length pages ≤ 9) }
+    ensures keys { S.Storage.keys storage.new ≡ S.Storage.keys storage.old }
+    ensures size { length (S.Storage.bytes storage.new) ≡ length (S.Storage.bytes storage.old) }
+{
+    'page: loop {
+        match go_from(&Guest, storage, device, limits, from) {
+            Ok(ending) => return Ok(Gone::Finished(ending)),
+            Err(Halt::Memory) => return Err(Lack::Memory),
+            Err(Halt::Absent(page, place)) => {
+                if weight_of(limits.commands, &place) < weight_of(limits.commands, &from) {
+                    return Ok(Gone::Further(place));
+                }
+                match storage.bring(page) {
+                    Ok(()) => {}
+                    Err(FramesOut) => return Err(Lack::Room),
+                }
+            }
+        }
+    }
+}
+
+/// The same, where there is room for every page: what was brought is held no longer.
+fn supply_unit<S: AmpleSupply, D: Device>(
+    storage: &mut S,
+    device: &mut D,
+    limits: &Limits,
+    from: Place,
+) -> Result<Gone, ChannelError>
+    requires ready { IsReady from }
+    requires between { S.UnitSupply.IsBetween storage.old }
+    requires ample { S.IsAmple storage.old }
+    ensures reaches { IfOk result
+        (λ gone. Reaches (live guest_written) (setting D.machine limits.now)
+        (stands from (memory_of (S.Storage.bytes storage.old) (S.Storage.keys storage.old)) device.old)
+        (gone_state gone (memory_of (S.Storage.bytes storage.new) (S.Storage.keys storage.new)) device.new)) }
+    ensures farther { IfOk result (IsFarther limits.now.commands from) }
+    ensures memory { IfErr result
+        (IsOutOfMemory guest_written (setting D.machine limits.now) D.needs_memory
+        (stands from (memory_of (S.Storage.bytes storage.old) (S.Storage.keys storage.old)) device.old)) }
+    ensures came { (pages : List ℕ) × S.UnitSupply.Came storage.old (pages ∷ []) storage.new
+        × AllSuch (IsAsked guest_written D.machine
+        (stands from (memory_of (S.Storage.bytes storage.old) (S.Storage.keys storage.old)) device.old)) pages }
+    ensures between { S.UnitSupply.IsBetween storage.new }
+    ensures ample { S.IsAmple storage.new }
+    ensures keys { S.Storage.keys storage.new ≡ S.Storage.keys storage.old }
+    ensures size { length (S.Storage.bytes storage.new) ≡ length (S.Storage.bytes storage.old) }
+{
+    let gone = supply_step(storage, device, limits, from);
+    storage.let_go();
+    match gone {
+        Ok(gone) => Ok(gone),
+        Err(lack) => match lack {
+            Lack::Memory => Err(ChannelError::Memory),
+            // There is room for every page.
+            Lack::Room => unreachable!(),
+        },
+    }
+}
+
+/// Goes on from a place to the end of the program; pages that are absent are brought.
+fn go_supplied<S: AmpleSupply, D: Device>(
+    storage: &mut S,
+    device: &mut D,
+    limits: &Limits,
+    from: Place,
+) -> Result<Ending, ChannelError>
+    requires ready { IsReady from }
+    requires between { S.UnitSupply.IsBetween storage.old }
+    requires ample { S.IsAmple storage.old }
+    ensures reaches { IfOk result
+        (λ ending. Reaches (live guest_written) (setting D.machine limits.now)
+        (stands from (memory_of (S.Storage.bytes storage.old) (S.Storage.keys storage.old)) device.old)
+        (Over ending (memory_of (S.Storage.bytes storage.new) (S.Storage.keys storage.new)) device.new)) }
+    ensures memory { IfErr result
+        (IsOutOfMemory guest_written (setting D.machine limits.now) D.needs_memory
+        (stands from (memory_of (S.Storage.bytes storage.old) (S.Storage.keys storage.old)) device.old)) }
+    ensures came { (units : List (List ℕ)) × S.UnitSupply.Came storage.old units storage.new
+        × EachSuch (IsTouched guest_written (setting D.machine limits.now)
+        (stands from (memory_of (S.Storage.bytes storage.old) (S.Storage.keys storage.old)) device.old)) units }
+    ensures between { S.UnitSupply.IsBetween storage.new }
+    ensures ample { S.IsAmple storage.new }
+    ensures keys { S.Storage.keys storage.new ≡ S.Storage.keys storage.old }
+    ensures size { length (S.Storage.bytes storage.new) ≡ length (S.Storage.bytes storage.old) }
+{
+    let mut place = from;
+    'unit: loop {
+        let gone = match supply_unit(storage, device, limits, place) {
+            Ok(gone) => gone,
+            Err(error) => return Err(error),
+        };
+        match gone {
+            Gone::Finished(ending) => return Ok(ending),
+            Gone::Further(then) => place = then,
+        }
+    }
+}
+
+/// Runs the program that starts at an address over a storage that has room for every page; those that it touches are
+/// brought when it comes to them.
+pub fn run_supplied<S: AmpleSupply, D: Device>(
+    storage: &mut S,
+    start: u32,
+    limits: &Limits,
+    device: &mut D,
+) -> Result<Ending, ChannelError>
+    requires between { S.UnitSupply.IsBetween storage.old }
+    requires ample { S.IsAmple storage.old }
+    ensures reaches { IfOk result
+        (λ ending. Reaches (live guest_written) (setting D.machine limits.now)
+        (Fetching (start_spot start) (memory_of (S.Storage.bytes storage.old) (S.Storage.keys storage.old)) device.old)
+        (Over ending (memory_of (S.Storage.bytes storage.new) (S.Storage.keys storage.new)) device.new)) }
+    ensures memory { IfErr result
+        (IsOutOfMemory guest_written (setting D.machine limits.now) D.needs_memory
+        (Fetching (start_spot start) (memory_of (S.Storage.bytes storage.old) (S.Storage.keys storage.old)) device.old)) }
+    ensures came { (units : List (List ℕ)) × S.UnitSupply.Came storage.old units storage.new
+        × EachSuch (IsTouched guest_written (setting D.machine limits.now)
+        (Fetching (start_spot start) (memory_of (S.Storage.bytes storage.old) (S.Storage.keys storage.old)) device.old))
+        units }
+    ensures between { S.UnitSupply.IsBetween storage.new }
+    ensures ample { S.IsAmple storage.new }
+    ensures keys { S.Storage.keys storage.new ≡ S.Storage.keys storage.old }
+    ensures size { length (S.Storage.bytes storage.new) ≡ length (S.Storage.bytes storage.old) }
+{
+    go_supplied(storage, device, limits, Place::Next(first_spot(start)))
+}
+
+/// The same for the program of an initial program loading.
+pub fn load_supplied<S: AmpleSupply, D: Device>(
+    storage: &mut S,
+    device: &mut D,
+) -> Result<Ending, ChannelError>
+    requires between { S.UnitSupply.IsBetween storage.old }
+    requires ample { S.IsAmple storage.old }
+    ensures reaches { IfOk result
+        (λ ending. Reaches (live guest_written) (setting D.machine loading_limits)
+        (loading D.machine (memory_of (S.Storage.bytes storage.old) (S.Storage.keys storage.old)) device.old)
+        (Over ending (memory_of (S.Storage.bytes storage.new) (S.Storage.keys storage.new)) device.new)) }
+    ensures memory { IfErr result
+        (IsLoadingOut guest_written D.machine D.needs_memory
+        (memory_of (S.Storage.bytes storage.old) (S.Storage.keys storage.old)) device.old) }
+    ensures came { (units : List (List ℕ)) × S.UnitSupply.Came storage.old units storage.new
+        × EachSuch (IsTouched guest_written (setting D.machine loading_limits)
+        (loading D.machine (memory_of (S.Storage.bytes storage.old) (S.Storage.keys storage.old)) device.old)) units }
+    ensures between { S.UnitSupply.IsBetween storage.new }
+    ensures ample { S.IsAmple storage.new }
+    ensures keys { S.Storage.keys storage.new ≡ S.Storage.keys storage.old }
+    ensures size { length (S.Storage.bytes storage.new) ≡ length (S.Storage.bytes storage.old) }
+{
+    match load(&Guest, storage, device) {
+        Ok(ending) => Ok(ending),
+        Err(Halt::Memory) => Err(ChannelError::Memory),
+        Err(Halt::Absent(_, place)) => go_supplied(storage, device, &LIMITS, place),
+    }
+}

@@ -1,0 +1,251 @@
+//! Devices as a program would use them that is only tried: each is lent, and stays as it is.
+//!
+//! A walk over one of these has the ending and the storage of the walk over the device: so it tells which pages the
+//! device's own program will touch. It takes no memory.
+ghost use Rattle.std.specs.Prelude.{◌≡◌};
+ghost use Rattle.unit_record.specs.Console.{read_answer as line_answer};
+ghost use Rattle.unit_record.specs.Trials.{ViewsConsole, ViewsPrinter, ViewsPunch, console_seen, printer_seen, punch_seen};
+
+use crate::console::Console;
+use crate::front::{COMMAND_REJECT, NO_OPERATION, is_sense};
+use crate::outgoing::Outgoing;
+use crate::printer::Printer;
+use crate::punch::Punch;
+use crate::record::Record;
+use s370_walk::{Answer, Device, Order, UnitStatus};
+use std::alloc::AllocError;
+use std::collections::VecDeque;
+use std::marker::Model;
+
+/// A console on trial: it reads the lines that wait where they are, and keeps none that is written.
+#[derive(Drop)]
+pub struct ConsoleTrial<'a> {
+    waiting: &'a VecDeque<Record>,
+    read: usize,
+    sense: u8,
+    giving: Outgoing,
+}
+
+impl<'a> Model for ConsoleTrial<'a> {
+    ghost use Rattle.std.specs.Prelude.{drop, length, ◌≤◌};
+    ghost use Rattle.unit_record.specs.Trials.{ConsoleSeen};
+
+    ghost Value = { ConsoleSeen };
+
+    ghost view = { λ c. record { waiting = drop c.read c.waiting.now.items; sense = c.sense; giving = c.giving } };
+
+    ghost invariant = { λ c. c.read ≤ length c.waiting.now.items };
+}
+
+impl<'a> ConsoleTrial<'a> {
+    ghost use Rattle.unit_record.specs.Trials.{seen_read};
+
+    /// A read of the first waiting line.
+    fn read(&mut self) -> Answer
+        ensures answer { result ≡ line_answer self.old.waiting }
+        ensures after { self.new ≡ seen_read self.old self.old.waiting }
+    {
+        match self.waiting.get(self.read) {
+            None => Answer::Refused(UnitStatus::UNIT_EXCEPTION),
+            Some(line) => {
+                let bytes = line.len();
+                self.giving = Outgoing::of(Record::of(line.as_slice()));
+                self.read += 1;
+                Answer::Input(bytes as u32)
+            }
+        }
+    }
+}
+
+impl<'a> Device for ConsoleTrial<'a> {
+    ghost use Rattle.s370_walk.specs.Short.{nothing_needed};
+    ghost use Rattle.unit_record.specs.Trials.{console_trial};
+
+    ghost machine = { console_trial };
+
+    ghost needs_memory = { nothing_needed };
+
+    fn command(&mut self, order: Order) -> Result<Answer, AllocError> {
+        Ok(match order.command.code {
+            0x01 | 0x09 => Answer::OutputUpTo(132),
+            0x0A => self.read(),
+            NO_OPERATION => Answer::Immediate,
+            _ if is_sense(order) => {
+                self.giving = Outgoing::of(Record::of(&[self.sense]));
+                Answer::Input(1)
+            }
+            _ => {
+                self.sense = COMMAND_REJECT;
+                Answer::Refused(UnitStatus::UNIT_CHECK)
+            }
+        })
+    }
+
+    fn is_done(&self) -> bool {
+        false
+    }
+
+    fn ready(&self) -> u32 {
+        u32::MAX
+    }
+
+    fn give(&mut self) -> u8 {
+        self.giving.give()
+    }
+
+    fn take(&mut self, _byte: u8) {}
+
+    fn finish(&mut self) -> UnitStatus {
+        UnitStatus::NONE
+    }
+}
+
+/// A punch on trial.
+#[derive(Drop)]
+pub struct PunchTrial {
+    sense: u8,
+}
+
+impl Model for PunchTrial {
+    ghost use Rattle.unit_record.specs.Trials.{SenseSeen};
+
+    ghost Value = { SenseSeen };
+
+    ghost view = { λ p. record { sense = p.sense } };
+}
+
+impl Device for PunchTrial {
+    ghost use Rattle.s370_walk.specs.Short.{nothing_needed};
+    ghost use Rattle.unit_record.specs.Trials.{punch_trial};
+
+    ghost machine = { punch_trial };
+
+    ghost needs_memory = { nothing_needed };
+
+    fn command(&mut self, order: Order) -> Result<Answer, AllocError> {
+        Ok(match order.command.code {
+            0x01 => Answer::Output(80),
+            NO_OPERATION => Answer::Immediate,
+            _ if is_sense(order) => Answer::Input(1),
+            _ => {
+                self.sense = COMMAND_REJECT;
+                Answer::Refused(UnitStatus::UNIT_CHECK)
+            }
+        })
+    }
+
+    fn is_done(&self) -> bool {
+        false
+    }
+
+    fn ready(&self) -> u32 {
+        u32::MAX
+    }
+
+    fn give(&mut self) -> u8 {
+        self.sense
+    }
+
+    fn take(&mut self, _byte: u8) {}
+
+    fn finish(&mut self) -> UnitStatus {
+        UnitStatus::NONE
+    }
+}
+
+/// A printer on trial.
+#[derive(Drop)]
+pub struct PrinterTrial {
+    sense: u8,
+}
+
+impl Model for PrinterTrial {
+    ghost use Rattle.unit_record.specs.Trials.{SenseSeen};
+
+    ghost Value = { SenseSeen };
+
+    ghost view = { λ p. record { sense = p.sense } };
+}
+
+impl Device for PrinterTrial {
+    ghost use Rattle.s370_walk.specs.Short.{nothing_needed};
+    ghost use Rattle.unit_record.specs.Trials.{printer_trial};
+
+    ghost machine = { printer_trial };
+
+    ghost needs_memory = { nothing_needed };
+
+    fn command(&mut self, order: Order) -> Result<Answer, AllocError> {
+        Ok(match order.command.code {
+            0x01 | 0x09 | 0x11 | 0x19 | 0x89 => Answer::OutputUpTo(132),
+            0x0B | 0x13 | 0x1B | 0x8B => Answer::Immediate,
+            NO_OPERATION => Answer::Immediate,
+            _ if is_sense(order) => Answer::Input(1),
+            _ => {
+                self.sense = COMMAND_REJECT;
+                Answer::Refused(UnitStatus::UNIT_CHECK)
+            }
+        })
+    }
+
+    fn is_done(&self) -> bool {
+        false
+    }
+
+    fn ready(&self) -> u32 {
+        u32::MAX
+    }
+
+    fn give(&mut self) -> u8 {
+        self.sense
+    }
+
+    fn take(&mut self, _byte: u8) {}
+
+    fn finish(&mut self) -> UnitStatus {
+        UnitStatus::NONE
+    }
+}
+
+impl Console {
+    /// The console on trial, from now on.
+    pub fn trial(&self) -> ConsoleTrial<'_>
+        ensures { result ≡ console_seen self.now }
+    {
+        ConsoleTrial {
+            waiting: &self.waiting,
+            read: 0,
+            sense: self.sense,
+            giving: self.giving.copy(),
+        }
+    }
+}
+
+impl Punch {
+    /// The punch on trial, from now on.
+    pub fn trial(&self) -> PunchTrial
+        ensures { result ≡ punch_seen self.now }
+    {
+        PunchTrial {
+            sense: self.sense(),
+        }
+    }
+}
+
+impl Printer {
+    /// The printer on trial, from now on.
+    pub fn trial(&self) -> PrinterTrial
+        ensures { result ≡ printer_seen self.now }
+    {
+        PrinterTrial {
+            sense: self.sense(),
+        }
+    }
+}
+
+/// What is seen of a device is enough for each walk.
+pub fn trials_view_their_devices()
+    ensures console { ViewsConsole }
+    ensures punch { ViewsPunch }
+    ensures printer { ViewsPrinter }
+{}
