@@ -28,7 +28,6 @@ use Rattle.s370_channel.specs.Loading.{MatchLoading, implied_word, loading, load
 use Rattle.s370_channel.specs.Guest.{guest_written}
 use Rattle.s370_channel.specs.Progress.{setting}
 use Rattle.s370_walk.specs.Short.{nothing_needed}
-use Rattle.unit_record.specs.Reader.{ReaderState, reader_machine}
 use Rattle.ckd_volume.specs.Unit.{Disk, disk_machine}
 use Rattle.cp_channels.specs.Channels.{LacksPage}
 
@@ -125,14 +124,12 @@ loading_lacks w machine needs present m d page s =
     let inside = s.away.inside in
     record { inside = omega (arith, inside, size); away = s.away.away }
 
--- and so is the page that the program of a disk lacks, which needs no memory
-pub disk_lacks : (present : ℕ → Bool) (m : Memory) (disk : Disk) (error : ChannelError) → MatchLoading guest_written disk_machine nothing_needed present m disk error → LacksPage (length m.bytes) present error
-disk_lacks present m disk errors.Memory (inl h) = let no : false ≡ true = h in cc
-disk_lacks present m disk errors.Memory (inr s) = let no : false ≡ true = s.needed in cc
-disk_lacks present m disk (errors.Absent page) s = loading_lacks guest_written disk_machine nothing_needed present m disk page s
+-- and so is the page that the program of a device lacks which needs no memory
+pub none_lacks : {D : Type 0} (machine : Machine D) (present : ℕ → Bool) (m : Memory) (d : D) (error : ChannelError) → MatchLoading guest_written machine nothing_needed present m d error → LacksPage (length m.bytes) present error
+none_lacks machine present m d errors.Memory (inl h) = let no : false ≡ true = h in cc
+none_lacks machine present m d errors.Memory (inr s) = let no : false ≡ true = s.needed in cc
+none_lacks machine present m d (errors.Absent page) s = loading_lacks guest_written machine nothing_needed present m d page s
 
--- and a reader's
-pub reader_lacks : (present : ℕ → Bool) (m : Memory) (reader : ReaderState) (error : ChannelError) → MatchLoading guest_written reader_machine nothing_needed present m reader error → LacksPage (length m.bytes) present error
-reader_lacks present m reader errors.Memory (inl h) = let no : false ≡ true = h in cc
-reader_lacks present m reader errors.Memory (inr s) = let no : false ≡ true = s.needed in cc
-reader_lacks present m reader (errors.Absent page) s = loading_lacks guest_written reader_machine nothing_needed present m reader page s
+-- a disk is one
+pub disk_lacks : (present : ℕ → Bool) (m : Memory) (disk : Disk) (error : ChannelError) → MatchLoading guest_written disk_machine nothing_needed present m disk error → LacksPage (length m.bytes) present error
+disk_lacks present m disk error s = none_lacks disk_machine present m disk error s

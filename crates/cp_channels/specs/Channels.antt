@@ -1,5 +1,5 @@
 -- The channels of a machine: the programs of its devices run on them, and its disks hang on them.
-use Rattle.std.specs.Prelude.{ℕ, ◌≡◌, ◌*◌, ◌<◌, ◌⊎◌, Bool, List, set, slice_get, Option, Some, None}
+use Rattle.std.specs.Prelude.{ℕ, ◌≡◌, ◌*◌, ◌<◌, ◌⊎◌, Bool, true, List, set, slice_get, Option, Some, None}
 use Rattle.s370_store.specs.Access.{IsAway}
 use Rattle.s370_walk.specs.declared.parts.Ending.{Ending}
 use Rattle.s370_walk.specs.Hardware.{Machine, Memory}
@@ -63,6 +63,11 @@ abbrev pub LoadsDisk : Memory → List DiskAt → ℕ → Ending → Memory → 
 LoadsDisk old disks index ending new disks' = LoadsAt old disks index (slice_get disks index) ending new disks'
 
 -- ---- why a program is not run to its end
+
+-- there is no room for a page, where such pages may be held with it: there is none for any page, or each that is present is held
+abbrev pub NoRoom : {S : Type 0} → (S → ℕ → Type 0) → (S → ℕ → Type 0) → (S → ℕ → Bool) → S → (ℕ → Type 0) → ℕ → Type 0
+NoRoom IsOut IsFilled present storage Needs page =
+    IsOut storage page ⊎ (IsFilled storage page × ((held : ℕ) → present storage held ≡ true → Needs held))
 
 -- there is no room for a page of a storage of this size that is needed
 pub record LacksRoom (size : ℕ) (Needs IsOut : ℕ → Type 0) : Type 0 where

@@ -2,17 +2,17 @@
 ghost use Rattle.std.specs.Prelude.{◌≡◌, ◌*◌, ◌<◌, ℕ, Bool, true, false, List, [], length, map, slice_get, IfErr, IfOk, IfSome, OnOk};
 ghost use Rattle.std.specs.List.{position};
 ghost use Rattle.s370_walk.specs.Hardware.{Memory, memory_of};
+ghost use Rattle.s370_channel.specs.Guest.{guest_written};
+ghost use Rattle.s370_channel.specs.Loading.{MatchLoading};
 ghost use Rattle.s370_channel.specs.Reading.{Reading};
 ghost use Rattle.s370_channel.specs.Runs.{IsStopped, TellsAway, Walks};
-ghost use Rattle.unit_record.specs.Reader.{reader_machine, reader_reset};
-ghost use Rattle.cp_channels.specs.Channels.{Brings, DiskLoads, DiskNeeds, LacksPage, LoadNeeds, LoadsDisk, ProgramNeeds, StopsDisk, WalksDisk, WalksLoading, WhereOut};
+ghost use Rattle.cp_channels.specs.Channels.{Brings, DiskLoads, DiskNeeds, LacksPage, LoadNeeds, LoadsDisk, NoRoom, ProgramNeeds, StopsDisk, WalksDisk, WalksLoading, WhereOut};
 ghost use Rattle.cp_channels.specs.Disks.{DiskAt, cleared_disk, is_disk_at, reset_disk};
 
-use cp_trial::Tried;
+use channel_trial::{Tried, TriedLoading};
 use s370_channel::{Caw, ChannelError};
 use s370_store::Storage;
 use s370_walk::Ending;
-use unit_record::Reader;
 
 /// The disks of a machine, in the order in which they were attached.
 pub trait Disks {
@@ -69,8 +69,11 @@ pub trait Channels<S: Storage>: Disks {
     /// A program may begin.
     ghost IsReady: { S → Type 0 };
 
-    /// There is no room for this page, though only such pages are held.
-    ghost IsOut: { S → (ℕ → Type 0) → ℕ → Type 0 };
+    /// There is no room for this page: neither a place for it, nor one for what it would take the place of.
+    ghost IsOut: { S → ℕ → Type 0 };
+
+    /// This page is not present, and wherever one could be stands one of this storage.
+    ghost IsFilled: { S → ℕ → Type 0 };
 
     /// From one storage to the other just these pages were brought, in these units.
     ghost Came: { S → List (List ℕ) → S → Type 0 };
@@ -96,7 +99,7 @@ pub trait Channels<S: Storage>: Disks {
         ensures whole { let needs = ProgramNeeds holds D.Device.machine start
             (memory_of (S.bytes storage.old) (S.keys storage.old)) device.old in
             is_whole ≡ true
-            → IfErr result (WhereOut (length (S.bytes storage.old)) needs (IsOut storage.new needs)
+            → IfErr result (WhereOut (length (S.bytes storage.old)) needs (NoRoom IsOut IsFilled S.present storage.new needs)
             ((S.bytes storage.new ≡ S.bytes storage.old) × (device.new ≡ device.old))) }
         ensures came { Brings Came storage.old (ProgramNeeds holds D.Device.machine start
             (memory_of (S.bytes storage.old) (S.keys storage.old)) device.old) storage.new }
@@ -122,7 +125,7 @@ pub trait Channels<S: Storage>: Disks {
         ensures whole { let needs = DiskNeeds holds start (memory_of (S.bytes storage.old) (S.keys storage.old))
             (slice_get (Self.disks self.old) index) in
             is_whole ≡ true
-            → IfErr result (WhereOut (length (S.bytes storage.old)) needs (IsOut storage.new needs)
+            → IfErr result (WhereOut (length (S.bytes storage.old)) needs (NoRoom IsOut IsFilled S.present storage.new needs)
             ((S.bytes storage.new ≡ S.bytes storage.old) × (Self.disks self.new ≡ Self.disks self.old))) }
         ensures came { Brings Came storage.old (DiskNeeds holds start (memory_of (S.bytes storage.old) (S.keys storage.old))
             (slice_get (Self.disks self.old) index)) storage.new }
@@ -130,29 +133,29 @@ pub trait Channels<S: Storage>: Disks {
         ensures others { Self.KeepsOthers self.old self.new }
         ensures keys { S.keys storage.new ≡ S.keys storage.old };
 
-    /// The reader is reset, and the program of an initial program loading runs on it. Where that is refused for want of
-    /// room it isn't reset either.
-    fn load_reader(
+    /// The program of an initial program loading runs, for a device that is no disk.
+    fn load<D: TriedLoading>(
         &mut self,
         storage: &mut S,
-        reader: &mut Reader,
+        device: &mut D,
     ) -> Result<Ending, ChannelError>
         requires { IsReady storage.old }
         ensures walk { IfOk result
-            (λ ending. WalksLoading reader_machine (memory_of (S.bytes storage.old) (S.keys storage.old))
-            (reader_reset reader.old) ending (memory_of (S.bytes storage.new) (S.keys storage.new)) reader.new) }
+            (λ ending. WalksLoading D.Device.machine (memory_of (S.bytes storage.old) (S.keys storage.old))
+            device.old ending (memory_of (S.bytes storage.new) (S.keys storage.new)) device.new) }
         ensures disks { Self.disks self.new ≡ Self.disks self.old }
-        ensures lacks { is_whole ≡ false
-            → IfErr result (LacksPage (length (S.bytes storage.old)) (S.present storage.old)) }
-        ensures whole { let needs = LoadNeeds reader_machine (memory_of (S.bytes storage.old) (S.keys storage.old))
-            (reader_reset reader.old) in
+        ensures stopped { is_whole ≡ false
+            → IfErr result (MatchLoading guest_written D.Device.machine D.Device.needs_memory (S.present storage.old)
+            (memory_of (S.bytes storage.old) (S.keys storage.old)) device.old) }
+        ensures whole { let needs = LoadNeeds D.Device.machine (memory_of (S.bytes storage.old) (S.keys storage.old))
+            device.old in
             is_whole ≡ true
-            → IfErr result (WhereOut (length (S.bytes storage.old)) needs (IsOut storage.new needs)
-            ((S.bytes storage.new ≡ S.bytes storage.old) × (reader.new ≡ reader.old))) }
+            → IfErr result (WhereOut (length (S.bytes storage.old)) needs (NoRoom IsOut IsFilled S.present storage.new needs)
+            ((S.bytes storage.new ≡ S.bytes storage.old) × (device.new ≡ device.old))) }
         ensures there { is_whole ≡ true → OnOk result (S.present storage.new 0 ≡ true) }
         ensures same { is_whole ≡ false → S.present storage.new ≡ S.present storage.old }
-        ensures came { Brings Came storage.old (LoadNeeds reader_machine
-            (memory_of (S.bytes storage.old) (S.keys storage.old)) (reader_reset reader.old)) storage.new }
+        ensures came { Brings Came storage.old (LoadNeeds D.Device.machine
+            (memory_of (S.bytes storage.old) (S.keys storage.old)) device.old) storage.new }
         ensures ready { IsReady storage.new }
         ensures others { Self.KeepsOthers self.old self.new }
         ensures keys { S.keys storage.new ≡ S.keys storage.old };
@@ -171,7 +174,7 @@ pub trait Channels<S: Storage>: Disks {
         ensures whole { let needs = DiskLoads (memory_of (S.bytes storage.old) (S.keys storage.old))
             (slice_get (map reset_disk (Self.disks self.old)) index) in
             is_whole ≡ true
-            → IfErr result (WhereOut (length (S.bytes storage.old)) needs (IsOut storage.new needs)
+            → IfErr result (WhereOut (length (S.bytes storage.old)) needs (NoRoom IsOut IsFilled S.present storage.new needs)
             ((S.bytes storage.new ≡ S.bytes storage.old) × (Self.disks self.new ≡ Self.disks self.old))) }
         ensures there { is_whole ≡ true → OnOk result (S.present storage.new 0 ≡ true) }
         ensures same { is_whole ≡ false → S.present storage.new ≡ S.present storage.old }

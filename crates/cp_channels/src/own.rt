@@ -6,11 +6,10 @@ ghost use Rattle.cp_channels.specs.Own.{disks_of};
 use crate::channels::{Channels, Disks, UnitRecord};
 use crate::disks::{AttachedDisk, clear_each, reset_each};
 use crate::running::{load_live, run_live};
+use channel_trial::{Tried, TriedLoading};
 use s370_channel::{Caw, ChannelError};
 use s370_store::Storage;
-use cp_trial::Tried;
 use s370_walk::Ending;
-use unit_record::Reader;
 
 /// Each program is read as it is reached, in the machine's own storage; each disk has a volume of its own.
 #[derive(Drop)]
@@ -93,7 +92,9 @@ impl<S: Storage> Channels<S> for Own {
 
     ghost IsReady = { λ _. Unit {0} };
 
-    ghost IsOut = { λ _ _ _. ⊥ };
+    ghost IsOut = { λ _ _. ⊥ };
+
+    ghost IsFilled = { λ _ _. ⊥ };
 
     ghost Came = { λ s _ t. S.Keeps s t };
 
@@ -116,14 +117,12 @@ impl<S: Storage> Channels<S> for Own {
         self.disks[index].run(storage, start)
     }
 
-    #[tactic(auto, using(crate::proofs::Staying::reader_lacks))]
-    fn load_reader(
+    fn load<D: TriedLoading>(
         &mut self,
         storage: &mut S,
-        reader: &mut Reader,
+        device: &mut D,
     ) -> Result<Ending, ChannelError> {
-        reader.reset();
-        load_live(storage, reader)
+        load_live(storage, device)
     }
 
     fn load_disk(&mut self, storage: &mut S, index: usize) -> Result<Ending, ChannelError> {

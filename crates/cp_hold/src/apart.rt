@@ -4,13 +4,13 @@ ghost use Rattle.cp_dat.specs.Copies.{is_wanted};
 ghost use Rattle.cp_dat.specs.Lent.{lent_bytes, lent_keys};
 ghost use Rattle.cp_hold.specs.Holding.{guest_memory};
 ghost use Rattle.cp_needs.specs.Needs.{IsClash, IsFixed, IsProgramPage};
-ghost use Rattle.s370_trial.specs.Trial.{is_touched, trial_bytes, trial_keys};
+ghost use Rattle.channel_trial.specs.Trial.{is_touched, trial_bytes, trial_keys};
 
 use crate::flags::flags_of;
 use cp_dat::Dat;
 use cp_needs::{Found, look};
 use s370_store::{FramesOut, PAGE_SIZE, Page, Storage, Supply};
-use s370_trial::TrialStorage;
+use channel_trial::TrialStorage;
 use std::alloc::{AllocError, Global};
 
 /// A copy of a user's storage. For that no page has to stand in a frame.

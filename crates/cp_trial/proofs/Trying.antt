@@ -1,79 +1,30 @@
--- What a trial tells of the run.
-use Rattle.std.specs.Prelude.{ℕ, zero, suc, ◌≡◌, ◌<◌, Bool, true, false, List, [], ◌∷◌, length, slice_index_or, refl, None, IfOk, Result, Ok, Err}
+-- What a run leaves whose program was tried.
+use Rattle.std.specs.Prelude.{ℕ, zero, suc, ◌≡◌, ◌<◌, Bool, true, false, List, [], ◌∷◌, length, slice_index_or, refl}
 use Rattle.std.proofs.Common.{arith, subst, sym, ap, inl, inr}
 use Rattle.s370_channel.specs.declared.running.ChannelError.{ChannelError}
 use Rattle.s370_channel.specs.declared.running.ChannelError.TheVariants as errors
 use Rattle.s370_channel.specs.declared.limits.Limits.{Limits}
 use Rattle.s370_channel.specs.declared.words.Caw.{Caw}
 use Rattle.s370_channel.specs.Guest.{guest_written}
-use Rattle.s370_channel.specs.Loading.{implied_word, loading, loading_limits}
+use Rattle.s370_channel.specs.Loading.{implied_word, loading_limits}
 use Rattle.s370_channel.specs.Progress.{setting}
 use Rattle.s370_channel.specs.Runs.{begun, limited}
 use Rattle.s370_channel.specs.Start.{most_commands}
-use Rattle.s370_channel.specs.Supplied.{AllSuch, EachSuch, IsLoadingOut, IsOutOfMemory, IsTouched}
+use Rattle.s370_channel.specs.Supplied.{IsLoadingOut, IsOutOfMemory}
 use Rattle.s370_walk.specs.declared.parts.Ending.{Ending}
 use Rattle.s370_walk.specs.declared.parts.Order.{Order}
 use Rattle.s370_walk.specs.Hardware.{Machine, Memory, memory_of}
 use Rattle.s370_walk.specs.Walk.{Fetching, Moving, Over, Reaches, Setting, State, live, order_of, start_spot}
 use Rattle.s370_walk.proofs.Reaching.{one_end}
-use Rattle.s370_walk.proofs.Viewing.{asked_back, ends_back, entered_viewed}
-use Rattle.s370_walk.specs.Viewed.{IsViewed, setting_for, viewed}
-use Rattle.s370_trial.specs.declared.TrialStorage.{TrialStorage}
-use Rattle.s370_trial.specs.Trial.{IsIn, TrialCame, is_touched, trial_bytes, trial_flags, trial_keys}
-use Rattle.cp_trial.specs.Tried.{EndsSomehow, IsLoadingTried, IsProgramTried, IsTried}
+use Rattle.channel_trial.specs.declared.TrialStorage.{TrialStorage}
+use Rattle.channel_trial.specs.Trial.{trial_bytes, trial_keys}
+use Rattle.channel_trial.specs.Tried.{IsProgramTried, IsTried}
+use Rattle.cp_trial.specs.Tried.{EndsSomehow}
 
 differ : {b : Bool} → b ≡ false → b ≡ true → ⊥
 differ away there = cc
 
-such_in : (P : ℕ → Type 0) (pages : List ℕ) (page k : ℕ) → AllSuch P pages → k < length pages → slice_index_or pages k page ≡ page → P page
-such_in P [] page k all low is = absurd (omega (arith, low))
-such_in P (p ∷ pages) page zero all low is = subst P is all.0
-such_in P (p ∷ pages) page (suc k) all low is = such_in P pages page k all.1 (omega (arith, low)) is
-
-in_units : (P : ℕ → Type 0) (units : List (List ℕ)) (page : ℕ) → EachSuch P units → IsIn units page → P page
-in_units P [] page each here = absurd here
-in_units P (pages ∷ units) page each (inl (k, low, is)) = such_in P pages page k each.0 low is
-in_units P (pages ∷ units) page each (inr there) = in_units P units page each.1 there
-
 module _ {T : Type 0} (machine : Machine T) (start : Caw) (t t' : T) (ending : Ending) (old new : TrialStorage) where
-  tried_at : (units : List (List ℕ)) → ((page : ℕ) → is_touched old page ≡ false)
-      → Reaches (live guest_written) (limited machine start) (begun start (memory_of (trial_bytes old) (trial_keys old)) t) (Over ending (memory_of (trial_bytes new) (trial_keys new)) t')
-      → TrialCame old units new → EachSuch (IsTouched guest_written (limited machine start) (begun start (memory_of (trial_bytes old) (trial_keys old)) t)) units
-      → trial_keys new ≡ trial_keys old
-      → IsProgramTried machine start (memory_of (trial_bytes old) (trial_keys old)) t (trial_bytes new) (trial_flags new)
-  tried_at units clear reaches came each keys =
-      let from : State T = begun start (memory_of (trial_bytes old) (trial_keys old)) t in
-      let P : List ℕ → Type 0 = λ ks. Reaches (live guest_written) (limited machine start) from (Over ending (memory_of (trial_bytes new) ks) t') in
-      record {
-        ending = ending;
-        device = t';
-        comes = subst P keys reaches;
-        touches = λ page flag. (elim (came.came page flag) [
-          | inl before ↦ absurd (differ (clear page) before)
-          | inr here ↦ in_units (IsTouched guest_written (limited machine start) from) units page each here
-        ]);
-        beside = came.untouched;
-        size = came.size;
-      }
-
-  pub tried_told : (bytes keys : List ℕ) (at : ℕ) (l : Limits) (units : List (List ℕ)) → at ≡ start.address → l ≡ record { key = start.key; commands = most_commands; prefix = 0 }
-      → trial_bytes old ≡ bytes → trial_keys old ≡ keys → ((page : ℕ) → is_touched old page ≡ false)
-      → Reaches (live guest_written) (setting machine l) (Fetching (start_spot at) (memory_of (trial_bytes old) (trial_keys old)) t) (Over ending (memory_of (trial_bytes new) (trial_keys new)) t')
-      → TrialCame old units new → EachSuch (IsTouched guest_written (setting machine l) (Fetching (start_spot at) (memory_of (trial_bytes old) (trial_keys old)) t)) units
-      → trial_keys new ≡ trial_keys old
-      → IsProgramTried machine start (memory_of bytes keys) t (trial_bytes new) (trial_flags new)
-  tried_told bytes keys at l units at_is l_is bytes_is keys_is clear reaches came each same =
-      let from : ℕ → State T = λ a. Fetching (start_spot a) (memory_of (trial_bytes old) (trial_keys old)) t in
-      let end : State T = Over ending (memory_of (trial_bytes new) (trial_keys new)) t' in
-      let R : ℕ → Type 0 = λ a. Reaches (live guest_written) (setting machine l) (from a) end in
-      let S : Limits → Type 0 = λ x. Reaches (live guest_written) (setting machine x) (from start.address) end in
-      let Q : ℕ → Type 0 = λ a. EachSuch (IsTouched guest_written (setting machine l) (from a)) units in
-      let O : Limits → Type 0 = λ x. EachSuch (IsTouched guest_written (setting machine x) (from start.address)) units in
-      let done = tried_at units clear (subst S l_is (subst R at_is reaches)) came (subst O l_is (subst Q at_is each)) same in
-      let B : List ℕ → Type 0 = λ xs. IsProgramTried machine start (memory_of xs (trial_keys old)) t (trial_bytes new) (trial_flags new) in
-      let K : List ℕ → Type 0 = λ ks. IsProgramTried machine start (memory_of bytes ks) t (trial_bytes new) (trial_flags new) in
-      subst K keys_is (subst B bytes_is done)
-
   pub ends_told : (bytes keys : List ℕ) (at : ℕ) (l : Limits) → at ≡ start.address → l ≡ record { key = start.key; commands = most_commands; prefix = 0 }
       → trial_bytes old ≡ bytes → trial_keys old ≡ keys
       → Reaches (live guest_written) (setting machine l) (Fetching (start_spot at) (memory_of (trial_bytes old) (trial_keys old)) t) (Over ending (memory_of (trial_bytes new) (trial_keys new)) t')
@@ -110,29 +61,6 @@ walk_told {D} machine start d d' bytes keys tried_bytes touched ending run_bytes
     let O : List ℕ → Type 0 = λ ks. Reaches form h from (Over ending (memory_of new_bytes ks) d') in
     subst O (sym newkeys_is) (subst N (sym new_is) (subst M memory run))
 
--- the same for any walk of a storage
-pub tried_for : {T : Type 0} (h : Setting T) (from : Memory → State T) (t' : T) (ending : Ending) (old new : TrialStorage) (bytes keys : List ℕ) (units : List (List ℕ))
-    → trial_bytes old ≡ bytes → trial_keys old ≡ keys → ((page : ℕ) → is_touched old page ≡ false)
-    → Reaches (live guest_written) h (from (memory_of (trial_bytes old) (trial_keys old))) (Over ending (memory_of (trial_bytes new) (trial_keys new)) t')
-    → TrialCame old units new → EachSuch (IsTouched guest_written h (from (memory_of (trial_bytes old) (trial_keys old)))) units → trial_keys new ≡ trial_keys old
-    → IsTried h (from (memory_of bytes keys)) (memory_of bytes keys) (trial_bytes new) (trial_flags new)
-tried_for {T} h from t' ending old new bytes keys units bytes_is keys_is clear reaches came each same =
-    let P : List ℕ → Type 0 = λ ks. Reaches (live guest_written) h (from (memory_of (trial_bytes old) (trial_keys old))) (Over ending (memory_of (trial_bytes new) ks) t') in
-    let done : IsTried h (from (memory_of (trial_bytes old) (trial_keys old))) (memory_of (trial_bytes old) (trial_keys old)) (trial_bytes new) (trial_flags new) = record {
-      ending = ending;
-      device = t';
-      comes = subst P same reaches;
-      touches = λ page flag. (elim (came.came page flag) [
-        | inl before ↦ absurd (differ (clear page) before)
-        | inr here ↦ in_units (IsTouched guest_written h (from (memory_of (trial_bytes old) (trial_keys old)))) units page each here
-      ]);
-      beside = came.untouched;
-      size = came.size;
-    } in
-    let B : List ℕ → Type 0 = λ xs. IsTried h (from (memory_of xs (trial_keys old))) (memory_of xs (trial_keys old)) (trial_bytes new) (trial_flags new) in
-    let K : List ℕ → Type 0 = λ ks. IsTried h (from (memory_of bytes ks)) (memory_of bytes ks) (trial_bytes new) (trial_flags new) in
-    subst K keys_is (subst B bytes_is done)
-
 pub ends_for : {T : Type 0} (h : Setting T) (from : Memory → State T) (t' : T) (ending : Ending) (old new : TrialStorage) (bytes keys : List ℕ) → trial_bytes old ≡ bytes → trial_keys old ≡ keys
     → Reaches (live guest_written) h (from (memory_of (trial_bytes old) (trial_keys old))) (Over ending (memory_of (trial_bytes new) (trial_keys new)) t')
     → EndsSomehow h (from (memory_of bytes keys)) ending t'
@@ -157,41 +85,6 @@ walk_for {D} h from d' bytes keys tried_bytes touched ending run_bytes run_keys 
     let N : List ℕ → Type 0 = λ xs. Reaches form h start (Over ending (memory_of xs keys) d') in
     let O : List ℕ → Type 0 = λ ks. Reaches form h start (Over ending (memory_of new_bytes ks) d') in
     subst O (sym newkeys_is) (subst N (sym new_is) (subst M memory run))
-
--- what was tried with what is seen of a device
-back_for : {D E : Type 0} (h : Setting D) (small : Machine E) (view : D → E) (from : State D) (m : Memory) (bytes : List ℕ) (touched : List Bool) → IsViewed h.machine small view
-    → IsTried (setting_for small h) (viewed view from) m bytes touched → IsTried h from m bytes touched
-back_for h small view from m bytes touched same tried =
-    let end = ends_back (live guest_written) h small view same from tried.ending (record { bytes = bytes; keys = m.keys }) tried.device tried.comes in
-    record {
-      ending = tried.ending;
-      device = end.0;
-      comes = end.2;
-      touches = λ page flag. (let touch = tried.touches page flag in let back = asked_back guest_written h small view same from touch.state page touch.comes touch.asked in
-          record { state = back.0; comes = back.1; asked = back.2 });
-      beside = tried.beside;
-      size = tried.size;
-    }
-
-pub tried_back : {D E : Type 0} (machine : Machine D) (small : Machine E) (view : D → E) (start : Caw) (m : Memory) (d : D) (bytes : List ℕ) (touched : List Bool) → IsViewed machine small view
-    → IsProgramTried small start m (view d) bytes touched → IsProgramTried machine start m d bytes touched
-tried_back machine small view start m d bytes touched same tried = back_for (limited machine start) small view (begun start m d) m bytes touched same tried
-
-pub loaded_back : {D E : Type 0} (machine : Machine D) (small : Machine E) (view : D → E) (m : Memory) (d : D) (bytes : List ℕ) (touched : List Bool) → IsViewed machine small view
-    → IsLoadingTried small m (view d) bytes touched → IsLoadingTried machine m d bytes touched
-loaded_back {D} {E} machine small view m d bytes touched same tried =
-    let h : Setting D = setting machine loading_limits in
-    let begins : loading small m (view d) ≡ viewed view (loading machine m d) = entered_viewed (live guest_written) h small view same (start_spot 0) implied_word None m d in
-    let P : State E → Type 0 = λ s. IsTried (setting_for small h) s m bytes touched in
-    back_for h small view (loading machine m d) m bytes touched same (subst P begins tried)
-
--- what is seen of a device was tried
-pub view_tried : {D E X : Type 0} (machine : Machine D) (small : Machine E) (view : D → E) (start : Caw) (m : Memory) (d : D) (t : E) (r : Result TrialStorage X)
-    → IsViewed machine small view → t ≡ view d → IfOk r (λ tried. IsProgramTried small start m t (trial_bytes tried) (trial_flags tried))
-    → IfOk r (λ tried. IsProgramTried machine start m d (trial_bytes tried) (trial_flags tried))
-view_tried {D} {E} {X} machine small view start m d t (Ok made) same is h =
-    tried_back machine small view start m d (trial_bytes made) (trial_flags made) same (subst (λ (e : E). IsProgramTried small start m e (trial_bytes made) (trial_flags made)) is h)
-view_tried machine small view start m d t (Err error) same is h = h
 
 -- a device that never needs memory is never refused any
 pub never_out : {D : Type 0} (h : Setting D) (needs : D → Order → Bool) (from : State D) (error : ChannelError) → ((d : D) (o : Order) → needs d o ≡ false) → IsOutOfMemory guest_written h needs from error → ⊥

@@ -8,33 +8,27 @@
 //! are pages that the program touches; and what runs is the walk of the storage as it stood.
 #![tactic(auto)]
 
-mod devices;
-
-ghost use Rattle.std.specs.Prelude.{◌≡◌, ℕ, ◌*◌, Bool, List, false, Err, IfErr, IfOk, OnErr, length};
+ghost use Rattle.std.specs.Prelude.{◌≡◌, ℕ, Bool, false, Err, IfOk, OnErr};
 ghost use Rattle.s370_channel.specs.Guest.{guest_written};
 ghost use Rattle.s370_channel.specs.Loading.{loading, loading_limits};
 ghost use Rattle.s370_channel.specs.Progress.{setting};
-ghost use Rattle.s370_channel.specs.declared.words.Caw.{Caw};
 ghost use Rattle.s370_channel.specs.Reading.{as_reached};
 ghost use Rattle.s370_channel.specs.Runs.{Walks, begun, limited};
-ghost use Rattle.s370_channel.specs.Start.{most_commands};
 ghost use Rattle.s370_walk.specs.declared.parts.Order.{Order};
-ghost use Rattle.s370_walk.specs.Hardware.{Machine, Memory, memory_of};
-ghost use Rattle.s370_walk.specs.Viewed.{IsViewed};
+ghost use Rattle.s370_walk.specs.Hardware.{memory_of};
 ghost use Rattle.s370_walk.specs.Walk.{Over, Reaches, live};
 ghost use Rattle.cp_dat.specs.Copies.{CameOnly, is_wanted};
 ghost use Rattle.cp_dat.specs.Lent.{lent_bytes, lent_keys, lent_pool};
 ghost use Rattle.cp_dat.specs.Supplied.{IsBetweenUnits};
-ghost use Rattle.s370_trial.specs.Trial.{is_touched, trial_bytes, trial_flags, trial_keys};
-ghost use Rattle.cp_trial.specs.Tried.{EndsSomehow, IsLoadingTried, IsProgramTried, LacksSuch};
+ghost use Rattle.channel_trial.specs.Trial.{is_touched, trial_bytes, trial_flags, trial_keys};
+ghost use Rattle.channel_trial.specs.Tried.{IsLoadingTried, IsProgramTried};
+ghost use Rattle.cp_trial.specs.Tried.{EndsSomehow, LacksSuch};
 ghost use Rattle.cp_trial.specs.declared.TriedError.TheVariants as errors;
 
-pub use devices::{Tried, try_reader};
-
+use channel_trial::{TrialStorage, Tried, TriedLoading, limits_of};
 use cp_dat::Dat;
-use s370_channel::{Caw, Limits, MOST_COMMANDS, load_supplied, run_supplied};
+use s370_channel::{Caw, load_supplied, run_supplied};
 use s370_store::{FramesOut, PAGE_SIZE, Storage};
-use s370_trial::TrialStorage;
 use s370_walk::{Device, Ending};
 use std::alloc::{AllocError, Global};
 
@@ -58,17 +52,6 @@ fn copy_of(alloc: Global, storage: &Dat<'_>) -> Result<TrialStorage, AllocError>
     TrialStorage::new(alloc, bytes, keys, storage.size() / PAGE_SIZE)
 }
 
-/// How a program with this start is limited.
-fn limits_of(start: Caw) -> Limits
-    ensures { result ≡ record { key = start.key; commands = most_commands; prefix = 0 } }
-{
-    Limits {
-        key: start.key,
-        commands: MOST_COMMANDS,
-        prefix: 0,
-    }
-}
-
 /// Tries the program with this start on a copy of the storage, with a device that stands for its own. Nothing is brought.
 pub fn try_program<T: Device>(
     alloc: Global,
@@ -80,10 +63,23 @@ pub fn try_program<T: Device>(
         (memory_of (lent_bytes storage.now) (lent_keys storage.now)) trial.old (trial_bytes tried) (trial_flags tried)) }
 {
     let mut copy = copy_of(alloc, storage)?;
-    match run_supplied(&mut copy, start.address.get(), &limits_of(start), trial) {
-        Ok(_) => Ok(copy),
-        Err(_) => Err(AllocError),
-    }
+    channel_trial::try_program(&mut copy, start, trial)?;
+    Ok(copy)
+}
+
+/// Tries the program with this start on a copy of the storage, of a device that stays as it is. Nothing is brought.
+pub fn try_device<D: Tried>(
+    alloc: Global,
+    storage: &Dat<'_>,
+    start: Caw,
+    device: &D,
+) -> Result<TrialStorage, AllocError>
+    ensures { IfOk result (λ tried. IsProgramTried D.Device.machine start
+        (memory_of (lent_bytes storage.now) (lent_keys storage.now)) device.now (trial_bytes tried) (trial_flags tried)) }
+{
+    let mut copy = copy_of(alloc, storage)?;
+    device.try_on(&mut copy, start)?;
+    Ok(copy)
 }
 
 /// Runs the program with this start, which was tried: where there is room for the pages that it touches, as a whole, and
@@ -151,10 +147,22 @@ pub fn try_loading<T: Device>(
         (memory_of (lent_bytes storage.now) (lent_keys storage.now)) trial.old (trial_bytes tried) (trial_flags tried)) }
 {
     let mut copy = copy_of(alloc, storage)?;
-    match load_supplied(&mut copy, trial) {
-        Ok(_) => Ok(copy),
-        Err(_) => Err(AllocError),
-    }
+    channel_trial::try_loading(&mut copy, trial)?;
+    Ok(copy)
+}
+
+/// Tries the program of an initial program loading, of a device that stays as it is.
+pub fn try_load<D: TriedLoading>(
+    alloc: Global,
+    storage: &Dat<'_>,
+    device: &D,
+) -> Result<TrialStorage, AllocError>
+    ensures { IfOk result (λ tried. IsLoadingTried D.Device.machine
+        (memory_of (lent_bytes storage.now) (lent_keys storage.now)) device.now (trial_bytes tried) (trial_flags tried)) }
+{
+    let mut copy = copy_of(alloc, storage)?;
+    device.try_load(&mut copy)?;
+    Ok(copy)
 }
 
 /// Runs the program of an initial program loading, which was tried, likewise.
@@ -208,13 +216,3 @@ fn load_apart<D: Device>(
         Err(_) => Err(AllocError),
     }
 }
-
-/// What was tried with what is seen of a device, was tried for the device.
-pub fn a_view_is_tried_for_its_device<D: Device, E: Device>()
-    ensures program { (machine : Machine D) (small : Machine E) (view : D → E) (start : Caw) (m : Memory) (d : D)
-        (bytes : List ℕ) (touched : List Bool) → IsViewed machine small view
-        → IsProgramTried small start m (view d) bytes touched → IsProgramTried machine start m d bytes touched }
-    ensures loading { (machine : Machine D) (small : Machine E) (view : D → E) (m : Memory) (d : D) (bytes : List ℕ)
-        (touched : List Bool) → IsViewed machine small view → IsLoadingTried small m (view d) bytes touched
-        → IsLoadingTried machine m d bytes touched }
-{}

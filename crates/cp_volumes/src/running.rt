@@ -8,8 +8,9 @@ ghost use Rattle.cp_channels.specs.Channels.{WalksLoading};
 ghost use Rattle.cp_dat.specs.Copies.{CameOnly, is_wanted};
 ghost use Rattle.cp_dat.specs.Lent.{lent_bytes, lent_keys, lent_pool};
 ghost use Rattle.cp_dat.specs.Supplied.{IsBetweenUnits};
-ghost use Rattle.s370_trial.specs.Trial.{trial_bytes, trial_flags};
-ghost use Rattle.cp_trial.specs.Tried.{IsLoadingTried, IsProgramTried, LacksSuch};
+ghost use Rattle.channel_trial.specs.Trial.{trial_bytes, trial_flags};
+ghost use Rattle.channel_trial.specs.Tried.{IsLoadingTried, IsProgramTried};
+ghost use Rattle.cp_trial.specs.Tried.{LacksSuch};
 ghost use Rattle.cp_trial.specs.declared.TriedError.TheVariants as errors;
 ghost use Rattle.cp_volumes.specs.Running.{KeepsVolume};
 
@@ -17,7 +18,7 @@ use cp_dat::Dat;
 use cp_minidisk::Mounted;
 use cp_trial::{TriedError, load_tried, run_tried};
 use s370_channel::Caw;
-use s370_trial::TrialStorage;
+use channel_trial::TrialStorage;
 use s370_walk::Ending;
 use std::alloc::Global;
 

@@ -133,21 +133,3 @@ views_printer = record {
   status = λ p. refl;
   finished = λ p. printer_ends p p.printing;
 }
-
--- ---- reader: decks that are passed by, and not taken away
-placed : (place : Option ℕ) → place_of place ≡ unwrap_or place 0
-placed None = refl
-placed (Some place) = refl
-
-module _ (decks : List DeckValue) (n : ℕ) (deck : DeckValue) (inside : n < length decks) (there : deck ≡ slice_index_or decks n deck) where
-  decks_left : drop n decks ≡ deck ∷ drop (suc n) decks
-  decks_left = drop-cons decks n deck inside ∙ ap (λ d. d ∷ drop (suc n) decks) (sym there)
-
-  pub found_end : (place : Option ℕ) (here : ℕ) → here ≡ unwrap_or place 0 → length deck.cards ≤ here → found (drop n decks) (place_of place) ≡ End
-  found_end place here is past = rw (decks_left, placed place, ← is, slice_get_past deck.cards here past) refl
-
-  pub found_card : (place : Option ℕ) (here : ℕ) (card : List ℕ) → here ≡ unwrap_or place 0 → here < length deck.cards → card ≡ slice_index_or deck.cards here card → found (drop n decks) (place_of place) ≡ Card card here
-  found_card place here card is within it = rw (decks_left, placed place, ← is, slice_get_read deck.cards (length deck.cards) here card refl within it) refl
-
-  pub one_fewer : drop (n + 1) decks ≡ drop 1 (drop n decks)
-  one_fewer = let one : n + 1 ≡ suc n = omega arith in rw (decks_left, one) refl

@@ -38,4 +38,4 @@ pub use printer::Printer;
 pub use punch::Punch;
 pub use reader::{Card, Deck, Reader, Sender};
 pub use record::{RECORD_LENGTH, Record};
-pub use trials::{ConsoleTrial, PrinterTrial, PunchTrial, ReaderTrial, trials_view_their_devices};
+pub use trials::{ConsoleTrial, PrinterTrial, PunchTrial, trials_view_their_devices};

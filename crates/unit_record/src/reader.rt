@@ -81,10 +81,10 @@ impl Deck {
 /// A card reader: its decks, of which the first may be being read.
 #[derive(Drop)]
 pub struct Reader {
-    pub(crate) decks: VecDeque<Deck>,
-    pub(crate) place: Option<usize>,
-    pub(crate) sense: u8,
-    pub(crate) giving: Outgoing,
+    decks: VecDeque<Deck>,
+    place: Option<usize>,
+    sense: u8,
+    giving: Outgoing,
 }
 
 impl Model for Reader {

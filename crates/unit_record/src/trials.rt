@@ -4,115 +4,18 @@
 //! device's own program will touch. It takes no memory.
 ghost use Rattle.std.specs.Prelude.{◌≡◌};
 ghost use Rattle.unit_record.specs.Console.{read_answer as line_answer};
-ghost use Rattle.unit_record.specs.Reader.{reader_reset};
 ghost use Rattle.unit_record.specs.Trials.{ViewsConsole, ViewsPrinter, ViewsPunch, console_seen, printer_seen, punch_seen};
 
 use crate::console::Console;
-use crate::front::{COMMAND_REJECT, INTERVENTION_REQUIRED, NO_OPERATION, is_sense};
+use crate::front::{COMMAND_REJECT, NO_OPERATION, is_sense};
 use crate::outgoing::Outgoing;
 use crate::printer::Printer;
 use crate::punch::Punch;
-use crate::reader::{Deck, Reader};
 use crate::record::Record;
 use s370_walk::{Answer, Device, Order, UnitStatus};
 use std::alloc::AllocError;
 use std::collections::VecDeque;
 use std::marker::Model;
-
-/// A reader on trial: it reads the decks where they are.
-#[derive(Drop)]
-pub struct ReaderTrial<'a> {
-    decks: &'a VecDeque<Deck>,
-    ended: usize,
-    place: Option<usize>,
-    sense: u8,
-    giving: Outgoing,
-}
-
-impl<'a> Model for ReaderTrial<'a> {
-    ghost use Rattle.std.specs.Prelude.{drop, length, ◌≤◌};
-    ghost use Rattle.unit_record.specs.Reader.{ReaderState};
-
-    ghost Value = { ReaderState };
-
-    ghost view = { λ r. record { decks = drop r.ended r.decks.now.items; place = r.place; sense = r.sense; giving = r.giving } };
-
-    ghost invariant = { λ r. r.ended ≤ length r.decks.now.items };
-}
-
-impl<'a> ReaderTrial<'a> {
-    ghost use Rattle.unit_record.specs.Reader.{next_card, read_answer, read_started};
-
-    /// A read.
-    fn read(&mut self) -> Answer
-        ensures answer { result ≡ read_answer (next_card self.old) }
-        ensures after { self.new ≡ read_started self.old (next_card self.old) }
-    {
-        let Some(deck) = self.decks.get(self.ended) else {
-            self.sense = INTERVENTION_REQUIRED;
-            return Answer::Refused(UnitStatus::UNIT_CHECK);
-        };
-        let place = self.place.unwrap_or(0);
-        let Some(card) = deck.cards().get(place) else {
-            self.ended += 1;
-            self.place = None;
-            return Answer::Refused(UnitStatus::UNIT_EXCEPTION);
-        };
-        self.giving = Outgoing::of(Record::of(card));
-        self.place = Some(place + 1);
-        Answer::Input(80)
-    }
-
-    /// As a system reset leaves it.
-    pub fn reset(&mut self)
-        ensures { self.new ≡ reader_reset self.old }
-    {
-        self.sense = 0;
-        self.giving = Outgoing::new();
-    }
-}
-
-impl<'a> Device for ReaderTrial<'a> {
-    ghost use Rattle.s370_walk.specs.Short.{nothing_needed};
-    ghost use Rattle.unit_record.specs.Reader.{reader_machine};
-
-    ghost machine = { reader_machine };
-
-    ghost needs_memory = { nothing_needed };
-
-    fn command(&mut self, order: Order) -> Result<Answer, AllocError> {
-        Ok(match order.command.code {
-            0x02 => self.read(),
-            NO_OPERATION => Answer::Immediate,
-            _ if is_sense(order) => {
-                self.giving = Outgoing::of(Record::of(&[self.sense]));
-                Answer::Input(1)
-            }
-            _ => {
-                self.sense = COMMAND_REJECT;
-                Answer::Refused(UnitStatus::UNIT_CHECK)
-            }
-        })
-    }
-
-    fn is_done(&self) -> bool {
-        false
-    }
-
-    fn ready(&self) -> u32 {
-        u32::MAX
-    }
-
-    fn give(&mut self) -> u8 {
-        self.giving.give()
-    }
-
-    fn take(&mut self, _byte: u8) {}
-
-    fn finish(&mut self) -> UnitStatus {
-        UnitStatus::NONE
-    }
-}
 
 /// A console on trial: it reads the lines that wait where they are, and keeps none that is written.
 #[derive(Drop)]
@@ -301,21 +204,6 @@ impl Device for PrinterTrial {
 
     fn finish(&mut self) -> UnitStatus {
         UnitStatus::NONE
-    }
-}
-
-impl Reader {
-    /// The reader on trial, from now on.
-    pub fn trial(&self) -> ReaderTrial<'_>
-        ensures { result ≡ self.now }
-    {
-        ReaderTrial {
-            decks: &self.decks,
-            ended: 0,
-            place: self.place,
-            sense: self.sense,
-            giving: self.giving.copy(),
-        }
     }
 }
 

@@ -2,7 +2,7 @@ use Rattle.std.proofs.Common.{ℕ, false, ap, sym, ◌∙◌}
 use Rattle.std.specs.Prelude.{slice_index_or}
 use Rattle.s370_channel.specs.Loading.{loading, loading_limits}
 use Rattle.s370_channel.specs.Progress.{setting}
-use Rattle.s370_trial.specs.Trial.{trial_bytes, trial_flags}
+use Rattle.channel_trial.specs.Trial.{trial_bytes, trial_flags}
 use Rattle.cp_dat.specs.Copies.{is_wanted}
 use Rattle.cp_dat.specs.Lent.{keeps_rest_same, lent_bytes, lent_keys}
 use Rattle.cp_dat.proofs.Copying.{came_more, came_nothing}

@@ -3,8 +3,8 @@ use Rattle.s370_walk.specs.Hardware.{memory_of}
 use Rattle.ckd_volume.specs.Unit.{disk_machine}
 use Rattle.cp_dat.specs.Lent.{lent_bytes, lent_keys}
 use Rattle.cp_minidisk.specs.Part.{disk_seen, part_machine}
-use Rattle.s370_trial.specs.Trial.{trial_bytes, trial_flags}
-use Rattle.cp_trial.proofs.Trying.{loaded_back}
+use Rattle.channel_trial.specs.Trial.{trial_bytes, trial_flags}
+use Rattle.channel_trial.proofs.Trying.{loaded_back}
 use Rattle.cp_volumes.proofs.Parts.{load_keeps_ok, part_viewed, loads_ok}
 use Rattle.cp_volumes.proofs.running.load_mounted.Goals as goal
 

@@ -3,7 +3,7 @@ use Rattle.s370_channel.specs.Guest.{guest_written}
 use Rattle.s370_channel.specs.Runs.{begun, limited}
 use Rattle.s370_channel.specs.Supplied.{IsTouched}
 use Rattle.s370_walk.specs.Hardware.{memory_of}
-use Rattle.s370_trial.specs.Trial.{trial_flags}
+use Rattle.channel_trial.specs.Trial.{trial_flags}
 use Rattle.ckd_volume.specs.Unit.{disk_machine}
 use Rattle.cp_dat.specs.Copies.{is_wanted}
 use Rattle.cp_dat.specs.Lent.{keeps_rest_same, lent_bytes, lent_keys}

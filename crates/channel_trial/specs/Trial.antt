@@ -1,0 +1,61 @@
+-- What a storage on trial shows.
+use Rattle.std.specs.Prelude.{◌≡◌, ℕ, ◌+◌, ◌/◌, ◌%◌, ◌≤◌, ◌⊎◌, List, [], ◌∷◌, Bool, true, false, suc, length, slice_index, slice_index_or, Contains}
+use Rattle.s370_store.specs.declared.block.Block.{Block}
+use Rattle.channel_trial.specs.declared.TrialStorage.{TrialStorage}
+
+-- its bytes, also those of pages that were not touched
+abbrev pub trial_bytes : TrialStorage → List ℕ
+trial_bytes s = s.bytes.items
+
+-- the key in storage of each of its blocks
+abbrev pub trial_keys : TrialStorage → List ℕ
+trial_keys s = s.keys.items
+
+-- whether each of its pages was touched
+abbrev pub trial_flags : TrialStorage → List Bool
+trial_flags s = s.touched.items
+
+abbrev pub is_touched : TrialStorage → ℕ → Bool
+is_touched s page = slice_index_or (trial_flags s) page false
+
+-- the bytes of pages that were not touched are those they were
+abbrev pub KeepsUntouched : (ℕ → Bool) → List ℕ → List ℕ → Type 0
+KeepsUntouched touched old new = (address : ℕ) → touched (address / 4096) ≡ false → slice_index new address ≡ slice_index old address
+
+-- as many bytes; the same pages were touched; the others are as they were
+pub record TrialKeeps (s t : TrialStorage) : Type 0 where
+  pub size : length (trial_bytes t) ≡ length (trial_bytes s)
+  pub flags : trial_flags t ≡ trial_flags s
+  pub untouched : KeepsUntouched (is_touched t) (trial_bytes s) (trial_bytes t)
+
+-- a block that lies in a page that was touched
+pub record IsTouchedBlock (s : TrialStorage) (block : Block) : Type 0 where
+  pub inside : block.first + 2048 ≤ length (trial_bytes s)
+  pub whole : block.first % 2048 ≡ 0
+  pub touched : is_touched s (block.first / 4096) ≡ true
+
+-- how many pages were not touched
+abbrev pub untouched_count : List Bool → ℕ
+untouched_count [] = 0
+untouched_count (true ∷ flags) = untouched_count flags
+untouched_count (false ∷ flags) = suc (untouched_count flags)
+
+-- one of the pages of these units
+abbrev pub IsIn : List (List ℕ) → ℕ → Type 0
+IsIn [] page = ⊥
+IsIn (pages ∷ units) page = Contains pages page ⊎ IsIn units page
+
+-- from one to the other pages were touched: such alone
+pub record TrialTouches (s : TrialStorage) (is_such : ℕ → Type 0) (t : TrialStorage) : Type 0 where
+  pub size : length (trial_bytes t) ≡ length (trial_bytes s)
+  pub stays : (page : ℕ) → is_touched s page ≡ true → is_touched t page ≡ true
+  pub came : (page : ℕ) → is_touched t page ≡ true → (is_touched s page ≡ true) ⊎ is_such page
+  pub untouched : KeepsUntouched (is_touched t) (trial_bytes s) (trial_bytes t)
+
+-- just these pages were touched
+pub record TrialBrought (s : TrialStorage) (pages : List ℕ) (t : TrialStorage) : Type 0 where
+  pub touches : TrialTouches s (Contains pages) t
+  pub held : (page : ℕ) → Contains pages page → is_touched t page ≡ true
+
+abbrev pub TrialCame : TrialStorage → List (List ℕ) → TrialStorage → Type 0
+TrialCame s units t = TrialTouches s (IsIn units) t

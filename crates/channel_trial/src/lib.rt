@@ -1,0 +1,260 @@
+//! A storage on trial: a copy of a storage, over which a program is tried, and which tells the pages that it touched.
+//!
+//! A page is absent until the program comes to it, and is there from then on: so a run that brings absent pages tells
+//! just the pages that it needs, whatever room there is for them elsewhere. Its one theorem, besides those of each
+//! storage: pages that were not touched have the bytes that they had; and what a program left on trial, of a device that
+//! stays as it is, is what its walk will leave.
+#![tactic(auto)]
+
+mod tried;
+
+ghost use Rattle.s370_store.specs.Access.{put};
+ghost use Rattle.std.specs.Prelude.{◌≡◌, ◌+◌, ◌*◌, ◌/◌, ◌<◌, ◌≤◌, Bool, true, false, length, replicate, slice_index_or, slice_range, slice_set, Ok, IfOk};
+
+pub use tried::{
+    Tried, TriedLoading, a_view_is_tried_for_its_device, limits_of, try_loading, try_program,
+};
+
+use s370_channel::AmpleSupply;
+use s370_num::{AccessKey, StorageKey};
+use s370_store::{
+    Access, Block, Fault, FramesOut, Keyed, Listed, Page, Range, Storage, Supply,
+    UnitSupply, may_access_block, put_at, test_range,
+};
+use std::alloc::{AllocError, Global};
+
+/// Bytes and keys, and which pages a program has touched.
+#[derive(Drop)]
+pub struct TrialStorage {
+    bytes: Vec<u8>,
+    keys: Vec<StorageKey>,
+    touched: Vec<bool>,
+    ghost addressable: { length bytes.items ≤ 4294967295 },
+    ghost keyed: { length bytes.items ≤ 2048 * length keys.items },
+    ghost a_flag_a_page: { length bytes.items ≡ 4096 * length touched.items },
+}
+
+impl TrialStorage {
+    ghost use Rattle.channel_trial.specs.Trial.{is_touched, trial_bytes, trial_flags, trial_keys};
+
+    /// A storage of these bytes, no page of which was touched, with these keys.
+    pub fn new(
+        alloc: Global,
+        bytes: Vec<u8>,
+        keys: Vec<StorageKey>,
+        pages: u32,
+    ) -> Result<TrialStorage, AllocError>
+        requires pages { pages ≤ 1048575 }
+        requires size { length bytes.items ≡ 4096 * pages }
+        requires keyed { length bytes.items ≤ 2048 * length keys.items }
+        ensures bytes { IfOk result (λ s. trial_bytes s ≡ bytes.items) }
+        ensures keys { IfOk result (λ s. trial_keys s ≡ keys.items) }
+        ensures flags { IfOk result (λ s. trial_flags s ≡ replicate pages false) }
+    {
+        let touched = vec![in alloc; false; pages as usize]?;
+        Ok(TrialStorage {
+            bytes,
+            keys,
+            touched,
+        })
+    }
+
+    /// Whether each page was touched.
+    pub fn touched(&self) -> &[bool]
+        ensures flags { result.now ≡ trial_flags self.now }
+        ensures size { length (trial_bytes self.now) ≡ 4096 * length result.now }
+    {
+        &self.touched
+    }
+
+    /// All bytes.
+    pub fn bytes(&self) -> &[u8]
+        ensures { result.now ≡ trial_bytes self.now }
+    {
+        &self.bytes
+    }
+
+    /// Writes bytes from an address on.
+    fn put(&mut self, start: u32, from: &[u8])
+        requires { start + length from.now ≤ length (trial_bytes self.old) }
+        ensures bytes { trial_bytes self.new ≡ put (trial_bytes self.old) start from.now }
+        ensures size { length (trial_bytes self.new) ≡ length (trial_bytes self.old) }
+        ensures keys { trial_keys self.new ≡ trial_keys self.old }
+        ensures flags { trial_flags self.new ≡ trial_flags self.old }
+    {
+        put_at(&mut self.bytes, start as usize, from);
+    }
+}
+
+impl Storage for TrialStorage {
+    ghost use Rattle.channel_trial.specs.Trial.{trial_bytes, trial_keys, is_touched, TrialKeeps, IsTouchedBlock};
+    ghost use Rattle.channel_trial.specs.Laws as laws;
+
+    ghost bytes = { trial_bytes };
+
+    ghost keys = { trial_keys };
+
+    ghost present = { is_touched };
+
+    ghost Keeps = { TrialKeeps };
+
+    ghost IsPlaced = { IsTouchedBlock };
+
+    fn size(&self) -> u32 {
+        self.bytes.len() as u32
+    }
+
+    fn check(&self, range: Range, access: Access, key: AccessKey) -> Result<(), Fault> {
+        let keys = Listed { keys: &self.keys };
+        test_range(self.bytes.len() as u32, &keys, range, access, key)?;
+        let Range { start, count } = range;
+        if count == 0 {
+            return Ok(());
+        }
+        let first = start / 4096;
+        if !flag_at(&self.touched, first) {
+            return Err(Fault::Absent(Page(first)));
+        }
+        let last = (start + (count - 1)) / 4096;
+        if !flag_at(&self.touched, last) {
+            return Err(Fault::Absent(Page(last)));
+        }
+        Ok(())
+    }
+
+    fn find_block(&self, start: u32, access: Access, key: AccessKey) -> Option<Block> {
+        let keys = Listed { keys: &self.keys };
+        if !may_access_block(self.bytes.len() as u32, &keys, start, access, key) {
+            return None;
+        }
+        if !flag_at(&self.touched, start / 4096) {
+            return None;
+        }
+        let first = start / 2048 * 2048;
+        Some(Block {
+            first,
+            place: first as usize,
+        })
+    }
+
+    fn load_in(&self, _block: Block, start: u32, into: &mut [u8]) {
+        let first = start as usize;
+        let end = first + into.len();
+        into.copy_from_slice(&self.bytes[first..end]);
+    }
+
+    fn store_in(&mut self, _block: Block, start: u32, from: &[u8]) {
+        self.put(start, from);
+    }
+
+    fn load(&self, start: u32, into: &mut [u8]) {
+        let first = start as usize;
+        let end = first + into.len();
+        into.copy_from_slice(&self.bytes[first..end]);
+    }
+
+    fn store(&mut self, start: u32, from: &[u8]) {
+        self.put(start, from);
+    }
+
+    ghost keeps_same = { laws.keeps_same };
+
+    ghost keeps_size = { λ s t kept. kept.size };
+
+    ghost keeps_present = { laws.keeps_present };
+
+    ghost keeps_on = { laws.keeps_on };
+
+    ghost placed_kept = { laws.placed_kept };
+}
+
+impl Keyed for TrialStorage {
+    fn key_of(&self, block: u32) -> StorageKey {
+        self.keys[block as usize]
+    }
+
+    fn set_key(&mut self, block: u32, key: StorageKey) {
+        self.keys[block as usize] = key;
+    }
+}
+
+/// To bring a page is to mark it, for which there is always room.
+impl Supply for TrialStorage {
+    ghost use Rattle.channel_trial.specs.Trial.{TrialBrought, trial_flags, untouched_count};
+    ghost use Rattle.channel_trial.specs.Laws as laws;
+
+    ghost spare = { λ s. untouched_count (trial_flags s) };
+
+    ghost IsShort = { λ _ _. ⊥ };
+
+    ghost Brought = { TrialBrought };
+
+    ghost Cleared = { λ _ _. Unit {0} };
+
+    fn clear(&mut self) {
+        self.bytes.fill(0);
+        self.keys.fill(StorageKey::ZERO);
+    }
+
+    fn bring(&mut self, page: Page) -> Result<(), FramesOut> {
+        self.touched[page.0 as usize] = true;
+        Ok(())
+    }
+
+    ghost brought_none = { laws.brought_none };
+
+    ghost brought_on = { laws.brought_on };
+
+    ghost spare_kept = { laws.spare_kept };
+}
+
+impl UnitSupply for TrialStorage {
+    ghost use Rattle.std.specs.Prelude.{◌≡◌};
+    ghost use Rattle.channel_trial.specs.Trial.{TrialCame};
+    ghost use Rattle.channel_trial.specs.Laws as laws;
+
+    ghost IsBetween = { λ _. Unit {0} };
+
+    ghost IsOut = { λ _ _. ⊥ };
+
+    ghost Came = { TrialCame };
+
+    ghost LetsGo = { λ s t. t ≡ s };
+
+    fn let_go(&mut self) {}
+
+    ghost held = { λ s t pages page brought listed. brought.held page listed };
+
+    ghost let_go_between = { λ s t u pages between brought let_go. tt };
+
+    ghost let_go_came = { laws.let_go_came };
+
+    ghost let_go_out = { λ s t u pages page between brought few short let_go. short };
+
+    ghost between_kept = { λ s t kept between. tt };
+
+    ghost came_none = { λ s t units between kept. laws.came_none s t units kept };
+
+    ghost came_on = { laws.came_on };
+}
+
+/// There is always room.
+impl AmpleSupply for TrialStorage {
+    ghost IsAmple = { λ _. Unit {0} };
+
+    ghost ample_out = { λ s page ample inside out. out };
+
+    ghost ample_kept = { λ s t kept ample. tt };
+
+    ghost ample_brought = { λ s t pages brought size inside ample. tt };
+
+    ghost ample_let_go = { λ s t let_go size ample. tt };
+}
+
+/// A flag of a list.
+fn flag_at(flags: &[bool], place: u32) -> bool
+    requires { place < length flags.now }
+    ensures { result ≡ slice_index_or flags.now place false }
+{
+    flags[place as usize]
+}

@@ -1,0 +1,106 @@
+//! Devices of which a program can be tried.
+ghost use Rattle.std.specs.Prelude.{◌≡◌, ℕ, Bool, List, false, OnOk};
+ghost use Rattle.s370_channel.specs.declared.words.Caw.{Caw};
+ghost use Rattle.s370_channel.specs.Start.{most_commands};
+ghost use Rattle.s370_walk.specs.Hardware.{Machine, Memory, memory_of};
+ghost use Rattle.s370_walk.specs.Viewed.{IsViewed};
+ghost use Rattle.channel_trial.specs.Trial.{is_touched, trial_bytes, trial_flags, trial_keys};
+ghost use Rattle.channel_trial.specs.Tried.{IsLoadingTried, IsProgramTried};
+
+use crate::TrialStorage;
+use s370_channel::{Caw, Limits, MOST_COMMANDS, load_supplied, run_supplied};
+use s370_walk::Device;
+use std::alloc::AllocError;
+use unit_record::{Console, Printer, Punch};
+
+/// A device of which a program can be tried: it stays as it is.
+pub trait Tried: Device {
+    /// Tries the program with this start on a copy of a storage, no page of which was touched.
+    fn try_on(&self, copy: &mut TrialStorage, start: Caw) -> Result<(), AllocError>
+        requires untouched { (page : ℕ) → is_touched copy.old page ≡ false }
+        ensures tried { OnOk result (IsProgramTried Self.machine start
+            (memory_of (trial_bytes copy.old) (trial_keys copy.old)) self.now (trial_bytes copy.new)
+            (trial_flags copy.new)) };
+}
+
+/// A device of which the program of an initial program loading can be tried: it stays as it is.
+pub trait TriedLoading: Device {
+    /// Tries that program on a copy of a storage, no page of which was touched.
+    fn try_load(&self, copy: &mut TrialStorage) -> Result<(), AllocError>
+        requires untouched { (page : ℕ) → is_touched copy.old page ≡ false }
+        ensures tried { OnOk result (IsLoadingTried Self.machine
+            (memory_of (trial_bytes copy.old) (trial_keys copy.old)) self.now (trial_bytes copy.new)
+            (trial_flags copy.new)) };
+}
+
+impl Tried for Console {
+    fn try_on(&self, copy: &mut TrialStorage, start: Caw) -> Result<(), AllocError> {
+        try_program(copy, start, &mut self.trial())
+    }
+}
+
+impl Tried for Punch {
+    fn try_on(&self, copy: &mut TrialStorage, start: Caw) -> Result<(), AllocError> {
+        try_program(copy, start, &mut self.trial())
+    }
+}
+
+impl Tried for Printer {
+    fn try_on(&self, copy: &mut TrialStorage, start: Caw) -> Result<(), AllocError> {
+        try_program(copy, start, &mut self.trial())
+    }
+}
+
+/// How a program with this start is limited.
+pub fn limits_of(start: Caw) -> Limits
+    ensures { result ≡ record { key = start.key; commands = most_commands; prefix = 0 } }
+{
+    Limits {
+        key: start.key,
+        commands: MOST_COMMANDS,
+        prefix: 0,
+    }
+}
+
+/// Tries the program with this start on a copy of a storage, with a device that stands for its own.
+pub fn try_program<T: Device>(
+    copy: &mut TrialStorage,
+    start: Caw,
+    trial: &mut T,
+) -> Result<(), AllocError>
+    requires untouched { (page : ℕ) → is_touched copy.old page ≡ false }
+    ensures tried { OnOk result (IsProgramTried T.machine start
+        (memory_of (trial_bytes copy.old) (trial_keys copy.old)) trial.old (trial_bytes copy.new)
+        (trial_flags copy.new)) }
+{
+    match run_supplied(copy, start.address.get(), &limits_of(start), trial) {
+        Ok(_) => Ok(()),
+        Err(_) => Err(AllocError),
+    }
+}
+
+/// Tries the program of an initial program loading, likewise.
+pub fn try_loading<T: Device>(
+    copy: &mut TrialStorage,
+    trial: &mut T,
+) -> Result<(), AllocError>
+    requires untouched { (page : ℕ) → is_touched copy.old page ≡ false }
+    ensures tried { OnOk result (IsLoadingTried T.machine
+        (memory_of (trial_bytes copy.old) (trial_keys copy.old)) trial.old (trial_bytes copy.new)
+        (trial_flags copy.new)) }
+{
+    match load_supplied(copy, trial) {
+        Ok(_) => Ok(()),
+        Err(_) => Err(AllocError),
+    }
+}
+
+/// What was tried with what is seen of a device, was tried for the device.
+pub fn a_view_is_tried_for_its_device<D: Device, E: Device>()
+    ensures program { (machine : Machine D) (small : Machine E) (view : D → E) (start : Caw) (m : Memory) (d : D)
+        (bytes : List ℕ) (touched : List Bool) → IsViewed machine small view
+        → IsProgramTried small start m (view d) bytes touched → IsProgramTried machine start m d bytes touched }
+    ensures loading { (machine : Machine D) (small : Machine E) (view : D → E) (m : Memory) (d : D) (bytes : List ℕ)
+        (touched : List Bool) → IsViewed machine small view → IsLoadingTried small m (view d) bytes touched
+        → IsLoadingTried machine m d bytes touched }
+{}

@@ -1,2 +1,0 @@
-pub mod Trial
-pub mod Laws
