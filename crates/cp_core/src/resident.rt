@@ -1,33 +1,38 @@
-//! Channels of users, on which a program runs where the pages that it needs stand in frames.
-ghost use Rattle.std.specs.Prelude.{◌≡◌, ◌%◌, All, IfErr, IfOk, IfNone, IfSome, length};
+//! Channels of users: a program runs as a whole, or not at all, with the pages that it needs.
+ghost use Rattle.std.specs.Prelude.{◌≡◌, ◌%◌, ◌<◌, All, IfErr, IfOk, IfSome, length};
 ghost use Rattle.s370_channel.specs.Reading.{as_reached};
 ghost use Rattle.s370_channel.specs.Runs.{Walks};
 ghost use Rattle.s370_channel.specs.declared.running.ChannelError.TheVariants as errors;
-ghost use Rattle.s370_store.specs.Access.{IsAway};
 ghost use Rattle.s370_walk.specs.Hardware.{memory_of};
+ghost use Rattle.cp_channels.specs.Channels.{WalksDisk};
 ghost use Rattle.cp_dat.specs.Lent.{KeepsRest, is_lent_page, lent_bytes, lent_keys};
+ghost use Rattle.cp_hold.specs.Holding.{IsFixedProgram, guest_memory};
 ghost use Rattle.cp_needs.specs.Needs.{IsFixed, IsHeld};
-ghost use Rattle.cp_needs.specs.Kept.{IfFound, IfPages, IfText, IfWhole, IsAsItStood, IsPaged, IsPagedOnly, IsText, IsTextOnly};
+ghost use Rattle.cp_needs.specs.Kept.{IsAsItStood, IsText, IsTextOnly};
 ghost use Rattle.cp_ccw.specs.Kept.{IsAtBase};
-ghost use Rattle.cp_core.specs.Resident.{IsResident};
-ghost use Rattle.cp_core.specs.Wants.{ProgramNeeds};
+ghost use Rattle.cp_core.specs.Resident.{KeepsHung, disks_on, told_by, told_of};
 
 use crate::reuse::Reuse;
+use channel_trial::{Tried, TriedLoading};
 use cp_ccw::{Kept, keep, know, run_kept};
 use cp_channels::{Channels, Disks, UnitRecord};
 use cp_dat::Dat;
-use cp_needs::{Found, look, run_held};
+use cp_hold::{Program, hold};
+use cp_needs::Fullword;
+use cp_trial::{TriedError, fetch_again, fetch_first, load_open, run_open};
 use cp_volumes::{SharedDisk, UserDisks, Volumes};
 use s370_channel::{Caw, ChannelError, Limits, MOST_COMMANDS};
-use s370_store::{PAGE_SIZE, Page, Storage};
+use s370_store::{Page, UnitSupply};
 use s370_walk::{Device, Ending};
-use std::alloc::{AllocError, Global};
+use std::alloc::Global;
 use std::mem::replace;
 
-/// A program runs as on a machine of its own where the pages that it needs stand in frames: those of its words, of their
-/// lists and of their areas, and each page of its user's storage where an input could change one of its words. Else the
-/// first page that does not is told, and nothing has happened. A program that no input could change is copied, with the
-/// real addresses of those pages, and the copy runs; of another each word is read when it is reached.
+/// A program that no input can change runs where the pages that it needs stand in frames: those of its words, of their
+/// lists and of their areas. They are brought, and held until it has run; where there is no room for one, nothing has
+/// happened. It is copied, with the real addresses of those pages, and the copy runs.
+///
+/// Of any other program each word is read when it is reached. It is tried first, so that the pages that it touches can be
+/// placed before it runs; where there is no room for one, nothing has happened. So is the program of a loading.
 ///
 /// The copy is kept for its device, and runs again as long as all that it was copied from is as it was: its address word,
 /// its words and lists, and the frames of the pages of its data. Of a minidisk's program, which is not copied, the same is
@@ -122,15 +127,28 @@ impl Disks for Resident {
 impl<'a> Channels<Dat<'a>> for Resident {
     ghost use Rattle.std.specs.Prelude.{true};
     ghost use Rattle.s370_channel.specs.Reading.{as_reached};
-    ghost use Rattle.cp_core.specs.Wants.{ProgramNeeds};
+    ghost use Rattle.cp_dat.specs.Lent.{lent_pool, user_of};
+    ghost use Rattle.cp_dat.specs.Letting as laws;
+    ghost use Rattle.cp_dat.specs.Supplied.{HasNoRoom, IsBetweenUnits, SuppliedUnits};
+    ghost use Rattle.cp_core.specs.Resident.{came_further, came_nowhere, came_sized};
+    ghost use Rattle.cp_core.specs.Supply.{IsFilled};
+    ghost use Rattle.cp_hold.specs.Holding.{HoldNeeds};
 
     ghost reads = { as_reached };
 
     ghost is_whole = { true };
 
-    ghost needs = { ProgramNeeds };
+    ghost holds = { HoldNeeds };
 
-    fn run<D: Device>(
+    ghost IsReady = { λ d. IsBetweenUnits (lent_pool d).supply };
+
+    ghost IsOut = { λ d page. HasNoRoom (lent_pool d).supply (user_of d) page };
+
+    ghost IsFilled = { λ d page. IsFilled (lent_pool d).supply (user_of d) page };
+
+    ghost Came = { SuppliedUnits };
+
+    fn run<D: Tried>(
         &mut self,
         storage: &mut Dat<'a>,
         start: Caw,
@@ -142,21 +160,20 @@ impl<'a> Channels<Dat<'a>> for Resident {
             self.reuse.count();
             return ended;
         }
-        match look_at(self.alloc, storage, start.address.get()) {
-            Ok(Found::Page(page)) => Err(ChannelError::Absent(page)),
-            Ok(Found::Fixed(text, _)) => match keep(self.alloc, storage, copy_of(&start), text) {
-                Ok(kept) => {
-                    let ended = run_again(&kept, storage, &start, device);
-                    self.reuse.put_unit(unit, Some(kept));
-                    ended
-                }
-                Err(_) => Err(ChannelError::Memory),
-            },
-            Ok(Found::Whole) => {
-                self.reuse.put_unit(unit, None);
-                run_resident(storage, start, device)
+        match hold(self.alloc, storage, start.address.get()) {
+            Ok(Program::Fixed(text, _)) => {
+                let ended = run_copied(&mut self.reuse, self.alloc, storage, &start, unit, text, device);
+                storage.let_go();
+                ended
             }
-            Err(_) => Err(ChannelError::Memory),
+            Ok(Program::Open) => {
+                self.reuse.put_unit(unit, None);
+                told(run_open(self.alloc, storage, start, device))
+            }
+            Err(error) => {
+                storage.let_go();
+                Err(told_of(error))
+            }
         }
     }
 
@@ -168,110 +185,139 @@ impl<'a> Channels<Dat<'a>> for Resident {
     ) -> Result<Ending, ChannelError> {
         if self.reuse.has_disk(index, storage, &start) {
             self.reuse.count();
-            return Ok(self.disks.run_disk(storage, start, index));
+            return Ok(self.disks.run_held(storage, start, index));
         }
-        match look_at(self.alloc, storage, start.address.get()) {
-            Ok(Found::Page(page)) => Err(ChannelError::Absent(page)),
-            Ok(Found::Fixed(text, pages)) => match know(
-                self.alloc,
-                storage,
-                copy_of(&start),
-                text,
-                &pages,
-            ) {
-                Ok(known) => {
-                    self.reuse.put_disk(index, Some(known));
-                    Ok(self.disks.run_disk(storage, start, index))
-                }
-                Err(_) => Err(ChannelError::Memory),
-            },
-            Ok(Found::Whole) => {
-                self.reuse.put_disk(index, None);
-                Ok(self.disks.run_disk(storage, start, index))
+        match hold(self.alloc, storage, start.address.get()) {
+            Ok(Program::Fixed(text, pages)) => {
+                let ended = run_known(self, storage, start, index, text, &pages);
+                storage.let_go();
+                ended
             }
-            Err(_) => Err(ChannelError::Memory),
+            Ok(Program::Open) => {
+                self.reuse.put_disk(index, None);
+                told(self.disks.run_disk(self.alloc, storage, start, index))
+            }
+            Err(error) => {
+                storage.let_go();
+                Err(told_of(error))
+            }
         }
+    }
+
+    fn load<D: TriedLoading>(
+        &mut self,
+        storage: &mut Dat<'a>,
+        device: &mut D,
+    ) -> Result<Ending, ChannelError> {
+        told(load_open(self.alloc, storage, device))
     }
 
     fn load_disk(&mut self, storage: &mut Dat<'a>, index: usize) -> Result<Ending, ChannelError> {
-        Ok(self.disks.load_disk(storage, index))
-    }
-}
-
-/// What has to be so before the program at this address can run, with its words and the pages of its areas.
-fn look_at(alloc: Global, storage: &Dat<'_>, address: u32) -> Result<Found, AllocError>
-    ensures away { IfOk result
-        (λ found. IfFound found (IsAway (length (lent_bytes storage.now)) (is_lent_page storage.now))) }
-    ensures needed { IfOk result
-        (λ found. IfFound found (ProgramNeeds (memory_of (lent_bytes storage.now) (lent_keys storage.now)) address)) }
-    ensures even { IfOk result (λ found. IfText found (λ text. address % 8 ≡ 0)) }
-    ensures fixed { IfOk result
-        (λ found. IfText found (λ text. IsFixed (memory_of (lent_bytes storage.now) (lent_keys storage.now)) address)) }
-    ensures held { IfOk result
-        (λ found. IfText found (λ text. IsHeld (memory_of (lent_bytes storage.now) (lent_keys storage.now)) address
-        (is_lent_page storage.now))) }
-    ensures text { IfOk result
-        (λ found. IfText found (IsText (memory_of (lent_bytes storage.now) (lent_keys storage.now)) address)) }
-    ensures only { IfOk result
-        (λ found. IfText found (IsTextOnly (memory_of (lent_bytes storage.now) (lent_keys storage.now)) address)) }
-    ensures stands { IfOk result
-        (λ found. IfText found (All (IsAsItStood (lent_bytes storage.now) (is_lent_page storage.now)))) }
-    ensures pages { IfOk result
-        (λ found. IfPages found (IsPaged (memory_of (lent_bytes storage.now) (lent_keys storage.now)) address)) }
-    ensures pages_only { IfOk result
-        (λ found. IfPages found (IsPagedOnly (memory_of (lent_bytes storage.now) (lent_keys storage.now)) address)) }
-    ensures all { IfOk result
-        (λ found. IfWhole found (IsResident (length (lent_bytes storage.now)) (is_lent_page storage.now))) }
-{
-    // No program is started elsewhere.
-    if address % 8 != 0 {
-        return match absent_page(storage) {
-            Some(page) => Ok(Found::Page(page)),
-            None => Ok(Found::Whole),
-        };
-    }
-    look(alloc, storage, address)
-}
-
-/// The first page of a storage that stands in no frame.
-pub(crate) fn absent_page(storage: &Dat<'_>) -> Option<Page>
-    ensures some { IfSome result
-        (λ page. IsAway (length (lent_bytes storage.now)) (is_lent_page storage.now) page.0) }
-    ensures none { IfNone result (IsResident (length (lent_bytes storage.now)) (is_lent_page storage.now)) }
-{
-    let size = u64::from(storage.size());
-    let mut page = 0u32;
-    while u64::from(page) * u64::from(PAGE_SIZE) < size {
-        if storage.frame_of(Page(page)).is_none() {
-            return Some(Page(page));
+        match fetch_first(storage) {
+            Ok(()) => {}
+            Err(error) => return Err(told_of(error)),
         }
-        page += 1;
+        match self.disks.load_disk(self.alloc, storage, index) {
+            Ok(ending) => {
+                self.reuse.clear();
+                fetch_again(storage);
+                Ok(ending)
+            }
+            Err(error) => Err(told_of(error)),
+        }
     }
-    None
+
+    ghost came_none = { came_nowhere };
+
+    ghost came_kept = { came_further };
+
+    ghost ready_kept = { laws.between_kept };
+
+    ghost came_size = { came_sized };
 }
 
-/// Runs the program with this start over a storage each page of which is present, each word read when it is reached: it
-/// stops for want of memory alone.
-fn run_resident<D: Device>(
+/// Why a program does not run that was tried.
+fn told_of(error: TriedError) -> ChannelError
+    ensures { result ≡ told_of error }
+{
+    match error {
+        TriedError::Memory => ChannelError::Memory,
+        TriedError::FramesOut => ChannelError::Absent(Page(0)),
+    }
+}
+
+/// How a program ended that was tried, or why it does not run.
+fn told(ran: Result<Ending, TriedError>) -> Result<Ending, ChannelError>
+    ensures { result ≡ told_by ran }
+{
+    match ran {
+        Ok(ending) => Ok(ending),
+        Err(error) => Err(told_of(error)),
+    }
+}
+
+/// A program that no input can change is copied and runs, over its pages, which stand in frames; the copy is kept. It stops
+/// for want of memory alone.
+fn run_copied<D: Device>(
+    reuse: &mut Reuse,
+    alloc: Global,
     storage: &mut Dat<'_>,
-    start: Caw,
+    start: &Caw,
+    unit: UnitRecord,
+    text: Vec<Fullword>,
     device: &mut D,
 ) -> Result<Ending, ChannelError>
-    requires { IsResident (length (lent_bytes storage.old)) (is_lent_page storage.old) }
+    requires even { start.now.address % 8 ≡ 0 }
+    requires fixed { IsFixed (guest_memory storage.old) start.now.address }
+    requires held { IsHeld (guest_memory storage.old) start.now.address (is_lent_page storage.old) }
+    requires text { IsText (guest_memory storage.old) start.now.address text.items }
+    requires only { IsTextOnly (guest_memory storage.old) start.now.address text.items }
+    requires stands { All (IsAsItStood (lent_bytes storage.old) (is_lent_page storage.old)) text.items }
     ensures walk { IfOk result
-        (λ ending. Walks as_reached D.machine start
-        (memory_of (lent_bytes storage.old) (lent_keys storage.old)) device.old ending
-        (memory_of (lent_bytes storage.new) (lent_keys storage.new)) device.new) }
+        (λ ending. Walks as_reached D.machine start.now (guest_memory storage.old) device.old ending
+        (guest_memory storage.new) device.new) }
     ensures memory { IfErr result (λ error. error ≡ errors.Memory) }
     ensures keys { lent_keys storage.new ≡ lent_keys storage.old }
     ensures rest { KeepsRest storage.old storage.new }
 {
-    let limits = Limits {
-        key: start.key,
-        commands: MOST_COMMANDS,
-        prefix: 0,
-    };
-    run_held(storage, start.address.get(), &limits, device)
+    match keep(alloc, storage, copy_of(start), text) {
+        Ok(kept) => {
+            let ended = run_again(&kept, storage, start, device);
+            reuse.put_unit(unit, Some(kept));
+            ended
+        }
+        Err(_) => Err(ChannelError::Memory),
+    }
+}
+
+/// A minidisk's program that no input can change runs where it stands, over its pages, which stand in frames; it is known
+/// from then on. It stops for want of memory alone.
+fn run_known(
+    channels: &mut Resident,
+    storage: &mut Dat<'_>,
+    start: Caw,
+    index: usize,
+    text: Vec<Fullword>,
+    pages: &[Page],
+) -> Result<Ending, ChannelError>
+    requires inside { index < length (disks_on channels.old) }
+    requires fixed { IsFixedProgram (guest_memory storage.old) start.address (is_lent_page storage.old) text.items
+        pages.now }
+    ensures walk { IfOk result
+        (λ ending. WalksDisk as_reached start (guest_memory storage.old) (disks_on channels.old) index ending
+        (guest_memory storage.new) (disks_on channels.new)) }
+    ensures memory { IfErr result (λ error. error ≡ errors.Memory) }
+    ensures others { KeepsHung channels.old channels.new }
+    ensures keys { lent_keys storage.new ≡ lent_keys storage.old }
+    ensures rest { KeepsRest storage.old storage.new }
+{
+    match know(channels.alloc, storage, copy_of(&start), text, pages) {
+        Ok(known) => {
+            channels.reuse.put_disk(index, Some(known));
+            Ok(channels.disks.run_held(storage, start, index))
+        }
+        Err(_) => Err(ChannelError::Memory),
+    }
 }
 
 /// The same address word.

@@ -8,6 +8,8 @@
 //! are pages that the program touches; and what runs is the walk of the storage as it stood.
 #![tactic(auto)]
 
+mod open;
+
 ghost use Rattle.std.specs.Prelude.{◌≡◌, ℕ, Bool, false, Err, IfOk, OnErr};
 ghost use Rattle.s370_channel.specs.Guest.{guest_written};
 ghost use Rattle.s370_channel.specs.Loading.{loading, loading_limits};
@@ -24,6 +26,8 @@ ghost use Rattle.channel_trial.specs.Trial.{is_touched, trial_bytes, trial_flags
 ghost use Rattle.channel_trial.specs.Tried.{IsLoadingTried, IsProgramTried};
 ghost use Rattle.cp_trial.specs.Tried.{EndsSomehow, LacksSuch};
 ghost use Rattle.cp_trial.specs.declared.TriedError.TheVariants as errors;
+
+pub use open::{fetch_again, fetch_first, load_open, run_open};
 
 use channel_trial::{TrialStorage, Tried, TriedLoading, limits_of};
 use cp_dat::Dat;
