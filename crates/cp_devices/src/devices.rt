@@ -103,7 +103,7 @@ impl Devices {
 
     /// The same of all but the reader.
     pub(crate) fn reset_beside(&mut self)
-        ensures { self.new ≡ record (devices_reset self.old) { reader = self.old.reader } }
+        ensures { self.new ≡ record (parts_reset self.old) { reader = self.old.reader } }
     {
         self.console.reset();
         self.punch.reset();

@@ -1,16 +1,12 @@
 //! IPL, which the owner of a machine does for it.
 ghost use Rattle.std.specs.Prelude.{◌≡◌, ◌<◌, ◌≤◌, ℕ, false, true, Err, IfOk, Some, length, map, slice_get};
 ghost use Rattle.s370_store.specs.Access.{IsAway};
-ghost use Rattle.cp_channels.specs.Channels.{Brings, LacksRoom};
+ghost use Rattle.cp_channels.specs.Channels.{Brings, LacksRoom, NoRoom};
 ghost use Rattle.cp_channels.specs.Disks.{reset_disk};
 ghost use Rattle.cp_devices.specs.Equipped.{equipped};
-<<<<<<< HEAD
+ghost use Rattle.cp_devices.specs.Lent.{KeepsBeside, devices_on};
 ghost use Rattle.cp_devices.specs.Lines.{IplNeeds, IsIpl, KindLoads, LoadsDisk, LoadsReader, ipl_told};
 ghost use Rattle.cp_devices.specs.declared.places.Kind.TheVariants as kinds;
-=======
-ghost use Rattle.cp_devices.specs.Lent.{KeepsBeside, devices_on};
-ghost use Rattle.cp_devices.specs.Lines.{IsIpl, LoadsDisk, LoadsReader, ipl_told};
->>>>>>> main
 
 use crate::devices::Devices;
 use crate::feeding::load_fed;
@@ -49,40 +45,31 @@ impl Devices {
         device: DevAddr,
     ) -> Result<Told, LineError>
         requires size { 8192 ≤ length (S.bytes storage.old) }
-<<<<<<< HEAD
-        requires ready { C.IsReady storage.old }
-        ensures ok { let before = equipped machine.old self.old (C.disks channels.old) (S.bytes storage.old)
-=======
         requires user { self.old.user < length queues.old.users }
-        requires there { C.is_whole ≡ true → IsAllThere (length (S.bytes storage.old)) (S.present storage.old) }
+        requires ready { C.IsReady storage.old }
         ensures ok { let before = equipped machine.old (devices_on self.old queues.old) (C.disks channels.old) (S.bytes storage.old)
->>>>>>> main
             (S.keys storage.old) in
             let after = equipped machine.new (devices_on self.new queues.new) (C.disks channels.new) (S.bytes storage.new)
             (S.keys storage.new) in
             IfOk result (λ told. IsIpl device before told after) }
         ensures lacks { C.is_whole ≡ false → result ≡ Err LineError.FramesOut
             → ((page : ℕ) × IsAway (length (S.bytes storage.old)) (S.present storage.old) page) }
-        ensures same { let before = equipped machine.old self.old (C.disks channels.old) (S.bytes storage.old)
+        ensures same { let before = equipped machine.old (devices_on self.old queues.old) (C.disks channels.old) (S.bytes storage.old)
             (S.keys storage.old) in
-            let after = equipped machine.new self.new (C.disks channels.new) (S.bytes storage.new)
+            let after = equipped machine.new (devices_on self.new queues.new) (C.disks channels.new) (S.bytes storage.new)
             (S.keys storage.new) in
             C.is_whole ≡ true → result ≡ Err LineError.FramesOut → after ≡ before }
-        ensures out { let before = equipped machine.old self.old (C.disks channels.old) (S.bytes storage.old)
+        ensures out { let before = equipped machine.old (devices_on self.old queues.old) (C.disks channels.old) (S.bytes storage.old)
             (S.keys storage.old) in
             let needs = IplNeeds device before in
             C.is_whole ≡ true → result ≡ Err LineError.FramesOut
-            → LacksRoom (length (S.bytes storage.old)) needs (C.IsOut storage.new needs) }
-        ensures came { let before = equipped machine.old self.old (C.disks channels.old) (S.bytes storage.old)
+            → LacksRoom (length (S.bytes storage.old)) needs (NoRoom C.IsOut C.IsFilled S.present storage.new needs) }
+        ensures came { let before = equipped machine.old (devices_on self.old queues.old) (C.disks channels.old) (S.bytes storage.old)
             (S.keys storage.old) in
             Brings C.Came storage.old (IplNeeds device before) storage.new }
         ensures ready { C.IsReady storage.new }
         ensures others { C.KeepsOthers channels.old channels.new }
-<<<<<<< HEAD
-=======
         ensures beside { KeepsBeside self.old queues.old self.new queues.new }
-        ensures rest { S.Keeps storage.old storage.new }
->>>>>>> main
     {
         match self.kind_at(channels, device.get()) {
             Some(Kind::Reader) => self.load_reader(queues, machine, storage, channels, device),
@@ -103,64 +90,45 @@ impl Devices {
         device: DevAddr,
     ) -> Result<Told, LineError>
         requires size { 8192 ≤ length (S.bytes storage.old) }
-<<<<<<< HEAD
-        requires ready { C.IsReady storage.old }
-        ensures ok { let before = equipped machine.old self.old (C.disks channels.old) (S.bytes storage.old)
-=======
         requires user { self.old.user < length queues.old.users }
+        requires ready { C.IsReady storage.old }
         ensures ok { let before = equipped machine.old (devices_on self.old queues.old) (C.disks channels.old) (S.bytes storage.old)
->>>>>>> main
             (S.keys storage.old) in
             let after = equipped machine.new (devices_on self.new queues.new) (C.disks channels.new) (S.bytes storage.new)
             (S.keys storage.new) in
             IfOk result (λ told. LoadsReader device before told after) }
         ensures lacks { C.is_whole ≡ false → result ≡ Err LineError.FramesOut
             → ((page : ℕ) × IsAway (length (S.bytes storage.old)) (S.present storage.old) page) }
-        ensures same { let before = equipped machine.old self.old (C.disks channels.old) (S.bytes storage.old)
+        ensures same { let before = equipped machine.old (devices_on self.old queues.old) (C.disks channels.old) (S.bytes storage.old)
             (S.keys storage.old) in
-            let after = equipped machine.new self.new (C.disks channels.new) (S.bytes storage.new)
+            let after = equipped machine.new (devices_on self.new queues.new) (C.disks channels.new) (S.bytes storage.new)
             (S.keys storage.new) in
             C.is_whole ≡ true → result ≡ Err LineError.FramesOut → after ≡ before }
-        ensures out { let before = equipped machine.old self.old (C.disks channels.old) (S.bytes storage.old)
+        ensures out { let before = equipped machine.old (devices_on self.old queues.old) (C.disks channels.old) (S.bytes storage.old)
             (S.keys storage.old) in
             let needs = KindLoads (Some kinds.Reader) before in
             C.is_whole ≡ true → result ≡ Err LineError.FramesOut
-            → LacksRoom (length (S.bytes storage.old)) needs (C.IsOut storage.new needs) }
-        ensures came { let before = equipped machine.old self.old (C.disks channels.old) (S.bytes storage.old)
+            → LacksRoom (length (S.bytes storage.old)) needs (NoRoom C.IsOut C.IsFilled S.present storage.new needs) }
+        ensures came { let before = equipped machine.old (devices_on self.old queues.old) (C.disks channels.old) (S.bytes storage.old)
             (S.keys storage.old) in
             Brings C.Came storage.old (KindLoads (Some kinds.Reader) before) storage.new }
         ensures ready { C.IsReady storage.new }
         ensures others { C.KeepsOthers channels.old channels.new }
-<<<<<<< HEAD
-=======
         ensures beside { KeepsBeside self.old queues.old self.new queues.new }
-        ensures rest { S.Keeps storage.old storage.new }
->>>>>>> main
     {
         match machine.make_room(1) {
             Ok(()) => {}
             Err(_) => return Err(LineError::Memory),
         }
-        let ending = match channels.load_reader(storage, &mut self.reader) {
+        let ending = match load_fed(&mut self.reader, queues, self.user, storage, channels) {
             Ok(ending) => ending,
             Err(ChannelError::Memory) => return Err(LineError::Memory),
             Err(ChannelError::Absent(_)) => return Err(LineError::FramesOut),
         };
         self.reset_beside();
         channels.reset_disks();
-<<<<<<< HEAD
         machine.reset();
         match start_loaded(machine, storage, device, &ending) {
-=======
-        match load_fed(
-            machine,
-            storage,
-            device,
-            &mut self.reader,
-            queues,
-            self.user,
-        ) {
->>>>>>> main
             Ok(well) => Ok(loaded(well)),
             // The page of the PSW is not present.
             Err(_) => Err(LineError::FramesOut),
@@ -187,26 +155,22 @@ impl Devices {
             IfOk result (λ told. LoadsDisk index (slice_get (map reset_disk (C.disks channels.old)) index) device before told after) }
         ensures lacks { C.is_whole ≡ false → result ≡ Err LineError.FramesOut
             → ((page : ℕ) × IsAway (length (S.bytes storage.old)) (S.present storage.old) page) }
-        ensures same { let before = equipped machine.old self.old (C.disks channels.old) (S.bytes storage.old)
+        ensures same { let before = equipped machine.old (devices_on self.old queues.now) (C.disks channels.old) (S.bytes storage.old)
             (S.keys storage.old) in
-            let after = equipped machine.new self.new (C.disks channels.new) (S.bytes storage.new)
+            let after = equipped machine.new (devices_on self.new queues.now) (C.disks channels.new) (S.bytes storage.new)
             (S.keys storage.new) in
             C.is_whole ≡ true → result ≡ Err LineError.FramesOut → after ≡ before }
-        ensures out { let before = equipped machine.old self.old (C.disks channels.old) (S.bytes storage.old)
+        ensures out { let before = equipped machine.old (devices_on self.old queues.now) (C.disks channels.old) (S.bytes storage.old)
             (S.keys storage.old) in
             let needs = KindLoads (Some (kinds.Disk index)) before in
             C.is_whole ≡ true → result ≡ Err LineError.FramesOut
-            → LacksRoom (length (S.bytes storage.old)) needs (C.IsOut storage.new needs) }
-        ensures came { let before = equipped machine.old self.old (C.disks channels.old) (S.bytes storage.old)
+            → LacksRoom (length (S.bytes storage.old)) needs (NoRoom C.IsOut C.IsFilled S.present storage.new needs) }
+        ensures came { let before = equipped machine.old (devices_on self.old queues.now) (C.disks channels.old) (S.bytes storage.old)
             (S.keys storage.old) in
             Brings C.Came storage.old (KindLoads (Some (kinds.Disk index)) before) storage.new }
         ensures ready { C.IsReady storage.new }
         ensures others { C.KeepsOthers channels.old channels.new }
-<<<<<<< HEAD
-=======
         ensures user { self.new.user ≡ self.old.user }
-        ensures rest { S.Keeps storage.old storage.new }
->>>>>>> main
     {
         match machine.make_room(1) {
             Ok(()) => {}

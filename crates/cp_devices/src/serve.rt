@@ -1,17 +1,11 @@
 //! The devices of a machine are served.
 ghost use Rattle.std.specs.Prelude.{◌≡◌, ◌<◌, ◌++◌, false, true, IfErr, IfOk, OnErr, OnOk, length};
-ghost use Rattle.cp_channels.specs.Channels.{Brings, ProgramNeeds, WhereOut};
-ghost use Rattle.unit_record.specs.Console.{console_machine};
-ghost use Rattle.cp_devices.specs.Equipped.{storage_in};
+ghost use Rattle.cp_channels.specs.Channels.{Brings, NoRoom, WhereOut};
 ghost use Rattle.cp_devices.specs.Devices.{IsAttached};
 ghost use Rattle.cp_devices.specs.declared.places.Kind.TheVariants as kinds;
 ghost use Rattle.cp_devices.specs.Equipped.{equipped};
-<<<<<<< HEAD
-ghost use Rattle.cp_devices.specs.Serve.{IsServedAt, KindNeeds, RunsConsole, RunsKind, ServeNeeds};
-=======
 ghost use Rattle.cp_devices.specs.Lent.{KeepsBeside, devices_on};
-ghost use Rattle.cp_devices.specs.Serve.{IsServedAt, RunsConsole, RunsKind, ServeNeeds};
->>>>>>> main
+ghost use Rattle.cp_devices.specs.Serve.{IsServedAt, KindNeeds, RunsConsole, RunsKind, ServeNeeds};
 ghost use Rattle.cp_devices.specs.Stopped.{StopsAt, StopsConsole, StopsKind};
 
 use crate::devices::Devices;
@@ -41,13 +35,9 @@ impl Devices {
         channels: &mut C,
         device: DevAddr,
     ) -> Result<bool, ChannelError>
-<<<<<<< HEAD
-        requires { C.IsReady storage.old }
-        ensures served { let before = equipped machine.old self.old (C.disks channels.old) (S.bytes storage.old)
-=======
         requires user { self.old.user < length queues.old.users }
+        requires ready { C.IsReady storage.old }
         ensures served { let before = equipped machine.old (devices_on self.old queues.old) (C.disks channels.old) (S.bytes storage.old)
->>>>>>> main
             (S.keys storage.old) in
             let after = equipped machine.new (devices_on self.new queues.new) (C.disks channels.new) (S.bytes storage.new)
             (S.keys storage.new) in
@@ -58,20 +48,14 @@ impl Devices {
             (S.keys storage.new) in
             let needs = ServeNeeds C.holds device before in
             C.is_whole ≡ true
-<<<<<<< HEAD
-            → IfErr result (WhereOut (length (S.bytes storage.old)) needs (C.IsOut storage.new needs) (after ≡ before)) }
-        ensures stopped { let before = equipped machine.old self.old (C.disks channels.old) (S.bytes storage.old)
-=======
-            → IfErr result (WhereAbsent (length (S.bytes storage.old)) (S.present storage.old)
-            (ServeNeeds C.needs device before) (after ≡ before)) }
+            → IfErr result (WhereOut (length (S.bytes storage.old)) needs (NoRoom C.IsOut C.IsFilled S.present storage.new needs) (after ≡ before)) }
         ensures stopped { let before = equipped machine.old (devices_on self.old queues.old) (C.disks channels.old) (S.bytes storage.old)
->>>>>>> main
             (S.keys storage.old) in
             C.is_whole ≡ false → IfErr result (StopsAt C.reads (S.present storage.old) device before) }
         ensures others { C.KeepsOthers channels.old channels.new }
         ensures beside { KeepsBeside self.old queues.old self.new queues.new }
         ensures keys { S.keys storage.new ≡ S.keys storage.old }
-        ensures came { let before = equipped machine.old self.old (C.disks channels.old) (S.bytes storage.old)
+        ensures came { let before = equipped machine.old (devices_on self.old queues.old) (C.disks channels.old) (S.bytes storage.old)
             (S.keys storage.old) in
             Brings C.Came storage.old (ServeNeeds C.holds device before) storage.new }
         ensures ready { C.IsReady storage.new }
@@ -100,13 +84,9 @@ impl Devices {
         start: Caw,
     ) -> Result<(), ChannelError>
         requires attached { IsAttached (C.disks channels.old) kind }
-<<<<<<< HEAD
-        requires ready { C.IsReady storage.old }
-        ensures runs { let before = equipped machine.old self.old (C.disks channels.old) (S.bytes storage.old)
-=======
         requires user { self.old.user < length queues.old.users }
+        requires ready { C.IsReady storage.old }
         ensures runs { let before = equipped machine.old (devices_on self.old queues.old) (C.disks channels.old) (S.bytes storage.old)
->>>>>>> main
             (S.keys storage.old) in
             let after = equipped machine.new (devices_on self.new queues.new) (C.disks channels.new) (S.bytes storage.new)
             (S.keys storage.new) in
@@ -117,37 +97,36 @@ impl Devices {
             (S.keys storage.new) in
             let needs = KindNeeds C.holds kind start before in
             C.is_whole ≡ true
-<<<<<<< HEAD
-            → IfErr result (WhereOut (length (S.bytes storage.old)) needs (C.IsOut storage.new needs) (after ≡ before)) }
-        ensures stopped { let before = equipped machine.old self.old (C.disks channels.old) (S.bytes storage.old)
-=======
-            → IfErr result (WhereAbsent (length (S.bytes storage.old)) (S.present storage.old)
-            (C.needs (memory_of (S.bytes storage.old) (S.keys storage.old)) start.address) (after ≡ before)) }
+            → IfErr result (WhereOut (length (S.bytes storage.old)) needs (NoRoom C.IsOut C.IsFilled S.present storage.new needs) (after ≡ before)) }
         ensures stopped { let before = equipped machine.old (devices_on self.old queues.old) (C.disks channels.old) (S.bytes storage.old)
->>>>>>> main
             (S.keys storage.old) in
             C.is_whole ≡ false → IfErr result (StopsKind C.reads (S.present storage.old) kind start before) }
         ensures others { C.KeepsOthers channels.old channels.new }
         ensures beside { KeepsBeside self.old queues.old self.new queues.new }
         ensures keys { S.keys storage.new ≡ S.keys storage.old }
-        ensures came { let before = equipped machine.old self.old (C.disks channels.old) (S.bytes storage.old)
+        ensures came { let before = equipped machine.old (devices_on self.old queues.old) (C.disks channels.old) (S.bytes storage.old)
             (S.keys storage.old) in
             Brings C.Came storage.old (KindNeeds C.holds kind start before) storage.new }
         ensures ready { C.IsReady storage.new }
     {
         let key = start.key;
-<<<<<<< HEAD
         let ending = match kind {
-            Kind::Console => return self.run_console(machine, storage, channels, device, start),
-            Kind::Reader => match channels.run(storage, start, &mut self.reader) {
+            Kind::Console => return self.run_console(
+                queues, machine, storage, channels, device, start,
+            ),
+            Kind::Reader => return self.run_reader(
+                queues, machine, storage, channels, device, start,
+            ),
+            Kind::Punch => match channels.run(storage, start, UnitRecord::Punch, &mut self.punch) {
                 Ok(ending) => ending,
                 Err(error) => return Err(error),
             },
-            Kind::Punch => match channels.run(storage, start, &mut self.punch) {
-                Ok(ending) => ending,
-                Err(error) => return Err(error),
-            },
-            Kind::Printer => match channels.run(storage, start, &mut self.printer) {
+            Kind::Printer => match channels.run(
+                storage,
+                start,
+                UnitRecord::Printer,
+                &mut self.printer,
+            ) {
                 Ok(ending) => ending,
                 Err(error) => return Err(error),
             },
@@ -155,18 +134,6 @@ impl Devices {
                 Ok(ending) => ending,
                 Err(error) => return Err(error),
             },
-=======
-        let ended = match kind {
-            Kind::Console => return self.run_console(
-                queues, machine, storage, channels, device, start,
-            ),
-            Kind::Reader => return self.run_reader(
-                queues, machine, storage, channels, device, start,
-            ),
-            Kind::Punch => channels.run(storage, start, UnitRecord::Punch, &mut self.punch),
-            Kind::Printer => channels.run(storage, start, UnitRecord::Printer, &mut self.printer),
-            Kind::Disk(index) => channels.run_disk(storage, start, index),
->>>>>>> main
         };
         machine.end_program(device, key, ending);
         Ok(())
@@ -182,13 +149,9 @@ impl Devices {
         device: DevAddr,
         start: Caw,
     ) -> Result<(), ChannelError>
-<<<<<<< HEAD
-        requires { C.IsReady storage.old }
-        ensures runs { let before = equipped machine.old self.old (C.disks channels.old) (S.bytes storage.old)
-=======
-        requires { self.old.user < length queues.old.users }
+        requires user { self.old.user < length queues.old.users }
+        requires ready { C.IsReady storage.old }
         ensures runs { let before = equipped machine.old (devices_on self.old queues.old) (C.disks channels.old) (S.bytes storage.old)
->>>>>>> main
             (S.keys storage.old) in
             let after = equipped machine.new (devices_on self.new queues.new) (C.disks channels.new) (S.bytes storage.new)
             (S.keys storage.new) in
@@ -197,27 +160,18 @@ impl Devices {
             (S.keys storage.old) in
             let after = equipped machine.new (devices_on self.new queues.new) (C.disks channels.new) (S.bytes storage.new)
             (S.keys storage.new) in
-            let needs = ProgramNeeds C.holds console_machine start (storage_in before.machine) before.devices.console in
+            let needs = KindNeeds C.holds kinds.Reader start before in
             C.is_whole ≡ true
-<<<<<<< HEAD
-            → IfErr result (WhereOut (length (S.bytes storage.old)) needs (C.IsOut storage.new needs) (after ≡ before)) }
-        ensures stopped { let before = equipped machine.old self.old (C.disks channels.old) (S.bytes storage.old)
-            (S.keys storage.old) in
-            C.is_whole ≡ false → IfErr result (StopsConsole C.reads (S.present storage.old) start before) }
-=======
-            → IfErr result (WhereAbsent (length (S.bytes storage.old)) (S.present storage.old)
-            (C.needs (memory_of (S.bytes storage.old) (S.keys storage.old)) start.address) (after ≡ before)) }
+            → IfErr result (WhereOut (length (S.bytes storage.old)) needs (NoRoom C.IsOut C.IsFilled S.present storage.new needs) (after ≡ before)) }
         ensures stopped { let before = equipped machine.old (devices_on self.old queues.old) (C.disks channels.old) (S.bytes storage.old)
             (S.keys storage.old) in
             C.is_whole ≡ false → IfErr result (StopsKind C.reads (S.present storage.old) kinds.Reader start before) }
-        ensures away { IfErr result (TellsAway (S.present storage.old)) }
->>>>>>> main
         ensures others { C.KeepsOthers channels.old channels.new }
         ensures beside { KeepsBeside self.old queues.old self.new queues.new }
         ensures keys { S.keys storage.new ≡ S.keys storage.old }
-        ensures came { let before = equipped machine.old self.old (C.disks channels.old) (S.bytes storage.old)
+        ensures came { let before = equipped machine.old (devices_on self.old queues.old) (C.disks channels.old) (S.bytes storage.old)
             (S.keys storage.old) in
-            Brings C.Came storage.old (ProgramNeeds C.holds console_machine start (storage_in before.machine) before.devices.console) storage.new }
+            Brings C.Came storage.old (KindNeeds C.holds kinds.Reader start before) storage.new }
         ensures ready { C.IsReady storage.new }
     {
         let key = start.key;
@@ -247,6 +201,7 @@ impl Devices {
         device: DevAddr,
         start: Caw,
     ) -> Result<(), ChannelError>
+        requires { C.IsReady storage.old }
         ensures runs { let before = equipped machine.old (devices_on self.old queues.now) (C.disks channels.old) (S.bytes storage.old)
             (S.keys storage.old) in
             let after = equipped machine.new (devices_on self.new queues.now) (C.disks channels.new) (S.bytes storage.new)
@@ -256,17 +211,19 @@ impl Devices {
             (S.keys storage.old) in
             let after = equipped machine.new (devices_on self.new queues.now) (C.disks channels.new) (S.bytes storage.new)
             (S.keys storage.new) in
+            let needs = KindNeeds C.holds kinds.Console start before in
             C.is_whole ≡ true
-            → IfErr result (WhereAbsent (length (S.bytes storage.old)) (S.present storage.old)
-            (C.needs (memory_of (S.bytes storage.old) (S.keys storage.old)) start.address) (after ≡ before)) }
+            → IfErr result (WhereOut (length (S.bytes storage.old)) needs (NoRoom C.IsOut C.IsFilled S.present storage.new needs) (after ≡ before)) }
         ensures stopped { let before = equipped machine.old (devices_on self.old queues.now) (C.disks channels.old) (S.bytes storage.old)
             (S.keys storage.old) in
             C.is_whole ≡ false → IfErr result (StopsConsole C.reads (S.present storage.old) start before) }
-        ensures away { IfErr result (TellsAway (S.present storage.old)) }
         ensures others { C.KeepsOthers channels.old channels.new }
         ensures user { self.new.user ≡ self.old.user }
         ensures keys { S.keys storage.new ≡ S.keys storage.old }
-        ensures rest { S.Keeps storage.old storage.new }
+        ensures came { let before = equipped machine.old (devices_on self.old queues.now) (C.disks channels.old) (S.bytes storage.old)
+            (S.keys storage.old) in
+            Brings C.Came storage.old (KindNeeds C.holds kinds.Console start before) storage.new }
+        ensures ready { C.IsReady storage.new }
     {
         let key = start.key;
         let ending = match channels.run(storage, start, UnitRecord::Console, &mut self.console) {

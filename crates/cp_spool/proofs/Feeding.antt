@@ -1,17 +1,18 @@
 -- A reader that feeds is a reader.
-use Rattle.std.proofs.Common.{◌≡◌, Bool, None, ap, sym, ◌∙◌}
+use Rattle.std.proofs.Common.{◌≡◌, Bool, None, ap, subst, sym, ◌∙◌}
 use Rattle.s370_walk.specs.Walk.{Over, State, live, start_spot, walk}
 use Rattle.s370_channel.specs.Guest.{guest_written}
 use Rattle.s370_channel.specs.Loading.{implied_word, loading, loading_limits}
 use Rattle.s370_channel.specs.Progress.{setting}
 use Rattle.s370_channel.specs.Runs.{begun, limited}
 use Rattle.s370_channel.specs.Start.{most_commands}
+use Rattle.s370_channel.specs.Supplied.{IsTouched}
 use Rattle.s370_channel.specs.declared.running.ChannelError.TheVariants as errors
 use Rattle.unit_record.specs.Reader.{ReaderState, reader_machine}
-use Rattle.cp_spool.specs.Alike.{AFedReaderIsAReader, AFedReaderIsLoadedFrom, AFedReaderStops}
+use Rattle.cp_spool.specs.Alike.{AFedReaderIsAReader, AFedReaderIsLoadedFrom, AFedReaderStops, AFedReaderTouches, AFedReaderTouchesLoading, reader_of}
 use Rattle.cp_spool.specs.Reader.{FeedState, fed_by, feed_machine}
 use Rattle.cp_spool.proofs.Feeds.{feeds_as_reader, keeps_its_queue, seen, seen_is}
-use Rattle.cp_spool.proofs.Walks.{entered_alike, entered_kept, kept_in, state_seen, stuck_alike, walk_alike, walk_kept}
+use Rattle.cp_spool.proofs.Walks.{entered_alike, entered_kept, kept_in, state_seen, stuck_alike, touched_alike, walk_alike, walk_kept}
 
 pub fed_walks : AFedReaderIsAReader
 fed_walks reads start m files part e n f walks =
@@ -43,3 +44,15 @@ pub fed_stops : AFedReaderStops
 fed_stops present start m files part errors.Memory short = absurd (cc short.needed)
 fed_stops present start m files part (errors.Absent page) stuck =
     stuck_alike feed_machine reader_machine seen feeds_as_reader start.key most_commands 0 guest_written present (begun start m (fed_by files part)) page.0 stuck
+
+pub fed_touches : AFedReaderTouches
+fed_touches start m files part page touched =
+    touched_alike feed_machine reader_machine seen feeds_as_reader start.key most_commands 0 guest_written (begun start m (fed_by files part)) page touched
+
+pub fed_touches_loading : AFedReaderTouchesLoading
+fed_touches_loading m files part page touched =
+    let g = setting reader_machine loading_limits in
+    let begins : loading reader_machine m (reader_of files part) ≡ state_seen feed_machine reader_machine seen feeds_as_reader 0 most_commands 0 (loading feed_machine m (fed_by files part)) =
+        entered_alike feed_machine reader_machine seen feeds_as_reader 0 most_commands 0 (start_spot 0) implied_word None m (fed_by files part) in
+    subst (λ (s : State ReaderState). IsTouched guest_written g s page) (sym begins)
+    (touched_alike feed_machine reader_machine seen feeds_as_reader 0 most_commands 0 guest_written (loading feed_machine m (fed_by files part)) page touched)

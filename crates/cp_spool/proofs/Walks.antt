@@ -3,6 +3,7 @@ use Rattle.std.proofs.Common.{◌≡◌, ℕ, zero, suc, ◌+◌, ◌-◌, Bool,
 use Rattle.std.specs.Prelude.{if◌then◌else◌, nat_lt, not, ◌==◌, ◌&&◌}
 use Rattle.s370_store.specs.Access.{IsAway}
 use Rattle.s370_walk.specs.Stuck.{IsAsked, IsStuck, is_skipped, moves, size_in}
+use Rattle.s370_channel.specs.Supplied.{IsTouched}
 use Rattle.s370_store.specs.declared.Fault.{Fault}
 use Rattle.s370_store.specs.declared.Fault.TheVariants.{Addressing, Protection, Absent}
 use Rattle.s370_walk.specs.declared.bits.UnitStatus.{UnitStatus}
@@ -155,6 +156,13 @@ module _ {D E : Type 0} (m : Machine D) (n : Machine E) (seen : D → E) (is : I
     comes = record { steps = h.comes.steps; comes = walk_alike (live w) h.comes.steps from ∙ ap state_seen h.comes.comes };
     asked = asked_alike w h.state page h.asked;
     away = away_alike present h.state page h.away;
+  }
+
+  pub touched_alike : (w : Written) (from : State D) (page : ℕ) → IsTouched w one from page → IsTouched w other (state_seen from) page
+  touched_alike w from page h = record {
+    state = state_seen h.state;
+    comes = record { steps = h.comes.steps; comes = walk_alike (live w) h.comes.steps from ∙ ap state_seen h.comes.comes };
+    asked = asked_alike w h.state page h.asked;
   }
 
 -- ---- what no step of a device changes stays

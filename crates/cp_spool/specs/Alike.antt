@@ -7,7 +7,8 @@ use Rattle.s370_channel.specs.Reading.{Reading}
 use Rattle.s370_channel.specs.Guest.{guest_written}
 use Rattle.s370_channel.specs.Loading.{loading, loading_limits}
 use Rattle.s370_channel.specs.Progress.{setting}
-use Rattle.s370_channel.specs.Runs.{IsStopped, Walks}
+use Rattle.s370_channel.specs.Runs.{IsStopped, Walks, begun, limited}
+use Rattle.s370_channel.specs.Supplied.{IsTouched}
 use Rattle.s370_channel.specs.declared.running.ChannelError.{ChannelError}
 use Rattle.s370_walk.specs.Short.{nothing_needed}
 use Rattle.s370_walk.specs.Walk.{Over, Reaches, live}
@@ -29,6 +30,18 @@ abbrev pub AFedReaderIsLoadedFrom : Type 0
 AFedReaderIsLoadedFrom = (m : Memory) (files : UserFiles) (part : ReaderPart) (e : Ending) (n : Memory) (f : FeedState) →
     Reaches (live guest_written) (setting feed_machine loading_limits) (loading feed_machine m (fed_by files part)) (Over e n f)
     → Reaches (live guest_written) (setting reader_machine loading_limits) (loading reader_machine m (reader_of files part)) (Over e n (reader_of (read_on f.ended f.place files) f.part))
+
+-- it touches no page that the reader's program does not touch
+abbrev pub AFedReaderTouches : Type 0
+AFedReaderTouches = (start : Caw) (m : Memory) (files : UserFiles) (part : ReaderPart) (page : ℕ) →
+    IsTouched guest_written (limited feed_machine start) (begun start m (fed_by files part)) page
+    → IsTouched guest_written (limited reader_machine start) (begun start m (reader_of files part)) page
+
+-- so with the program of a loading
+abbrev pub AFedReaderTouchesLoading : Type 0
+AFedReaderTouchesLoading = (m : Memory) (files : UserFiles) (part : ReaderPart) (page : ℕ) →
+    IsTouched guest_written (setting feed_machine loading_limits) (loading feed_machine m (fed_by files part)) page
+    → IsTouched guest_written (setting reader_machine loading_limits) (loading reader_machine m (reader_of files part)) page
 
 -- and where a program is not run, it is not run on the reader for the same reason
 abbrev pub AFedReaderStops : Type 0

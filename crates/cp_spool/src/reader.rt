@@ -7,7 +7,9 @@ ghost use Rattle.cp_spool.specs.Reader.{fed_by, part_new};
 
 use crate::progress::Progress;
 use crate::queues::Queues;
+use channel_trial::{TrialStorage, Tried, TriedLoading, try_loading, try_program};
 use cp_users::UserNo;
+use s370_channel::Caw;
 use s370_walk::{Answer, Device, Flags, Order, UnitStatus};
 use std::alloc::AllocError;
 use std::marker::Model;
@@ -50,6 +52,17 @@ impl Reader {
             sense: 0,
             bytes: Record::new(),
             given: 0,
+        }
+    }
+
+    /// The same reader once more.
+    fn copy(&self) -> Reader
+        ensures { result ≡ self.now }
+    {
+        Reader {
+            sense: self.sense,
+            bytes: Record::of(self.bytes.as_slice()),
+            given: self.given,
         }
     }
 
@@ -162,6 +175,18 @@ impl<'a> Device for FedReader<'a> {
     }
 }
 
+impl<'a> Tried for FedReader<'a> {
+    fn try_on(&self, copy: &mut TrialStorage, start: Caw) -> Result<(), AllocError> {
+        try_program(copy, start, &mut self.trial())
+    }
+}
+
+impl<'a> TriedLoading for FedReader<'a> {
+    fn try_load(&self, copy: &mut TrialStorage) -> Result<(), AllocError> {
+        try_loading(copy, &mut self.trial())
+    }
+}
+
 impl<'a> FedReader<'a> {
     ghost use Rattle.cp_spool.specs.Reader.{next_card, read_started};
 
@@ -177,6 +202,18 @@ impl<'a> FedReader<'a> {
             queues,
             user,
             reader,
+        }
+    }
+
+    /// The reader on trial, from now on: it feeds from the same queue.
+    fn trial(&self) -> FedReader<'a>
+        ensures { result ≡ self.now }
+    {
+        FedReader {
+            queues: self.queues,
+            user: self.user,
+            progress: self.progress,
+            reader: self.reader.copy(),
         }
     }
 
