@@ -9,11 +9,11 @@ ghost use Rattle.cp_panel.specs.declared.line.LineError.TheVariants as errors;
 ghost use Rattle.cp_dat.specs.Lent.{lent_bytes, lent_keys, lent_pool};
 ghost use Rattle.cp_dat.specs.Supplied.{IsBetweenUnits};
 ghost use Rattle.cp_devices.specs.Lines.{IsWholeLine, requested};
-ghost use Rattle.cp_core.specs.Resident.{KeepsHung, disks_on};
+ghost use Rattle.cp_resident.specs.Resident.{KeepsHung, disks_on};
 ghost use Rattle.cp_core.specs.Typed.{IsLineLent};
 ghost use Rattle.cp_core.specs.Wants.{LineMay, is_ipl};
 
-use crate::resident::Resident;
+use cp_resident::Resident;
 use cp_channels::Channels;
 use cp_dat::Dat;
 use cp_devices::{Devices, Told, World};

@@ -9,8 +9,8 @@ ghost use Rattle.cp_devices.specs.Equipped.{Equipped, equipped};
 ghost use Rattle.cp_devices.specs.Lent.{KeepsBeside, devices_on};
 ghost use Rattle.cp_volumes.specs.Shared.{IsUsers, KeepsNeighbours, disks_on, stands_of};
 
-use crate::resident::Resident;
-use crate::reuse::Reuse;
+use cp_resident::Resident;
+use cp_resident::Reuse;
 use crate::serving::{serve_supplied, type_supplied};
 use crate::world::Among;
 use arrayvec::ArrayVec;

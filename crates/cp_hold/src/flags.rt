@@ -1,10 +1,9 @@
 //! The pages on which a program and its areas lie, as flags.
-ghost use Rattle.std.specs.Prelude.{◌≡◌, ℕ, ◌*◌, ◌/◌, ◌<◌, ◌≤◌, ◌⊎◌, Contains, IfOk, length, true};
+ghost use Rattle.std.specs.Prelude.{◌≡◌, ℕ, ◌*◌, ◌/◌, ◌<◌, ◌⊎◌, IfOk, length};
 ghost use Rattle.cp_dat.specs.Copies.{is_wanted};
+ghost use Rattle.cp_hold.specs.Flags.{AreFlagged};
 ghost use Rattle.cp_needs.specs.Kept.{IsPaged, IsPagedOnly, IsText, IsTextOnly};
 ghost use Rattle.cp_needs.specs.Needs.{IsProgramPage};
-ghost use Rattle.cp_needs.specs.declared.kept.Fullword.{Fullword};
-ghost use Rattle.s370_store.specs.declared.Page.{Page};
 ghost use Rattle.s370_walk.specs.Hardware.{Memory};
 
 use cp_needs::Fullword;
@@ -26,12 +25,7 @@ fn mark(wanted: &mut [bool], page: u32)
 
 /// Marks the pages of fullwords.
 fn mark_words(wanted: &mut [bool], words: &[Fullword])
-    ensures size { length wanted.new ≡ length wanted.old }
-    ensures stays { (other : ℕ) → is_wanted wanted.old other → is_wanted wanted.new other }
-    ensures marked { (w : Fullword) → Contains words.now w → w.start / 4096 < length wanted.old
-        → is_wanted wanted.new (w.start / 4096) }
-    ensures only { (other : ℕ) → is_wanted wanted.new other
-        → is_wanted wanted.old other ⊎ ((w : Fullword) × Contains words.now w × (other ≡ w.start / 4096)) }
+    ensures { AreFlagged (λ w. w.start / 4096) words.now wanted.old wanted.new }
 {
     for word in words {
         mark(wanted, word.start / PAGE_SIZE);
@@ -40,12 +34,7 @@ fn mark_words(wanted: &mut [bool], words: &[Fullword])
 
 /// Marks pages.
 fn mark_pages(wanted: &mut [bool], pages: &[Page])
-    ensures size { length wanted.new ≡ length wanted.old }
-    ensures stays { (other : ℕ) → is_wanted wanted.old other → is_wanted wanted.new other }
-    ensures marked { (page : Page) → Contains pages.now page → page.0 < length wanted.old
-        → is_wanted wanted.new page.0 }
-    ensures only { (other : ℕ) → is_wanted wanted.new other
-        → is_wanted wanted.old other ⊎ ((page : Page) × Contains pages.now page × (other ≡ page.0)) }
+    ensures { AreFlagged (λ page. page.0) pages.now wanted.old wanted.new }
 {
     for page in pages {
         mark(wanted, page.0);

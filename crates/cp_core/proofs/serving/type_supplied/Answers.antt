@@ -7,7 +7,7 @@ use Rattle.cp_devices.specs.Lines.{loads_from}
 use Rattle.cp_devices.proofs.Beside.{beside_on}
 use Rattle.cp_core.proofs.Owned.{owner_still}
 use Rattle.cp_panel.specs.declared.line.LineError.{LineError}
-use Rattle.cp_core.specs.Resident.{disks_on, hung_further}
+use Rattle.cp_resident.specs.Resident.{disks_on, hung_further}
 use Rattle.cp_core.specs.Typed.{IsLineLent}
 use Rattle.cp_core.proofs.Answered.{loads_ipl, plain_whole}
 use Rattle.cp_core.proofs.Worked.{loading_lent, plainly_lent}

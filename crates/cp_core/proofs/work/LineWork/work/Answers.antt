@@ -7,7 +7,7 @@ use Rattle.cp_devices.specs.Lines.{IsWholeLine, requested}
 use Rattle.cp_panel.specs.declared.line.LineError.TheVariants as errors
 use Rattle.cp_volumes.specs.Shared.{DisksValue, KeepsNeighbours, SharedMinidisk, seen}
 use Rattle.ckd_volume.specs.Volume.{VolumeFormat}
-use Rattle.cp_core.specs.Resident.{disks_on, hung_on}
+use Rattle.cp_resident.specs.Resident.{disks_on, hung_on}
 use Rattle.cp_core.specs.System.{world_among}
 use Rattle.cp_core.specs.Typed.{IsLineLent}
 use Rattle.cp_core.specs.Wants.{LineMay, is_ipl}

@@ -7,7 +7,7 @@ use Rattle.cp_devices.specs.Lent.{devices_on}
 use Rattle.cp_devices.specs.Serve.{IsServedAt}
 use Rattle.cp_panel.specs.declared.line.LineError.TheVariants as errors
 use Rattle.cp_volumes.specs.Shared.{DisksValue, KeepsNeighbours, seen}
-use Rattle.cp_core.specs.Resident.{disks_on, hung_on}
+use Rattle.cp_resident.specs.Resident.{disks_on, hung_on}
 use Rattle.cp_core.proofs.Worked.{serve_work}
 use Rattle.cp_core.proofs.work.ServiceWork.work.Goals as goal
 
