@@ -1,5 +1,5 @@
 //! A device of a user is served, and a line is typed, with the loading for which it asks.
-ghost use Rattle.std.specs.Prelude.{◌≡◌, ◌<◌, ◌≤◌, ℕ, Err, IfOk, IsSome, List, false, length, true};
+ghost use Rattle.std.specs.Prelude.{◌≡◌, ◌<◌, ◌≤◌, Err, IfOk, IsSome, OnErr, false, length, true};
 ghost use Rattle.s370_subchannels.specs.Programs.{program_of};
 ghost use Rattle.cp_channels.specs.Channels.{Brings, LacksRoom, NoRoom};
 ghost use Rattle.cp_devices.specs.Equipped.{equipped};
@@ -8,7 +8,7 @@ ghost use Rattle.cp_devices.specs.Serve.{IsServedAt, ServeNeeds};
 ghost use Rattle.cp_panel.specs.declared.line.LineError.TheVariants as errors;
 ghost use Rattle.cp_dat.specs.Lent.{lent_bytes, lent_keys, lent_pool};
 ghost use Rattle.cp_dat.specs.Supplied.{IsBetweenUnits};
-ghost use Rattle.cp_devices.specs.Lines.{IsWholeLine, requested};
+ghost use Rattle.cp_devices.specs.Lines.{IsLine, IsWholeLine, MayTakeMemory, requested};
 ghost use Rattle.cp_resident.specs.Resident.{KeepsHung, disks_on};
 ghost use Rattle.cp_core.specs.Typed.{IsLineLent};
 ghost use Rattle.cp_core.specs.Wants.{LineMay, is_ipl};
@@ -82,6 +82,7 @@ pub(crate) fn type_supplied<W: World>(
 ) -> Result<Told, LineError>
     requires size { 8192 ≤ length (lent_bytes storage.old) }
     requires owner { devices.old.user < length queues.old.users }
+    requires between { IsBetweenUnits (lent_pool storage.old).supply }
     ensures ok { let before = equipped machine.old (devices_on devices.old queues.old) (disks_on channels.old) (lent_bytes storage.old)
         (lent_keys storage.old) in
         let after = equipped machine.new (devices_on devices.new queues.new) (disks_on channels.new) (lent_bytes storage.new)
@@ -129,8 +130,28 @@ fn type_line<W: World>(
     world: &W,
     typed: &[u8],
 ) -> Result<Told, LineError>
+    requires size { 8192 ≤ length (lent_bytes storage.old) }
     requires owner { devices.old.user < length queues.old.users }
     requires between { IsBetweenUnits (lent_pool storage.old).supply }
+    ensures ok { let before = equipped machine.old (devices_on devices.old queues.old) (disks_on channels.old) (lent_bytes storage.old)
+        (lent_keys storage.old) in
+        let after = equipped machine.new (devices_on devices.new queues.new) (disks_on channels.new) (lent_bytes storage.new)
+        (lent_keys storage.new) in
+        IfOk result (λ told. IsLine (W.known world.now) typed.now before told after) }
+    ensures err { let before = equipped machine.old (devices_on devices.old queues.old) (disks_on channels.old) (lent_bytes storage.old)
+        (lent_keys storage.old) in
+        let after = equipped machine.new (devices_on devices.new queues.new) (disks_on channels.new) (lent_bytes storage.new)
+        (lent_keys storage.new) in
+        OnErr result (after ≡ before) }
+    ensures memory { let before = equipped machine.old (devices_on devices.old queues.old) (disks_on channels.old) (lent_bytes storage.old)
+        (lent_keys storage.old) in
+        result ≡ Err errors.Memory → MayTakeMemory (requested typed.now before) typed.now before }
+    ensures lent { let before = equipped machine.old (devices_on devices.old queues.old) (disks_on channels.old) (lent_bytes storage.old)
+        (lent_keys storage.old) in
+        IsLineLent typed.now before storage.old storage.new result }
+    ensures size { length (lent_bytes storage.new) ≡ length (lent_bytes storage.old) }
+    ensures others { KeepsHung channels.old channels.new }
+    ensures beside { KeepsBeside devices.old queues.old devices.new queues.new }
 {
     let told = devices.line(
         alloc, queues, machine, storage, channels, world, typed,
