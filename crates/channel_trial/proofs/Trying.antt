@@ -1,5 +1,5 @@
 -- What a trial tells of the run.
-use Rattle.std.specs.Prelude.{ℕ, zero, suc, ◌≡◌, ◌<◌, Bool, true, false, List, [], ◌∷◌, Unit, length, slice_index_or, refl, None, OnOk, Result, Ok, Err}
+use Rattle.std.specs.Prelude.{ℕ, zero, suc, ◌≡◌, ◌<◌, Bool, true, false, List, [], ◌∷◌, length, slice_index_or, refl, None, OnOk, Result, Ok, Err}
 use Rattle.std.proofs.Common.{arith, subst, sym, ap, inl, inr}
 use Rattle.s370_channel.specs.declared.limits.Limits.{Limits}
 use Rattle.s370_channel.specs.declared.words.Caw.{Caw}

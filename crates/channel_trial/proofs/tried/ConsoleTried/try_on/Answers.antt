@@ -6,8 +6,8 @@ use Rattle.channel_trial.specs.Trial.{trial_bytes, trial_flags, trial_keys}
 use Rattle.channel_trial.proofs.Trying.{view_tried}
 use Rattle.channel_trial.proofs.tried.ConsoleTried.try_on.Goals as goal
 
-pub returns-clause-tried : goal.returns-clause-tried
-returns-clause-tried c =
+pub returns : goal.returns
+returns c =
     let old = c.args.copy.now in
     let new = c.try_program.new.copy in
-    view_tried console_machine console_trial console_seen c.args.start (memory_of (trial_bytes old) (trial_keys old)) c.args.self.now c.trial.result c.try_program.result (trial_bytes new) (trial_flags new) views_console c.trial.ensures c.try_program.ensures.tried
+    record { tried = view_tried console_machine console_trial console_seen c.args.start (memory_of (trial_bytes old) (trial_keys old)) c.args.self.now c.trial.result c.try_program.result (trial_bytes new) (trial_flags new) views_console c.trial.ensures c.try_program.ensures.tried }
