@@ -11,17 +11,16 @@ mod tried;
 ghost use Rattle.s370_store.specs.Access.{put};
 ghost use Rattle.std.specs.Prelude.{◌≡◌, ◌+◌, ◌*◌, ◌/◌, ◌<◌, ◌≤◌, Bool, true, false, length, replicate, slice_index_or, slice_range, slice_set, Ok, IfOk};
 
-pub use tried::{
-    Tried, TriedLoading, a_view_is_tried_for_its_device, limits_of, try_loading, try_program,
-};
-
 use s370_channel::AmpleSupply;
 use s370_num::{AccessKey, StorageKey};
 use s370_store::{
-    Access, Block, Fault, FramesOut, Keyed, Listed, Page, Range, Storage, Supply,
-    UnitSupply, may_access_block, put_at, test_range,
+    Access, Block, Fault, FramesOut, Keyed, Listed, Page, Range, Storage, Supply, UnitSupply,
+    may_access_block, put_at, test_range,
 };
 use std::alloc::{AllocError, Global};
+pub use tried::{
+    Tried, TriedLoading, a_view_is_tried_for_its_device, limits_of, try_loading, try_program,
+};
 
 /// Bytes and keys, and which pages a program has touched.
 #[derive(Drop)]

@@ -80,10 +80,7 @@ pub fn try_program<T: Device>(
 }
 
 /// Tries the program of an initial program loading, likewise.
-pub fn try_loading<T: Device>(
-    copy: &mut TrialStorage,
-    trial: &mut T,
-) -> Result<(), AllocError>
+pub fn try_loading<T: Device>(copy: &mut TrialStorage, trial: &mut T) -> Result<(), AllocError>
     requires untouched { (page : ℕ) → is_touched copy.old page ≡ false }
     ensures tried { OnOk result (IsLoadingTried T.machine
         (memory_of (trial_bytes copy.old) (trial_keys copy.old)) trial.old (trial_bytes copy.new)

@@ -42,7 +42,6 @@ module _ (files : UserFiles) (part : ReaderPart) (before f : FeedState) (files' 
       subst (λ (r : ReaderState). WalksLoading reader_machine m (reader_of files part) e n r) reader_is
       (fed_loads m files part e n f (subst (λ (b : FeedState). WalksLoading feed_machine m b e n f) is h))
 
-
   -- where it is as it was, so are they
   pub same_fed : f ≡ before → (part' ≡ part) × (files' ≡ files)
   same_fed same =
@@ -76,11 +75,10 @@ module _ {S : Type 0} (IsOut IsFilled : S → ℕ → Type 0) (present : S → �
   lacks_more : (size : ℕ) → LacksRoom size P (NoRoom IsOut IsFilled present storage P) → LacksRoom size Q (NoRoom IsOut IsFilled present storage Q)
   lacks_more size l = record { page = l.page; inside = l.inside; needed = more l.page l.needed; out = room_more l.page l.out }
 
-  where_more : {T : Type 0} (r : Result T ChannelError) (size : ℕ) (A B : Type 0) → (A → B)
-      → IfErr r (WhereOut size P (NoRoom IsOut IsFilled present storage P) A) → IfErr r (WhereOut size Q (NoRoom IsOut IsFilled present storage Q) B)
-  where_more (Ok done) size A B to h = tt
-  where_more (Err errors.Memory) size A B to h = tt
-  where_more (Err (errors.Absent page)) size A B to h = (lacks_more size h.0, to h.1)
+  where_more : (error : ChannelError) (size : ℕ) (A B : Type 0) → (A → B)
+      → WhereOut size P (NoRoom IsOut IsFilled present storage P) A error → WhereOut size Q (NoRoom IsOut IsFilled present storage Q) B error
+  where_more errors.Memory size A B to h = tt
+  where_more (errors.Absent page) size A B to h = (lacks_more size h.0, to h.1)
 
 module _ (files : UserFiles) (part : ReaderPart) (before : FeedState) (is : before ≡ fed_by files part) (m : Memory) where
   needs_fed : (holds : Memory → ℕ → ℕ → Type 0) (start : Caw) (page : ℕ) → ProgramNeeds holds feed_machine start m before page → ProgramNeeds holds reader_machine start m (reader_of files part) page
@@ -105,11 +103,12 @@ module _ (files : UserFiles) (part : ReaderPart) (before : FeedState) (is : befo
     pub out_fed : {T : Type 0} (r : Result T ChannelError) (holds : Memory → ℕ → ℕ → Type 0) (start : Caw) (size : ℕ) (A B : Type 0) → (A → B)
         → (let needs = ProgramNeeds holds feed_machine start m before in IfErr r (WhereOut size needs (NoRoom IsOut IsFilled present new needs) A))
         → (let needs = ProgramNeeds holds reader_machine start m (reader_of files part) in IfErr r (WhereOut size needs (NoRoom IsOut IsFilled present new needs) B))
-    out_fed r holds start size A B to h =
-        where_more IsOut IsFilled present new (ProgramNeeds holds feed_machine start m before) (ProgramNeeds holds reader_machine start m (reader_of files part)) (needs_fed holds start) r size A B to h
+    out_fed (Ok done) holds start size A B to h = tt
+    out_fed (Err error) holds start size A B to h =
+        where_more IsOut IsFilled present new (ProgramNeeds holds feed_machine start m before) (ProgramNeeds holds reader_machine start m (reader_of files part)) (needs_fed holds start) error size A B to h
 
-    pub out_loaded : {T : Type 0} (r : Result T ChannelError) (size : ℕ) (A B : Type 0) → (A → B)
-        → (let needs = LoadNeeds feed_machine m before in IfErr r (WhereOut size needs (NoRoom IsOut IsFilled present new needs) A))
-        → (let needs = LoadNeeds reader_machine m (reader_of files part) in IfErr r (WhereOut size needs (NoRoom IsOut IsFilled present new needs) B))
-    out_loaded r size A B to h =
-        where_more IsOut IsFilled present new (LoadNeeds feed_machine m before) (LoadNeeds reader_machine m (reader_of files part)) loads_fed r size A B to h
+    pub out_loaded : (error : ChannelError) (size : ℕ) (A B : Type 0) → (A → B)
+        → (let needs = LoadNeeds feed_machine m before in WhereOut size needs (NoRoom IsOut IsFilled present new needs) A error)
+        → (let needs = LoadNeeds reader_machine m (reader_of files part) in WhereOut size needs (NoRoom IsOut IsFilled present new needs) B error)
+    out_loaded error size A B to h =
+        where_more IsOut IsFilled present new (LoadNeeds feed_machine m before) (LoadNeeds reader_machine m (reader_of files part)) loads_fed error size A B to h

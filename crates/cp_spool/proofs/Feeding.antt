@@ -53,6 +53,6 @@ pub fed_touches_loading : AFedReaderTouchesLoading
 fed_touches_loading m files part page touched =
     let g = setting reader_machine loading_limits in
     let begins : loading reader_machine m (reader_of files part) ≡ state_seen feed_machine reader_machine seen feeds_as_reader 0 most_commands 0 (loading feed_machine m (fed_by files part)) =
-        entered_alike feed_machine reader_machine seen feeds_as_reader 0 most_commands 0 (start_spot 0) implied_word None m (fed_by files part) in
+    entered_alike feed_machine reader_machine seen feeds_as_reader 0 most_commands 0 (start_spot 0) implied_word None m (fed_by files part) in
     subst (λ (s : State ReaderState). IsTouched guest_written g s page) (sym begins)
     (touched_alike feed_machine reader_machine seen feeds_as_reader 0 most_commands 0 guest_written (loading feed_machine m (fed_by files part)) page touched)

@@ -110,6 +110,7 @@ pub fn run_tried<D: Device>(
     ensures came { CameOnly storage.old (is_wanted (trial_flags tried.now)) storage.new }
     ensures between { IsBetweenUnits (lent_pool storage.new).supply }
     ensures keys { lent_keys storage.new ≡ lent_keys storage.old }
+    ensures size { length (lent_bytes storage.new) ≡ length (lent_bytes storage.old) }
 {
     match storage.place(tried.touched()) {
         Ok(()) => {}
@@ -191,6 +192,7 @@ pub fn load_tried<D: Device>(
     ensures came { CameOnly storage.old (is_wanted (trial_flags tried.now)) storage.new }
     ensures between { IsBetweenUnits (lent_pool storage.new).supply }
     ensures keys { lent_keys storage.new ≡ lent_keys storage.old }
+    ensures size { length (lent_bytes storage.new) ≡ length (lent_bytes storage.old) }
 {
     match storage.place(tried.touched()) {
         Ok(()) => {}

@@ -44,6 +44,7 @@ pub fn run_open<D: Tried>(
         (begun start (memory_of (lent_bytes storage.old) (lent_keys storage.old)) device.old)) storage.new }
     ensures between { IsBetweenUnits (lent_pool storage.new).supply }
     ensures keys { lent_keys storage.new ≡ lent_keys storage.old }
+    ensures size { length (lent_bytes storage.new) ≡ length (lent_bytes storage.old) }
 {
     let again = Caw {
         key: start.key,
@@ -76,6 +77,7 @@ pub fn load_open<D: TriedLoading>(
     ensures there { OnOk result (is_lent_page storage.new 0 ≡ true) }
     ensures between { IsBetweenUnits (lent_pool storage.new).supply }
     ensures keys { lent_keys storage.new ≡ lent_keys storage.old }
+    ensures size { length (lent_bytes storage.new) ≡ length (lent_bytes storage.old) }
 {
     fetch_first(storage)?;
     let tried = match try_load(alloc, storage, device) {

@@ -92,6 +92,27 @@ users_on volumes volumes' stands sizes users = record {
 pub seated_at : (volumes : List VolumeFormat) (ds : List SharedMinidisk) (index : ℕ) (d : SharedMinidisk) → IsUsers volumes (stands_of ds) → slice_get ds index ≡ Some d → IsSeated volumes (stand_of d)
 seated_at volumes ds index d users is = users.seated index (stand_of d) (stand_at ds index d is)
 
+-- a minidisk as its user sees it
+pub seen_at : (volumes : List VolumeFormat) (ds : List SharedMinidisk) (index : ℕ) (d : SharedMinidisk) → slice_get ds index ≡ Some d → slice_get (disks_on volumes ds) index ≡ Some (disk_on volumes d)
+seen_at volumes ds index d is = slice_get-map (disk_on volumes) ds index ∙ ap (option_map (disk_on volumes)) is
+
+-- ---- all are reset
+
+pub reset_at : (ds : List SharedMinidisk) (index : ℕ) (d : SharedMinidisk) → slice_get ds index ≡ Some d → slice_get (map reset_minidisk ds) index ≡ Some (reset_minidisk d)
+reset_at ds index d is = slice_get-map reset_minidisk ds index ∙ ap (option_map reset_minidisk) is
+
+pub reset_seen_at : (volumes : List VolumeFormat) (ds : List SharedMinidisk) (index : ℕ) (d : SharedMinidisk) → slice_get ds index ≡ Some d → slice_get (map reset_disk (disks_on volumes ds)) index ≡ Some (disk_on volumes (reset_minidisk d))
+reset_seen_at volumes ds index d is = slice_get-map reset_disk (disks_on volumes ds) index ∙ ap (option_map reset_disk) (seen_at volumes ds index d is)
+
+pub users_reset : (volumes : List VolumeFormat) (ds : List SharedMinidisk) → IsUsers volumes (stands_of ds) → IsUsers volumes (stands_of (map reset_minidisk ds))
+users_reset volumes ds users = subst (λ (s : List Stand). IsUsers volumes s) (sym (reset_stands ds)) users
+
+pub kept_reset : (volumes : List VolumeFormat) (ds : List SharedMinidisk) (new : DisksValue) → KeepsNeighbours (record { volumes = volumes; minidisks = map reset_minidisk ds }) new → KeepsNeighbours (record { volumes = volumes; minidisks = ds }) new
+kept_reset volumes ds new kept = record {
+  stands = kept.stands ∙ reset_stands ds;
+  confined = subst (λ (s : List Stand). IsConfined s volumes new.volumes) (reset_stands ds) kept.confined;
+}
+
 -- ---- one minidisk and its volume change
 
 module _ (volumes volumes' : List VolumeFormat) (ds : List SharedMinidisk) (index : ℕ) (d d' : SharedMinidisk) (users : IsUsers volumes (stands_of ds)) (is : slice_get ds index ≡ Some d) (stand : stand_of d' ≡ stand_of d) (confined : IsConfined (stand_of d ∷ []) volumes volumes') where

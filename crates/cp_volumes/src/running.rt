@@ -1,6 +1,6 @@
 //! Programs of a minidisk that is mounted on the unit of its volume: one that was tried runs to its end or not at all, one
 //! whose pages are held to its end.
-ghost use Rattle.std.specs.Prelude.{◌≡◌, IfOk, OnErr, Err};
+ghost use Rattle.std.specs.Prelude.{◌≡◌, IfOk, OnErr, Err, length};
 ghost use Rattle.s370_channel.specs.Reading.{as_reached};
 ghost use Rattle.s370_channel.specs.Runs.{Walks};
 ghost use Rattle.s370_walk.specs.Hardware.{memory_of};
@@ -16,13 +16,13 @@ ghost use Rattle.cp_trial.specs.declared.TriedError.TheVariants as errors;
 ghost use Rattle.cp_needs.specs.Words.{IsFixedStill};
 ghost use Rattle.cp_volumes.specs.Running.{KeepsVolume};
 
+use channel_trial::TrialStorage;
 use cp_dat::Dat;
 use cp_minidisk::Mounted;
 use cp_needs::run_held;
 use cp_trial::{TriedError, load_tried, run_tried};
 use s370_channel::{Caw, Limits, MOST_COMMANDS};
 use s370_store::Storage;
-use channel_trial::TrialStorage;
 use s370_walk::Ending;
 use std::alloc::Global;
 
@@ -72,6 +72,7 @@ pub(crate) fn run_mounted(
     ensures came { CameOnly storage.old (is_wanted (trial_flags tried.now)) storage.new }
     ensures between { IsBetweenUnits (lent_pool storage.new).supply }
     ensures keys { lent_keys storage.new ≡ lent_keys storage.old }
+    ensures size { length (lent_bytes storage.new) ≡ length (lent_bytes storage.old) }
 {
     run_tried(alloc, storage, start, mounted, tried)
 }
@@ -96,6 +97,7 @@ pub(crate) fn load_mounted(
     ensures came { CameOnly storage.old (is_wanted (trial_flags tried.now)) storage.new }
     ensures between { IsBetweenUnits (lent_pool storage.new).supply }
     ensures keys { lent_keys storage.new ≡ lent_keys storage.old }
+    ensures size { length (lent_bytes storage.new) ≡ length (lent_bytes storage.old) }
 {
     load_tried(alloc, storage, mounted, tried)
 }

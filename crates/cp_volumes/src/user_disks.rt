@@ -121,6 +121,7 @@ impl UserDisks {
         ensures between { IsBetweenUnits (lent_pool storage.new).supply }
         ensures others { KeepsNeighbours self.old self.new }
         ensures keys { lent_keys storage.new ≡ lent_keys storage.old }
+        ensures size { length (lent_bytes storage.new) ≡ length (lent_bytes storage.old) }
     {
         let mut seat = self.minidisks[index];
         let ending = self.volumes.run(alloc, &mut seat, storage, start)?;
@@ -149,6 +150,7 @@ impl UserDisks {
         ensures between { IsBetweenUnits (lent_pool storage.new).supply }
         ensures others { KeepsNeighbours self.old self.new }
         ensures keys { lent_keys storage.new ≡ lent_keys storage.old }
+        ensures size { length (lent_bytes storage.new) ≡ length (lent_bytes storage.old) }
     {
         let mut seat = self.minidisks[index];
         seat.reset();

@@ -23,12 +23,12 @@ ghost use Rattle.cp_volumes.specs.Shared.{AreThere, IsConfined, IsSeated, disk_o
 
 use crate::running::{load_mounted, run_mounted, run_mounted_held};
 use crate::shared_disk::SharedDisk;
+use channel_trial::TrialStorage;
 use ckd_volume::{Arm, Sense, Unit, UnitTrial, Volume};
 use cp_dat::Dat;
 use cp_minidisk::Mounted;
 use cp_trial::{TriedError, try_loading, try_program};
 use s370_channel::Caw;
-use channel_trial::TrialStorage;
 use s370_store::Storage;
 use s370_walk::Ending;
 use std::alloc::{AllocError, Global};
@@ -212,6 +212,7 @@ impl Volumes {
             storage.new }
         ensures between { IsBetweenUnits (lent_pool storage.new).supply }
         ensures keys { lent_keys storage.new ≡ lent_keys storage.old }
+        ensures size { length (lent_bytes storage.new) ≡ length (lent_bytes storage.old) }
     {
         let again = Caw {
             key: start.key,
@@ -258,6 +259,7 @@ impl Volumes {
             storage.new }
         ensures between { IsBetweenUnits (lent_pool storage.new).supply }
         ensures keys { lent_keys storage.new ≡ lent_keys storage.old }
+        ensures size { length (lent_bytes storage.new) ≡ length (lent_bytes storage.old) }
     {
         let tried = match self.try_load(alloc, disk, storage) {
             Ok(tried) => tried,
