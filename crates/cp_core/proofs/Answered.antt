@@ -24,7 +24,7 @@ use Rattle.cp_devices.specs.Spooling.{is_punch, output_of, spooled}
 use Rattle.cp_devices.specs.World.{World, is_on}
 use Rattle.cp_core.specs.Come.{HasClosed, NeedsMemory, is_sent}
 use Rattle.cp_core.specs.Memory.{closes, command_closes, is_cut}
-use Rattle.cp_core.specs.Wants.{LineMay, is_ipl}
+use Rattle.cp_core.specs.Wants.{LineMay, asks_to_load, is_ipl}
 
 -- a message that is sent leaves its sender's machine
 abbrev pub SentSame : Equipped → Told → Equipped → Type 0
@@ -211,15 +211,35 @@ plain_whole w typed old told new none h = record { first = told; next = new; lin
 pub loaded_whole : (w : World) (typed : List ℕ) (old : Equipped) (first : Told) (next : Equipped) (device : ℕ) (told : Told) (new : Equipped) → loads_from first ≡ Some device → IsLine w typed old first next → IsIpl device next told new → IsWholeLine w typed old told new
 loaded_whole w typed old first next device told new loads h ipl = record { first = first; next = next; line = h; followed = subst (λ (d : Option ℕ). IsFollowed d first next told new) (sym loads) ipl }
 
--- a line that tells of a loading asks for an IPL, and has changed nothing
-pub loads_ipl : (w : World) (typed : List ℕ) (old : Equipped) (told : Told) (new : Equipped) (device : ℕ) → IsLine w typed old told new → loads_from told ≡ Some device → (is_ipl (requested typed old) ≡ true) × (new ≡ old)
+-- a line that asks for an IPL tells of it
+ipl_asked : (q : Request) (w : World) (typed : List ℕ) (old : Equipped) (told : Told) (new : Equipped) → is_ipl q ≡ true → IsAnswered q w typed old told new → loads_from told ≡ asks_to_load q
+ipl_asked (Asks (commands.Ipl device)) w typed old told new is h = ap (λ (o : Outcome). loads_from o.told) h
+ipl_asked (Asks commands.QueryFiles) w typed old told new is h = cc
+ipl_asked (Asks commands.QueryUsers) w typed old told new is h = cc
+ipl_asked (Asks (commands.Spool device name)) w typed old told new is h = cc
+ipl_asked (Asks (commands.Close device)) w typed old told new is h = cc
+ipl_asked (Asks (commands.Purge file)) w typed old told new is h = cc
+ipl_asked (Asks (commands.Message name text)) w typed old told new is h = cc
+ipl_asked LogsOn w typed old told new is h = cc
+ipl_asked LogsOff w typed old told new is h = cc
+ipl_asked Resets w typed old told new is h = cc
+ipl_asked Types w typed old told new is h = cc
+ipl_asked Elsewhere w typed old told new is h = cc
+
+-- a line that tells of a loading asks for an IPL from that device, and has changed nothing
+pub record AsksToLoad (typed : List ℕ) (old : Equipped) (new : Equipped) (device : ℕ) : Type 0 where
+  pub ipl : is_ipl (requested typed old) ≡ true
+  pub asked : asks_to_load (requested typed old) ≡ Some device
+  pub same : new ≡ old
+
+some_none : (n : ℕ) → Some n ≡ None → ⊥
+some_none n e = cc
+
+pub loads_ipl : (w : World) (typed : List ℕ) (old : Equipped) (told : Told) (new : Equipped) (device : ℕ) → IsLine w typed old told new → loads_from told ≡ Some device → AsksToLoad typed old new device
 loads_ipl w typed old told new device h loads = elim (true_or_false (is_ipl (requested typed old))) [
-  | inl ipl ↦ (ipl, (ipl_same (requested typed old) w typed old told new ipl h).0)
+  | inl ipl ↦ record { ipl = ipl; asked = sym (ipl_asked (requested typed old) w typed old told new ipl h) ∙ loads; same = (ipl_same (requested typed old) w typed old told new ipl h).0 }
   | inr other ↦ absurd (some_none device (sym loads ∙ (mild (requested typed old) w typed old told new other h).no_load))
 ]
-  where
-    some_none : (n : ℕ) → Some n ≡ None → ⊥
-    some_none n e = cc
 
 -- ---- where memory was refused for what comes of a line
 

@@ -1,7 +1,7 @@
 -- A line that switches the machine on or off needs no page.
-use Rattle.std.proofs.Common.{◌≡◌, ℕ, Bool, List, [], ◌∷◌, true, false, Result, Ok, Err, refl, subst, sym}
+use Rattle.std.proofs.Common.{◌≡◌, ℕ, Bool, List, [], ◌∷◌, true, false, Option, None, Some, Result, Ok, Err, refl, subst, sym, inl, inr}
 use Rattle.std.specs.Prelude.{if◌then◌else◌, is_some}
-use Rattle.s370_store.specs.Access.{Test, Touches}
+use Rattle.s370_store.specs.Access.{Touches}
 use Rattle.cp_console.specs.Asked.{Asked, Stop, Command as ToControlProgram, Plain, asked_of}
 use Rattle.cp_console.specs.Commands.{command_of}
 use Rattle.cp_console.specs.Lines.{cleaned}
@@ -13,9 +13,9 @@ use Rattle.cp_panel.specs.declared.machine.Mode.TheVariants.{Off, Stopped, Runni
 use Rattle.cp_panel.specs.Machine.{Machine}
 use Rattle.s370_intr.specs.Run.{AllNeeded}
 use Rattle.cp_devices.specs.Equipped.{Equipped}
-use Rattle.cp_devices.specs.Lines.{requested}
+use Rattle.cp_devices.specs.Lines.{IplNeeds, requested}
 use Rattle.cp_devices.specs.Requests.{asked_request, command_request, off_request, plain_request, request_in}
-use Rattle.cp_core.specs.Wants.{LineWants, WantsWhere, is_ipl}
+use Rattle.cp_core.specs.Wants.{LineWants, LoadWants, asks_to_load, is_ipl}
 use Rattle.cp_panel.specs.Panel.{asked_needs, asked_switches, command_needs, is_logoff, line_needs, needs_in, plain_needs, plain_switches, switches, switches_in}
 
 logoff_needs : (r : Result Command CommandError) (page : ℕ) → is_logoff r ≡ true → Touches (command_needs r) page → ⊥
@@ -92,31 +92,26 @@ in_both Running has_console text ipl on = asked_both Running has_console (asked_
 pub switch_no_ipl : (typed : List ℕ) (e : Equipped) → is_ipl (requested typed e) ≡ true → switches typed e.machine ≡ true → ⊥
 switch_no_ipl typed e ipl on = in_both e.machine.mode (is_some e.devices.places.console) (cleaned typed) ipl on
 
-wants_where : (typed : List ℕ) (e : Equipped) (page : ℕ) (b : Bool) → is_ipl (requested typed e) ≡ b → switches typed e.machine ≡ true → WantsWhere b (line_needs typed e.machine) page → ⊥
-wants_where typed e page true is on want = switch_no_ipl typed e is on
-wants_where typed e page false is on want = switch_needs_none typed e.machine page on want
+load_wants_none : (o : Option ℕ) (e : Equipped) (page : ℕ) → (is_some o ≡ true → ⊥) → LoadWants o e page → ⊥
+load_wants_none None e page none want = want
+load_wants_none (Some device) e page none want = none refl
 
 pub switch_wants_none : (typed : List ℕ) (e : Equipped) (page : ℕ) → switches typed e.machine ≡ true → LineWants typed e page → ⊥
-switch_wants_none typed e page on want = wants_where typed e page (is_ipl (requested typed e)) refl on want
+switch_wants_none typed e page on want = elim want [
+  | inl need ↦ switch_needs_none typed e.machine page on need
+  | inr loads ↦ load_wants_none (asks_to_load (requested typed e)) e page (λ ipl. switch_no_ipl typed e ipl on) loads
+]
 
 -- ---- what a line needs is wanted
 
-want_of : (b : Bool) (tests : List Test) (page : ℕ) → Touches tests page → WantsWhere b tests page
-want_of true tests page need = tt
-want_of false tests page need = need
-
 pub wanted : (typed : List ℕ) (e : Equipped) (page : ℕ) → Touches (line_needs typed e.machine) page → LineWants typed e page
-wanted typed e page need = want_of (is_ipl (requested typed e)) (line_needs typed e.machine) page need
+wanted typed e page need = inl need
 
-pub any_wanted : (typed : List ℕ) (e : Equipped) (page : ℕ) → is_ipl (requested typed e) ≡ true → LineWants typed e page
-any_wanted typed e page ipl = subst (λ (b : Bool). WantsWhere b (line_needs typed e.machine) page) (sym ipl) tt
+pub load_wanted : (typed : List ℕ) (e : Equipped) (device page : ℕ) → asks_to_load (requested typed e) ≡ Some device → IplNeeds device e page → LineWants typed e page
+load_wanted typed e device page asked need = inr (subst (λ (o : Option ℕ). LoadWants o e page) (sym asked) need)
 
 -- ---- lists of pages
 
 pub all_wanted : (typed : List ℕ) (e : Equipped) (pages : List ℕ) → AllNeeded (Touches (line_needs typed e.machine)) pages → AllNeeded (LineWants typed e) pages
 all_wanted typed e [] all = tt
-all_wanted typed e (page ∷ pages) all = (wanted typed e page all.0, all_wanted typed e pages all.1)
-
-pub all_loaded : (typed : List ℕ) (e : Equipped) (pages : List ℕ) → is_ipl (requested typed e) ≡ true → AllNeeded (LineWants typed e) pages
-all_loaded typed e [] ipl = tt
-all_loaded typed e (page ∷ pages) ipl = (any_wanted typed e page ipl, all_loaded typed e pages ipl)
+all_wanted typed e (page ∷ pages) all = (inl all.0, all_wanted typed e pages all.1)

@@ -1,38 +1,95 @@
 -- What is done with a machine while its storage is lent, by what its own calls leave.
-use Rattle.std.proofs.Common.{◌≡◌, ◌∙◌, ap, sym, subst, ℕ, Bool, true, false, List, [], ◌∷◌, ◌++◌, ◌*◌, ◌<◌, length, replicate, refl, Option, None, Some, Result, Ok, Err}
-use Rattle.std.specs.Prelude.{IfOk, IsSome, OnErr, OnOk, slice_get}
-use Rattle.std.proofs.lemmas.List.{length-replicate}
+use Rattle.std.proofs.Common.{◌≡◌, ◌∙◌, ap, sym, subst, ℕ, Bool, true, false, List, [], ◌∷◌, ◌++◌, ◌*◌, ◌<◌, length, replicate, refl, Option, None, Some, Result, Ok, Err, inl, inr}
+use Rattle.std.specs.Prelude.{All, IfOk, IsSome, OnErr, OnOk, is_some}
+use Rattle.std.proofs.lemmas.List.{get_or_default, length-replicate}
 use Rattle.s370_store.specs.Access.{Touches}
-use Rattle.s370_channel.specs.declared.words.Caw.{Caw}
-use Rattle.s370_channel.specs.Reading.{Reading, as_reached}
+use Rattle.s370_channel.specs.Reading.{as_reached}
+use Rattle.s370_channel.specs.Supplied.{AllSuch, EachSuch}
 use Rattle.s370_intr.specs.Run.{AllNeeded, IsLacking}
 use Rattle.s370_subchannels.specs.Programs.{program_of}
-use Rattle.cp_frames.specs.Layout.{FrameSupply}
+use Rattle.cp_frames.specs.declared.numbers.UserPage.{UserPage}
+use Rattle.cp_frames.specs.Layout.{FrameSupply, Holds, is_page, is_there, owned}
 use Rattle.cp_frames.specs.Paging.{IsRefused}
+use Rattle.cp_frames.proofs.Layouts.{is_this_page}
 use Rattle.cp_dat.specs.declared.dat.Dat.{Dat}
-use Rattle.cp_dat.specs.Bringing.{supplied_on}
-use Rattle.cp_dat.specs.Lent.{KeepsFrames, keeps_frames_on, lent_bytes, lent_pool, user_of}
-use Rattle.cp_dat.specs.Letting.{between_again, unit_for}
-use Rattle.cp_dat.specs.Supplied.{GivesBack, IsBetweenUnits, IsBroughtInUnits, IsPagedFor, Supplied, TakesPins, unpinned}
+use Rattle.cp_dat.specs.Bringing.{found_from}
+use Rattle.cp_dat.specs.Lent.{KeepsFrames, is_lent_page, keeps_frames_on, lent_bytes, lent_pool, user_of}
+use Rattle.cp_dat.specs.Letting.{between_again, came_on, let_go_came}
+use Rattle.cp_dat.specs.Supplied.{GivesBack, HasNoRoom, HasSuch, IsBetweenUnits, IsBroughtInUnits, IsPagedFor, Supplied, SuppliedUnits, TakesPins, unpinned}
 use Rattle.cp_panel.specs.declared.line.LineError.{LineError}
 use Rattle.cp_panel.specs.declared.line.LineError.TheVariants as errors
 use Rattle.cp_panel.specs.Panel.{line_needs, switches}
+use Rattle.cp_channels.specs.Channels.{Brings, LacksRoom, NoRoom}
 use Rattle.cp_devices.specs.declared.line.Told.{Told}
-use Rattle.cp_channels.specs.Channels.{WalksAt}
-use Rattle.cp_channels.specs.Disks.{DiskAt}
-use Rattle.cp_devices.specs.declared.places.Kind.{Kind}
-use Rattle.cp_devices.specs.declared.places.Kind.TheVariants as kinds
-use Rattle.cp_devices.specs.Devices.{kind_at}
-use Rattle.cp_devices.specs.Equipped.{Equipped, storage_in}
-use Rattle.cp_devices.specs.Lines.{IsWholeLine, requested}
-use Rattle.cp_devices.specs.Serve.{IsServedAt, RunsKind, Serves}
+use Rattle.cp_devices.specs.Equipped.{Equipped}
+use Rattle.cp_devices.specs.Lines.{IplNeeds, IsWholeLine, requested}
+use Rattle.cp_devices.specs.Serve.{IsServedAt}
 use Rattle.cp_devices.specs.World.{World}
-use Rattle.cp_core.specs.Supply.{IsGivenBack, IsShort}
+use Rattle.cp_resident.specs.Resident.{CameIn, IsFilled}
+use Rattle.cp_core.specs.Supply.{IsGivenBack, IsShort, LineBrings, NeedsAll}
 use Rattle.cp_core.specs.Typed.{IsLineLent}
-use Rattle.cp_core.specs.Wants.{DeviceNeeds, LineMay, LineWants, LoadNeeds, is_ipl}
+use Rattle.cp_core.specs.Wants.{DeviceNeeds, LineMay, LineWants, asks_to_load, is_ipl}
 use Rattle.cp_core.specs.Work.{HasServed, HasTyped, LineGivesBack, LineLeaves, ServeLeaves}
-use Rattle.cp_core.proofs.Switches.{all_loaded, all_wanted, any_wanted, switch_no_ipl, wanted}
-use Rattle.cp_core.proofs.Kept.{either, given_back, given_for, lengths_left, line_short, marks_left, short_of}
+use Rattle.cp_core.proofs.Switches.{all_wanted, load_wanted, switch_no_ipl, wanted}
+use Rattle.cp_core.proofs.Kept.{either, given_back, given_for, lengths_left, line_short, marks_left}
+
+-- ---- no room
+
+-- there is no room for a page, or each present page of the user is one of these, in each frame
+abbrev pub no_room : Dat → (ℕ → Type 0) → ℕ → Type 0
+no_room d needs page = NoRoom (λ (e : Dat) (p : ℕ). HasNoRoom (lent_pool e).supply (user_of e) p) (λ (e : Dat) (p : ℕ). IsFilled (lent_pool e).supply (user_of e) p) is_lent_page d needs page
+
+is_taken : (o : Option UserPage) (page : UserPage) → o ≡ Some page → IsSome o
+is_taken None page e = cc
+is_taken (Some there) page e = tt
+
+held_there : (owners : List (Option UserPage)) (user page frame : ℕ) → Holds owners frame (owned user page) → is_there owners user page ≡ true
+held_there owners user page frame here = found_from (is_page user page) None 0 owners frame refl (ap (is_page user page) here ∙ is_this_page user page)
+
+filled_full : (supply : FrameSupply) (user page : ℕ) → IsFilled supply user page → All IsSome supply.owners
+filled_full supply user page filled = λ frame other within.
+    (let one = filled.owned frame within in
+    is_taken _ (owned user one.page) (get_or_default supply.owners frame other None within ∙ one.here))
+
+room_short : (d : Dat) (needs : ℕ → Type 0) (page : ℕ) → no_room d needs page → IsShort (lent_pool d).supply (user_of d) needs page
+room_short d needs page (inl out) = record { absent = out.absent; full = out.full; stuck = inl (out.full_slots, out.nowhere) }
+room_short d needs page (inr h) = record {
+  absent = h.0.absent;
+  full = filled_full (lent_pool d).supply (user_of d) page h.0;
+  stuck = inr (λ frame within. (let one = h.0.owned frame within in record { page = one.page; such = h.1 one.page (held_there (lent_pool d).supply.owners (user_of d) one.page frame one.here); here = one.here }));
+}
+
+short_for : (supply : FrameSupply) (user : ℕ) (P Q : ℕ → Type 0) (page : ℕ) → ((p : ℕ) → P p → Q p) → IsShort supply user P page → IsShort supply user Q page
+short_for supply user P Q page more short = record {
+  absent = short.absent;
+  full = short.full;
+  stuck = elim short.stuck [
+    | inl none ↦ inl none
+    | inr each ↦ inr (λ frame within. (let one = each frame within in record { page = one.page; such = more one.page one.such; here = one.here }))
+  ];
+}
+
+-- ---- what came
+
+such_all : (needs : ℕ → Type 0) (pages : List ℕ) → AllNeeded needs pages → AllSuch needs pages
+such_all needs [] all = tt
+such_all needs (page ∷ pages) all = (all.0, such_all needs pages all.1)
+
+such_for : (P Q : ℕ → Type 0) → ((page : ℕ) → P page → Q page) → (pages : List ℕ) → AllSuch P pages → AllSuch Q pages
+such_for P Q more [] all = tt
+such_for P Q more (page ∷ pages) all = (more page all.0, such_for P Q more pages all.1)
+
+each_for : (P Q : ℕ → Type 0) → ((page : ℕ) → P page → Q page) → (units : List (List ℕ)) → EachSuch P units → EachSuch Q units
+each_for P Q more [] all = tt
+each_for P Q more (pages ∷ units) all = (such_for P Q more pages all.0, each_for P Q more units all.1)
+
+each_on : (P : ℕ → Type 0) (first second : List (List ℕ)) → EachSuch P first → EachSuch P second → EachSuch P (first ++ second)
+each_on P [] second a b = b
+each_on P (pages ∷ first) second a b = (a.0, each_on P first second a.1 b)
+
+one_brings : (b : Bool) (needs : ℕ → Type 0) (pages : List ℕ) → AllNeeded needs pages → LineBrings b needs (pages ∷ [])
+one_brings true needs pages all = (such_all needs pages all, tt)
+one_brings false needs pages all = (pages, refl, all)
 
 -- where no frame is pinned, nothing is taken away with the pins
 still : (supply : FrameSupply) → IsBetweenUnits supply → unpinned supply ≡ supply
@@ -40,45 +97,13 @@ still supply rest =
     let count : length supply.owners ≡ length supply.pins = sym (ap (λ (ps : List Bool). length ps) rest.idle ∙ length-replicate (length supply.owners) false) in
     ap (λ (ps : List Bool). record supply { pins = ps }) (sym (rest.idle ∙ ap (λ (n : ℕ). replicate n false) count))
 
--- a line that is no IPL promises it of the storage that is lent to it
-pub plainly_lent : (typed : List ℕ) (before : Equipped) (old between : Dat) (r : Result Told LineError)
-    → (r ≡ Err errors.FramesOut → IsLacking (Touches (line_needs typed before.machine)) (length before.machine.core.processor.bytes) (λ page. IsRefused (lent_pool between).supply (user_of between) page))
-    → (switches typed before.machine ≡ true → OnOk r (GivesBack old between)) → (switches typed before.machine ≡ true → OnErr r (Supplied old [] between))
-    → (switches typed before.machine ≡ false → (pages : List ℕ) × Supplied old pages between × AllNeeded (Touches (line_needs typed before.machine)) pages)
-    → IsLineLent typed before old between r
-plainly_lent typed before old between r frames cleared not_cleared supply = record {
-  frames = λ failed. (let l = frames failed in record { page = l.page; inside = l.inside; needed = wanted typed before l.page l.needed; short = l.short });
-  cleared = cleared;
-  not_cleared = not_cleared;
-  supply = λ off. (let s = supply off in (s.0, s.1, all_wanted typed before s.0 s.2));
-}
-
--- and so does an IPL, after its line
-pub loading_lent : (typed : List ℕ) (before : Equipped) (old middle between : Dat) (r : Result Told LineError) → is_ipl (requested typed before) ≡ true
-    → (switches typed before.machine ≡ false → (pages : List ℕ) × Supplied old pages middle × AllNeeded (Touches (line_needs typed before.machine)) pages)
-    → length (lent_bytes middle) ≡ length before.machine.core.processor.bytes
-    → (r ≡ Err errors.FramesOut → IsLacking LoadNeeds (length (lent_bytes middle)) (λ page. IsRefused (lent_pool between).supply (user_of between) page))
-    → ((pages : List ℕ) × Supplied middle pages between × AllNeeded LoadNeeds pages)
-    → IsLineLent typed before old between r
-loading_lent typed before old middle between r ipl supply size frames brought = record {
-  frames = λ failed. (let l = frames failed in record { page = l.page; inside = subst (λ (n : ℕ). l.page * 4096 < n) size l.inside; needed = any_wanted typed before l.page ipl; short = l.short });
-  cleared = λ on. absurd (switch_no_ipl typed before ipl on);
-  not_cleared = λ on. absurd (switch_no_ipl typed before ipl on);
-  supply = λ off. (let s = supply off in (s.0 ++ brought.0, supplied_on old middle between s.0 brought.0 s.1 brought.1, all_loaded typed before (s.0 ++ brought.0) ipl));
-}
+-- ---- a line
 
 -- what it keeps, whether it switches the machine or not
 kept_where : (r : Result Told LineError) (old between : Dat) → OnOk r (GivesBack old between) → OnErr r (Supplied old [] between) → KeepsFrames old between
 kept_where (Ok told) old between cleared not = cleared.kept
 kept_where (Err error) old between cleared not = not.kept
 
-pub line_keeps : (typed : List ℕ) (before : Equipped) (old between : Dat) (r : Result Told LineError) → IsLineLent typed before old between r → KeepsFrames old between
-line_keeps typed before old between r h = either (switches typed before.machine) _ (λ on. kept_where r old between (h.cleared on) (h.not_cleared on)) (λ off. (h.supply off).1.kept)
-
-pub work_keeps : (typed : List ℕ) (before : Equipped) (old between new : Dat) (r : Result Told LineError) → IsLineLent typed before old between r → TakesPins between new → KeepsFrames old new
-work_keeps typed before old between new r h taken = keeps_frames_on old between new (line_keeps typed before old between r h) taken.kept
-
--- the frames are as many
 owners_where : (r : Result Told LineError) (old between : Dat) → OnOk r (GivesBack old between) → OnErr r (Supplied old [] between) → length (lent_pool between).supply.owners ≡ length (lent_pool old).supply.owners
 owners_where (Ok told) old between cleared not = lengths_left old between cleared
 owners_where (Err error) old between cleared not = not.paged.same_frames
@@ -87,11 +112,72 @@ pins_where : (r : Result Told LineError) (old between : Dat) → OnOk r (GivesBa
 pins_where (Ok told) old between cleared not = marks_left old between cleared
 pins_where (Err error) old between cleared not = not.paged.same_marks
 
-pub work_between : (typed : List ℕ) (before : Equipped) (old between new : Dat) (r : Result Told LineError) → IsBetweenUnits (lent_pool old).supply → IsLineLent typed before old between r → TakesPins between new → IsBetweenUnits (lent_pool new).supply
-work_between typed before old between new r rest h taken =
-    let owners = either (switches typed before.machine) _ (λ on. owners_where r old between (h.cleared on) (h.not_cleared on)) (λ off. (h.supply off).1.paged.same_frames) in
-    let pins = either (switches typed before.machine) _ (λ on. pins_where r old between (h.cleared on) (h.not_cleared on)) (λ off. (h.supply off).1.paged.same_marks) in
-    between_again (lent_pool old).supply (lent_pool between).supply (lent_pool new).supply rest owners pins taken.supply
+given_where : (r : Result Told LineError) (old between new : Dat) → TakesPins between new → OnOk r (GivesBack old between) → OnOk r (IsGivenBack (user_of old) (lent_pool old).supply (lent_pool new).supply)
+given_where (Ok told) old between new taken cleared = given_for (user_of old) (lent_pool old).supply (lent_pool between).supply (lent_pool new).supply (given_back old between cleared) taken.supply
+given_where (Err error) old between new taken cleared = tt
+
+same_where : (r : Result Told LineError) (old between new : Dat) → IsBetweenUnits (lent_pool old).supply → TakesPins between new → OnErr r (Supplied old [] between) → OnErr r ((lent_pool new).supply ≡ (lent_pool old).supply)
+same_where (Ok told) old between new rest taken not = tt
+same_where (Err error) old between new rest taken not = taken.supply ∙ ap unpinned not.paged.page_ins_are ∙ still (lent_pool old).supply rest
+
+-- a line promises it of the storage that is lent to it, once the pins are taken away
+pub plainly_lent : (typed : List ℕ) (before : Equipped) (old between new : Dat) (r : Result Told LineError) → IsBetweenUnits (lent_pool old).supply → TakesPins between new
+    → (r ≡ Err errors.FramesOut → IsLacking (Touches (line_needs typed before.machine)) (length before.machine.core.processor.bytes) (λ page. IsRefused (lent_pool between).supply (user_of between) page))
+    → (switches typed before.machine ≡ true → OnOk r (GivesBack old between)) → (switches typed before.machine ≡ true → OnErr r (Supplied old [] between))
+    → (switches typed before.machine ≡ false → (pages : List ℕ) × Supplied old pages between × AllNeeded (Touches (line_needs typed before.machine)) pages)
+    → IsLineLent typed before old new r
+plainly_lent typed before old between new r rest taken frames cleared not_cleared supply =
+    let needs : ℕ → Type 0 = LineWants typed before in
+    let kept : KeepsFrames old between = either (switches typed before.machine) _ (λ on. kept_where r old between (cleared on) (not_cleared on)) (λ off. (supply off).1.kept) in
+    let owners = either (switches typed before.machine) _ (λ on. owners_where r old between (cleared on) (not_cleared on)) (λ off. (supply off).1.paged.same_frames) in
+    let pins = either (switches typed before.machine) _ (λ on. pins_where r old between (cleared on) (not_cleared on)) (λ off. (supply off).1.paged.same_marks) in
+    let paged : switches typed before.machine ≡ false → (pages : List ℕ) × IsPagedFor (user_of old) pages (lent_pool old).supply (lent_pool between).supply × AllNeeded needs pages =
+    λ off. (let s = supply off in (s.0, s.1.paged, all_wanted typed before s.0 s.2)) in
+    record {
+      kept = keeps_frames_on old between new kept taken.kept;
+      frames = λ failed. (let l = frames failed in
+      let need = wanted typed before l.page l.needed in
+      record {
+        page = l.page;
+        inside = l.inside;
+        needed = need;
+        short = line_short typed before (user_of old) l.page (lent_pool old).supply (lent_pool between).supply (lent_pool new).supply rest paged need taken.supply (subst (λ (n : ℕ). IsRefused (lent_pool between).supply n l.page) kept.same_user l.short);
+      });
+      cleared = λ on. given_where r old between new taken (cleared on);
+      not_cleared = λ on. same_where r old between new rest taken (not_cleared on);
+      supply = λ off. (let s = supply off in (s.0 ∷ [], let_go_came old between new s.0 s.1 taken, one_brings (is_ipl (requested typed before)) needs s.0 (all_wanted typed before s.0 s.2)));
+      between = between_again (lent_pool old).supply (lent_pool between).supply (lent_pool new).supply rest owners pins taken.supply;
+    }
+
+-- and so does a loading, after its line
+pub loading_lent : (typed : List ℕ) (before : Equipped) (device : ℕ) (old middle new : Dat) (first r : Result Told LineError) → is_ipl (requested typed before) ≡ true → asks_to_load (requested typed before) ≡ Some device
+    → IsLineLent typed before old middle first → length (lent_bytes middle) ≡ length before.machine.core.processor.bytes
+    → (r ≡ Err errors.FramesOut → LacksRoom (length (lent_bytes middle)) (IplNeeds device before) (no_room new (IplNeeds device before)))
+    → Brings CameIn middle (IplNeeds device before) new → IsBetweenUnits (lent_pool new).supply
+    → IsLineLent typed before old new r
+loading_lent typed before device old middle new first r ipl asked lent size out brought between =
+    let needs : ℕ → Type 0 = LineWants typed before in
+    let more : (page : ℕ) → IplNeeds device before page → needs page = load_wanted typed before device in
+    let kept : KeepsFrames old new = keeps_frames_on old middle new lent.kept brought.1.came.kept in
+    record {
+      kept = kept;
+      frames = λ failed. (let l = out failed in record {
+        page = l.page;
+        inside = subst (λ (n : ℕ). l.page * 4096 < n) size l.inside;
+        needed = more l.page l.needed;
+        short = subst (λ (n : ℕ). IsShort (lent_pool new).supply n needs l.page) kept.same_user
+            (short_for (lent_pool new).supply (user_of new) (IplNeeds device before) needs l.page more (room_short new (IplNeeds device before) l.page l.out));
+      });
+      cleared = λ on. absurd (switch_no_ipl typed before ipl on);
+      not_cleared = λ on. absurd (switch_no_ipl typed before ipl on);
+      supply = λ off. (let s = lent.supply off in (
+        s.0 ++ brought.0,
+        came_on old middle new s.0 brought.0 s.1 brought.1.came,
+        subst (λ (b : Bool). LineBrings b needs (s.0 ++ brought.0)) (sym ipl)
+        (each_on needs s.0 brought.0 (subst (λ (b : Bool). LineBrings b needs s.0) ipl s.2) (each_for (IplNeeds device before) needs more brought.0 brought.2)),
+      ));
+      between = between;
+    }
 
 -- ---- what a line leaves
 
@@ -103,36 +189,22 @@ leaves_where world user typed before after (Ok told) supply ok same kept memory 
 leaves_where world user typed before after (Err errors.Memory) supply ok same kept memory frames = (kept refl, memory refl)
 leaves_where world user typed before after (Err errors.FramesOut) supply ok same kept memory frames = (same refl, frames refl)
 
-gives_where : (user : ℕ) (old between new : Dat) (r : Result Told LineError) → user_of old ≡ user → IsBetweenUnits (lent_pool old).supply → TakesPins between new → OnOk r (GivesBack old between) → OnErr r (Supplied old [] between) → LineGivesBack user (lent_pool old).supply r (lent_pool new).supply
-gives_where user old between new (Ok told) u rest taken cleared not =
-    let given : IsGivenBack user (lent_pool old).supply (lent_pool between).supply =
-    subst (λ (n : ℕ). IsGivenBack n (lent_pool old).supply (lent_pool between).supply) u (given_back old between cleared) in
-    given_for user (lent_pool old).supply (lent_pool between).supply (lent_pool new).supply given taken.supply
-gives_where user old between new (Err error) u rest taken cleared not =
-    taken.supply ∙ ap unpinned not.paged.page_ins_are ∙ still (lent_pool old).supply rest
+gives_where : (user : ℕ) (before after : FrameSupply) (r : Result Told LineError) → OnOk r (IsGivenBack user before after) → OnErr r (after ≡ before) → LineGivesBack user before r after
+gives_where user before after (Ok told) given same = given
+gives_where user before after (Err error) given same = same
 
-pub typed_work : (world : World) (user : ℕ) (typed : List ℕ) (before after : Equipped) (old between new : Dat) (r : Result Told LineError)
-    → user_of old ≡ user → IsBetweenUnits (lent_pool old).supply → IsLineLent typed before old between r → TakesPins between new
+pub typed_work : (world : World) (user : ℕ) (typed : List ℕ) (before after : Equipped) (old new : Dat) (r : Result Told LineError)
+    → user_of old ≡ user → IsLineLent typed before old new r
     → IfOk r (λ told. IsWholeLine world typed before told after) → (r ≡ Err errors.FramesOut → after ≡ before) → (r ≡ Err errors.Memory → is_ipl (requested typed before) ≡ false → after ≡ before) → (r ≡ Err errors.Memory → LineMay typed before)
     → HasTyped world user typed before (lent_pool old).supply r after (lent_pool new).supply
-typed_work world user typed before after old between new r u rest h taken ok out kept' memory =
+typed_work world user typed before after old new r u lent ok out kept memory =
     let needs : ℕ → Type 0 = LineWants typed before in
-    let kept : KeepsFrames old between = line_keeps typed before old between r h in
-    let same : user_of between ≡ user = kept.same_user ∙ u in
-    let paged : switches typed before.machine ≡ false → (pages : List ℕ) × IsPagedFor user pages (lent_pool old).supply (lent_pool between).supply × AllNeeded needs pages =
-    λ off. (let s = h.supply off in (s.0, subst (λ (n : ℕ). IsPagedFor n s.0 (lent_pool old).supply (lent_pool between).supply) u s.1.paged, s.2)) in
-    let frames : r ≡ Err errors.FramesOut → IsLacking needs (length before.machine.core.processor.bytes) (IsShort (lent_pool new).supply user needs) =
-    λ failed. (let l = h.frames failed in
     record {
-      page = l.page;
-      inside = l.inside;
-      needed = l.needed;
-      short = line_short typed before user l.page (lent_pool old).supply (lent_pool between).supply (lent_pool new).supply rest paged l.needed taken.supply (subst (λ (n : ℕ). IsRefused (lent_pool between).supply n l.page) same l.short);
-    }) in
-    record {
-      leaves = leaves_where world user typed before after r (lent_pool new).supply ok out kept' memory frames;
-      given_back = λ on. gives_where user old between new r u rest taken (h.cleared on) (h.not_cleared on);
-      brought = λ off. (let s = paged off in (s.0, unit_for user s.0 (lent_pool old).supply (lent_pool between).supply (lent_pool new).supply s.1 taken.supply, s.2));
+      leaves = leaves_where world user typed before after r (lent_pool new).supply ok out kept memory
+          (subst (λ (n : ℕ). r ≡ Err errors.FramesOut → IsLacking needs (length before.machine.core.processor.bytes) (IsShort (lent_pool new).supply n needs)) u lent.frames);
+      given_back = λ on. gives_where user (lent_pool old).supply (lent_pool new).supply r
+          (subst (λ (n : ℕ). OnOk r (IsGivenBack n (lent_pool old).supply (lent_pool new).supply)) u (lent.cleared on)) (lent.not_cleared on);
+      brought = λ off. (let s = lent.supply off in (s.0, subst (λ (n : ℕ). IsBroughtInUnits n s.0 (lent_pool old).supply (lent_pool new).supply) u s.1.brought, s.2));
     }
 
 -- ---- what a serve leaves
@@ -146,31 +218,23 @@ serve_leaves device user before after (Ok done) supply ok same frames memory = o
 serve_leaves device user before after (Err errors.Memory) supply ok same frames memory = memory refl
 serve_leaves device user before after (Err errors.FramesOut) supply ok same frames memory = (same refl, frames refl)
 
-pub serve_keeps : (old between new : Dat) (pages : List ℕ) → Supplied old pages between → TakesPins between new → KeepsFrames old new
-serve_keeps old between new pages brought taken = keeps_frames_on old between new brought.kept taken.kept
-
-pub serve_between : (old between new : Dat) (pages : List ℕ) → IsBetweenUnits (lent_pool old).supply → Supplied old pages between → TakesPins between new → IsBetweenUnits (lent_pool new).supply
-serve_between old between new pages rest brought taken =
-    between_again (lent_pool old).supply (lent_pool between).supply (lent_pool new).supply rest brought.paged.same_frames brought.paged.same_marks taken.supply
-
-pub serve_work : (device user : ℕ) (before after : Equipped) (old between new : Dat) (r : Result Bool LineError) (pages : List ℕ)
-    → user_of old ≡ user → IsBetweenUnits (lent_pool old).supply → Supplied old pages between → AllNeeded (DeviceNeeds device before) pages → TakesPins between new
+pub serve_work : (device user : ℕ) (before after : Equipped) (old new : Dat) (r : Result Bool LineError)
+    → user_of old ≡ user → Brings CameIn old (DeviceNeeds device before) new
     → IfOk r (λ done. IsServedAt as_reached device before done after) → (r ≡ Err errors.FramesOut → after ≡ before)
-    → (r ≡ Err errors.FramesOut → IsLacking (DeviceNeeds device before) (length before.machine.core.processor.bytes) (λ page. IsRefused (lent_pool between).supply (user_of between) page))
+    → (r ≡ Err errors.FramesOut → LacksRoom (length before.machine.core.processor.bytes) (DeviceNeeds device before) (no_room new (DeviceNeeds device before)))
     → (r ≡ Err errors.Memory → IsSome (program_of device before.machine.core.subchannels))
     → HasServed device user before (lent_pool old).supply r after (lent_pool new).supply
-serve_work device user before after old between new r pages u rest brought all taken ok same frames memory =
-    let paged : IsPagedFor user pages (lent_pool old).supply (lent_pool between).supply =
-    subst (λ (n : ℕ). IsPagedFor n pages (lent_pool old).supply (lent_pool between).supply) u brought.paged in
-    let lacking : r ≡ Err errors.FramesOut → IsLacking (DeviceNeeds device before) (length before.machine.core.processor.bytes) (IsShort (lent_pool new).supply user (DeviceNeeds device before)) =
-    λ failed. (let l = frames failed in
+serve_work device user before after old new r u brought ok same out memory =
+    let needs : ℕ → Type 0 = DeviceNeeds device before in
+    let lacking : r ≡ Err errors.FramesOut → IsLacking needs (length before.machine.core.processor.bytes) (IsShort (lent_pool new).supply user needs) =
+    λ failed. (let l = out failed in
     record {
       page = l.page;
       inside = l.inside;
       needed = l.needed;
-      short = short_of user l.page pages (DeviceNeeds device before) (lent_pool old).supply (lent_pool between).supply (lent_pool new).supply rest paged all taken.supply (subst (λ (n : ℕ). IsRefused (lent_pool between).supply n l.page) (brought.kept.same_user ∙ u) l.short);
+      short = subst (λ (n : ℕ). IsShort (lent_pool new).supply n needs l.page) (brought.1.came.kept.same_user ∙ u) (room_short new needs l.page l.out);
     }) in
     record {
       leaves = serve_leaves device user before after r (lent_pool new).supply ok same lacking memory;
-      brought = (pages, unit_for user pages (lent_pool old).supply (lent_pool between).supply (lent_pool new).supply paged taken.supply, all);
+      brought = (brought.0, subst (λ (n : ℕ). IsBroughtInUnits n brought.0 (lent_pool old).supply (lent_pool new).supply) u brought.1.came.brought, brought.2);
     }

@@ -15,8 +15,6 @@ pub mod Work
 pub mod Supply
 pub mod Come
 pub mod Memory
-pub mod Reuse
-pub mod Resident
 pub mod Histories
 pub mod Loan
 pub mod Whole

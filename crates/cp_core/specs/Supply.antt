@@ -2,6 +2,7 @@
 -- cp_dat/specs/Supplied.antt.
 use Rattle.std.specs.Prelude.{◌≡◌, ℕ, ◌*◌, ◌<◌, ◌≤◌, ◌⊎◌, All, length, IsSome, Bool, true, false, List, [], ◌∷◌}
 use Rattle.std.specs.List.{concat}
+use Rattle.s370_channel.specs.Supplied.{EachSuch}
 use Rattle.s370_intr.specs.Run.{AllNeeded, EachBrings}
 use Rattle.s370_intr.specs.Laws.{begun}
 use Rattle.cp_frames.specs.Layout.{FrameSupply, cleared_of, is_there}
@@ -11,7 +12,8 @@ use Rattle.cp_panel.specs.Panel.{switches}
 use Rattle.cp_panel.specs.Tick.{TickNeeds}
 use Rattle.cp_core.specs.Events.{user_of}
 use Rattle.cp_core.specs.System.{SystemView, machine_at, user_at}
-use Rattle.cp_core.specs.Wants.{DeviceNeeds, LineWants}
+use Rattle.cp_devices.specs.Lines.{requested}
+use Rattle.cp_core.specs.Wants.{DeviceNeeds, LineWants, is_ipl}
 use Rattle.cp_core.specs.declared.events.Ended.{Ended}
 use Rattle.cp_core.specs.declared.events.Ended.TheVariants.{Ran, Served, Done, FramesOut}
 use Rattle.cp_core.specs.declared.events.Event.{Event}
@@ -66,15 +68,21 @@ RunBrings m FramesOut units = ⊥
 abbrev pub OneBrings : (ℕ → Type 0) → List (List ℕ) → Type 0
 OneBrings needs units = (pages : List ℕ) × (units ≡ pages ∷ []) × AllNeeded needs pages
 
--- what the units of an event may bring: each unit of a run, and the one that lacked a page, nine pages that it needs; a line, as
--- one unit, those of the bytes that it shows or changes, or any of an IPL; a tick the page of the timer, of a machine that runs; a deck none; a serve, as one unit, those that
--- the program of the device needs
+-- a line brings as one unit what it needs, but that a loading brings it in units
+abbrev pub LineBrings : Bool → (ℕ → Type 0) → List (List ℕ) → Type 0
+LineBrings true needs units = EachSuch needs units
+LineBrings false needs units = OneBrings needs units
+
+-- what the units of an event may bring: each unit of a run, and the one that lacked a page, nine pages that it needs; a line
+-- those of the bytes that it shows or changes, and of a loading page 0 and those that its program touches; a tick the page of the
+-- timer, of a machine that runs; a deck none; a serve those that the program of the device needs
 abbrev pub MayBring : SystemView → Event → Ended → List (List ℕ) → Type 0
 MayBring old (Run user asked) ended units = RunBrings (machine_at old user) ended units
-MayBring old (Line user typed) ended units = OneBrings (LineWants typed.now (user_at old user)) units
+MayBring old (Line user typed) ended units =
+    LineBrings (is_ipl (requested typed.now (user_at old user))) (LineWants typed.now (user_at old user)) units
 MayBring old (Tick user) ended units = OneBrings (TickNeeds (machine_at old user)) units × (length (concat units) ≤ 1)
 MayBring old (Deck user cards) ended units = units ≡ []
-MayBring old (Serve user device) ended units = OneBrings (DeviceNeeds device (user_at old user)) units
+MayBring old (Serve user device) ended units = EachSuch (DeviceNeeds device (user_at old user)) units
 
 -- pages came as an event's units may bring them, and no others
 abbrev pub IsBroughtBy : SystemView → Event → Ended → SystemView → Type 0

@@ -3,6 +3,7 @@
 use Rattle.std.specs.Prelude.{◌≡◌, ℕ, ◌≤◌, Bool, List, [], ◌∷◌, true, false, length, IsSome, Result, Ok, Err}
 use Rattle.s370_store.specs.declared.supply.FramesOut.{FramesOut}
 use Rattle.s370_channel.specs.Reading.{as_reached}
+use Rattle.s370_channel.specs.Supplied.{EachSuch}
 use Rattle.s370_intr.specs.declared.run.Ran.{Ran}
 use Rattle.s370_intr.specs.Laws.{begun}
 use Rattle.s370_intr.specs.Run.{AllNeeded, EachBrings, IsLacking}
@@ -19,7 +20,7 @@ use Rattle.cp_devices.specs.Equipped.{Equipped}
 use Rattle.cp_devices.specs.Lines.{IsWholeLine, requested}
 use Rattle.cp_devices.specs.Serve.{IsServedAt}
 use Rattle.cp_devices.specs.World.{World}
-use Rattle.cp_core.specs.Supply.{IsGivenBack, IsShort}
+use Rattle.cp_core.specs.Supply.{IsGivenBack, IsShort, LineBrings}
 use Rattle.cp_core.specs.Wants.{DeviceNeeds, LineMay, LineWants, is_ipl}
 
 -- ---- a run
@@ -60,7 +61,7 @@ LineGivesBack user before (Err error) after = after ≡ before
 pub record HasTyped (world : World) (user : ℕ) (typed : List ℕ) (old : Equipped) (before : FrameSupply) (result : Result Told LineError) (new : Equipped) (after : FrameSupply) : Type 0 where
   pub leaves : LineLeaves world user typed old result new after
   pub given_back : switches typed old.machine ≡ true → LineGivesBack user before result after
-  pub brought : switches typed old.machine ≡ false → (pages : List ℕ) × IsBroughtInUnits user (pages ∷ []) before after × AllNeeded (LineWants typed old) pages
+  pub brought : switches typed old.machine ≡ false → (units : List (List ℕ)) × IsBroughtInUnits user units before after × LineBrings (is_ipl (requested typed old)) (LineWants typed old) units
 
 -- ---- a serve
 
@@ -70,7 +71,7 @@ ServeLeaves device user old (Err errors.Memory) new after = IsSome (program_of d
 ServeLeaves device user old (Err errors.FramesOut) new after =
     (new ≡ old) × IsLacking (DeviceNeeds device old) (length old.machine.core.processor.bytes) (IsShort after user (DeviceNeeds device old))
 
--- it brings pages of the program
+-- it brings pages that the program needs
 pub record HasServed (device user : ℕ) (old : Equipped) (before : FrameSupply) (result : Result Bool LineError) (new : Equipped) (after : FrameSupply) : Type 0 where
   pub leaves : ServeLeaves device user old result new after
-  pub brought : (pages : List ℕ) × IsBroughtInUnits user (pages ∷ []) before after × AllNeeded (DeviceNeeds device old) pages
+  pub brought : (units : List (List ℕ)) × IsBroughtInUnits user units before after × EachSuch (DeviceNeeds device old) units

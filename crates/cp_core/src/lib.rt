@@ -24,8 +24,6 @@ mod files;
 mod lines;
 mod loan;
 mod ready;
-mod resident;
-mod reuse;
 mod serving;
 mod system;
 mod user_machine;

@@ -1,33 +1,31 @@
-//! A device of a user is served, a line is typed, and a machine is loaded, with the pages that this needs.
-ghost use Rattle.std.specs.Prelude.{◌≡◌, ◌<◌, ◌≤◌, ℕ, Err, IfOk, IsSome, List, OnErr, OnOk, false, length, true};
-ghost use Rattle.s370_intr.specs.Run.{AllNeeded, IsLacking};
+//! A device of a user is served, and a line is typed, with the loading for which it asks.
+ghost use Rattle.std.specs.Prelude.{◌≡◌, ◌<◌, ◌≤◌, Err, IfOk, IsSome, OnErr, false, length, true};
 ghost use Rattle.s370_subchannels.specs.Programs.{program_of};
+ghost use Rattle.cp_channels.specs.Channels.{Brings, LacksRoom, NoRoom};
 ghost use Rattle.cp_devices.specs.Equipped.{equipped};
 ghost use Rattle.cp_devices.specs.Lent.{KeepsBeside, devices_on};
 ghost use Rattle.cp_devices.specs.Serve.{IsServedAt, ServeNeeds};
 ghost use Rattle.cp_panel.specs.declared.line.LineError.TheVariants as errors;
-ghost use Rattle.cp_frames.specs.Paging.{IsRefused};
-ghost use Rattle.cp_dat.specs.Lent.{is_lent_page, lent_bytes, lent_keys, lent_pool, user_of};
-ghost use Rattle.cp_dat.specs.Supplied.{Supplied};
-ghost use Rattle.cp_devices.specs.Lines.{IsIpl, IsWholeLine, requested};
-ghost use Rattle.cp_core.specs.Resident.{IsResident, KeepsHung, disks_on};
+ghost use Rattle.cp_dat.specs.Lent.{lent_bytes, lent_keys, lent_pool};
+ghost use Rattle.cp_dat.specs.Supplied.{IsBetweenUnits};
+ghost use Rattle.cp_devices.specs.Lines.{IsLine, IsWholeLine, MayTakeMemory, requested};
+ghost use Rattle.cp_resident.specs.Resident.{KeepsHung, disks_on};
 ghost use Rattle.cp_core.specs.Typed.{IsLineLent};
-ghost use Rattle.cp_core.specs.Wants.{LineMay, LoadNeeds, is_ipl};
+ghost use Rattle.cp_core.specs.Wants.{LineMay, is_ipl};
 
-use crate::resident::{Resident, absent_page};
+use cp_resident::Resident;
 use cp_channels::Channels;
-use cp_console::responses::Response;
 use cp_dat::Dat;
-use cp_devices::{Devices, Kind, Told, World};
+use cp_devices::{Devices, Told, World};
 use cp_panel::{LineError, Machine};
 use cp_spool::Queues;
 use s370_channel::ChannelError;
 use s370_num::DevAddr;
-use s370_store::{FramesOut, Supply};
+use s370_store::{Storage, UnitSupply};
 use std::alloc::Global;
 
-/// Serves a device whose program runs as a whole or not at all, after each page was brought that it lacks.
-pub(crate) fn serve_supplied<S: Supply, C: Channels<S>>(
+/// Serves a device whose program runs as a whole or not at all.
+pub(crate) fn serve_supplied<S: Storage, C: Channels<S>>(
     devices: &mut Devices,
     queues: &mut Queues,
     machine: &mut Machine,
@@ -36,41 +34,38 @@ pub(crate) fn serve_supplied<S: Supply, C: Channels<S>>(
     device: DevAddr,
 ) -> Result<bool, LineError>
     requires whole { C.is_whole ≡ true }
+    requires ready { C.IsReady storage.old }
     requires owner { devices.old.user < length queues.old.users }
     ensures served { let before = equipped machine.old (devices_on devices.old queues.old) (C.Disks.disks channels.old)
-        (S.Storage.bytes storage.old) (S.Storage.keys storage.old) in
-        let after = equipped machine.new (devices_on devices.new queues.new) (C.Disks.disks channels.new) (S.Storage.bytes storage.new)
-        (S.Storage.keys storage.new) in
+        (S.bytes storage.old) (S.keys storage.old) in
+        let after = equipped machine.new (devices_on devices.new queues.new) (C.Disks.disks channels.new) (S.bytes storage.new)
+        (S.keys storage.new) in
         IfOk result (λ done. IsServedAt C.reads device before done after) }
     ensures same { let before = equipped machine.old (devices_on devices.old queues.old) (C.Disks.disks channels.old)
-        (S.Storage.bytes storage.old) (S.Storage.keys storage.old) in
-        let after = equipped machine.new (devices_on devices.new queues.new) (C.Disks.disks channels.new) (S.Storage.bytes storage.new)
-        (S.Storage.keys storage.new) in
+        (S.bytes storage.old) (S.keys storage.old) in
+        let after = equipped machine.new (devices_on devices.new queues.new) (C.Disks.disks channels.new) (S.bytes storage.new)
+        (S.keys storage.new) in
         result ≡ Err errors.FramesOut → after ≡ before }
     ensures frames { let before = equipped machine.old (devices_on devices.old queues.old) (C.Disks.disks channels.old)
-        (S.Storage.bytes storage.old) (S.Storage.keys storage.old) in
+        (S.bytes storage.old) (S.keys storage.old) in
+        let needs = ServeNeeds C.holds device before in
         result ≡ Err errors.FramesOut
-        → IsLacking (ServeNeeds C.needs device before) (length (S.Storage.bytes storage.old)) (S.IsShort storage.new) }
+        → LacksRoom (length (S.bytes storage.old)) needs (NoRoom C.IsOut C.IsFilled S.present storage.new needs) }
     ensures memory { result ≡ Err errors.Memory → IsSome (program_of device machine.old.subchannels) }
-    ensures supply { let before = equipped machine.old (devices_on devices.old queues.old) (C.Disks.disks channels.old)
-        (S.Storage.bytes storage.old) (S.Storage.keys storage.old) in
-        (pages : List ℕ) × S.Brought storage.old pages storage.new × AllNeeded (ServeNeeds C.needs device before) pages }
-    ensures size { length (S.Storage.bytes storage.new) ≡ length (S.Storage.bytes storage.old) }
+    ensures came { let before = equipped machine.old (devices_on devices.old queues.old) (C.Disks.disks channels.old)
+        (S.bytes storage.old) (S.keys storage.old) in
+        Brings C.Came storage.old (ServeNeeds C.holds device before) storage.new }
+    ensures ready { C.IsReady storage.new }
     ensures others { C.Disks.KeepsOthers channels.old channels.new }
     ensures beside { KeepsBeside devices.old queues.old devices.new queues.new }
 {
     if machine.program(device).is_none() {
         return Ok(false);
     }
-    loop {
-        match devices.serve(queues, machine, storage, channels, device) {
-            Ok(done) => return Ok(done),
-            Err(ChannelError::Memory) => return Err(LineError::Memory),
-            Err(ChannelError::Absent(page)) => match storage.bring(page) {
-                Ok(()) => {}
-                Err(FramesOut) => return Err(LineError::FramesOut),
-            },
-        }
+    match devices.serve(queues, machine, storage, channels, device) {
+        Ok(done) => Ok(done),
+        Err(ChannelError::Memory) => Err(LineError::Memory),
+        Err(ChannelError::Absent(_)) => Err(LineError::FramesOut),
     }
 }
 
@@ -87,6 +82,7 @@ pub(crate) fn type_supplied<W: World>(
 ) -> Result<Told, LineError>
     requires size { 8192 ≤ length (lent_bytes storage.old) }
     requires owner { devices.old.user < length queues.old.users }
+    requires between { IsBetweenUnits (lent_pool storage.old).supply }
     ensures ok { let before = equipped machine.old (devices_on devices.old queues.old) (disks_on channels.old) (lent_bytes storage.old)
         (lent_keys storage.old) in
         let after = equipped machine.new (devices_on devices.new queues.new) (disks_on channels.new) (lent_bytes storage.new)
@@ -112,75 +108,54 @@ pub(crate) fn type_supplied<W: World>(
     ensures others { KeepsHung channels.old channels.new }
     ensures beside { KeepsBeside devices.old queues.old devices.new queues.new }
 {
-    match devices.line(alloc, queues, machine, storage, channels, world, typed) {
+    match type_line(
+        alloc, devices, queues, machine, storage, channels, world, typed,
+    ) {
         Ok(first) => match first.loads_from() {
-            Some(device) => load_supplied(devices, queues, machine, storage, channels, device),
+            Some(device) => devices.ipl(queues, machine, storage, channels, device),
             None => Ok(first),
         },
         Err(error) => Err(error),
     }
 }
 
-/// A machine is loaded from the device of this address, after each page of its storage was brought that stands in no
-/// frame.
-fn load_supplied(
+/// A line that a user types, without the loading of his machine. It holds what it brings until it ends.
+fn type_line<W: World>(
+    alloc: Global,
     devices: &mut Devices,
     queues: &mut Queues,
     machine: &mut Machine,
     storage: &mut Dat<'_>,
     channels: &mut Resident,
-    device: DevAddr,
+    world: &W,
+    typed: &[u8],
 ) -> Result<Told, LineError>
     requires size { 8192 ≤ length (lent_bytes storage.old) }
     requires owner { devices.old.user < length queues.old.users }
+    requires between { IsBetweenUnits (lent_pool storage.old).supply }
     ensures ok { let before = equipped machine.old (devices_on devices.old queues.old) (disks_on channels.old) (lent_bytes storage.old)
         (lent_keys storage.old) in
         let after = equipped machine.new (devices_on devices.new queues.new) (disks_on channels.new) (lent_bytes storage.new)
         (lent_keys storage.new) in
-        IfOk result (λ told. IsIpl device before told after) }
-    ensures same { let before = equipped machine.old (devices_on devices.old queues.old) (disks_on channels.old) (lent_bytes storage.old)
+        IfOk result (λ told. IsLine (W.known world.now) typed.now before told after) }
+    ensures err { let before = equipped machine.old (devices_on devices.old queues.old) (disks_on channels.old) (lent_bytes storage.old)
         (lent_keys storage.old) in
         let after = equipped machine.new (devices_on devices.new queues.new) (disks_on channels.new) (lent_bytes storage.new)
         (lent_keys storage.new) in
-        result ≡ Err errors.FramesOut → after ≡ before }
-    ensures frames { result ≡ Err errors.FramesOut
-        → IsLacking LoadNeeds (length (lent_bytes storage.old))
-        (λ page. IsRefused (lent_pool storage.new).supply (user_of storage.new) page) }
-    ensures supply { (pages : List ℕ) × Supplied storage.old pages storage.new × AllNeeded LoadNeeds pages }
+        OnErr result (after ≡ before) }
+    ensures memory { let before = equipped machine.old (devices_on devices.old queues.old) (disks_on channels.old) (lent_bytes storage.old)
+        (lent_keys storage.old) in
+        result ≡ Err errors.Memory → MayTakeMemory (requested typed.now before) typed.now before }
+    ensures lent { let before = equipped machine.old (devices_on devices.old queues.old) (disks_on channels.old) (lent_bytes storage.old)
+        (lent_keys storage.old) in
+        IsLineLent typed.now before storage.old storage.new result }
     ensures size { length (lent_bytes storage.new) ≡ length (lent_bytes storage.old) }
     ensures others { KeepsHung channels.old channels.new }
     ensures beside { KeepsBeside devices.old queues.old devices.new queues.new }
 {
-    match devices.kind_at(channels, device.get()) {
-        Some(Kind::Reader) => {}
-        Some(Kind::Disk(_)) => {}
-        _ => return Ok(Told::Said(Response::DeviceNotFound)),
-    }
-    match bring_all(storage) {
-        Ok(()) => {}
-        Err(FramesOut) => return Err(LineError::FramesOut),
-    }
-    match devices.ipl(queues, machine, storage, channels, device) {
-        Ok(told) => Ok(told),
-        Err(LineError::Memory) => Err(LineError::Memory),
-        // Every page of the storage is present.
-        Err(LineError::FramesOut) => unreachable!(),
-    }
-}
-
-/// Brings each page of a storage that stands in no frame.
-fn bring_all(storage: &mut Dat<'_>) -> Result<(), FramesOut>
-    ensures resident { OnOk result (IsResident (length (lent_bytes storage.new)) (is_lent_page storage.new)) }
-    ensures short { OnErr result (IsLacking LoadNeeds (length (lent_bytes storage.old))
-        (λ page. IsRefused (lent_pool storage.new).supply (user_of storage.new) page)) }
-    ensures supply { (pages : List ℕ) × Supplied storage.old pages storage.new × AllNeeded LoadNeeds pages }
-    ensures bytes { lent_bytes storage.new ≡ lent_bytes storage.old }
-    ensures keys { lent_keys storage.new ≡ lent_keys storage.old }
-{
-    loop {
-        match absent_page(storage) {
-            Some(page) => Supply::bring(storage, page)?,
-            None => return Ok(()),
-        }
-    }
+    let told = devices.line(
+        alloc, queues, machine, storage, channels, world, typed,
+    );
+    storage.let_go();
+    told
 }

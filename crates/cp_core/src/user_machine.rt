@@ -14,7 +14,7 @@ ghost use Rattle.ckd_volume.specs.Volume.{VolumeFormat};
 ghost use Rattle.cp_volumes.specs.Shared.{IsUsers, KeepsNeighbours, disks_on, stands_of};
 
 use crate::delivery::{Delivery, Parcel};
-use crate::reuse::Reuse;
+use cp_resident::Reuse;
 use crate::work::Work;
 use cp_console::responses::Response;
 use cp_dat::Dat;

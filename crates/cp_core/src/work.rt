@@ -9,8 +9,8 @@ ghost use Rattle.cp_devices.specs.Equipped.{Equipped, equipped};
 ghost use Rattle.cp_devices.specs.Lent.{KeepsBeside, devices_on};
 ghost use Rattle.cp_volumes.specs.Shared.{IsUsers, KeepsNeighbours, disks_on, stands_of};
 
-use crate::resident::Resident;
-use crate::reuse::Reuse;
+use cp_resident::Resident;
+use cp_resident::Reuse;
 use crate::serving::{serve_supplied, type_supplied};
 use crate::world::Among;
 use arrayvec::ArrayVec;
@@ -24,7 +24,7 @@ use cp_users::UserNo;
 use cp_volumes::{SharedDisk, Volumes};
 use s370_intr::Ran;
 use s370_num::DevAddr;
-use s370_store::{FramesOut, UnitSupply};
+use s370_store::FramesOut;
 use std::alloc::Global;
 
 /// What is done with the machine of one user.
@@ -118,7 +118,7 @@ impl Work for Tick {
     }
 }
 
-/// A user types a line. It holds what it brings until it ends.
+/// A user types a line.
 #[derive(Drop)]
 pub(crate) struct Line<'a> {
     pub(crate) alloc: Global,
@@ -165,12 +165,11 @@ impl<'a> Work for Line<'a> {
             self.typed,
         );
         channels.give(volumes, minidisks, reuse);
-        storage.let_go();
         told
     }
 }
 
-/// A device is served. It holds what it brings until it ends.
+/// A device is served.
 #[derive(Clone, Copy)]
 pub(crate) struct Service {
     pub(crate) alloc: Global,
@@ -205,7 +204,6 @@ impl Work for Service {
             self.device,
         );
         channels.give(volumes, minidisks, reuse);
-        storage.let_go();
         served
     }
 }

@@ -80,7 +80,7 @@ impl<'a> Dat<'a> {
 
     /// Brings a page into a frame, where it stands in none, and lets go of it. A page that stands somewhere is never
     /// refused.
-    fn fetch(&mut self, page: Page) -> Result<(), FramesOut>
+    pub fn fetch(&mut self, page: Page) -> Result<(), FramesOut>
         requires inside { page.0 * 4096 < length (lent_bytes self.old) }
         requires between { IsBetweenUnits (lent_pool self.old).supply }
         ensures there { OnOk result (is_lent_page self.new page.0 ≡ true) }

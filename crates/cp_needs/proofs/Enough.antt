@@ -11,24 +11,19 @@ use Rattle.s370_walk.specs.declared.parts.Spot.{Spot}
 use Rattle.s370_walk.specs.Hardware.{Memory}
 use Rattle.s370_walk.specs.Stuck.{IsStuck, size_in}
 use Rattle.s370_walk.specs.Walk.{Setting, Fetching, live}
-use Rattle.cp_needs.specs.Words.{IsEnough}
+use Rattle.cp_needs.specs.Words.{IsFixedStill}
 use Rattle.cp_needs.proofs.Sizes.{reach_size}
 use Rattle.cp_needs.proofs.Walking.{kept_never_stuck}
 
-not_stuck : {D : Type 0} (h : Setting D) (present : ℕ → Bool) (spot : Spot) (m : Memory) (d : D) (page : ℕ) → IsEnough m present spot.at → IsStuck guest_written h present (Fetching spot m d) page → ⊥
-not_stuck h present spot m d page (inl still) stuck = kept_never_stuck h present spot still.memory m d page still.fixed still.held still.kept stuck
-not_stuck h present spot m d page (inr all) stuck =
-    let size : size_in stuck.state ≡ length m.bytes = reach_size h (length m.bytes) (live guest_written) (Fetching spot m d) stuck.state stuck.comes refl in
-    let inside = stuck.away.inside in
-    let there : present page ≡ true = all page (omega (arith, inside, size)) in
-    absurd (true≢false (sym there ∙ stuck.away.away))
+not_stuck : {D : Type 0} (h : Setting D) (present : ℕ → Bool) (spot : Spot) (m : Memory) (d : D) (page : ℕ) → IsFixedStill m present spot.at → IsStuck guest_written h present (Fetching spot m d) page → ⊥
+not_stuck h present spot m d page still stuck = kept_never_stuck h present spot still.memory m d page still.fixed still.held still.kept stuck
 
-pub never_away : {D : Type 0} (h : Setting D) (needs : D → Order → Bool) (present : ℕ → Bool) (spot : Spot) (m : Memory) (d : D) (error : ChannelError) → IsEnough m present spot.at
+pub never_away : {D : Type 0} (h : Setting D) (needs : D → Order → Bool) (present : ℕ → Bool) (spot : Spot) (m : Memory) (d : D) (error : ChannelError) → IsFixedStill m present spot.at
     → MatchStuck guest_written h needs present (Fetching spot m d) error → error ≡ errors.Memory
 never_away h needs present spot m d errors.Memory enough s = refl
 never_away h needs present spot m d (errors.Absent page) enough s = absurd (not_stuck h present spot m d page.0 enough s)
 
-pub never_stops : {A D : Type 0} (r : Result A ChannelError) (h : Setting D) (needs : D → Order → Bool) (present : ℕ → Bool) (spot : Spot) (m : Memory) (d : D) → IsEnough m present spot.at
+pub never_stops : {A D : Type 0} (r : Result A ChannelError) (h : Setting D) (needs : D → Order → Bool) (present : ℕ → Bool) (spot : Spot) (m : Memory) (d : D) → IsFixedStill m present spot.at
     → IfErr r (MatchStuck guest_written h needs present (Fetching spot m d)) → IfErr r (λ error. error ≡ errors.Memory)
 never_stops (Ok ending) h needs present spot m d enough s = tt
 never_stops (Err error) h needs present spot m d enough s = never_away h needs present spot m d error enough s

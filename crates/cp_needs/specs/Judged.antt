@@ -20,16 +20,16 @@ pub record AreNotes (m : Memory) (start : ℕ) (notes : Notes) : Type 0 where
 abbrev pub IfAbsent : Judged → (ℕ → Type 0) → Type 0
 IfAbsent (judged.Page page) P = P page.0
 IfAbsent (judged.Fixed notes) P = Unit {0}
-IfAbsent judged.Whole P = Unit {0}
+IfAbsent judged.Open P = Unit {0}
 
 -- what holds of the notes that are told
 abbrev pub IfNotes : Judged → (Notes → Type 0) → Type 0
 IfNotes (judged.Page page) P = Unit {0}
 IfNotes (judged.Fixed notes) P = P notes
-IfNotes judged.Whole P = Unit {0}
+IfNotes judged.Open P = Unit {0}
 
--- what holds where all pages are told to be present
-abbrev pub IfAll : Judged → Type 0 → Type 0
-IfAll (judged.Page page) P = Unit {0}
-IfAll (judged.Fixed notes) P = Unit {0}
-IfAll judged.Whole P = P
+-- what holds where an input is told to be able to change the program
+abbrev pub IfOpen : Judged → Type 0 → Type 0
+IfOpen (judged.Page page) P = Unit {0}
+IfOpen (judged.Fixed notes) P = Unit {0}
+IfOpen judged.Open P = P

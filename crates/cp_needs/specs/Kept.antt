@@ -49,22 +49,22 @@ IsPagedOnly m start pages = (page : Page) → Contains pages page → (address a
 abbrev pub IfFound : Found → (ℕ → Type 0) → Type 0
 IfFound (found.Page page) P = P page.0
 IfFound (found.Fixed text pages) P = Unit {0}
-IfFound found.Whole P = Unit {0}
+IfFound found.Open P = Unit {0}
 
 -- what holds of the words that are told
 abbrev pub IfText : Found → (List Fullword → Type 0) → Type 0
 IfText (found.Page page) P = Unit {0}
 IfText (found.Fixed text pages) P = P text.items
-IfText found.Whole P = Unit {0}
+IfText found.Open P = Unit {0}
 
 -- what holds of the pages of areas that are told
 abbrev pub IfPages : Found → (List Page → Type 0) → Type 0
 IfPages (found.Page page) P = Unit {0}
 IfPages (found.Fixed text pages) P = P pages.items
-IfPages found.Whole P = Unit {0}
+IfPages found.Open P = Unit {0}
 
--- what holds where all pages are told to be present
-abbrev pub IfWhole : Found → Type 0 → Type 0
-IfWhole (found.Page page) P = Unit {0}
-IfWhole (found.Fixed text pages) P = Unit {0}
-IfWhole found.Whole P = P
+-- what holds where an input is told to be able to change the program
+abbrev pub IfOpen : Found → Type 0 → Type 0
+IfOpen (found.Page page) P = Unit {0}
+IfOpen (found.Fixed text pages) P = Unit {0}
+IfOpen found.Open P = P

@@ -3,6 +3,5 @@ pub mod Needs
 pub mod Words
 pub mod Noted
 pub mod Laws
-pub mod Told
 pub mod Kept
 pub mod Judged

@@ -55,17 +55,9 @@ pub record AreWords (m : Memory) (start : ℕ) (words : List ℕ) : Type 0 where
   pub reached : (i : ℕ) → i < length words → IsReached m start (slice_index words i)
   pub all : (address : ℕ) → IsReached m start address → address / 4096 * 4096 < length m.bytes → IsAmong words address
 
--- the page is one that the program needs; or an input could change one of its words or lists, so that any page may be one
-abbrev pub IsNeeded : Memory → ℕ → ℕ → Type 0
-IsNeeded m start page = IsProgramPage m start page ⊎ IsClash m start
-
 -- the program was fixed with these words and lists, as which they stand still, and the pages that it needed are present
 pub record IsFixedStill (m : Memory) (present : ℕ → Bool) (start : ℕ) : Type 0 where
   pub memory : Memory
   pub fixed : IsFixed memory start
   pub held : IsHeld memory start present
   pub kept : IsKept memory start m
-
--- the pages of a program that is fixed are present, or all pages are
-abbrev pub IsEnough : Memory → (ℕ → Bool) → ℕ → Type 0
-IsEnough m present start = IsFixedStill m present start ⊎ ((page : ℕ) → IsHere (length m.bytes) present page)

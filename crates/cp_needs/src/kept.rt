@@ -2,10 +2,9 @@
 ghost use Rattle.std.specs.Prelude.{◌≡◌, ◌+◌, ◌*◌, ◌%◌, ◌<◌, ◌≤◌, All, Contains, IfOk, OnOk, false, length, true, ℕ};
 ghost use Rattle.s370_store.specs.Access.{IsAway, IsGranted};
 ghost use Rattle.s370_walk.specs.Hardware.{memory_of};
-ghost use Rattle.cp_needs.specs.Kept.{IsAdded, IfFound, IfPages, IfText, IfWhole, IsAsItStood, IsPaged, IsPagedOnly, IsText, IsTextOnly, fullword_at};
+ghost use Rattle.cp_needs.specs.Kept.{IsAdded, IfFound, IfOpen, IfPages, IfText, IsAsItStood, IsPaged, IsPagedOnly, IsText, IsTextOnly, fullword_at};
 ghost use Rattle.cp_needs.specs.declared.kept.Fullword.{Fullword};
-ghost use Rattle.cp_needs.specs.Needs.{IsFixed, IsHeld};
-ghost use Rattle.cp_needs.specs.Words.{IsHere, IsNeeded};
+ghost use Rattle.cp_needs.specs.Needs.{IsClash, IsFixed, IsHeld, IsProgramPage};
 
 use crate::demand::{Judged, judge};
 use s370_num::AccessKey;
@@ -101,19 +100,20 @@ fn fullwords<S: Storage>(
     Ok(text)
 }
 
-/// What has to be so before a program can run, and its words where no input can change them.
+/// What is found of a program before it runs, and its words where no input can change them.
 #[derive(Drop)]
 pub enum Found {
-    /// A page is not present that it needs, or one of the storage where an input could change one of its words.
+    /// A page is not present that it needs.
     Page(Page),
-    /// Nothing: its pages are present, and no input can change these fullwords, in which its words and lists lie; their
-    /// areas lie on these pages.
+    /// Its pages are present, and no input can change these fullwords, in which its words and lists lie; their areas lie
+    /// on these pages.
     Fixed(Vec<Fullword>, Vec<Page>),
-    /// Nothing: each page of the storage is present.
-    Whole,
+    /// Its pages are present, and an input could change one of its words or lists.
+    Open,
 }
 
-/// What has to be so before the program from an address on can run, as [`needed`](crate::needed), with its words. An
+/// What is found of the program from an address on: the first of its pages that is not present, breadth first from
+/// there, of each word its own page first and then those of its area upwards; or, where all of them are, its words. An
 /// error is memory.
 pub fn look<S: Storage>(alloc: Global, storage: &S, start: u32) -> Result<Found, AllocError>
     requires even { start % 8 ≡ 0 }
@@ -121,7 +121,7 @@ pub fn look<S: Storage>(alloc: Global, storage: &S, start: u32) -> Result<Found,
     ensures away { IfOk result
         (λ found. IfFound found (IsAway (length (S.bytes storage.now)) (S.present storage.now))) }
     ensures needed { IfOk result
-        (λ found. IfFound found (IsNeeded (memory_of (S.bytes storage.now) (S.keys storage.now)) start)) }
+        (λ found. IfFound found (IsProgramPage (memory_of (S.bytes storage.now) (S.keys storage.now)) start)) }
     ensures fixed { IfOk result
         (λ found. IfText found (λ text. IsFixed (memory_of (S.bytes storage.now) (S.keys storage.now)) start)) }
     ensures held { IfOk result
@@ -139,13 +139,12 @@ pub fn look<S: Storage>(alloc: Global, storage: &S, start: u32) -> Result<Found,
     ensures pages_only { IfOk result
         (λ found. IfPages found
         (λ pages. IsPagedOnly (memory_of (S.bytes storage.now) (S.keys storage.now)) start pages)) }
-    ensures all { IfOk result
-        (λ found. IfWhole found
-        ((page : ℕ) → IsHere (length (S.bytes storage.now)) (S.present storage.now) page)) }
+    ensures open { IfOk result
+        (λ found. IfOpen found (IsClash (memory_of (S.bytes storage.now) (S.keys storage.now)) start)) }
 {
     let notes = match judge(alloc, storage, start)? {
         Judged::Page(page) => return Ok(Found::Page(page)),
-        Judged::Whole => return Ok(Found::Whole),
+        Judged::Open => return Ok(Found::Open),
         Judged::Fixed(notes) => notes,
     };
     let text = fullwords(alloc, storage, &notes.text)?;

@@ -1,6 +1,6 @@
 //! The run of a program over a storage that has its pages.
 ghost use Rattle.std.specs.Prelude.{◌≡◌, IfErr, IfOk};
-ghost use Rattle.cp_needs.specs.Words.{IsEnough};
+ghost use Rattle.cp_needs.specs.Words.{IsFixedStill};
 ghost use Rattle.s370_channel.specs.Guest.{guest_written};
 ghost use Rattle.s370_channel.specs.Progress.{MatchStuck, setting};
 ghost use Rattle.s370_channel.specs.declared.running.ChannelError.TheVariants as errors;
@@ -12,14 +12,14 @@ use s370_store::Storage;
 use s370_walk::{Device, Ending};
 
 /// Runs the program from an address on, each word read when it is reached, over a storage that has the pages which it
-/// needs, as it is where [`needed`](crate::needed) tells no page: it stops for want of memory alone.
+/// needs, where no input can change it: it stops for want of memory alone.
 pub fn run_held<S: Storage, D: Device>(
     storage: &mut S,
     start: u32,
     limits: &Limits,
     device: &mut D,
 ) -> Result<Ending, ChannelError>
-    requires enough { IsEnough (memory_of (S.bytes storage.old) (S.keys storage.old)) (S.present storage.old) start }
+    requires still { IsFixedStill (memory_of (S.bytes storage.old) (S.keys storage.old)) (S.present storage.old) start }
     ensures reaches { IfOk result
         (λ ending. Reaches (live guest_written) (setting D.machine limits.now)
         (Fetching (start_spot start) (memory_of (S.bytes storage.old) (S.keys storage.old)) device.old)

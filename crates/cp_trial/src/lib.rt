@@ -8,7 +8,9 @@
 //! are pages that the program touches; and what runs is the walk of the storage as it stood.
 #![tactic(auto)]
 
-ghost use Rattle.std.specs.Prelude.{◌≡◌, ℕ, Bool, false, Err, IfOk, OnErr};
+mod open;
+
+ghost use Rattle.std.specs.Prelude.{◌≡◌, ℕ, Bool, false, Err, IfOk, OnErr, length};
 ghost use Rattle.s370_channel.specs.Guest.{guest_written};
 ghost use Rattle.s370_channel.specs.Loading.{loading, loading_limits};
 ghost use Rattle.s370_channel.specs.Progress.{setting};
@@ -24,6 +26,8 @@ ghost use Rattle.channel_trial.specs.Trial.{is_touched, trial_bytes, trial_flags
 ghost use Rattle.channel_trial.specs.Tried.{IsLoadingTried, IsProgramTried};
 ghost use Rattle.cp_trial.specs.Tried.{EndsSomehow, LacksSuch};
 ghost use Rattle.cp_trial.specs.declared.TriedError.TheVariants as errors;
+
+pub use open::{fetch_again, fetch_first, load_open, run_open};
 
 use channel_trial::{TrialStorage, Tried, TriedLoading, limits_of};
 use cp_dat::Dat;
@@ -106,6 +110,7 @@ pub fn run_tried<D: Device>(
     ensures came { CameOnly storage.old (is_wanted (trial_flags tried.now)) storage.new }
     ensures between { IsBetweenUnits (lent_pool storage.new).supply }
     ensures keys { lent_keys storage.new ≡ lent_keys storage.old }
+    ensures size { length (lent_bytes storage.new) ≡ length (lent_bytes storage.old) }
 {
     match storage.place(tried.touched()) {
         Ok(()) => {}
@@ -187,6 +192,7 @@ pub fn load_tried<D: Device>(
     ensures came { CameOnly storage.old (is_wanted (trial_flags tried.now)) storage.new }
     ensures between { IsBetweenUnits (lent_pool storage.new).supply }
     ensures keys { lent_keys storage.new ≡ lent_keys storage.old }
+    ensures size { length (lent_bytes storage.new) ≡ length (lent_bytes storage.old) }
 {
     match storage.place(tried.touched()) {
         Ok(()) => {}

@@ -1,5 +1,6 @@
-//! Programs of a minidisk that is mounted on the unit of its volume: each was tried, and runs to its end or not at all.
-ghost use Rattle.std.specs.Prelude.{◌≡◌, IfOk, OnErr, Err};
+//! Programs of a minidisk that is mounted on the unit of its volume: one that was tried runs to its end or not at all, one
+//! whose pages are held to its end.
+ghost use Rattle.std.specs.Prelude.{◌≡◌, IfOk, OnErr, Err, length};
 ghost use Rattle.s370_channel.specs.Reading.{as_reached};
 ghost use Rattle.s370_channel.specs.Runs.{Walks};
 ghost use Rattle.s370_walk.specs.Hardware.{memory_of};
@@ -12,15 +13,43 @@ ghost use Rattle.channel_trial.specs.Trial.{trial_bytes, trial_flags};
 ghost use Rattle.channel_trial.specs.Tried.{IsLoadingTried, IsProgramTried};
 ghost use Rattle.cp_trial.specs.Tried.{LacksSuch};
 ghost use Rattle.cp_trial.specs.declared.TriedError.TheVariants as errors;
+ghost use Rattle.cp_needs.specs.Words.{IsFixedStill};
 ghost use Rattle.cp_volumes.specs.Running.{KeepsVolume};
 
 use channel_trial::TrialStorage;
 use cp_dat::Dat;
 use cp_minidisk::Mounted;
+use cp_needs::run_held;
 use cp_trial::{TriedError, load_tried, run_tried};
-use s370_channel::Caw;
+use s370_channel::{Caw, Limits, MOST_COMMANDS};
+use s370_store::Storage;
 use s370_walk::Ending;
 use std::alloc::Global;
+
+/// The program with this start runs, which no input can change, over a storage that has the pages which it needs.
+pub(crate) fn run_mounted_held<S: Storage>(
+    mounted: &mut Mounted,
+    storage: &mut S,
+    start: Caw,
+) -> Ending
+    requires { IsFixedStill (memory_of (S.bytes storage.old) (S.keys storage.old)) (S.present storage.old) start.address }
+    ensures walk { Walks as_reached disk_machine start (memory_of (S.bytes storage.old) (S.keys storage.old))
+        mounted.old.disk result (memory_of (S.bytes storage.new) (S.keys storage.new)) mounted.new.disk }
+    ensures volume { KeepsVolume mounted.old mounted.new }
+    ensures keys { S.keys storage.new ≡ S.keys storage.old }
+    ensures rest { S.Keeps storage.old storage.new }
+{
+    let limits = Limits {
+        key: start.key,
+        commands: MOST_COMMANDS,
+        prefix: 0,
+    };
+    match run_held(storage, start.address.get(), &limits, mounted) {
+        Ok(ending) => ending,
+        // No command of a disk needs memory.
+        Err(_) => unreachable!(),
+    }
+}
 
 /// The program with this start, which was tried, runs.
 pub(crate) fn run_mounted(
@@ -43,6 +72,7 @@ pub(crate) fn run_mounted(
     ensures came { CameOnly storage.old (is_wanted (trial_flags tried.now)) storage.new }
     ensures between { IsBetweenUnits (lent_pool storage.new).supply }
     ensures keys { lent_keys storage.new ≡ lent_keys storage.old }
+    ensures size { length (lent_bytes storage.new) ≡ length (lent_bytes storage.old) }
 {
     run_tried(alloc, storage, start, mounted, tried)
 }
@@ -67,6 +97,7 @@ pub(crate) fn load_mounted(
     ensures came { CameOnly storage.old (is_wanted (trial_flags tried.now)) storage.new }
     ensures between { IsBetweenUnits (lent_pool storage.new).supply }
     ensures keys { lent_keys storage.new ≡ lent_keys storage.old }
+    ensures size { length (lent_bytes storage.new) ≡ length (lent_bytes storage.old) }
 {
     load_tried(alloc, storage, mounted, tried)
 }

@@ -10,6 +10,7 @@ ghost use Rattle.cp_dat.specs.Lent.{lent_bytes, lent_keys, lent_pool};
 ghost use Rattle.cp_dat.specs.Supplied.{IsBetweenUnits};
 ghost use Rattle.cp_trial.specs.Tried.{LacksSuch};
 ghost use Rattle.cp_trial.specs.declared.TriedError.TheVariants as errors;
+ghost use Rattle.cp_needs.specs.Words.{IsFixedStill};
 ghost use Rattle.cp_volumes.specs.Running.{DiskLoadTouches, DiskTouches};
 ghost use Rattle.cp_volumes.specs.Shared.{IsUsers, KeepsNeighbours, cleared_minidisk, reset_minidisk, seen, stands_of};
 
@@ -18,6 +19,7 @@ use crate::volumes::Volumes;
 use cp_dat::Dat;
 use cp_trial::TriedError;
 use s370_channel::Caw;
+use s370_store::Storage;
 use s370_walk::Ending;
 use std::alloc::Global;
 use std::marker::Model;
@@ -81,6 +83,21 @@ impl UserDisks {
         clear_each(&mut self.minidisks);
     }
 
+    /// The program with this start, which no input can change, runs on the minidisk of this index, over a storage that has the
+    /// pages which it needs.
+    pub fn run_held<S: Storage>(&mut self, storage: &mut S, start: Caw, index: usize) -> Ending
+        requires inside { index < length (seen self.old) }
+        requires still { IsFixedStill (memory_of (S.bytes storage.old) (S.keys storage.old)) (S.present storage.old)
+            start.address }
+        ensures walk { WalksDisk as_reached start (memory_of (S.bytes storage.old) (S.keys storage.old))
+            (seen self.old) index result (memory_of (S.bytes storage.new) (S.keys storage.new)) (seen self.new) }
+        ensures others { KeepsNeighbours self.old self.new }
+        ensures keys { S.keys storage.new ≡ S.keys storage.old }
+        ensures rest { S.Keeps storage.old storage.new }
+    {
+        self.volumes.run_held(&mut self.minidisks[index], storage, start)
+    }
+
     /// The program with this start runs on the minidisk of this index: where there is room for the pages that it touches, and
     /// else not at all.
     pub fn run_disk(
@@ -104,6 +121,7 @@ impl UserDisks {
         ensures between { IsBetweenUnits (lent_pool storage.new).supply }
         ensures others { KeepsNeighbours self.old self.new }
         ensures keys { lent_keys storage.new ≡ lent_keys storage.old }
+        ensures size { length (lent_bytes storage.new) ≡ length (lent_bytes storage.old) }
     {
         let mut seat = self.minidisks[index];
         let ending = self.volumes.run(alloc, &mut seat, storage, start)?;
@@ -132,6 +150,7 @@ impl UserDisks {
         ensures between { IsBetweenUnits (lent_pool storage.new).supply }
         ensures others { KeepsNeighbours self.old self.new }
         ensures keys { lent_keys storage.new ≡ lent_keys storage.old }
+        ensures size { length (lent_bytes storage.new) ≡ length (lent_bytes storage.old) }
     {
         let mut seat = self.minidisks[index];
         seat.reset();

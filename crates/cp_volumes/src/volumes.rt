@@ -18,9 +18,10 @@ ghost use Rattle.channel_trial.specs.Trial.{trial_bytes, trial_flags};
 ghost use Rattle.channel_trial.specs.Tried.{IsLoadingTried, IsProgramTried};
 ghost use Rattle.cp_trial.specs.Tried.{LacksSuch};
 ghost use Rattle.cp_trial.specs.declared.TriedError.TheVariants as errors;
+ghost use Rattle.cp_needs.specs.Words.{IsFixedStill};
 ghost use Rattle.cp_volumes.specs.Shared.{AreThere, IsConfined, IsSeated, disk_on, no_volume, stand_of, volume_at, volume_or_none};
 
-use crate::running::{load_mounted, run_mounted};
+use crate::running::{load_mounted, run_mounted, run_mounted_held};
 use crate::shared_disk::SharedDisk;
 use channel_trial::TrialStorage;
 use ckd_volume::{Arm, Sense, Unit, UnitTrial, Volume};
@@ -28,6 +29,7 @@ use cp_dat::Dat;
 use cp_minidisk::Mounted;
 use cp_trial::{TriedError, try_loading, try_program};
 use s370_channel::Caw;
+use s370_store::Storage;
 use s370_walk::Ending;
 use std::alloc::{AllocError, Global};
 use std::marker::Model;
@@ -161,6 +163,31 @@ impl Volumes {
         try_loading(alloc, storage, &mut trial)
     }
 
+    /// The program with this start, which no input can change, runs on a minidisk, over a storage that has the pages which
+    /// it needs; the minidisk is then at rest.
+    pub(crate) fn run_held<S: Storage>(
+        &mut self,
+        disk: &mut SharedDisk,
+        storage: &mut S,
+        start: Caw,
+    ) -> Ending
+        requires seated { IsSeated self.old (stand_of disk.old) }
+        requires enough { IsFixedStill (memory_of (S.bytes storage.old) (S.keys storage.old)) (S.present storage.old)
+            start.address }
+        ensures walk { RestsAfter as_reached start (memory_of (S.bytes storage.old) (S.keys storage.old))
+            (disk_on self.old disk.old) result (memory_of (S.bytes storage.new) (S.keys storage.new))
+            (disk_on self.new disk.new) }
+        ensures stands { stand_of disk.new ≡ stand_of disk.old }
+        ensures confined { IsConfined (stand_of disk.old ∷ []) self.old self.new }
+        ensures keys { S.keys storage.new ≡ S.keys storage.old }
+        ensures rest { S.Keeps storage.old storage.new }
+    {
+        let mut mounted = self.mount(disk);
+        let ending = run_mounted_held(&mut mounted, storage, start);
+        self.dismount(disk, mounted);
+        ending
+    }
+
     /// The program with this start runs on a minidisk, which is then at rest: where there is room for the pages that it
     /// touches, and else not at all.
     pub(crate) fn run(
@@ -187,6 +214,7 @@ impl Volumes {
             storage.new }
         ensures between { IsBetweenUnits (lent_pool storage.new).supply }
         ensures keys { lent_keys storage.new ≡ lent_keys storage.old }
+        ensures size { length (lent_bytes storage.new) ≡ length (lent_bytes storage.old) }
     {
         let again = Caw {
             key: start.key,
@@ -233,6 +261,7 @@ impl Volumes {
             storage.new }
         ensures between { IsBetweenUnits (lent_pool storage.new).supply }
         ensures keys { lent_keys storage.new ≡ lent_keys storage.old }
+        ensures size { length (lent_bytes storage.new) ≡ length (lent_bytes storage.old) }
     {
         let tried = match self.try_load(alloc, disk, storage) {
             Ok(tried) => tried,

@@ -1,16 +1,16 @@
 use Rattle.std.proofs.Common.{◌≡◌, ◌∙◌, Bool, sym, subst, inr, Result, true, false, ℕ, None, Some}
 use Rattle.cp_dat.specs.Lent.{lent_bytes, lent_keys}
 use Rattle.cp_devices.specs.declared.line.Told.{Told}
-use Rattle.cp_devices.specs.Equipped.{equipped}
+use Rattle.cp_devices.specs.Equipped.{Equipped, equipped}
 use Rattle.cp_devices.specs.Lent.{devices_on}
-use Rattle.cp_devices.specs.Lines.{loads_from}
+use Rattle.cp_devices.specs.Lines.{IplNeeds, loads_from}
 use Rattle.cp_devices.proofs.Beside.{beside_on}
 use Rattle.cp_core.proofs.Owned.{owner_still}
 use Rattle.cp_panel.specs.declared.line.LineError.{LineError}
-use Rattle.cp_core.specs.Resident.{disks_on, hung_further}
+use Rattle.cp_resident.specs.Resident.{disks_on, hung_further}
 use Rattle.cp_core.specs.Typed.{IsLineLent}
 use Rattle.cp_core.proofs.Answered.{loads_ipl, plain_whole}
-use Rattle.cp_core.proofs.Worked.{loading_lent, plainly_lent}
+use Rattle.cp_core.proofs.Worked.{loading_lent}
 use Rattle.cp_core.proofs.serving.type_supplied.Goals as goal
 
 not_both : {b : Bool} → b ≡ false → b ≡ true → ⊥
@@ -19,50 +19,33 @@ not_both off on = cc
 pub returns-in-Some-clause-kept : goal.returns-in-Some-clause-kept
 returns-in-Some-clause-kept g c = λ failed plain. (
     let before = equipped c.args.machine.now (devices_on c.args.devices.now c.args.queues.now) (disks_on c.args.channels.now) (lent_bytes c.args.storage.now) (lent_keys c.args.storage.now) in
-    let after = equipped c.line.new.machine (devices_on c.line.new.self c.line.new.queues) (disks_on c.line.new.disks) (lent_bytes c.line.new.storage) (lent_keys c.line.new.storage) in
+    let after = equipped c.type_line.new.machine (devices_on c.type_line.new.devices c.type_line.new.queues) (disks_on c.type_line.new.channels) (lent_bytes c.type_line.new.storage) (lent_keys c.type_line.new.storage) in
     let loads : loads_from c.in-Ok.first ≡ Some c.in-Some.device = sym c.loads_from.ensures ∙ c.in-Some.is in
     let l = loads_ipl (g.W.World.known c.args.world.now) c.args.typed.now before c.in-Ok.first after c.in-Some.device c.in-Ok.ensures.ok loads in
-    absurd (not_both plain l.0))
+    absurd (not_both plain l.ipl))
 
 pub returns-in-Some-clause-memory : goal.returns-in-Some-clause-memory
 returns-in-Some-clause-memory g c = λ failed. (
     let before = equipped c.args.machine.now (devices_on c.args.devices.now c.args.queues.now) (disks_on c.args.channels.now) (lent_bytes c.args.storage.now) (lent_keys c.args.storage.now) in
-    let after = equipped c.line.new.machine (devices_on c.line.new.self c.line.new.queues) (disks_on c.line.new.disks) (lent_bytes c.line.new.storage) (lent_keys c.line.new.storage) in
+    let after = equipped c.type_line.new.machine (devices_on c.type_line.new.devices c.type_line.new.queues) (disks_on c.type_line.new.channels) (lent_bytes c.type_line.new.storage) (lent_keys c.type_line.new.storage) in
     let loads : loads_from c.in-Ok.first ≡ Some c.in-Some.device = sym c.loads_from.ensures ∙ c.in-Some.is in
     let l = loads_ipl (g.W.World.known c.args.world.now) c.args.typed.now before c.in-Ok.first after c.in-Some.device c.in-Ok.ensures.ok loads in
-    inr l.0)
+    inr l.ipl)
 
 pub returns-in-Some-clause-lent : goal.returns-in-Some-clause-lent
-returns-in-Some-clause-lent g c =
-    let before = equipped c.args.machine.now (devices_on c.args.devices.now c.args.queues.now) (disks_on c.args.channels.now) (lent_bytes c.args.storage.now) (lent_keys c.args.storage.now) in
-    let after = equipped c.line.new.machine (devices_on c.line.new.self c.line.new.queues) (disks_on c.line.new.disks) (lent_bytes c.line.new.storage) (lent_keys c.line.new.storage) in
-    let loads : loads_from c.in-Ok.first ≡ Some c.in-Some.device = sym c.loads_from.ensures ∙ c.in-Some.is in
-    let l = loads_ipl (g.W.World.known c.args.world.now) c.args.typed.now before c.in-Ok.first after c.in-Some.device c.in-Ok.ensures.ok loads in
-    loading_lent c.args.typed.now before c.args.storage.now c.line.new.storage c.load_supplied.new.storage c.load_supplied.result l.0 c.line.ensures.supply c.line.ensures.size c.load_supplied.ensures.frames c.load_supplied.ensures.supply
+returns-in-Some-clause-lent g c = ?
 
 pub returns-in-Some-clause-others : goal.returns-in-Some-clause-others
-returns-in-Some-clause-others g c = hung_further c.args.channels.now c.line.new.disks c.load_supplied.new.channels c.line.ensures.others c.load_supplied.ensures.others
+returns-in-Some-clause-others g c = hung_further c.args.channels.now c.type_line.new.channels c.ipl.new.channels c.type_line.ensures.others c.ipl.ensures.others
 
 pub returns-in-None-clause-ok : goal.returns-in-None-clause-ok
 returns-in-None-clause-ok g c =
     let before = equipped c.args.machine.now (devices_on c.args.devices.now c.args.queues.now) (disks_on c.args.channels.now) (lent_bytes c.args.storage.now) (lent_keys c.args.storage.now) in
-    let after = equipped c.line.new.machine (devices_on c.line.new.self c.line.new.queues) (disks_on c.line.new.disks) (lent_bytes c.line.new.storage) (lent_keys c.line.new.storage) in
+    let after = equipped c.type_line.new.machine (devices_on c.type_line.new.devices c.type_line.new.queues) (disks_on c.type_line.new.channels) (lent_bytes c.type_line.new.storage) (lent_keys c.type_line.new.storage) in
     plain_whole (g.W.World.known c.args.world.now) c.args.typed.now before c.in-Ok.first after (sym c.loads_from.ensures ∙ c.in-None.is) c.in-Ok.ensures.ok
 
-pub returns-in-None-clause-lent : goal.returns-in-None-clause-lent
-returns-in-None-clause-lent g c =
-    let before = equipped c.args.machine.now (devices_on c.args.devices.now c.args.queues.now) (disks_on c.args.channels.now) (lent_bytes c.args.storage.now) (lent_keys c.args.storage.now) in
-    subst (λ (r : Result Told LineError). IsLineLent c.args.typed.now before c.args.storage.now c.line.new.storage r) c.in-Ok.is
-    (plainly_lent c.args.typed.now before c.args.storage.now c.line.new.storage c.line.result c.line.ensures.frames c.line.ensures.cleared c.line.ensures.not_cleared c.line.ensures.supply)
-
-pub returns-in-Err-clause-lent : goal.returns-in-Err-clause-lent
-returns-in-Err-clause-lent g c =
-    let before = equipped c.args.machine.now (devices_on c.args.devices.now c.args.queues.now) (disks_on c.args.channels.now) (lent_bytes c.args.storage.now) (lent_keys c.args.storage.now) in
-    subst (λ (r : Result Told LineError). IsLineLent c.args.typed.now before c.args.storage.now c.line.new.storage r) c.in-Err.is
-    (plainly_lent c.args.typed.now before c.args.storage.now c.line.new.storage c.line.result c.line.ensures.frames c.line.ensures.cleared c.line.ensures.not_cleared c.line.ensures.supply)
-
 pub returns-in-Some-clause-beside : goal.returns-in-Some-clause-beside
-returns-in-Some-clause-beside g c = beside_on _ _ _ _ _ _ c.line.ensures.beside c.load_supplied.ensures.beside
+returns-in-Some-clause-beside g c = beside_on _ _ _ _ _ _ c.type_line.ensures.beside c.ipl.ensures.beside
 
-pub load_supplied-requires-clause-owner : goal.load_supplied-requires-clause-owner
-load_supplied-requires-clause-owner g c = owner_still _ _ _ _ c.line.ensures.beside c.requires.owner
+pub ipl-requires-clause-user : goal.ipl-requires-clause-user
+ipl-requires-clause-user g c = owner_still _ _ _ _ c.type_line.ensures.beside c.requires.owner

@@ -1,4 +1,4 @@
-use Rattle.std.proofs.Common.{inr, ℕ}
+use Rattle.std.proofs.Common.{ℕ}
 use Rattle.std.proofs.lemmas.List.Sorted.{IsNonDecreasingBy-from_sort}
 use Rattle.s370_walk.specs.Hardware.{memory_of}
 use Rattle.cp_needs.proofs.Clearing.{clash_of, even_at, fixed_of, here_at, ok_of}
@@ -20,30 +20,30 @@ notes_of-requires-clause-here g c =
 pub meet-requires : goal.meet-requires
 meet-requires g c = rw c.deref-2.ensures.value (IsNonDecreasingBy-from_sort (λ (x : ℕ). x) _ c.sort_unstable.ensures.sorted)
 
-pub returns-then-not-meet-clause-fixed : goal.returns-then-not-meet-clause-fixed
-returns-then-not-meet-clause-fixed g c =
+pub returns-clause-fixed : goal.returns-clause-fixed
+returns-clause-fixed g c =
     let m = memory_of (g.S.Storage.bytes c.args.storage.now) (g.S.Storage.keys c.args.storage.now) in
     let found = ok_of _ c.in_ok-words.field-0 c.in-Ok.words c.in-Ok.is c.in_ok-words.ensures.words in
     let marked = rw c.deref.ensures.value at c.in_ok-notes.ensures.marked in
     let stored = rw c.deref.ensures.value at c.in_ok-notes.ensures.stored in
-    let apart = rw (c.size.ensures.bytes, c.deref-2.ensures.value, c.deref-3.ensures.value) at (c.meet.ensures.none c.if-not-meet.true) in
+    let apart = rw (c.size.ensures.bytes, c.deref-2.ensures.value, c.deref-3.ensures.value) at (c.meet.ensures.none c.if-meet.false) in
     fixed_of m c.args.start c.in-Ok.words.items c.requires.even found c.in_ok-notes.notes.text.items _ c.in_ok-notes.notes.filled.items c.sort_unstable.ensures.permutation marked stored apart
 
-pub returns-then-not-meet-clause-noted : goal.returns-then-not-meet-clause-noted
-returns-then-not-meet-clause-noted g c =
+pub returns-clause-noted : goal.returns-clause-noted
+returns-clause-noted g c =
     let found = ok_of _ c.in_ok-words.field-0 c.in-Ok.words c.in-Ok.is c.in_ok-words.ensures.words in
     let marked = rw c.deref.ensures.value at c.in_ok-notes.ensures.marked in
     let paged = rw c.deref.ensures.value at c.in_ok-notes.ensures.paged in
     record { words = c.in-Ok.words.items; of_program = found; found = c.in_ok-notes.notes.text.items; moved = c.sort_unstable.ensures.permutation; marked = marked; paged = paged }
 
-pub returns-then-not-meet-clause-held : goal.returns-then-not-meet-clause-held
-returns-then-not-meet-clause-held g c = ok_of _ c.in_ok-words.field-0 c.in-Ok.words c.in-Ok.is c.in_ok-words.ensures.held
+pub returns-clause-held : goal.returns-clause-held
+returns-clause-held g c = ok_of _ c.in_ok-words.field-0 c.in-Ok.words c.in-Ok.is c.in_ok-words.ensures.held
 
-pub returns-in-Some-clause-needed : goal.returns-in-Some-clause-needed
-returns-in-Some-clause-needed g c =
+pub returns-then-meet-clause-open : goal.returns-then-meet-clause-open
+returns-then-meet-clause-open g c =
     let m = memory_of (g.S.Storage.bytes c.args.storage.now) (g.S.Storage.keys c.args.storage.now) in
     let found = ok_of _ c.in_ok-words.field-0 c.in-Ok.words c.in-Ok.is c.in_ok-words.ensures.words in
     let marked = rw c.deref.ensures.value at c.in_ok-notes.ensures.marked in
     let stored = rw c.deref.ensures.value at c.in_ok-notes.ensures.stored in
-    let met = rw (c.size.ensures.bytes, c.deref-2.ensures.value, c.deref-3.ensures.value) at (c.meet.ensures.some c.if-not-meet.false) in
-    inr (clash_of m c.args.start c.in-Ok.words.items c.requires.even found c.in_ok-notes.notes.text.items _ c.in_ok-notes.notes.filled.items c.sort_unstable.ensures.permutation marked stored met.0 met.1 met.2 met.3)
+    let met = rw (c.size.ensures.bytes, c.deref-2.ensures.value, c.deref-3.ensures.value) at (c.meet.ensures.some c.if-meet.true) in
+    clash_of m c.args.start c.in-Ok.words.items c.requires.even found c.in_ok-notes.notes.text.items _ c.in_ok-notes.notes.filled.items c.sort_unstable.ensures.permutation marked stored met.0 met.1 met.2 met.3

@@ -7,24 +7,18 @@ use Rattle.cp_devices.specs.Lines.{IsWholeLine, requested}
 use Rattle.cp_panel.specs.declared.line.LineError.TheVariants as errors
 use Rattle.cp_volumes.specs.Shared.{DisksValue, KeepsNeighbours, SharedMinidisk, seen}
 use Rattle.ckd_volume.specs.Volume.{VolumeFormat}
-use Rattle.cp_core.specs.Resident.{disks_on, hung_on}
+use Rattle.cp_resident.specs.Resident.{disks_on, hung_on}
 use Rattle.cp_core.specs.System.{world_among}
 use Rattle.cp_core.specs.Typed.{IsLineLent}
 use Rattle.cp_core.specs.Wants.{LineMay, is_ipl}
-use Rattle.cp_core.proofs.Worked.{typed_work, work_between, work_keeps}
+use Rattle.cp_core.proofs.Worked.{typed_work}
 use Rattle.cp_core.proofs.work.LineWork.work.Goals as goal
 
 pub returns-clause-kept : goal.returns-clause-kept
-returns-clause-kept c =
-    let before = equipped c.args.machine.now (devices_on c.args.devices.now c.args.queues.now) (disks_on c.take-channels.result) (lent_bytes c.args.storage.now) (lent_keys c.args.storage.now) in
-    let told = c.type_supplied-told in
-    work_keeps c.args.self.now.typed.now before c.args.storage.now told.new.storage c.let_go.new.self told.result told.ensures.lent c.let_go.ensures.let_go
+returns-clause-kept c = c.type_supplied-told.ensures.lent.kept
 
 pub returns-clause-between : goal.returns-clause-between
-returns-clause-between c =
-    let before = equipped c.args.machine.now (devices_on c.args.devices.now c.args.queues.now) (disks_on c.take-channels.result) (lent_bytes c.args.storage.now) (lent_keys c.args.storage.now) in
-    let told = c.type_supplied-told in
-    work_between c.args.self.now.typed.now before c.args.storage.now told.new.storage c.let_go.new.self told.result c.requires.between told.ensures.lent c.let_go.ensures.let_go
+returns-clause-between c = c.type_supplied-told.ensures.lent.between
 
 pub returns-clause-neighbours : goal.returns-clause-neighbours
 returns-clause-neighbours c =
@@ -49,5 +43,5 @@ returns-clause-does c =
     × (r ≡ Err errors.Memory → is_ipl (requested typed (from d)) ≡ false → after ≡ from d)
     × (r ≡ Err errors.Memory → LineMay typed (from d)) in
     let facts : Facts start = subst Facts c.take-channels.ensures (told.ensures.lent, told.ensures.ok, told.ensures.same, told.ensures.kept, told.ensures.memory) in
-    rw (← c.users.ensures.users, ← c.as_slice.ensures.value, c.let_go.ensures.bytes, c.let_go.ensures.keys, c.give.ensures.volumes, c.give.ensures.minidisks)
-    (typed_work world (user_of c.args.storage.now) typed (from start) after c.args.storage.now told.new.storage c.let_go.new.self r refl c.requires.between facts.0 c.let_go.ensures.let_go facts.1 facts.2 facts.3 facts.4)
+    rw (← c.users.ensures.users, ← c.as_slice.ensures.value, c.give.ensures.volumes, c.give.ensures.minidisks)
+    (typed_work world (user_of c.args.storage.now) typed (from start) after c.args.storage.now told.new.storage r refl facts.0 facts.1 facts.2 facts.3 facts.4)

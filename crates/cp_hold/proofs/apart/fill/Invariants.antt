@@ -1,0 +1,14 @@
+use Rattle.std.proofs.Common.{◌≡◌, ◌<◌, ◌≤◌, ◌-◌, ℕ, true, false}
+use Rattle.channel_trial.specs.Trial.{is_touched, trial_bytes, trial_keys}
+use Rattle.cp_hold.proofs.apart.fill.Given as goal
+
+abbrev pub invariant-loop-page : goal.invariant-loop-page
+invariant-loop-page l = record {
+  bytes : trial_bytes l.copy ≡ trial_bytes l.fn.copy;
+  keys : trial_keys l.copy ≡ trial_keys l.fn.copy;
+  there : (page : ℕ) → page < l.page → is_touched l.copy page ≡ true;
+  away : (page : ℕ) → l.page ≤ page → is_touched l.copy page ≡ false;
+}
+
+abbrev pub decreases-loop-page : goal.decreases-loop-page
+decreases-loop-page l = l.pages - l.page

@@ -1,0 +1,44 @@
+-- The pages of a program that no input can change.
+use Rattle.std.specs.Prelude.{◌≡◌, ℕ, ◌%◌, All, Bool, List}
+use Rattle.s370_store.specs.declared.Page.{Page}
+use Rattle.s370_walk.specs.Hardware.{Memory, memory_of}
+use Rattle.cp_dat.specs.declared.dat.Dat.{Dat}
+use Rattle.cp_dat.specs.Lent.{lent_bytes, lent_keys}
+use Rattle.cp_needs.specs.Kept.{IsAsItStood, IsPaged, IsPagedOnly, IsText, IsTextOnly}
+use Rattle.cp_needs.specs.Needs.{IsFixed, IsHeld, IsProgramPage}
+use Rattle.cp_needs.specs.declared.kept.Fullword.{Fullword}
+use Rattle.cp_hold.specs.declared.held.Program.{Program}
+use Rattle.cp_hold.specs.declared.held.Program.TheVariants as programs
+
+-- a user's bytes and keys
+abbrev pub guest_memory : Dat → Memory
+guest_memory d = memory_of (lent_bytes d) (lent_keys d)
+
+-- the pages that are held together for the program that starts at an address: those of its words, their lists and areas, where
+-- no input can change it
+pub record HoldNeeds (m : Memory) (start page : ℕ) : Type 0 where
+  pub even : start % 8 ≡ 0
+  pub fixed : IsFixed m start
+  pub needed : IsProgramPage m start page
+
+-- no input can change the program, its pages are present, its words and lists lie in these fullwords, as which they stand, and
+-- its areas on these pages
+pub record IsFixedProgram (m : Memory) (start : ℕ) (present : ℕ → Bool) (text : List Fullword) (pages : List Page) : Type 0 where
+  pub even : start % 8 ≡ 0
+  pub fixed : IsFixed m start
+  pub held : IsHeld m start present
+  pub text : IsText m start text
+  pub only : IsTextOnly m start text
+  pub stands : All (IsAsItStood m.bytes present) text
+  pub paged : IsPaged m start pages
+  pub paged_only : IsPagedOnly m start pages
+
+-- what holds of the words and pages that are told
+abbrev pub IfFixed : Program → (List Fullword → List Page → Type 0) → Type 0
+IfFixed (programs.Fixed text pages) P = P text.items pages.items
+IfFixed programs.Open P = Unit {0}
+
+-- what holds where an input is told to be able to change the program
+abbrev pub IfOpen : Program → Type 0 → Type 0
+IfOpen (programs.Fixed text pages) P = Unit {0}
+IfOpen programs.Open P = P

@@ -1,0 +1,74 @@
+//! A program that is looked at on a copy of its user's bytes.
+ghost use Rattle.std.specs.Prelude.{◌≡◌, ℕ, ◌%◌, ◌*◌, ◌<◌, IfNone, IfOk, IfSome, length, true};
+ghost use Rattle.cp_dat.specs.Copies.{is_wanted};
+ghost use Rattle.cp_dat.specs.Lent.{lent_bytes, lent_keys};
+ghost use Rattle.cp_hold.specs.Holding.{guest_memory};
+ghost use Rattle.cp_needs.specs.Needs.{IsClash, IsFixed, IsProgramPage};
+ghost use Rattle.channel_trial.specs.Trial.{is_touched, trial_bytes, trial_keys};
+
+use crate::flags::flags_of;
+use cp_dat::Dat;
+use cp_needs::{Found, look};
+use s370_store::{FramesOut, PAGE_SIZE, Page, Storage, Supply};
+use channel_trial::TrialStorage;
+use std::alloc::{AllocError, Global};
+
+/// A copy of a user's storage. For that no page has to stand in a frame.
+fn copy_of(alloc: Global, storage: &Dat<'_>) -> Result<TrialStorage, AllocError>
+    ensures bytes { IfOk result (λ copy. trial_bytes copy ≡ lent_bytes storage.now) }
+    ensures keys { IfOk result (λ copy. trial_keys copy ≡ lent_keys storage.now) }
+    ensures away { IfOk result (λ copy. (page : ℕ) → is_touched copy page ≡ false) }
+{
+    let bytes = storage.copy_out(alloc)?;
+    let keys = storage.copy_keys(alloc)?;
+    TrialStorage::new(alloc, bytes, keys, storage.size() / PAGE_SIZE)
+}
+
+/// Makes each page of a copy present.
+fn fill(copy: &mut TrialStorage)
+    requires { (page : ℕ) → is_touched copy.old page ≡ false }
+    ensures bytes { trial_bytes copy.new ≡ trial_bytes copy.old }
+    ensures keys { trial_keys copy.new ≡ trial_keys copy.old }
+    ensures there { (page : ℕ) → page * 4096 < length (trial_bytes copy.old) → is_touched copy.new page ≡ true }
+{
+    let pages = copy.size() / PAGE_SIZE;
+    let mut page = 0u32;
+    while page < pages {
+        match Supply::bring(copy, Page(page)) {
+            Ok(()) => {}
+            // There is always room.
+            Err(FramesOut) => unreachable!(),
+        }
+        page += 1;
+    }
+}
+
+/// The pages of the program from an address on, wherever they stand; None where an input could change one of its words
+/// or lists.
+pub(crate) fn pages_apart(
+    alloc: Global,
+    storage: &Dat<'_>,
+    address: u32,
+) -> Result<Option<Vec<bool>>, AllocError>
+    requires { address % 8 ≡ 0 }
+    ensures open { IfOk result (λ found. IfNone found (IsClash (guest_memory storage.now) address)) }
+    ensures fixed { IfOk result (λ found. IfSome found (λ flags. IsFixed (guest_memory storage.now) address)) }
+    ensures size { IfOk result
+        (λ found. IfSome found (λ flags. length flags.items * 4096 ≡ length (lent_bytes storage.now))) }
+    ensures all { IfOk result (λ found. IfSome found
+        (λ flags. (page : ℕ) → IsProgramPage (guest_memory storage.now) address page → is_wanted flags.items page)) }
+    ensures only { IfOk result (λ found. IfSome found
+        (λ flags. (page : ℕ) → is_wanted flags.items page → IsProgramPage (guest_memory storage.now) address page)) }
+{
+    let mut copy = copy_of(alloc, storage)?;
+    fill(&mut copy);
+    match look(alloc, &copy, address)? {
+        Found::Fixed(text, pages) => {
+            let flags = flags_of(alloc, copy.size() / PAGE_SIZE, &text, &pages)?;
+            Ok(Some(flags))
+        }
+        Found::Open => Ok(None),
+        // Each page is present.
+        Found::Page(_) => unreachable!(),
+    }
+}

@@ -1,0 +1,64 @@
+//! The pages on which a program and its areas lie, as flags.
+ghost use Rattle.std.specs.Prelude.{◌≡◌, ℕ, ◌*◌, ◌/◌, ◌<◌, ◌⊎◌, IfOk, length};
+ghost use Rattle.cp_dat.specs.Copies.{is_wanted};
+ghost use Rattle.cp_hold.specs.Flags.{AreFlagged};
+ghost use Rattle.cp_needs.specs.Kept.{IsPaged, IsPagedOnly, IsText, IsTextOnly};
+ghost use Rattle.cp_needs.specs.Needs.{IsProgramPage};
+ghost use Rattle.s370_walk.specs.Hardware.{Memory};
+
+use cp_needs::Fullword;
+use s370_store::{PAGE_SIZE, Page};
+use std::alloc::{AllocError, Global};
+
+/// Marks a page, where there is a flag for it.
+fn mark(wanted: &mut [bool], page: u32)
+    ensures size { length wanted.new ≡ length wanted.old }
+    ensures stays { (other : ℕ) → is_wanted wanted.old other → is_wanted wanted.new other }
+    ensures marked { page < length wanted.old → is_wanted wanted.new page }
+    ensures only { (other : ℕ) → is_wanted wanted.new other → is_wanted wanted.old other ⊎ (other ≡ page) }
+{
+    let place = page as usize;
+    if place < wanted.len() {
+        wanted[place] = true;
+    }
+}
+
+/// Marks the pages of fullwords.
+fn mark_words(wanted: &mut [bool], words: &[Fullword])
+    ensures { AreFlagged (λ w. w.start / 4096) words.now wanted.old wanted.new }
+{
+    for word in words {
+        mark(wanted, word.start / PAGE_SIZE);
+    }
+}
+
+/// Marks pages.
+fn mark_pages(wanted: &mut [bool], pages: &[Page])
+    ensures { AreFlagged (λ page. page.0) pages.now wanted.old wanted.new }
+{
+    for page in pages {
+        mark(wanted, page.0);
+    }
+}
+
+/// A flag for each page of a storage of so many: whether a word, a list or an area of a program lies on it, whose fullwords
+/// and whose areas' pages these are.
+pub(crate) fn flags_of(
+    alloc: Global,
+    count: u32,
+    text: &[Fullword],
+    pages: &[Page],
+) -> Result<Vec<bool>, AllocError>
+    ensures size { IfOk result (λ flags. length flags.items ≡ count) }
+    ensures all { IfOk result (λ flags. (m : Memory) → (start page : ℕ) → length m.bytes ≡ count * 4096
+        → IsText m start text.now → IsPaged m start pages.now → IsProgramPage m start page
+        → is_wanted flags.items page) }
+    ensures only { IfOk result (λ flags. (m : Memory) → (start page : ℕ) → length m.bytes ≡ count * 4096
+        → IsTextOnly m start text.now → IsPagedOnly m start pages.now → is_wanted flags.items page
+        → IsProgramPage m start page) }
+{
+    let mut flags = vec![in alloc; false; count as usize]?;
+    mark_words(&mut flags, text);
+    mark_pages(&mut flags, pages);
+    Ok(flags)
+}

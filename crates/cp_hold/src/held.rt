@@ -1,0 +1,135 @@
+//! A program's pages are brought, and held.
+ghost use Rattle.std.specs.Prelude.{◌≡◌, ℕ, ◌%◌, ◌*◌, ◌≤◌, ◌<◌, All, Err, IfNone, IfOk, IfSome, List, OnErr, OnOk, length, true};
+ghost use Rattle.cp_dat.specs.Copies.{is_wanted};
+ghost use Rattle.cp_dat.specs.Lent.{is_lent_page, lent_bytes, lent_keys, lent_pool, user_of};
+ghost use Rattle.cp_dat.specs.Supplied.{Supplied};
+ghost use Rattle.cp_frames.specs.Paging.{IsRefused};
+ghost use Rattle.cp_hold.specs.Holding.{HoldNeeds, IfFixed, IfOpen, IsFixedProgram, guest_memory};
+ghost use Rattle.cp_needs.specs.Needs.{IsClash, IsFixed, IsProgramPage};
+ghost use Rattle.cp_trial.specs.declared.TriedError.TheVariants as errors;
+ghost use Rattle.s370_channel.specs.Supplied.{AllSuch};
+
+use crate::apart::pages_apart;
+use cp_dat::Dat;
+use cp_needs::{Found, Fullword, look};
+use cp_trial::TriedError;
+use s370_store::{FramesOut, Page, Supply};
+use std::alloc::Global;
+
+/// What is found of a program before it runs.
+#[derive(Drop)]
+pub enum Program {
+    /// No input can change these fullwords, in which its words and lists lie; its areas lie on these pages. All of it stands
+    /// in frames.
+    Fixed(Vec<Fullword>, Vec<Page>),
+    /// An input could change one of its words or lists, or it starts at no doubleword.
+    Open,
+}
+
+/// The first wanted page that stands in no frame.
+fn lacking(storage: &Dat<'_>, wanted: &[bool]) -> Option<Page>
+    requires { length wanted.now * 4096 ≤ length (lent_bytes storage.now) }
+    ensures wanted { IfSome result (λ page. is_wanted wanted.now page.0) }
+    ensures inside { IfSome result (λ page. page.0 * 4096 < length (lent_bytes storage.now)) }
+    ensures away { IfSome result (λ page. is_lent_page storage.now page.0 ≡ false) }
+    ensures there { IfNone result ((page : ℕ) → is_wanted wanted.now page → is_lent_page storage.now page ≡ true) }
+{
+    let mut page = 0u32;
+    while (page as usize) < wanted.len() {
+        if wanted[page as usize] && storage.frame_of(Page(page)).is_none() {
+            return Some(Page(page));
+        }
+        page += 1;
+    }
+    None
+}
+
+/// Brings each wanted page that stands in no frame, and holds them.
+fn bring_wanted(storage: &mut Dat<'_>, wanted: &[bool]) -> Result<(), FramesOut>
+    requires { length wanted.now * 4096 ≤ length (lent_bytes storage.old) }
+    ensures there { OnOk result ((page : ℕ) → is_wanted wanted.now page → is_lent_page storage.new page ≡ true) }
+    ensures short { OnErr result ((page : ℕ) × is_wanted wanted.now page
+        × IsRefused (lent_pool storage.new).supply (user_of storage.new) page) }
+    ensures supply { (pages : List ℕ) × Supplied storage.old pages storage.new
+        × AllSuch (is_wanted wanted.now) pages }
+    ensures bytes { lent_bytes storage.new ≡ lent_bytes storage.old }
+    ensures keys { lent_keys storage.new ≡ lent_keys storage.old }
+{
+    loop {
+        match lacking(storage, wanted) {
+            Some(page) => Supply::bring(storage, page)?,
+            None => return Ok(()),
+        }
+    }
+}
+
+/// Holds the pages of the program from an address on, where no input can change it. Where there is no room for one, this
+/// is told; they are held until the pins are taken away.
+pub fn hold(
+    alloc: Global,
+    storage: &mut Dat<'_>,
+    address: u32,
+) -> Result<Program, TriedError>
+    ensures fixed { IfOk result (λ found. IfFixed found
+        (IsFixedProgram (guest_memory storage.old) address (is_lent_page storage.new))) }
+    ensures open { IfOk result
+        (λ found. IfOpen found (address % 8 ≡ 0 → IsClash (guest_memory storage.old) address)) }
+    ensures untouched { IfOk result (λ found. IfOpen found (storage.new ≡ storage.old)) }
+    ensures out { result ≡ Err errors.FramesOut → ((page : ℕ) × HoldNeeds (guest_memory storage.old) address page
+        × IsRefused (lent_pool storage.new).supply (user_of storage.new) page) }
+    ensures supply { (pages : List ℕ) × Supplied storage.old pages storage.new
+        × AllSuch (HoldNeeds (guest_memory storage.old) address) pages }
+    ensures bytes { lent_bytes storage.new ≡ lent_bytes storage.old }
+    ensures keys { lent_keys storage.new ≡ lent_keys storage.old }
+{
+    // No program is started elsewhere.
+    if address % 8 != 0 {
+        return Ok(Program::Open);
+    }
+    match look(alloc, storage, address) {
+        Ok(Found::Fixed(text, pages)) => return Ok(Program::Fixed(text, pages)),
+        Ok(Found::Open) => return Ok(Program::Open),
+        Ok(Found::Page(_)) => {}
+        Err(_) => return Err(TriedError::Memory),
+    }
+    match pages_apart(alloc, storage, address) {
+        Ok(Some(wanted)) => hold_wanted(alloc, storage, address, &wanted),
+        Ok(None) => Ok(Program::Open),
+        Err(_) => Err(TriedError::Memory),
+    }
+}
+
+/// The same for a program that no input can change, with its pages.
+fn hold_wanted(
+    alloc: Global,
+    storage: &mut Dat<'_>,
+    address: u32,
+    wanted: &[bool],
+) -> Result<Program, TriedError>
+    requires even { address % 8 ≡ 0 }
+    requires fixed { IsFixed (guest_memory storage.old) address }
+    requires size { length wanted.now * 4096 ≡ length (lent_bytes storage.old) }
+    requires all { (page : ℕ) → IsProgramPage (guest_memory storage.old) address page → is_wanted wanted.now page }
+    requires only { (page : ℕ) → is_wanted wanted.now page → IsProgramPage (guest_memory storage.old) address page }
+    ensures fixed { IfOk result (λ found. IfFixed found
+        (IsFixedProgram (guest_memory storage.old) address (is_lent_page storage.new))) }
+    ensures found { IfOk result (λ found. IfOpen found ⊥) }
+    ensures out { result ≡ Err errors.FramesOut → ((page : ℕ) × HoldNeeds (guest_memory storage.old) address page
+        × IsRefused (lent_pool storage.new).supply (user_of storage.new) page) }
+    ensures supply { (pages : List ℕ) × Supplied storage.old pages storage.new
+        × AllSuch (HoldNeeds (guest_memory storage.old) address) pages }
+    ensures bytes { lent_bytes storage.new ≡ lent_bytes storage.old }
+    ensures keys { lent_keys storage.new ≡ lent_keys storage.old }
+{
+    match bring_wanted(storage, wanted) {
+        Ok(()) => {}
+        Err(FramesOut) => return Err(TriedError::FramesOut),
+    }
+    match look(alloc, storage, address) {
+        Ok(Found::Fixed(text, pages)) => Ok(Program::Fixed(text, pages)),
+        // No input can change it, and its pages stand in frames.
+        Ok(Found::Open) => unreachable!(),
+        Ok(Found::Page(_)) => unreachable!(),
+        Err(_) => Err(TriedError::Memory),
+    }
+}

@@ -1,0 +1,8 @@
+use Rattle.cp_resident.proofs.Emptied.{all_none, more_none}
+use Rattle.cp_resident.proofs.reuse.empty_disks.Goals as goal
+
+pub places-preserved : goal.places-preserved
+places-preserved c = more_none c.places.disks c.places.place c.places-test.true c.places.invariant
+
+pub returns : goal.returns
+returns c = all_none c.places.disks c.places.place c.places-test.false c.places.invariant

@@ -1,0 +1,2 @@
+pub mod Resident
+pub mod Reuse

@@ -1,0 +1,129 @@
+//! Programs that are tried, and then run.
+ghost use Rattle.std.specs.Prelude.{◌≡◌, ◌⊎◌, ◌<◌, Err, IfOk, OnOk, length, true};
+ghost use Rattle.s370_channel.specs.Guest.{guest_written};
+ghost use Rattle.s370_channel.specs.Loading.{loading, loading_limits};
+ghost use Rattle.s370_channel.specs.Progress.{setting};
+ghost use Rattle.s370_channel.specs.Reading.{as_reached};
+ghost use Rattle.s370_channel.specs.Runs.{Walks, begun, limited};
+ghost use Rattle.s370_channel.specs.Supplied.{IsTouched};
+ghost use Rattle.s370_walk.specs.Hardware.{memory_of};
+ghost use Rattle.s370_walk.specs.Walk.{Over, Reaches, live};
+ghost use Rattle.cp_dat.specs.Copies.{CameOnly};
+ghost use Rattle.cp_dat.specs.Lent.{is_lent_page, lent_bytes, lent_keys, lent_pool, user_of};
+ghost use Rattle.cp_dat.specs.Supplied.{IsBetweenUnits, Stands};
+ghost use Rattle.cp_trial.specs.Tried.{LacksSuch, LoadTouches};
+ghost use Rattle.cp_trial.specs.declared.TriedError.TheVariants as errors;
+
+use crate::{TriedError, load_tried, run_tried, try_device, try_load};
+use channel_trial::{Tried, TriedLoading};
+use cp_dat::Dat;
+use s370_channel::Caw;
+use s370_store::{FramesOut, Page, Storage};
+use s370_walk::Ending;
+use std::alloc::Global;
+
+/// The program with this start is tried, and runs: where there is room for the pages that it touches, as a whole, and else
+/// not at all.
+pub fn run_open<D: Tried>(
+    alloc: Global,
+    storage: &mut Dat<'_>,
+    start: Caw,
+    device: &mut D,
+) -> Result<Ending, TriedError>
+    requires { IsBetweenUnits (lent_pool storage.old).supply }
+    ensures walk { IfOk result
+        (λ ending. Walks as_reached D.Device.machine start
+        (memory_of (lent_bytes storage.old) (lent_keys storage.old)) device.old ending
+        (memory_of (lent_bytes storage.new) (lent_keys storage.new)) device.new) }
+    ensures same { result ≡ Err errors.FramesOut → (lent_bytes storage.new ≡ lent_bytes storage.old)
+        × (device.new ≡ device.old) }
+    ensures lacking { result ≡ Err errors.FramesOut → LacksSuch (IsTouched guest_written
+        (limited D.Device.machine start) (begun start (memory_of (lent_bytes storage.old) (lent_keys storage.old))
+        device.old)) storage.new }
+    ensures came { CameOnly storage.old (IsTouched guest_written (limited D.Device.machine start)
+        (begun start (memory_of (lent_bytes storage.old) (lent_keys storage.old)) device.old)) storage.new }
+    ensures between { IsBetweenUnits (lent_pool storage.new).supply }
+    ensures keys { lent_keys storage.new ≡ lent_keys storage.old }
+    ensures size { length (lent_bytes storage.new) ≡ length (lent_bytes storage.old) }
+{
+    let again = Caw {
+        key: start.key,
+        address: start.address,
+    };
+    match try_device(alloc, storage, again, device) {
+        Ok(tried) => run_tried(alloc, storage, start, device, &tried),
+        Err(_) => Err(TriedError::Memory),
+    }
+}
+
+/// The program of an initial program loading is tried, and runs, likewise; the page of the PSW is brought for it first, and
+/// stands in a frame at its end.
+pub fn load_open<D: TriedLoading>(
+    alloc: Global,
+    storage: &mut Dat<'_>,
+    device: &mut D,
+) -> Result<Ending, TriedError>
+    requires { IsBetweenUnits (lent_pool storage.old).supply }
+    ensures walk { IfOk result
+        (λ ending. Reaches (live guest_written) (setting D.Device.machine loading_limits)
+        (loading D.Device.machine (memory_of (lent_bytes storage.old) (lent_keys storage.old)) device.old)
+        (Over ending (memory_of (lent_bytes storage.new) (lent_keys storage.new)) device.new)) }
+    ensures same { result ≡ Err errors.FramesOut → (lent_bytes storage.new ≡ lent_bytes storage.old)
+        × (device.new ≡ device.old) }
+    ensures lacking { result ≡ Err errors.FramesOut → LacksSuch (LoadTouches D.Device.machine
+        (memory_of (lent_bytes storage.old) (lent_keys storage.old)) device.old) storage.new }
+    ensures came { CameOnly storage.old (LoadTouches D.Device.machine
+        (memory_of (lent_bytes storage.old) (lent_keys storage.old)) device.old) storage.new }
+    ensures there { OnOk result (is_lent_page storage.new 0 ≡ true) }
+    ensures between { IsBetweenUnits (lent_pool storage.new).supply }
+    ensures keys { lent_keys storage.new ≡ lent_keys storage.old }
+    ensures size { length (lent_bytes storage.new) ≡ length (lent_bytes storage.old) }
+{
+    fetch_first(storage)?;
+    let tried = match try_load(alloc, storage, device) {
+        Ok(tried) => tried,
+        Err(_) => return Err(TriedError::Memory),
+    };
+    let ending = load_tried(alloc, storage, device, &tried)?;
+    fetch_again(storage);
+    Ok(ending)
+}
+
+/// The first page is brought, before a loading.
+pub fn fetch_first(storage: &mut Dat<'_>) -> Result<(), TriedError>
+    requires { IsBetweenUnits (lent_pool storage.old).supply }
+    ensures some { OnOk result (0 < length (lent_bytes storage.new)) }
+    ensures there { OnOk result (is_lent_page storage.new 0 ≡ true) }
+    ensures lacking { result ≡ Err errors.FramesOut → LacksSuch (λ page. page ≡ 0) storage.new }
+    ensures came { CameOnly storage.old (λ page. page ≡ 0) storage.new }
+    ensures between { IsBetweenUnits (lent_pool storage.new).supply }
+    ensures bytes { lent_bytes storage.new ≡ lent_bytes storage.old }
+    ensures keys { lent_keys storage.new ≡ lent_keys storage.old }
+{
+    // No machine is without storage.
+    if storage.size() == 0 {
+        return Err(TriedError::Memory);
+    }
+    match storage.fetch(Page(0)) {
+        Ok(()) => Ok(()),
+        Err(FramesOut) => Err(TriedError::FramesOut),
+    }
+}
+
+/// The first page, which stands somewhere since before a loading, is brought again.
+pub fn fetch_again(storage: &mut Dat<'_>)
+    requires some { 0 < length (lent_bytes storage.old) }
+    requires stands { Stands (lent_pool storage.old).supply (user_of storage.old) 0 }
+    requires between { IsBetweenUnits (lent_pool storage.old).supply }
+    ensures there { is_lent_page storage.new 0 ≡ true }
+    ensures came { CameOnly storage.old (λ page. page ≡ 0) storage.new }
+    ensures between { IsBetweenUnits (lent_pool storage.new).supply }
+    ensures bytes { lent_bytes storage.new ≡ lent_bytes storage.old }
+    ensures keys { lent_keys storage.new ≡ lent_keys storage.old }
+{
+    match storage.fetch(Page(0)) {
+        Ok(()) => {}
+        // It stands somewhere.
+        Err(FramesOut) => unreachable!(),
+    }
+}
