@@ -30,9 +30,9 @@ mod mounted;
 pub use extent::Extent;
 pub use laws::{
     a_copy_with_arguments_is_the_guests, a_minidisk_works_alike, a_part_is_seen_as_its_disk,
-    a_part_keeps_its_extent, a_part_walks_as_its_disk, a_program_walks_on_its_volume, a_read_only_disk_never_changes,
-    a_relocated_seek_works_alike, a_seek_before_arms, a_slice_is_a_part, a_users_program_is_served,
-    an_arm_stays_on_its_disk,
+    a_part_keeps_its_extent, a_part_walks_as_its_disk, a_program_walks_on_its_volume,
+    a_read_only_disk_never_changes, a_relocated_seek_works_alike, a_seek_before_arms,
+    a_slice_is_a_part, a_users_program_is_served, an_arm_stays_on_its_disk,
 };
 pub use minidisk::Minidisk;
 pub use mounted::Mounted;

@@ -95,7 +95,8 @@ impl UserDisks {
         ensures keys { S.keys storage.new ≡ S.keys storage.old }
         ensures rest { S.Keeps storage.old storage.new }
     {
-        self.volumes.run_held(&mut self.minidisks[index], storage, start)
+        self.volumes
+            .run_held(&mut self.minidisks[index], storage, start)
     }
 
     /// The program with this start runs on the minidisk of this index: where there is room for the pages that it touches, and
