@@ -1,8 +1,8 @@
 //! The words of the program: its machine's storage, its script and its volumes.
-ghost use Rattle.std.specs.Prelude.{◌≡◌, ◌≤◌, IfOk, OnOk, false, length, map};
-ghost use Rattle.clap.specs.Words.{app_of, found_of, rows_of, rule_of};
-ghost use Rattle.vm370.specs.Options.{script_rule, volume_rule};
-ghost use Rattle.bare370.specs.Options.{HasNoFault, IsNamed, command_of, rows_named, storage_named, storage_rule};
+ghost use Rattle.std.specs.Prelude.{◌≡◌, ◌≤◌, ℕ, IfErr, IfOk, OnOk, Some, codes, false, length, map, true};
+ghost use Rattle.clap.specs.Words.{all_of, app_of, found_of, rows_of, rule_of};
+ghost use Rattle.vm370.specs.Options.{script_rule, texts_of, volume_rule};
+ghost use Rattle.bare370.specs.Options.{HasNoFault, IsNamed, command_of, gives_script, is_taken, rows_named, storage_named, storage_rule};
 
 use clap::{Arg, ArgAction, ArgMatches, Command};
 use cp_directory::{StorageSize, storage_of};
@@ -38,6 +38,11 @@ pub fn bare_arguments<'a, S: AsStr>(
     ensures ok { IfOk result (IsNamed (rows_named program.entry.now (map S.text words.entry.now))) }
     ensures few { IfOk result (λ options. length options.volumes.items ≤ MOST_VOLUMES) }
     ensures taken { OnOk result (HasNoFault program.entry.now (map S.text words.entry.now)) }
+    ensures err { (pages : ℕ) → is_taken program.entry.now (map S.text words.entry.now) ≡ true →
+        gives_script (rows_named program.entry.now (map S.text words.entry.now)) ≡ true →
+        storage_named (rows_named program.entry.now (map S.text words.entry.now)) ≡ Some pages →
+        length (texts_of (all_of (codes "VOLUME") (rows_named program.entry.now (map S.text words.entry.now)))) ≤ MOST_VOLUMES →
+        IfErr result (λ error. error ≡ UsageError.Memory) }
 {
     let matches = matched(alloc, program, words)?;
     options_in(alloc, &matches)
@@ -47,6 +52,10 @@ pub fn bare_arguments<'a, S: AsStr>(
 fn options_in<'a>(alloc: Global, matches: &ArgMatches<'a>) -> Result<BareOptions<'a>, UsageError>
     ensures ok { IfOk result (IsNamed (rows_of (found_of matches.now))) }
     ensures few { IfOk result (λ options. length options.volumes.items ≤ MOST_VOLUMES) }
+    ensures err { (pages : ℕ) → gives_script (rows_of (found_of matches.now)) ≡ true →
+        storage_named (rows_of (found_of matches.now)) ≡ Some pages →
+        length (texts_of (all_of (codes "VOLUME") (rows_of (found_of matches.now)))) ≤ MOST_VOLUMES →
+        IfErr result (λ error. error ≡ UsageError.Memory) }
 {
     let Some(script) = text_of(matches, "SCRIPT") else {
         return Err(usage(alloc, "a path is missing\n"));
@@ -84,6 +93,8 @@ fn matched<'a, S: AsStr>(
 ) -> Result<ArgMatches<'a>, UsageError>
     ensures ok { IfOk result (λ m. rows_of (found_of m) ≡ rows_named program.entry.now (map S.text words.entry.now)) }
     ensures taken { OnOk result (HasNoFault program.entry.now (map S.text words.entry.now)) }
+    ensures err { is_taken program.entry.now (map S.text words.entry.now) ≡ true
+        → IfErr result (λ error. error ≡ UsageError.Memory) }
 {
     let command = command(alloc, program)?;
     match command.try_get_matches_from(words) {

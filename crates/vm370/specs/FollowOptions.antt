@@ -1,6 +1,6 @@
 -- What the words of the program name where it follows a script.
-use Rattle.std.specs.Prelude.{◌≡◌, ℕ, List, [], map, codes, Some}
-use Rattle.clap.specs.Words.{App, Row, Rule, all_of, fault_of, first_of, matches_of, new_app, new_rule, one_of, with_rule}
+use Rattle.std.specs.Prelude.{◌≡◌, ℕ, Bool, List, [], map, codes, Some, is_some}
+use Rattle.clap.specs.Words.{App, Row, Rule, all_of, fault_of, first_of, matches_of, new_app, new_rule, one_of, takes, with_rule}
 use Rattle.clap.specs.declared.builder.action.ArgAction.TheVariants.{SetTrue}
 use Rattle.vm370.specs.Options.{IsFlag, IsSized, directory_rule, texts_of, volume_rule, with_options}
 use Rattle.vm370.specs.declared.follow_arguments.FollowOptions.{FollowOptions}
@@ -16,6 +16,14 @@ command_of program = with_rule (with_rule (with_rule (with_options (new_app prog
 -- what the words give for the arguments of this program, in their order
 unfoldable pub rows_named : List ℕ → List (List ℕ) → List Row
 rows_named program words = matches_of (command_of program) words
+
+-- the words are those of the command
+unfoldable pub is_taken : List ℕ → List (List ℕ) → Bool
+is_taken program words = takes (command_of program) words
+
+-- the directory is given
+abbrev pub gives_directory : List Row → Bool
+gives_directory rows = is_some (first_of (codes "DIRECTORY") rows)
 
 -- nothing is wrong with the words: none is unknown or missing, and none asks for help
 unfoldable pub HasNoFault : List ℕ → List (List ℕ) → Type 0

@@ -1,7 +1,9 @@
 //! The words of the program where it follows a script that it is given part by part.
-ghost use Rattle.std.specs.Prelude.{◌≡◌, IfOk, OnOk, false, map};
+ghost use Rattle.std.specs.Prelude.{◌≡◌, IfErr, IfOk, OnOk, false, map, true};
 ghost use Rattle.clap.specs.Words.{app_of, found_of, rows_of, rule_of};
-ghost use Rattle.vm370.specs.FollowOptions.{HasNoFault, IsNamed, command_of, follow_rule, rows_named};
+ghost use Rattle.cp_core.specs.Sizes.{SystemSizes};
+ghost use Rattle.vm370.specs.Options.{IsSized};
+ghost use Rattle.vm370.specs.FollowOptions.{HasNoFault, IsNamed, command_of, follow_rule, gives_directory, is_taken, rows_named};
 
 use crate::arguments::{
     UsageError, directory, frames, is_given, paths_of, refusal, save, sizes_in, slots, text_of,
@@ -51,6 +53,10 @@ pub fn follow_arguments<'a, S: AsStr>(
 ) -> Result<FollowOptions<'a>, UsageError>
     ensures ok { IfOk result (IsNamed (rows_named program.entry.now (map S.text words.entry.now))) }
     ensures taken { OnOk result (HasNoFault program.entry.now (map S.text words.entry.now)) }
+    ensures err { (sizes : SystemSizes) → is_taken program.entry.now (map S.text words.entry.now) ≡ true →
+        gives_directory (rows_named program.entry.now (map S.text words.entry.now)) ≡ true →
+        IsSized (rows_named program.entry.now (map S.text words.entry.now)) sizes →
+        IfErr result (λ error. error ≡ UsageError.Memory) }
 {
     let matches = matched(alloc, program, words)?;
     let Some(sizes) = sizes_in(&matches) else {
@@ -76,6 +82,8 @@ fn matched<'a, S: AsStr>(
 ) -> Result<ArgMatches<'a>, UsageError>
     ensures ok { IfOk result (λ m. rows_of (found_of m) ≡ rows_named program.entry.now (map S.text words.entry.now)) }
     ensures taken { OnOk result (HasNoFault program.entry.now (map S.text words.entry.now)) }
+    ensures err { is_taken program.entry.now (map S.text words.entry.now) ≡ true
+        → IfErr result (λ error. error ≡ UsageError.Memory) }
 {
     let command = command(alloc, program)?;
     match command.try_get_matches_from(words) {
