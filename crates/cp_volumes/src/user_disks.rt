@@ -125,9 +125,13 @@ impl UserDisks {
         ensures size { length (lent_bytes storage.new) ≡ length (lent_bytes storage.old) }
     {
         let mut seat = self.minidisks[index];
-        let ending = self.volumes.run(alloc, &mut seat, storage, start)?;
-        self.minidisks[index] = seat;
-        Ok(ending)
+        match self.volumes.run(alloc, &mut seat, storage, start) {
+            Ok(ending) => {
+                self.minidisks[index] = seat;
+                Ok(ending)
+            }
+            Err(error) => Err(error),
+        }
     }
 
     /// The minidisks are reset, and the program of an initial program loading runs on that of this index, likewise.
@@ -155,10 +159,14 @@ impl UserDisks {
     {
         let mut seat = self.minidisks[index];
         seat.reset();
-        let ending = self.volumes.load(alloc, &mut seat, storage)?;
-        reset_each(&mut self.minidisks);
-        self.minidisks[index] = seat;
-        Ok(ending)
+        match self.volumes.load(alloc, &mut seat, storage) {
+            Ok(ending) => {
+                reset_each(&mut self.minidisks);
+                self.minidisks[index] = seat;
+                Ok(ending)
+            }
+            Err(error) => Err(error),
+        }
     }
 }
 
