@@ -1,5 +1,5 @@
 //! A program that is looked at on a copy of its user's bytes.
-ghost use Rattle.std.specs.Prelude.{◌≡◌, ℕ, ◌%◌, ◌*◌, ◌<◌, IfNone, IfOk, IfSome, length, true};
+ghost use Rattle.std.specs.Prelude.{◌≡◌, ℕ, ◌%◌, ◌*◌, ◌<◌, IfNone, IfOk, IfSome, length, false, true};
 ghost use Rattle.cp_dat.specs.Copies.{is_wanted};
 ghost use Rattle.cp_dat.specs.Lent.{lent_bytes, lent_keys};
 ghost use Rattle.cp_hold.specs.Holding.{guest_memory};
