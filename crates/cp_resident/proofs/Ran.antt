@@ -1,0 +1,107 @@
+-- What programs of a user's devices leave: those whose pages are held, and those that were tried.
+use Rattle.std.proofs.Common.{◌≡◌, ◌∙◌, ap, sym, subst, ℕ, ◌*◌, ◌<◌, List, [], ◌∷◌, ◌++◌, length, refl, Result, Ok, Err, inl, inr}
+use Rattle.std.specs.Prelude.{IfErr, IfOk}
+use Rattle.s370_channel.specs.declared.running.ChannelError.{ChannelError}
+use Rattle.s370_channel.specs.declared.running.ChannelError.TheVariants as errors
+use Rattle.s370_channel.specs.Supplied.{AllSuch, EachSuch}
+use Rattle.s370_walk.specs.declared.parts.Ending.{Ending}
+use Rattle.cp_channels.specs.Channels.{Brings, LacksRoom, WhereOut}
+use Rattle.cp_dat.specs.declared.dat.Dat.{Dat}
+use Rattle.cp_dat.specs.Bringing.{supplied_none, supplied_on}
+use Rattle.cp_dat.specs.Copies.{CameOnly}
+use Rattle.cp_dat.specs.Lent.{KeepsRest, lent_bytes, lent_pool, user_of}
+use Rattle.cp_dat.specs.Letting.{let_go_between, let_go_came}
+use Rattle.cp_dat.specs.Supplied.{IsBetweenUnits, Supplied, TakesPins}
+use Rattle.cp_frames.specs.Paging.{IsRefused}
+use Rattle.cp_trial.specs.declared.TriedError.{TriedError}
+use Rattle.cp_trial.specs.declared.TriedError.TheVariants as tries
+use Rattle.cp_trial.specs.Tried.{LacksSuch}
+use Rattle.cp_resident.specs.Resident.{CameIn, came_further, came_nowhere, told_by, told_of}
+use Rattle.cp_resident.proofs.Refused.{each_for, no_room, room_of}
+
+-- ---- want of memory alone
+
+pub memory_whole : {E : Type 0} (r : Result E ChannelError) (size : ℕ) (Needs Out : ℕ → Type 0) (P : Type 0) → IfErr r (λ error. error ≡ errors.Memory) → IfErr r (WhereOut size Needs Out P)
+memory_whole (Ok ending) size Needs Out P is = tt
+memory_whole (Err error) size Needs Out P is = subst (λ (e : ChannelError). WhereOut size Needs Out P e) (sym is) tt
+
+-- ---- nothing was brought
+
+pub still_came : (d0 d1 : Dat) (Needs : ℕ → Type 0) → IsBetweenUnits (lent_pool d0).supply → KeepsRest d0 d1 → Brings CameIn d0 Needs d1
+still_came d0 d1 Needs between kept = ([], came_further d0 d0 d1 [] (came_nowhere d0 between) kept, tt)
+
+-- ---- pages that were held
+
+such_on : (P : ℕ → Type 0) (first second : List ℕ) → AllSuch P first → AllSuch P second → AllSuch P (first ++ second)
+such_on P [] second a b = b
+such_on P (page ∷ first) second a b = (a.0, such_on P first second a.1 b)
+
+such_for : (P Q : ℕ → Type 0) → ((page : ℕ) → P page → Q page) → (pages : List ℕ) → AllSuch P pages → AllSuch Q pages
+such_for P Q more [] all = tt
+such_for P Q more (page ∷ pages) all = (more page all.0, such_for P Q more pages all.1)
+
+pub held_came : (d0 d1 d2 d3 : Dat) (Holds Needs : ℕ → Type 0) → ((page : ℕ) → Holds page → Needs page) → ((pages : List ℕ) × Supplied d0 pages d1 × AllSuch Holds pages) → lent_bytes d1 ≡ lent_bytes d0 → KeepsRest d1 d2 → TakesPins d2 d3 → lent_bytes d3 ≡ lent_bytes d2
+    → Brings CameIn d0 Needs d3
+held_came d0 d1 d2 d3 Holds Needs more held bytes kept taken same =
+    let pages = held.0 ++ [] in
+    (pages ∷ [],
+    record {
+      came = let_go_came d0 d2 d3 pages (supplied_on d0 d1 d2 held.0 [] held.1 (supplied_none d1 d2 kept)) taken;
+      size = ap (λ (xs : List ℕ). length xs) same ∙ kept.same_size ∙ ap (λ (xs : List ℕ). length xs) bytes;
+    },
+    (such_on Needs held.0 [] (such_for Holds Needs more held.0 held.2) tt, tt))
+
+pub held_between : (d0 d1 d2 d3 : Dat) (Holds : ℕ → Type 0) → ((pages : List ℕ) × Supplied d0 pages d1 × AllSuch Holds pages) → IsBetweenUnits (lent_pool d0).supply → KeepsRest d1 d2 → TakesPins d2 d3 → IsBetweenUnits (lent_pool d3).supply
+held_between d0 d1 d2 d3 Holds held between kept taken = let_go_between d0 d2 d3 (held.0 ++ []) between (supplied_on d0 d1 d2 held.0 [] held.1 (supplied_none d1 d2 kept)) taken
+
+-- ---- pages that were to be held, for one of which there was no room
+
+pub refused_came : (d0 d1 d2 : Dat) (Holds Needs : ℕ → Type 0) → ((page : ℕ) → Holds page → Needs page) → ((pages : List ℕ) × Supplied d0 pages d1 × AllSuch Holds pages) → lent_bytes d1 ≡ lent_bytes d0 → TakesPins d1 d2 → lent_bytes d2 ≡ lent_bytes d1
+    → Brings CameIn d0 Needs d2
+refused_came d0 d1 d2 Holds Needs more held bytes taken same =
+    (held.0 ∷ [],
+    record {
+      came = let_go_came d0 d1 d2 held.0 held.1 taken;
+      size = ap (λ (xs : List ℕ). length xs) (same ∙ bytes);
+    },
+    (such_for Holds Needs more held.0 held.2, tt))
+
+pub refused_between : (d0 d1 d2 : Dat) (Holds : ℕ → Type 0) → ((pages : List ℕ) × Supplied d0 pages d1 × AllSuch Holds pages) → IsBetweenUnits (lent_pool d0).supply → TakesPins d1 d2 → IsBetweenUnits (lent_pool d2).supply
+refused_between d0 d1 d2 Holds held between taken = let_go_between d0 d1 d2 held.0 between held.1 taken
+
+pub refused_whole : (error : TriedError) (d0 d1 d2 : Dat) (Holds Needs : ℕ → Type 0) (P : Type 0) → ((page : ℕ) → Holds page → Needs page) → ((page : ℕ) → Holds page → page * 4096 < length (lent_bytes d0))
+    → IsBetweenUnits (lent_pool d0).supply → ((pages : List ℕ) × Supplied d0 pages d1 × AllSuch Holds pages) → TakesPins d1 d2
+    → (error ≡ tries.FramesOut → (page : ℕ) × Holds page × IsRefused (lent_pool d1).supply (user_of d1) page) → P
+    → WhereOut (length (lent_bytes d0)) Needs (no_room d2 Needs) P (told_of error)
+refused_whole tries.Memory d0 d1 d2 Holds Needs P more inside between held taken out p = tt
+refused_whole tries.FramesOut d0 d1 d2 Holds Needs P more inside between held taken out p =
+    let o = out refl in
+    (record {
+      page = o.0;
+      inside = inside o.0 o.1;
+      needed = more o.0 o.1;
+      out = room_of d0 d1 d2 held.0 Needs o.0 between held.1 (such_for Holds Needs more held.0 held.2) o.2 taken;
+    }, p)
+
+-- ---- pages that were touched
+
+pub tried_came : (d0 d1 : Dat) (Touched Needs : ℕ → Type 0) → ((page : ℕ) → Touched page → Needs page) → CameOnly d0 Touched d1 → length (lent_bytes d1) ≡ length (lent_bytes d0) → Brings CameIn d0 Needs d1
+tried_came d0 d1 Touched Needs more came size = (came.units, record { came = came.came; size = size }, each_for Touched Needs more came.units came.only)
+
+pub tried_whole : (ran : Result Ending TriedError) (d0 d1 : Dat) (Touched Needs : ℕ → Type 0) (P : Type 0) → ((page : ℕ) → Touched page → Needs page) → length (lent_bytes d1) ≡ length (lent_bytes d0)
+    → (ran ≡ Err tries.FramesOut → LacksSuch Touched d1) → (ran ≡ Err tries.FramesOut → P)
+    → IfErr (told_by ran) (WhereOut (length (lent_bytes d0)) Needs (no_room d1 Needs) P)
+tried_whole (Ok ending) d0 d1 Touched Needs P more size lacking same = tt
+tried_whole (Err tries.Memory) d0 d1 Touched Needs P more size lacking same = tt
+tried_whole (Err tries.FramesOut) d0 d1 Touched Needs P more size lacking same =
+    let l = lacking refl in
+    (record {
+      page = l.page;
+      inside = subst (λ (n : ℕ). l.page * 4096 < n) size l.inside;
+      needed = more l.page l.such;
+      out = inl l.out;
+    }, same refl)
+
+pub tried_walk : (ran : Result Ending TriedError) (P : Ending → Type 0) → IfOk ran P → IfOk (told_by ran) P
+tried_walk (Ok ending) P p = p
+tried_walk (Err error) P p = tt
