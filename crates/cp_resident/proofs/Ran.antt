@@ -1,11 +1,21 @@
 -- What programs of a user's devices leave: those whose pages are held, and those that were tried.
-use Rattle.std.proofs.Common.{◌≡◌, ◌∙◌, ap, sym, subst, ℕ, ◌*◌, ◌<◌, List, [], ◌∷◌, ◌++◌, length, refl, Result, Ok, Err, inl, inr}
-use Rattle.std.specs.Prelude.{IfErr, IfOk}
+use Rattle.std.proofs.Common.{◌≡◌, ◌∙◌, ap, sym, subst, ℕ, ◌*◌, ◌<◌, List, [], ◌∷◌, ◌++◌, length, refl, Option, None, Some, Result, Ok, Err, arith, inl, inr}
+use Rattle.std.specs.Prelude.{IfErr, IfOk, OnOk, slice_get}
+use Rattle.std.proofs.lemmas.Option.{slice_get_cases}
+use Rattle.s370_channel.specs.declared.words.Caw.{Caw}
+use Rattle.s370_store.specs.declared.Page.{Page}
+use Rattle.s370_walk.specs.Hardware.{Memory}
+use Rattle.cp_channels.specs.Disks.{DiskAt}
+use Rattle.cp_dat.specs.Lent.{is_lent_page, lent_keys}
+use Rattle.cp_hold.specs.Holding.{HoldNeeds, IsFixedProgram, guest_memory}
+use Rattle.cp_hold.proofs.Holds.{memory_same}
+use Rattle.cp_needs.specs.declared.kept.Fullword.{Fullword}
+use Rattle.cp_volumes.specs.Running.{DiskLoadTouches, DiskTouches}
 use Rattle.s370_channel.specs.declared.running.ChannelError.{ChannelError}
 use Rattle.s370_channel.specs.declared.running.ChannelError.TheVariants as errors
 use Rattle.s370_channel.specs.Supplied.{AllSuch, EachSuch}
 use Rattle.s370_walk.specs.declared.parts.Ending.{Ending}
-use Rattle.cp_channels.specs.Channels.{Brings, LacksRoom, WhereOut}
+use Rattle.cp_channels.specs.Channels.{Brings, DiskLoads, DiskNeeds, LacksRoom, WhereOut}
 use Rattle.cp_dat.specs.declared.dat.Dat.{Dat}
 use Rattle.cp_dat.specs.Bringing.{supplied_none, supplied_on}
 use Rattle.cp_dat.specs.Copies.{CameOnly}
@@ -105,3 +115,60 @@ tried_whole (Err tries.FramesOut) d0 d1 Touched Needs P more size lacking same =
 pub tried_walk : (ran : Result Ending TriedError) (P : Ending → Type 0) → IfOk ran P → IfOk (told_by ran) P
 tried_walk (Ok ending) P p = p
 tried_walk (Err error) P p = tt
+
+-- one that does not run, for want of memory or of room
+pub stopped_whole : (error : TriedError) (d0 d1 : Dat) (Touched Needs : ℕ → Type 0) (P : Type 0) → ((page : ℕ) → Touched page → Needs page) → length (lent_bytes d1) ≡ length (lent_bytes d0)
+    → (error ≡ tries.FramesOut → LacksSuch Touched d1) → (error ≡ tries.FramesOut → P)
+    → WhereOut (length (lent_bytes d0)) Needs (no_room d1 Needs) P (told_of error)
+stopped_whole tries.Memory d0 d1 Touched Needs P more size lacking same = tt
+stopped_whole tries.FramesOut d0 d1 Touched Needs P more size lacking same =
+    let l = lacking refl in
+    (record {
+      page = l.page;
+      inside = subst (λ (n : ℕ). l.page * 4096 < n) size l.inside;
+      needed = more l.page l.such;
+      out = inl l.out;
+    }, same refl)
+
+-- ---- the same bytes
+
+pub memory_of_same : (old new : Dat) → lent_bytes new ≡ lent_bytes old → lent_keys new ≡ lent_keys old → guest_memory new ≡ guest_memory old
+memory_of_same old new bytes keys = memory_same (lent_bytes new) (lent_keys new) (lent_bytes old) (lent_keys old) bytes keys
+
+-- a walk between two storages is one between storages of the same bytes
+pub walk_moved : (r : Result Ending ChannelError) (W : Memory → Memory → Ending → Type 0) (m0 m1 m2 m3 : Memory) → m1 ≡ m0 → m3 ≡ m2 → IfOk r (W m1 m2) → IfOk r (W m0 m3)
+walk_moved r W m0 m1 m2 m3 first last walk = subst (λ (m : Memory). IfOk r (W m0 m)) (sym last) (subst (λ (m : Memory). IfOk r (W m m2)) first walk)
+
+pub fixed_there : (old new : Dat) (a b : ℕ) (words : List Fullword) (pages : List Page) → lent_bytes new ≡ lent_bytes old → lent_keys new ≡ lent_keys old → a ≡ b
+    → IsFixedProgram (guest_memory old) a (is_lent_page new) words pages → IsFixedProgram (guest_memory new) b (is_lent_page new) words pages
+fixed_there old new a b words pages bytes keys at fixed =
+    subst (λ (m : Memory). IsFixedProgram m b (is_lent_page new) words pages) (sym (memory_of_same old new bytes keys))
+    (subst (λ (n : ℕ). IsFixedProgram (guest_memory old) n (is_lent_page new) words pages) at fixed)
+
+-- ---- disks
+
+pub disk_there : (disks : List DiskAt) (index : ℕ) → index < length disks → slice_get disks index ≡ None → ⊥
+disk_there disks index inside none = elim (slice_get_cases disks index).1 [
+  | inl here ↦ (let some = here.2 in cc)
+  | inr past ↦ (let over = past.0 in omega (arith, inside, over))
+]
+
+pub disk_holds : (o : Option DiskAt) (start : Caw) (m : Memory) (page : ℕ) → (o ≡ None → ⊥) → HoldNeeds m start.address page → DiskNeeds HoldNeeds start m o page
+disk_holds None start m page none it = absurd (none refl)
+disk_holds (Some disk) start m page none it = inl it
+
+pub disk_touches : (o : Option DiskAt) (start : Caw) (m : Memory) (page : ℕ) → DiskTouches start m o page → DiskNeeds HoldNeeds start m o page
+disk_touches None start m page it = it
+disk_touches (Some disk) start m page it = inr it
+
+pub disk_loads : (o : Option DiskAt) (m : Memory) (page : ℕ) → DiskLoadTouches m o page → DiskLoads m o page
+disk_loads None m page it = it
+disk_loads (Some disk) m page it = inr it
+
+pub disk_first : (o : Option DiskAt) (m : Memory) (page : ℕ) → (o ≡ None → ⊥) → page ≡ 0 → DiskLoads m o page
+disk_first None m page none it = absurd (none refl)
+disk_first (Some disk) m page none it = inl it
+
+pub tried_there : (ran : Result Ending TriedError) (P : Type 0) → OnOk ran P → OnOk (told_by ran) P
+tried_there (Ok ending) P p = p
+tried_there (Err error) P p = tt

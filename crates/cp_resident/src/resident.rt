@@ -1,5 +1,5 @@
 //! Channels of users: a program runs as a whole, or not at all, with the pages that it needs.
-ghost use Rattle.std.specs.Prelude.{◌≡◌, ◌%◌, ◌<◌, All, IfErr, IfOk, IfSome, length};
+ghost use Rattle.std.specs.Prelude.{◌≡◌, ◌<◌, IfErr, IfOk, List, length};
 ghost use Rattle.s370_channel.specs.Reading.{as_reached};
 ghost use Rattle.s370_channel.specs.Runs.{Walks};
 ghost use Rattle.s370_channel.specs.declared.running.ChannelError.TheVariants as errors;
@@ -7,8 +7,7 @@ ghost use Rattle.s370_walk.specs.Hardware.{memory_of};
 ghost use Rattle.cp_channels.specs.Channels.{WalksDisk};
 ghost use Rattle.cp_dat.specs.Lent.{KeepsRest, is_lent_page, lent_bytes, lent_keys};
 ghost use Rattle.cp_hold.specs.Holding.{IsFixedProgram, guest_memory};
-ghost use Rattle.cp_needs.specs.Needs.{IsFixed, IsHeld};
-ghost use Rattle.cp_needs.specs.Kept.{IsAsItStood, IsText, IsTextOnly};
+ghost use Rattle.s370_store.specs.declared.Page.{Page};
 ghost use Rattle.cp_ccw.specs.Kept.{IsAtBase};
 ghost use Rattle.cp_resident.specs.Resident.{KeepsHung, disks_on, told_by, told_of};
 
@@ -266,12 +265,8 @@ fn run_copied<D: Device>(
     text: Vec<Fullword>,
     device: &mut D,
 ) -> Result<Ending, ChannelError>
-    requires even { start.now.address % 8 ≡ 0 }
-    requires fixed { IsFixed (guest_memory storage.old) start.now.address }
-    requires held { IsHeld (guest_memory storage.old) start.now.address (is_lent_page storage.old) }
-    requires text { IsText (guest_memory storage.old) start.now.address text.items }
-    requires only { IsTextOnly (guest_memory storage.old) start.now.address text.items }
-    requires stands { All (IsAsItStood (lent_bytes storage.old) (is_lent_page storage.old)) text.items }
+    requires fixed { (pages : List Page)
+        × IsFixedProgram (guest_memory storage.old) start.now.address (is_lent_page storage.old) text.items pages }
     ensures walk { IfOk result
         (λ ending. Walks as_reached D.machine start.now (guest_memory storage.old) device.old ending
         (guest_memory storage.new) device.new) }
