@@ -95,7 +95,8 @@ impl UserDisks {
         ensures keys { S.keys storage.new ≡ S.keys storage.old }
         ensures rest { S.Keeps storage.old storage.new }
     {
-        self.volumes.run_held(&mut self.minidisks[index], storage, start)
+        self.volumes
+            .run_held(&mut self.minidisks[index], storage, start)
     }
 
     /// The program with this start runs on the minidisk of this index: where there is room for the pages that it touches, and
@@ -124,9 +125,13 @@ impl UserDisks {
         ensures size { length (lent_bytes storage.new) ≡ length (lent_bytes storage.old) }
     {
         let mut seat = self.minidisks[index];
-        let ending = self.volumes.run(alloc, &mut seat, storage, start)?;
-        self.minidisks[index] = seat;
-        Ok(ending)
+        match self.volumes.run(alloc, &mut seat, storage, start) {
+            Ok(ending) => {
+                self.minidisks[index] = seat;
+                Ok(ending)
+            }
+            Err(error) => Err(error),
+        }
     }
 
     /// The minidisks are reset, and the program of an initial program loading runs on that of this index, likewise.
@@ -154,10 +159,14 @@ impl UserDisks {
     {
         let mut seat = self.minidisks[index];
         seat.reset();
-        let ending = self.volumes.load(alloc, &mut seat, storage)?;
-        reset_each(&mut self.minidisks);
-        self.minidisks[index] = seat;
-        Ok(ending)
+        match self.volumes.load(alloc, &mut seat, storage) {
+            Ok(ending) => {
+                reset_each(&mut self.minidisks);
+                self.minidisks[index] = seat;
+                Ok(ending)
+            }
+            Err(error) => Err(error),
+        }
     }
 }
 

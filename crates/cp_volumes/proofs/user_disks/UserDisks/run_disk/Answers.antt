@@ -2,20 +2,88 @@ use Rattle.std.proofs.Common.{◌≡◌, ◌<◌, ap, arith, length, set, subst,
 use Rattle.std.specs.Prelude.{slice_get}
 use Rattle.std.proofs.lemmas.Option.{slice_get_read}
 use Rattle.s370_walk.specs.Hardware.{memory_of}
-use Rattle.s370_channel.specs.Reading.{as_reached}
-use Rattle.cp_channels.specs.Channels.{WalksDisk}
 use Rattle.cp_channels.specs.Disks.{DiskAt}
 use Rattle.cp_dat.specs.Copies.{CameOnly}
 use Rattle.cp_dat.specs.Lent.{lent_bytes, lent_keys}
 use Rattle.cp_trial.specs.Tried.{LacksSuch}
+use Rattle.cp_volumes.specs.Shared.{DisksValue, KeepsNeighbours, disk_on, seen}
+use Rattle.s370_channel.specs.Reading.{as_reached}
+use Rattle.cp_channels.specs.Channels.{WalksDisk}
 use Rattle.cp_volumes.specs.Running.{DiskTouches}
-use Rattle.cp_volumes.specs.Shared.{DisksValue, KeepsNeighbours, seen}
 use Rattle.cp_volumes.proofs.Seats.{as_many, kept_one, seated_at, seen_at, users_kept, walks}
 use Rattle.cp_volumes.proofs.user_disks.UserDisks.run_disk.Goals as goal
 
 pub run-requires-clause-seated : goal.run-requires-clause-seated
 run-requires-clause-seated c =
     let ds = c.self.inside.minidisks.items in
+    let d = c.index.result.now in
+    let volumes = c.self.inside.volumes in
     let inside : c.args.index < length ds = omega (arith, c.requires.inside, as_many c.args.self.now, ap (λ (v : DisksValue). length v.minidisks) c.self.view_is) in
-    let is : slice_get ds c.args.index ≡ Some c.index.result.now = slice_get_read ds (length ds) c.args.index c.index.result.now refl inside c.index.ensures.value in
-    seated_at c.self.inside.volumes ds c.args.index c.index.result.now c.self.invariant is
+    let is : slice_get ds c.args.index ≡ Some d = slice_get_read ds (length ds) c.args.index d refl inside c.index.ensures in
+    seated_at volumes ds c.args.index d c.self.invariant is
+
+pub invariant_of-self : goal.invariant_of-self
+invariant_of-self c =
+    let ds = c.self.inside.minidisks.items in
+    let d = c.index.result.now in
+    let volumes = c.self.inside.volumes in
+    let inside : c.args.index < length ds = omega (arith, c.requires.inside, as_many c.args.self.now, ap (λ (v : DisksValue). length v.minidisks) c.self.view_is) in
+    let is : slice_get ds c.args.index ≡ Some d = slice_get_read ds (length ds) c.args.index d refl inside c.index.ensures in
+    users_kept volumes c.run.new.self ds c.args.index d c.run.new.disk c.self.invariant is c.run.ensures.stands c.run.ensures.confined
+
+pub returns-in-Ok-clause-walk : goal.returns-in-Ok-clause-walk
+returns-in-Ok-clause-walk c =
+    let ds = c.self.inside.minidisks.items in
+    let d = c.index.result.now in
+    let volumes = c.self.inside.volumes in
+    let inside : c.args.index < length ds = omega (arith, c.requires.inside, as_many c.args.self.now, ap (λ (v : DisksValue). length v.minidisks) c.self.view_is) in
+    let is : slice_get ds c.args.index ≡ Some d = slice_get_read ds (length ds) c.args.index d refl inside c.index.ensures in
+    let m = memory_of (lent_bytes c.args.storage.now) (lent_keys c.args.storage.now) in
+    let n = memory_of (lent_bytes c.run.new.storage) (lent_keys c.run.new.storage) in
+    let left : DisksValue = record { volumes = c.run.new.self; minidisks = set ds c.args.index c.run.new.disk } in
+    subst (λ (v : DisksValue). WalksDisk as_reached c.args.start m (seen v) c.args.index c.in-Ok.ending n (seen left)) c.self.view_is
+    (walks volumes c.run.new.self ds c.args.index d c.run.new.disk c.self.invariant is c.run.ensures.stands c.run.ensures.confined as_reached c.args.start m n c.in-Ok.ending c.in-Ok.ensures.walk)
+
+pub returns-in-Ok-clause-others : goal.returns-in-Ok-clause-others
+returns-in-Ok-clause-others c =
+    let ds = c.self.inside.minidisks.items in
+    let d = c.index.result.now in
+    let volumes = c.self.inside.volumes in
+    let inside : c.args.index < length ds = omega (arith, c.requires.inside, as_many c.args.self.now, ap (λ (v : DisksValue). length v.minidisks) c.self.view_is) in
+    let is : slice_get ds c.args.index ≡ Some d = slice_get_read ds (length ds) c.args.index d refl inside c.index.ensures in
+    let left : DisksValue = record { volumes = c.run.new.self; minidisks = set ds c.args.index c.run.new.disk } in
+    subst (λ (v : DisksValue). KeepsNeighbours v left) c.self.view_is
+    (kept_one volumes c.run.new.self ds c.args.index d c.run.new.disk c.self.invariant is c.run.ensures.stands c.run.ensures.confined)
+
+pub returns-in-Err-clause-lacking : goal.returns-in-Err-clause-lacking
+returns-in-Err-clause-lacking c = λ out.
+    let ds = c.self.inside.minidisks.items in
+    let d = c.index.result.now in
+    let volumes = c.self.inside.volumes in
+    let inside : c.args.index < length ds = omega (arith, c.requires.inside, as_many c.args.self.now, ap (λ (v : DisksValue). length v.minidisks) c.self.view_is) in
+    let is : slice_get ds c.args.index ≡ Some d = slice_get_read ds (length ds) c.args.index d refl inside c.index.ensures in
+    let m = memory_of (lent_bytes c.args.storage.now) (lent_keys c.args.storage.now) in
+    let at : slice_get (seen c.args.self.now) c.args.index ≡ Some (disk_on volumes d) = subst (λ (v : DisksValue). slice_get (seen v) c.args.index ≡ Some (disk_on volumes d)) c.self.view_is (seen_at volumes ds c.args.index d is) in
+    subst (λ (o : Option DiskAt). LacksSuch (DiskTouches c.args.start m o) c.run.new.storage) (sym at) (c.in-Err.ensures.lacking out)
+
+pub returns-in-Ok-clause-came : goal.returns-in-Ok-clause-came
+returns-in-Ok-clause-came c =
+    let ds = c.self.inside.minidisks.items in
+    let d = c.index.result.now in
+    let volumes = c.self.inside.volumes in
+    let inside : c.args.index < length ds = omega (arith, c.requires.inside, as_many c.args.self.now, ap (λ (v : DisksValue). length v.minidisks) c.self.view_is) in
+    let is : slice_get ds c.args.index ≡ Some d = slice_get_read ds (length ds) c.args.index d refl inside c.index.ensures in
+    let m = memory_of (lent_bytes c.args.storage.now) (lent_keys c.args.storage.now) in
+    let at : slice_get (seen c.args.self.now) c.args.index ≡ Some (disk_on volumes d) = subst (λ (v : DisksValue). slice_get (seen v) c.args.index ≡ Some (disk_on volumes d)) c.self.view_is (seen_at volumes ds c.args.index d is) in
+    subst (λ (o : Option DiskAt). CameOnly c.args.storage.now (DiskTouches c.args.start m o) c.run.new.storage) (sym at) c.run.ensures.came
+
+pub returns-in-Err-clause-came : goal.returns-in-Err-clause-came
+returns-in-Err-clause-came c =
+    let ds = c.self.inside.minidisks.items in
+    let d = c.index.result.now in
+    let volumes = c.self.inside.volumes in
+    let inside : c.args.index < length ds = omega (arith, c.requires.inside, as_many c.args.self.now, ap (λ (v : DisksValue). length v.minidisks) c.self.view_is) in
+    let is : slice_get ds c.args.index ≡ Some d = slice_get_read ds (length ds) c.args.index d refl inside c.index.ensures in
+    let m = memory_of (lent_bytes c.args.storage.now) (lent_keys c.args.storage.now) in
+    let at : slice_get (seen c.args.self.now) c.args.index ≡ Some (disk_on volumes d) = subst (λ (v : DisksValue). slice_get (seen v) c.args.index ≡ Some (disk_on volumes d)) c.self.view_is (seen_at volumes ds c.args.index d is) in
+    subst (λ (o : Option DiskAt). CameOnly c.args.storage.now (DiskTouches c.args.start m o) c.run.new.storage) (sym at) c.run.ensures.came
