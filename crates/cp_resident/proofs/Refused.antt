@@ -28,7 +28,7 @@ none_pinned (suc n) (suc frame) = none_pinned n frame
 not_both : {b : Bool} → b ≡ false → b ≡ true → ⊥
 not_both off on = cc
 
-listed : (P : ℕ → Type 0) (pages : List ℕ) (k page : ℕ) → AllSuch P pages → k < length pages → get_or pages k 0 ≡ page → P page
+listed : (P : ℕ → Type 0) (pages : List ℕ) (k page : ℕ) → AllSuch P pages → k < length pages → get_or pages k page ≡ page → P page
 listed P [] k page all low at = absurd (omega (arith, low))
 listed P (first ∷ pages) zero page all low at = subst P at all.0
 listed P (first ∷ pages) (suc k) page all low at = listed P pages k page all.1 (omega (arith, low)) at
@@ -50,7 +50,7 @@ module _ (user : ℕ) (pages : List ℕ) (needs : ℕ → Type 0) (old between :
       pinned_has frame (All-get_or (λ (b : Bool). b ≡ true) between.pins frame false (omega (arith, within, count)) pinned)
 
 -- two pages of a user that stand in one frame are one page
-page_in : Option UserPage → ℕ
+abbrev page_in : Option UserPage → ℕ
 page_in None = 0
 page_in (Some there) = there.page.0
 

@@ -32,8 +32,8 @@ returns-in-Some-clause-came g c = still_came c.args.storage.now c.run_again-ende
 pub returns-in-Some-clause-ready : goal.returns-in-Some-clause-ready
 returns-in-Some-clause-ready g c = between_kept c.args.storage.now c.run_again-ended.new.storage c.run_again-ended.ensures.rest c.requires
 
-pub run_copied-requires : goal.run_copied-requires
-run_copied-requires g c =
+pub run_copied-ended-requires : goal.run_copied-ended-requires
+run_copied-ended-requires g c =
     let old = c.args.storage.now in
     let new = c.hold.new.storage in
     let fixed = subst (λ (p : Program). IfFixed p (IsFixedProgram (guest_memory old) c.get.result (is_lent_page new))) c.in-Ok-Fixed.field-0-is c.in-Ok-Fixed.ensures.fixed in
@@ -112,8 +112,8 @@ returns-in-Ok-Open-clause-came g c =
     let came = subst (λ (d : Dat). CameOnly d (IsTouched guest_written (limited g.D.Device.machine start) (begun start (guest_memory d) c.args.device.now)) new) same c.run_open.ensures.came in
     tried_came old new Touched Needs (λ page it. inr it) came size
 
-pub returns-in-Err-clause-whole : goal.returns-in-Err-clause-whole
-returns-in-Err-clause-whole g c = λ is.
+pub returns-clause-whole : goal.returns-clause-whole
+returns-clause-whole g c = λ is.
     (
     let old = c.args.storage.now in
     let start = c.args.start in
@@ -121,22 +121,22 @@ returns-in-Err-clause-whole g c = λ is.
     let Holds : ℕ → Type 0 = HoldNeeds m c.get.result in
     let Needs : ℕ → Type 0 = ProgramNeeds HoldNeeds g.D.Device.machine start m c.args.device.now in
     let more : (page : ℕ) → Holds page → Needs page = λ page it. inl (subst (λ (a : ℕ). HoldNeeds m a page) c.get.ensures.value it) in
-    let new = c.let_go.new.self in
+    let new = c.let_go-in-Err.new.self in
     let P : Type 0 = (lent_bytes new ≡ lent_bytes old) × (c.args.device.now ≡ c.args.device.now) in
     subst (λ (e : ChannelError). WhereOut (length (lent_bytes old)) Needs (no_room new Needs) P e) (sym c.told_of.ensures)
-    (refused_whole c.in-Err.error old c.hold.new.storage new Holds Needs P more (λ page it. it.needed.inside) c.requires c.hold.ensures.supply c.let_go.ensures.let_go
-    (λ e. c.hold.ensures.out (c.in-Err.is ∙ ap Err e)) (c.let_go.ensures.bytes ∙ c.hold.ensures.bytes, refl)))
+    (refused_whole c.in-Err.error old c.hold.new.storage new Holds Needs P more (λ page it. it.needed.inside) c.requires c.hold.ensures.supply c.let_go-in-Err.ensures.let_go
+    (λ e. c.hold.ensures.out (c.in-Err.is ∙ ap Err e)) (c.let_go-in-Err.ensures.bytes ∙ c.hold.ensures.bytes, refl)))
 
-pub returns-in-Err-clause-came : goal.returns-in-Err-clause-came
-returns-in-Err-clause-came g c =
+pub returns-clause-came : goal.returns-clause-came
+returns-clause-came g c =
     let old = c.args.storage.now in
     let start = c.args.start in
     let m = guest_memory old in
     let Holds : ℕ → Type 0 = HoldNeeds m c.get.result in
     let Needs : ℕ → Type 0 = ProgramNeeds HoldNeeds g.D.Device.machine start m c.args.device.now in
     let more : (page : ℕ) → Holds page → Needs page = λ page it. inl (subst (λ (a : ℕ). HoldNeeds m a page) c.get.ensures.value it) in
-    refused_came old c.hold.new.storage c.let_go.new.self Holds Needs more c.hold.ensures.supply c.hold.ensures.bytes c.let_go.ensures.let_go c.let_go.ensures.bytes
+    refused_came old c.hold.new.storage c.let_go-in-Err.new.self Holds Needs more c.hold.ensures.supply c.hold.ensures.bytes c.let_go-in-Err.ensures.let_go c.let_go-in-Err.ensures.bytes
 
-pub returns-in-Err-clause-ready : goal.returns-in-Err-clause-ready
-returns-in-Err-clause-ready g c =
-    refused_between c.args.storage.now c.hold.new.storage c.let_go.new.self (HoldNeeds (guest_memory c.args.storage.now) c.get.result) c.hold.ensures.supply c.requires c.let_go.ensures.let_go
+pub returns-clause-ready : goal.returns-clause-ready
+returns-clause-ready g c =
+    refused_between c.args.storage.now c.hold.new.storage c.let_go-in-Err.new.self (HoldNeeds (guest_memory c.args.storage.now) c.get.result) c.hold.ensures.supply c.requires c.let_go-in-Err.ensures.let_go
