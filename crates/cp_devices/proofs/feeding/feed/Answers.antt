@@ -35,5 +35,5 @@ returns-clause-whole g c = λ whole.
     let now : files_of c.take_back.new.self.users c.args.user ≡ read_on c.run-ended.new.device.ended c.run-ended.new.device.place files = read_is files _ _ _ _ _ c.into_parts-left.ensures.ended c.into_parts-left.ensures.place read in
     out_fed files c.args.reader.now c.new-fed.result is (memory_of (g.S.Storage.bytes c.args.storage.now) (g.S.Storage.keys c.args.storage.now)) g.C.Channels.IsOut g.C.Channels.IsFilled g.S.Storage.present g.C.Channels.Came c.args.storage.now c.run-ended.new.storage
     c.run-ended.result g.C.Channels.holds c.args.start _ _ _
-    (λ same. (same.0, same_fed files c.args.reader.now c.new-fed.result c.run-ended.new.device (files_of c.take_back.new.self.users c.args.user) c.into_parts-left.result.0 is c.into_parts-left.ensures.reader now same.1))
+    (λ same. (let stays = same_fed files c.args.reader.now c.new-fed.result c.run-ended.new.device (files_of c.take_back.new.self.users c.args.user) c.into_parts-left.result.0 is c.into_parts-left.ensures.reader now same.1 in (same.0, stays.0, stays.1)))
     (c.run-ended.ensures.whole whole)
