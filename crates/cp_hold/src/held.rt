@@ -67,11 +67,7 @@ fn bring_wanted(storage: &mut Dat<'_>, wanted: &[bool]) -> Result<(), FramesOut>
 
 /// Holds the pages of the program from an address on, where no input can change it. Where there is no room for one, this
 /// is told; they are held until the pins are taken away.
-pub fn hold(
-    alloc: Global,
-    storage: &mut Dat<'_>,
-    address: u32,
-) -> Result<Program, TriedError>
+pub fn hold(alloc: Global, storage: &mut Dat<'_>, address: u32) -> Result<Program, TriedError>
     ensures fixed { IfOk result (λ found. IfFixed found
         (IsFixedProgram (guest_memory storage.old) address (is_lent_page storage.new))) }
     ensures open { IfOk result

@@ -53,13 +53,14 @@ such_for P Q more (page ∷ pages) all = (more page all.0, such_for P Q more pag
 pub held_came : (d0 d1 d2 d3 : Dat) (Holds Needs : ℕ → Type 0) → ((page : ℕ) → Holds page → Needs page) → ((pages : List ℕ) × Supplied d0 pages d1 × AllSuch Holds pages) → lent_bytes d1 ≡ lent_bytes d0 → KeepsRest d1 d2 → TakesPins d2 d3 → lent_bytes d3 ≡ lent_bytes d2
     → Brings CameIn d0 Needs d3
 held_came d0 d1 d2 d3 Holds Needs more held bytes kept taken same =
-    let pages = held.0 ++ [] in
-    (pages ∷ [],
-    record {
-      came = let_go_came d0 d2 d3 pages (supplied_on d0 d1 d2 held.0 [] held.1 (supplied_none d1 d2 kept)) taken;
-      size = ap (λ (xs : List ℕ). length xs) same ∙ kept.same_size ∙ ap (λ (xs : List ℕ). length xs) bytes;
-    },
-    (such_on Needs held.0 [] (such_for Holds Needs more held.0 held.2) tt, tt))
+    let pages = held.0 ++ [] in (
+      pages ∷ [],
+      record {
+        came = let_go_came d0 d2 d3 pages (supplied_on d0 d1 d2 held.0 [] held.1 (supplied_none d1 d2 kept)) taken;
+        size = ap (λ (xs : List ℕ). length xs) same ∙ kept.same_size ∙ ap (λ (xs : List ℕ). length xs) bytes;
+      },
+      (such_on Needs held.0 [] (such_for Holds Needs more held.0 held.2) tt, tt),
+    )
 
 pub held_between : (d0 d1 d2 d3 : Dat) (Holds : ℕ → Type 0) → ((pages : List ℕ) × Supplied d0 pages d1 × AllSuch Holds pages) → IsBetweenUnits (lent_pool d0).supply → KeepsRest d1 d2 → TakesPins d2 d3 → IsBetweenUnits (lent_pool d3).supply
 held_between d0 d1 d2 d3 Holds held between kept taken = let_go_between d0 d2 d3 (held.0 ++ []) between (supplied_on d0 d1 d2 held.0 [] held.1 (supplied_none d1 d2 kept)) taken
@@ -68,13 +69,14 @@ held_between d0 d1 d2 d3 Holds held between kept taken = let_go_between d0 d2 d3
 
 pub refused_came : (d0 d1 d2 : Dat) (Holds Needs : ℕ → Type 0) → ((page : ℕ) → Holds page → Needs page) → ((pages : List ℕ) × Supplied d0 pages d1 × AllSuch Holds pages) → lent_bytes d1 ≡ lent_bytes d0 → TakesPins d1 d2 → lent_bytes d2 ≡ lent_bytes d1
     → Brings CameIn d0 Needs d2
-refused_came d0 d1 d2 Holds Needs more held bytes taken same =
-    (held.0 ∷ [],
-    record {
-      came = let_go_came d0 d1 d2 held.0 held.1 taken;
-      size = ap (λ (xs : List ℕ). length xs) (same ∙ bytes);
-    },
-    (such_for Holds Needs more held.0 held.2, tt))
+refused_came d0 d1 d2 Holds Needs more held bytes taken same = (
+  held.0 ∷ [],
+  record {
+    came = let_go_came d0 d1 d2 held.0 held.1 taken;
+    size = ap (λ (xs : List ℕ). length xs) (same ∙ bytes);
+  },
+  (such_for Holds Needs more held.0 held.2, tt),
+)
 
 pub refused_between : (d0 d1 d2 : Dat) (Holds : ℕ → Type 0) → ((pages : List ℕ) × Supplied d0 pages d1 × AllSuch Holds pages) → IsBetweenUnits (lent_pool d0).supply → TakesPins d1 d2 → IsBetweenUnits (lent_pool d2).supply
 refused_between d0 d1 d2 Holds held between taken = let_go_between d0 d1 d2 held.0 between held.1 taken
@@ -85,13 +87,15 @@ pub refused_whole : (error : TriedError) (d0 d1 d2 : Dat) (Holds Needs : ℕ →
     → WhereOut (length (lent_bytes d0)) Needs (no_room d2 Needs) P (told_of error)
 refused_whole tries.Memory d0 d1 d2 Holds Needs P more inside between held taken out p = tt
 refused_whole tries.FramesOut d0 d1 d2 Holds Needs P more inside between held taken out p =
-    let o = out refl in
-    (record {
-      page = o.0;
-      inside = inside o.0 o.1;
-      needed = more o.0 o.1;
-      out = room_of d0 d1 d2 held.0 Needs o.0 between held.1 (such_for Holds Needs more held.0 held.2) o.2 taken;
-    }, p)
+    let o = out refl in (
+      record {
+        page = o.0;
+        inside = inside o.0 o.1;
+        needed = more o.0 o.1;
+        out = room_of d0 d1 d2 held.0 Needs o.0 between held.1 (such_for Holds Needs more held.0 held.2) o.2 taken;
+      },
+      p,
+    )
 
 -- ---- pages that were touched
 
@@ -104,13 +108,15 @@ pub tried_whole : (ran : Result Ending TriedError) (d0 d1 : Dat) (Touched Needs 
 tried_whole (Ok ending) d0 d1 Touched Needs P more size lacking same = tt
 tried_whole (Err tries.Memory) d0 d1 Touched Needs P more size lacking same = tt
 tried_whole (Err tries.FramesOut) d0 d1 Touched Needs P more size lacking same =
-    let l = lacking refl in
-    (record {
-      page = l.page;
-      inside = subst (λ (n : ℕ). l.page * 4096 < n) size l.inside;
-      needed = more l.page l.such;
-      out = inl l.out;
-    }, same refl)
+    let l = lacking refl in (
+      record {
+        page = l.page;
+        inside = subst (λ (n : ℕ). l.page * 4096 < n) size l.inside;
+        needed = more l.page l.such;
+        out = inl l.out;
+      },
+      same refl,
+    )
 
 pub tried_walk : (ran : Result Ending TriedError) (P : Ending → Type 0) → IfOk ran P → IfOk (told_by ran) P
 tried_walk (Ok ending) P p = p
@@ -122,13 +128,15 @@ pub stopped_whole : (error : TriedError) (d0 d1 : Dat) (Touched Needs : ℕ → 
     → WhereOut (length (lent_bytes d0)) Needs (no_room d1 Needs) P (told_of error)
 stopped_whole tries.Memory d0 d1 Touched Needs P more size lacking same = tt
 stopped_whole tries.FramesOut d0 d1 Touched Needs P more size lacking same =
-    let l = lacking refl in
-    (record {
-      page = l.page;
-      inside = subst (λ (n : ℕ). l.page * 4096 < n) size l.inside;
-      needed = more l.page l.such;
-      out = inl l.out;
-    }, same refl)
+    let l = lacking refl in (
+      record {
+        page = l.page;
+        inside = subst (λ (n : ℕ). l.page * 4096 < n) size l.inside;
+        needed = more l.page l.such;
+        out = inl l.out;
+      },
+      same refl,
+    )
 
 -- ---- the same bytes
 

@@ -81,16 +81,19 @@ room_of d0 d1 d2 pages needs page rest brought all refused taken =
     let paged : IsPagedFor user pages (lent_pool d0).supply between = subst (λ (n : ℕ). IsPagedFor n pages (lent_pool d0).supply between) (sym brought.kept.same_user) brought.paged in
     let R : FrameSupply → ℕ → Type 0 = λ supply u. HasNoRoom supply u page ⊎ (IsFilled supply u page × ((held : ℕ) → is_there supply.owners u held ≡ true → needs held)) in
     let now : R between user = elim refused.stuck [
-      | inl pinned ↦ (let each = all_pinned user pages needs (lent_pool d0).supply between rest paged all pinned in inr (record {
+      | inl pinned ↦ (let each = all_pinned user pages needs (lent_pool d0).supply between rest paged all pinned in inr (
+        record {
           absent = ap (λ (o : Option ℕ). is_some o) refused.absent;
           owned = λ frame within. (let one = each frame within in record { page = one.page; such = tt; here = one.here });
-        }, each_needed between.owners user needs each))
+        },
+        each_needed between.owners user needs each,
+      ))
       | inr none ↦ inl (record {
-          absent = ap (λ (o : Option ℕ). is_some o) refused.absent;
-          nowhere = ap (λ (o : Option ℕ). is_some o) none.1;
-          full = refused.full;
-          full_slots = none.0;
-        })
+        absent = ap (λ (o : Option ℕ). is_some o) refused.absent;
+        nowhere = ap (λ (o : Option ℕ). is_some o) none.1;
+        full = refused.full;
+        full_slots = none.0;
+      })
     ] in
     let left : R (unpinned between) user = elim now [
       | inl out ↦ inl (record { absent = out.absent; nowhere = out.nowhere; full = out.full; full_slots = out.full_slots })

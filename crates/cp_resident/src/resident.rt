@@ -68,12 +68,7 @@ impl Resident {
     }
 
     /// Gives minidisks, volumes and programs back. It takes no memory.
-    pub fn give(
-        self,
-        volumes: &mut Volumes,
-        minidisks: &mut Vec<SharedDisk>,
-        reuse: &mut Reuse,
-    )
+    pub fn give(self, volumes: &mut Volumes, minidisks: &mut Vec<SharedDisk>, reuse: &mut Reuse)
         ensures volumes { volumes.new ≡ (hung_on self).volumes }
         ensures minidisks { minidisks.new.items ≡ (hung_on self).minidisks }
     {
@@ -160,7 +155,15 @@ impl<'a> Channels<Dat<'a>> for Resident {
         }
         match hold(self.alloc, storage, start.address.get()) {
             Ok(Program::Fixed(text, _)) => {
-                let ended = run_copied(&mut self.reuse, self.alloc, storage, &start, unit, text, device);
+                let ended = run_copied(
+                    &mut self.reuse,
+                    self.alloc,
+                    storage,
+                    &start,
+                    unit,
+                    text,
+                    device,
+                );
                 storage.let_go();
                 ended
             }

@@ -27,10 +27,9 @@ ghost use Rattle.channel_trial.specs.Tried.{IsLoadingTried, IsProgramTried};
 ghost use Rattle.cp_trial.specs.Tried.{EndsSomehow, LacksSuch};
 ghost use Rattle.cp_trial.specs.declared.TriedError.TheVariants as errors;
 
-pub use open::{fetch_again, fetch_first, load_open, run_open};
-
 use channel_trial::{TrialStorage, Tried, TriedLoading, limits_of};
 use cp_dat::Dat;
+pub use open::{fetch_again, fetch_first, load_open, run_open};
 use s370_channel::{Caw, load_supplied, run_supplied};
 use s370_store::{FramesOut, PAGE_SIZE, Storage};
 use s370_walk::{Device, Ending};
