@@ -207,7 +207,7 @@ line_done old middle new user typed told said' lines delivered punched printed h
         between_before = rest;
         between = subst IsBetweenUnits (sym supply) between;
         given_back = λ on. subst (λ (x : FrameSupply). IsGivenBack user old.supply x) (sym supply) (h.given_back on);
-        brought = λ off. (let b = h.brought off in (b.0 ∷ [], subst (λ (x : FrameSupply). IsBroughtInUnits user (b.0 ∷ []) old.supply x) (sym supply) b.1, (b.0, refl, b.2)));
+        brought = λ off. (let b = h.brought off in (b.0, subst (λ (x : FrameSupply). IsBroughtInUnits user b.0 old.supply x) (sym supply) b.1, b.2));
       };
     }
 
@@ -232,7 +232,7 @@ line_out old new user typed h lent rest between = record {
     between_before = rest;
     between = between;
     given_back = λ on. absurd (switch_wants_none typed.now (user_at old user) h.leaves.1.page on h.leaves.1.needed);
-    brought = λ off. (let b = h.brought off in (b.0 ∷ [], b.1, (b.0, refl, b.2)));
+    brought = λ off. (let b = h.brought off in (b.0, b.1, b.2));
   };
 }
 
@@ -261,7 +261,7 @@ line_refused old new user typed h lent rest between = record {
     between_before = rest;
     between = between;
     given_back = λ on. inr (h.given_back on);
-    brought = λ off. (let b = h.brought off in (b.0 ∷ [], b.1, (b.0, refl, b.2)));
+    brought = λ off. (let b = h.brought off in (b.0, b.1, b.2));
   };
   others = λ u not. (let q = requested typed.now (user_at old user) in follow_others old new user u (user == u) (is_cut q) lent (λ none. h.leaves.0 (plain_of q none)) refl (and_if (user == u) (is_cut q) not));
 }
@@ -286,7 +286,7 @@ line_cut old middle new user typed told punched printed h lent rest between at_p
         between_before = rest;
         between = subst IsBetweenUnits (sym supply) between;
         given_back = λ on. inl (subst (λ (x : FrameSupply). IsGivenBack user old.supply x) (sym supply) (h.given_back on));
-        brought = λ off. (let b = h.brought off in (b.0 ∷ [], subst (λ (x : FrameSupply). IsBroughtInUnits user (b.0 ∷ []) old.supply x) (sym supply) b.1, (b.0, refl, b.2)));
+        brought = λ off. (let b = h.brought off in (b.0, subst (λ (x : FrameSupply). IsBroughtInUnits user b.0 old.supply x) (sym supply) b.1, b.2));
       };
       others = λ u not. ap (λ (us : List Equipped). get_or us u nobody) users ∙ follow_others old middle user u (user == u) (is_cut q) lent (λ none. follow_same w typed.now e told (user_at middle user) none h.leaves now) refl (and_if (user == u) (is_cut q) not);
     }
@@ -308,7 +308,7 @@ serve_done old new user device done lines h lent rest between l = record {
     between_before = rest;
     between = between;
     given_back = λ on. absurd (false≢true on);
-    brought = λ off. (h.brought.0 ∷ [], h.brought.1, (h.brought.0, refl, h.brought.2));
+    brought = λ off. (h.brought.0, h.brought.1, h.brought.2);
   };
 }
 
@@ -325,7 +325,7 @@ serve_out old new user device h lent rest between = record {
     between_before = rest;
     between = between;
     given_back = λ on. absurd (false≢true on);
-    brought = λ off. (h.brought.0 ∷ [], h.brought.1, (h.brought.0, refl, h.brought.2));
+    brought = λ off. (h.brought.0, h.brought.1, h.brought.2);
   };
 }
 
@@ -336,7 +336,7 @@ serve_cut old new user device h lent rest between = record {
     between_before = rest;
     between = between;
     given_back = λ on. absurd (false≢true on);
-    brought = λ off. (h.brought.0 ∷ [], h.brought.1, (h.brought.0, refl, h.brought.2));
+    brought = λ off. (h.brought.0, h.brought.1, h.brought.2);
   };
   others = λ u other. others_stay user old.users new.users (ap (λ (x : SystemView). x.users) lent) u other;
 }

@@ -136,13 +136,13 @@ plainly_lent typed before old between new r rest taken frames cleared not_cleare
     record {
       kept = keeps_frames_on old between new kept taken.kept;
       frames = λ failed. (let l = frames failed in
-      let need = wanted typed before l.page l.needed in
-      record {
-        page = l.page;
-        inside = l.inside;
-        needed = need;
-        short = line_short typed before (user_of old) l.page (lent_pool old).supply (lent_pool between).supply (lent_pool new).supply rest paged need taken.supply (subst (λ (n : ℕ). IsRefused (lent_pool between).supply n l.page) kept.same_user l.short);
-      });
+          let need = wanted typed before l.page l.needed in
+          record {
+            page = l.page;
+            inside = l.inside;
+            needed = need;
+            short = line_short typed before (user_of old) l.page (lent_pool old).supply (lent_pool between).supply (lent_pool new).supply rest paged need taken.supply (subst (λ (n : ℕ). IsRefused (lent_pool between).supply n l.page) kept.same_user l.short);
+          });
       cleared = λ on. given_where r old between new taken (cleared on);
       not_cleared = λ on. same_where r old between new rest taken (not_cleared on);
       supply = λ off. (let s = supply off in (s.0 ∷ [], let_go_came old between new s.0 s.1 taken, one_brings (is_ipl (requested typed before)) needs s.0 (all_wanted typed before s.0 s.2)));
@@ -174,7 +174,7 @@ loading_lent typed before device old middle new first r ipl asked lent size out 
         s.0 ++ brought.0,
         came_on old middle new s.0 brought.0 s.1 brought.1.came,
         subst (λ (b : Bool). LineBrings b needs (s.0 ++ brought.0)) (sym ipl)
-        (each_on needs s.0 brought.0 (subst (λ (b : Bool). LineBrings b needs s.0) ipl s.2) (each_for (IplNeeds device before) needs more brought.0 brought.2)),
+            (each_on needs s.0 brought.0 (subst (λ (b : Bool). LineBrings b needs s.0) ipl s.2) (each_for (IplNeeds device before) needs more brought.0 brought.2)),
       ));
       between = between;
     }

@@ -13,11 +13,11 @@ ghost use Rattle.cp_resident.specs.Resident.{KeepsHung, disks_on};
 ghost use Rattle.cp_core.specs.Typed.{IsLineLent};
 ghost use Rattle.cp_core.specs.Wants.{LineMay, is_ipl};
 
-use cp_resident::Resident;
 use cp_channels::Channels;
 use cp_dat::Dat;
 use cp_devices::{Devices, Told, World};
 use cp_panel::{LineError, Machine};
+use cp_resident::Resident;
 use cp_spool::Queues;
 use s370_channel::ChannelError;
 use s370_num::DevAddr;
@@ -153,9 +153,7 @@ fn type_line<W: World>(
     ensures others { KeepsHung channels.old channels.new }
     ensures beside { KeepsBeside devices.old queues.old devices.new queues.new }
 {
-    let told = devices.line(
-        alloc, queues, machine, storage, channels, world, typed,
-    );
+    let told = devices.line(alloc, queues, machine, storage, channels, world, typed);
     storage.let_go();
     told
 }

@@ -14,7 +14,6 @@ ghost use Rattle.ckd_volume.specs.Volume.{VolumeFormat};
 ghost use Rattle.cp_volumes.specs.Shared.{IsUsers, KeepsNeighbours, disks_on, stands_of};
 
 use crate::delivery::{Delivery, Parcel};
-use cp_resident::Reuse;
 use crate::work::Work;
 use cp_console::responses::Response;
 use cp_dat::Dat;
@@ -22,6 +21,7 @@ use cp_devices::{AttachError, Devices, Places};
 use cp_directory::Directory;
 use cp_frames::Frames;
 use cp_panel::Machine;
+use cp_resident::Reuse;
 use cp_spool::Queues;
 use cp_users::UserNo;
 use cp_volumes::{SharedDisk, Volumes};

@@ -9,8 +9,6 @@ ghost use Rattle.cp_devices.specs.Equipped.{Equipped, equipped};
 ghost use Rattle.cp_devices.specs.Lent.{KeepsBeside, devices_on};
 ghost use Rattle.cp_volumes.specs.Shared.{IsUsers, KeepsNeighbours, disks_on, stands_of};
 
-use cp_resident::Resident;
-use cp_resident::Reuse;
 use crate::serving::{serve_supplied, type_supplied};
 use crate::world::Among;
 use arrayvec::ArrayVec;
@@ -18,6 +16,7 @@ use cp_dat::Dat;
 use cp_devices::{Devices, Told};
 use cp_directory::Directory;
 use cp_panel::{LineError, Machine};
+use cp_resident::{Resident, Reuse};
 use cp_spool::Queues;
 use cp_trap::VirtualCpu;
 use cp_users::UserNo;

@@ -37,8 +37,8 @@ module _ {X : Type 0} (page_of : X → ℕ) where
     marked = λ y there inside. elim (Contains-append_cases xs (x ∷ []) y there) [
       | inl earlier ↦ one.stays (page_of y) (before.marked y earlier inside)
       | inr (k, low, e) ↦ (let first : k ≡ 0 = omega (arith, low) in
-        let same : x ≡ y = rw first at e in
-        subst (λ (z : X). is_wanted new (page_of z)) same (one.marked (subst (λ (z : X). page_of z < length middle) (sym same) (subst (λ (n : ℕ). page_of y < n) (sym before.size) inside))))
+          let same : x ≡ y = rw first at e in
+          subst (λ (z : X). is_wanted new (page_of z)) same (one.marked (subst (λ (z : X). page_of z < length middle) (sym same) (subst (λ (n : ℕ). page_of y < n) (sym before.size) inside))))
     ];
     only = λ page it. elim (one.only page it) [
       | inl earlier ↦ elim (before.only page earlier) [

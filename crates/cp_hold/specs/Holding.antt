@@ -23,13 +23,13 @@ pub record HoldNeeds (m : Memory) (start page : ℕ) : Type 0 where
 
 -- no input can change the program, its pages are present, its words and lists lie in these fullwords, as which they stand, and
 -- its areas on these pages
-pub record IsFixedProgram (m : Memory) (start : ℕ) (present : ℕ → Bool) (text : List Fullword) (pages : List Page) : Type 0 where
+pub record IsFixedProgram (m : Memory) (start : ℕ) (present : ℕ → Bool) (words : List Fullword) (pages : List Page) : Type 0 where
   pub even : start % 8 ≡ 0
   pub fixed : IsFixed m start
   pub held : IsHeld m start present
-  pub text : IsText m start text
-  pub only : IsTextOnly m start text
-  pub stands : All (IsAsItStood m.bytes present) text
+  pub text : IsText m start words
+  pub only : IsTextOnly m start words
+  pub stands : All (IsAsItStood m.bytes present) words
   pub paged : IsPaged m start pages
   pub paged_only : IsPagedOnly m start pages
 

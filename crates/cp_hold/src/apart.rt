@@ -1,5 +1,5 @@
 //! A program that is looked at on a copy of its user's bytes.
-ghost use Rattle.std.specs.Prelude.{◌≡◌, ℕ, ◌%◌, ◌*◌, ◌<◌, IfNone, IfOk, IfSome, length, true};
+ghost use Rattle.std.specs.Prelude.{◌≡◌, ℕ, ◌%◌, ◌*◌, ◌<◌, IfNone, IfOk, IfSome, length, false, true};
 ghost use Rattle.cp_dat.specs.Copies.{is_wanted};
 ghost use Rattle.cp_dat.specs.Lent.{lent_bytes, lent_keys};
 ghost use Rattle.cp_hold.specs.Holding.{guest_memory};
@@ -7,10 +7,10 @@ ghost use Rattle.cp_needs.specs.Needs.{IsClash, IsFixed, IsProgramPage};
 ghost use Rattle.channel_trial.specs.Trial.{is_touched, trial_bytes, trial_keys};
 
 use crate::flags::flags_of;
+use channel_trial::TrialStorage;
 use cp_dat::Dat;
 use cp_needs::{Found, look};
 use s370_store::{FramesOut, PAGE_SIZE, Page, Storage, Supply};
-use channel_trial::TrialStorage;
 use std::alloc::{AllocError, Global};
 
 /// A copy of a user's storage. For that no page has to stand in a frame.

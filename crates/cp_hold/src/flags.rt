@@ -11,11 +11,11 @@ use s370_store::{PAGE_SIZE, Page};
 use std::alloc::{AllocError, Global};
 
 /// Marks a page, where there is a flag for it.
-fn mark(wanted: &mut [bool], page: u32)
-    ensures size { length wanted.new ≡ length wanted.old }
-    ensures stays { (other : ℕ) → is_wanted wanted.old other → is_wanted wanted.new other }
-    ensures marked { page < length wanted.old → is_wanted wanted.new page }
-    ensures only { (other : ℕ) → is_wanted wanted.new other → is_wanted wanted.old other ⊎ (other ≡ page) }
+fn mark(wanted: &mut Vec<bool>, page: u32)
+    ensures size { length wanted.new.items ≡ length wanted.old.items }
+    ensures stays { (other : ℕ) → is_wanted wanted.old.items other → is_wanted wanted.new.items other }
+    ensures marked { page < length wanted.old.items → is_wanted wanted.new.items page }
+    ensures only { (other : ℕ) → is_wanted wanted.new.items other → is_wanted wanted.old.items other ⊎ (other ≡ page) }
 {
     let place = page as usize;
     if place < wanted.len() {
@@ -24,8 +24,8 @@ fn mark(wanted: &mut [bool], page: u32)
 }
 
 /// Marks the pages of fullwords.
-fn mark_words(wanted: &mut [bool], words: &[Fullword])
-    ensures { AreFlagged (λ w. w.start / 4096) words.now wanted.old wanted.new }
+fn mark_words(wanted: &mut Vec<bool>, words: &[Fullword])
+    ensures { AreFlagged (λ w. w.start / 4096) words.now wanted.old.items wanted.new.items }
 {
     for word in words {
         mark(wanted, word.start / PAGE_SIZE);
@@ -33,8 +33,8 @@ fn mark_words(wanted: &mut [bool], words: &[Fullword])
 }
 
 /// Marks pages.
-fn mark_pages(wanted: &mut [bool], pages: &[Page])
-    ensures { AreFlagged (λ page. page.0) pages.now wanted.old wanted.new }
+fn mark_pages(wanted: &mut Vec<bool>, pages: &[Page])
+    ensures { AreFlagged (λ page. page.0) pages.now wanted.old.items wanted.new.items }
 {
     for page in pages {
         mark(wanted, page.0);

@@ -1,5 +1,5 @@
 //! A program's pages are brought, and held.
-ghost use Rattle.std.specs.Prelude.{◌≡◌, ℕ, ◌%◌, ◌*◌, ◌≤◌, ◌<◌, All, Err, IfNone, IfOk, IfSome, List, OnErr, OnOk, length, true};
+ghost use Rattle.std.specs.Prelude.{◌≡◌, ℕ, ◌%◌, ◌*◌, ◌≤◌, ◌<◌, All, Err, IfNone, IfOk, IfSome, List, OnErr, OnOk, length, false, true};
 ghost use Rattle.cp_dat.specs.Copies.{is_wanted};
 ghost use Rattle.cp_dat.specs.Lent.{is_lent_page, lent_bytes, lent_keys, lent_pool, user_of};
 ghost use Rattle.cp_dat.specs.Supplied.{Supplied};
@@ -13,7 +13,7 @@ use crate::apart::pages_apart;
 use cp_dat::Dat;
 use cp_needs::{Found, Fullword, look};
 use cp_trial::TriedError;
-use s370_store::{FramesOut, Page, Supply};
+use s370_store::{FramesOut, Page, Storage, Supply};
 use std::alloc::Global;
 
 /// What is found of a program before it runs.
@@ -34,6 +34,8 @@ fn lacking(storage: &Dat<'_>, wanted: &[bool]) -> Option<Page>
     ensures away { IfSome result (λ page. is_lent_page storage.now page.0 ≡ false) }
     ensures there { IfNone result ((page : ℕ) → is_wanted wanted.now page → is_lent_page storage.now page ≡ true) }
 {
+    // What is always so of it.
+    let _size = storage.size();
     let mut page = 0u32;
     while (page as usize) < wanted.len() {
         if wanted[page as usize] && storage.frame_of(Page(page)).is_none() {
@@ -65,11 +67,7 @@ fn bring_wanted(storage: &mut Dat<'_>, wanted: &[bool]) -> Result<(), FramesOut>
 
 /// Holds the pages of the program from an address on, where no input can change it. Where there is no room for one, this
 /// is told; they are held until the pins are taken away.
-pub fn hold(
-    alloc: Global,
-    storage: &mut Dat<'_>,
-    address: u32,
-) -> Result<Program, TriedError>
+pub fn hold(alloc: Global, storage: &mut Dat<'_>, address: u32) -> Result<Program, TriedError>
     ensures fixed { IfOk result (λ found. IfFixed found
         (IsFixedProgram (guest_memory storage.old) address (is_lent_page storage.new))) }
     ensures open { IfOk result

@@ -1,2 +1,3 @@
 mod Emptied
-mod Refused
+pub mod Refused
+pub mod Ran

@@ -28,7 +28,7 @@ none_pinned (suc n) (suc frame) = none_pinned n frame
 not_both : {b : Bool} → b ≡ false → b ≡ true → ⊥
 not_both off on = cc
 
-listed : (P : ℕ → Type 0) (pages : List ℕ) (k page : ℕ) → AllSuch P pages → k < length pages → get_or pages k 0 ≡ page → P page
+listed : (P : ℕ → Type 0) (pages : List ℕ) (k page : ℕ) → AllSuch P pages → k < length pages → get_or pages k page ≡ page → P page
 listed P [] k page all low at = absurd (omega (arith, low))
 listed P (first ∷ pages) zero page all low at = subst P at all.0
 listed P (first ∷ pages) (suc k) page all low at = listed P pages k page all.1 (omega (arith, low)) at
@@ -50,7 +50,7 @@ module _ (user : ℕ) (pages : List ℕ) (needs : ℕ → Type 0) (old between :
       pinned_has frame (All-get_or (λ (b : Bool). b ≡ true) between.pins frame false (omega (arith, within, count)) pinned)
 
 -- two pages of a user that stand in one frame are one page
-page_in : Option UserPage → ℕ
+abbrev page_in : Option UserPage → ℕ
 page_in None = 0
 page_in (Some there) = there.page.0
 
@@ -81,16 +81,19 @@ room_of d0 d1 d2 pages needs page rest brought all refused taken =
     let paged : IsPagedFor user pages (lent_pool d0).supply between = subst (λ (n : ℕ). IsPagedFor n pages (lent_pool d0).supply between) (sym brought.kept.same_user) brought.paged in
     let R : FrameSupply → ℕ → Type 0 = λ supply u. HasNoRoom supply u page ⊎ (IsFilled supply u page × ((held : ℕ) → is_there supply.owners u held ≡ true → needs held)) in
     let now : R between user = elim refused.stuck [
-      | inl pinned ↦ (let each = all_pinned user pages needs (lent_pool d0).supply between rest paged all pinned in inr (record {
+      | inl pinned ↦ (let each = all_pinned user pages needs (lent_pool d0).supply between rest paged all pinned in inr (
+        record {
           absent = ap (λ (o : Option ℕ). is_some o) refused.absent;
           owned = λ frame within. (let one = each frame within in record { page = one.page; such = tt; here = one.here });
-        }, each_needed between.owners user needs each))
+        },
+        each_needed between.owners user needs each,
+      ))
       | inr none ↦ inl (record {
-          absent = ap (λ (o : Option ℕ). is_some o) refused.absent;
-          nowhere = ap (λ (o : Option ℕ). is_some o) none.1;
-          full = refused.full;
-          full_slots = none.0;
-        })
+        absent = ap (λ (o : Option ℕ). is_some o) refused.absent;
+        nowhere = ap (λ (o : Option ℕ). is_some o) none.1;
+        full = refused.full;
+        full_slots = none.0;
+      })
     ] in
     let left : R (unpinned between) user = elim now [
       | inl out ↦ inl (record { absent = out.absent; nowhere = out.nowhere; full = out.full; full_slots = out.full_slots })

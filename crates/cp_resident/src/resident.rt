@@ -1,5 +1,5 @@
 //! Channels of users: a program runs as a whole, or not at all, with the pages that it needs.
-ghost use Rattle.std.specs.Prelude.{◌≡◌, ◌%◌, ◌<◌, All, IfErr, IfOk, IfSome, length};
+ghost use Rattle.std.specs.Prelude.{◌≡◌, ◌<◌, IfErr, IfOk, List, length};
 ghost use Rattle.s370_channel.specs.Reading.{as_reached};
 ghost use Rattle.s370_channel.specs.Runs.{Walks};
 ghost use Rattle.s370_channel.specs.declared.running.ChannelError.TheVariants as errors;
@@ -7,8 +7,7 @@ ghost use Rattle.s370_walk.specs.Hardware.{memory_of};
 ghost use Rattle.cp_channels.specs.Channels.{WalksDisk};
 ghost use Rattle.cp_dat.specs.Lent.{KeepsRest, is_lent_page, lent_bytes, lent_keys};
 ghost use Rattle.cp_hold.specs.Holding.{IsFixedProgram, guest_memory};
-ghost use Rattle.cp_needs.specs.Needs.{IsFixed, IsHeld};
-ghost use Rattle.cp_needs.specs.Kept.{IsAsItStood, IsText, IsTextOnly};
+ghost use Rattle.s370_store.specs.declared.Page.{Page};
 ghost use Rattle.cp_ccw.specs.Kept.{IsAtBase};
 ghost use Rattle.cp_resident.specs.Resident.{KeepsHung, disks_on, told_by, told_of};
 
@@ -69,12 +68,7 @@ impl Resident {
     }
 
     /// Gives minidisks, volumes and programs back. It takes no memory.
-    pub fn give(
-        self,
-        volumes: &mut Volumes,
-        minidisks: &mut Vec<SharedDisk>,
-        reuse: &mut Reuse,
-    )
+    pub fn give(self, volumes: &mut Volumes, minidisks: &mut Vec<SharedDisk>, reuse: &mut Reuse)
         ensures volumes { volumes.new ≡ (hung_on self).volumes }
         ensures minidisks { minidisks.new.items ≡ (hung_on self).minidisks }
     {
@@ -161,7 +155,15 @@ impl<'a> Channels<Dat<'a>> for Resident {
         }
         match hold(self.alloc, storage, start.address.get()) {
             Ok(Program::Fixed(text, _)) => {
-                let ended = run_copied(&mut self.reuse, self.alloc, storage, &start, unit, text, device);
+                let ended = run_copied(
+                    &mut self.reuse,
+                    self.alloc,
+                    storage,
+                    &start,
+                    unit,
+                    text,
+                    device,
+                );
                 storage.let_go();
                 ended
             }
@@ -266,12 +268,8 @@ fn run_copied<D: Device>(
     text: Vec<Fullword>,
     device: &mut D,
 ) -> Result<Ending, ChannelError>
-    requires even { start.now.address % 8 ≡ 0 }
-    requires fixed { IsFixed (guest_memory storage.old) start.now.address }
-    requires held { IsHeld (guest_memory storage.old) start.now.address (is_lent_page storage.old) }
-    requires text { IsText (guest_memory storage.old) start.now.address text.items }
-    requires only { IsTextOnly (guest_memory storage.old) start.now.address text.items }
-    requires stands { All (IsAsItStood (lent_bytes storage.old) (is_lent_page storage.old)) text.items }
+    requires fixed { (pages : List Page)
+        × IsFixedProgram (guest_memory storage.old) start.now.address (is_lent_page storage.old) text.items pages }
     ensures walk { IfOk result
         (λ ending. Walks as_reached D.machine start.now (guest_memory storage.old) device.old ending
         (guest_memory storage.new) device.new) }

@@ -1,16 +1,15 @@
-use Rattle.std.proofs.Common.{◌≡◌, ◌∙◌, Bool, sym, subst, inr, Result, true, false, ℕ, None, Some}
+use Rattle.std.proofs.Common.{◌≡◌, ◌∙◌, Bool, sym, subst, inr, refl, length, Err, true, false, ℕ, None, Some}
 use Rattle.cp_dat.specs.Lent.{lent_bytes, lent_keys}
-use Rattle.cp_devices.specs.declared.line.Told.{Told}
 use Rattle.cp_devices.specs.Equipped.{Equipped, equipped}
 use Rattle.cp_devices.specs.Lent.{devices_on}
 use Rattle.cp_devices.specs.Lines.{IplNeeds, loads_from}
 use Rattle.cp_devices.proofs.Beside.{beside_on}
 use Rattle.cp_core.proofs.Owned.{owner_still}
-use Rattle.cp_panel.specs.declared.line.LineError.{LineError}
-use Rattle.cp_resident.specs.Resident.{disks_on, hung_further}
-use Rattle.cp_core.specs.Typed.{IsLineLent}
+use Rattle.cp_channels.specs.Channels.{Brings, LacksRoom}
+use Rattle.cp_panel.specs.declared.line.LineError.TheVariants as errors
+use Rattle.cp_resident.specs.Resident.{CameIn, disks_on, hung_further}
 use Rattle.cp_core.proofs.Answered.{loads_ipl, plain_whole}
-use Rattle.cp_core.proofs.Worked.{loading_lent}
+use Rattle.cp_core.proofs.Worked.{loading_lent, no_room}
 use Rattle.cp_core.proofs.serving.type_supplied.Goals as goal
 
 not_both : {b : Bool} → b ≡ false → b ≡ true → ⊥
@@ -33,7 +32,17 @@ returns-in-Some-clause-memory g c = λ failed. (
     inr l.ipl)
 
 pub returns-in-Some-clause-lent : goal.returns-in-Some-clause-lent
-returns-in-Some-clause-lent g c = ?
+returns-in-Some-clause-lent g c =
+    let before = equipped c.args.machine.now (devices_on c.args.devices.now c.args.queues.now) (disks_on c.args.channels.now) (lent_bytes c.args.storage.now) (lent_keys c.args.storage.now) in
+    let after = equipped c.type_line.new.machine (devices_on c.type_line.new.devices c.type_line.new.queues) (disks_on c.type_line.new.channels) (lent_bytes c.type_line.new.storage) (lent_keys c.type_line.new.storage) in
+    let loads : loads_from c.in-Ok.first ≡ Some c.in-Some.device = sym c.loads_from.ensures ∙ c.in-Some.is in
+    let l = loads_ipl (g.W.World.known c.args.world.now) c.args.typed.now before c.in-Ok.first after c.in-Some.device c.in-Ok.ensures.ok loads in
+    let middle = c.type_line.new.storage in
+    let new = c.ipl.new.storage in
+    let device = c.in-Some.device in
+    let out = subst (λ (e : Equipped). c.ipl.result ≡ Err errors.FramesOut → LacksRoom (length (lent_bytes middle)) (IplNeeds device e) (no_room new (IplNeeds device e))) l.same (c.ipl.ensures.out refl) in
+    let brought = subst (λ (e : Equipped). Brings CameIn middle (IplNeeds device e) new) l.same c.ipl.ensures.came in
+    loading_lent c.args.typed.now before device c.args.storage.now middle new c.type_line.result c.ipl.result l.ipl l.asked c.type_line.ensures.lent c.type_line.ensures.size out brought c.ipl.ensures.ready
 
 pub returns-in-Some-clause-others : goal.returns-in-Some-clause-others
 returns-in-Some-clause-others g c = hung_further c.args.channels.now c.type_line.new.channels c.ipl.new.channels c.type_line.ensures.others c.ipl.ensures.others

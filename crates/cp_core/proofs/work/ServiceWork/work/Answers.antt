@@ -13,6 +13,15 @@ use Rattle.cp_core.specs.Wants.{DeviceNeeds}
 use Rattle.cp_core.proofs.Worked.{no_room, serve_work}
 use Rattle.cp_core.proofs.work.ServiceWork.work.Goals as goal
 
+pub returns-clause-kept : goal.returns-clause-kept
+returns-clause-kept c = c.serve_supplied-served.ensures.came.1.came.kept
+
+pub returns-clause-size : goal.returns-clause-size
+returns-clause-size c = c.serve_supplied-served.ensures.came.1.size
+
+pub returns-clause-between : goal.returns-clause-between
+returns-clause-between c = c.serve_supplied-served.ensures.ready
+
 pub returns-clause-neighbours : goal.returns-clause-neighbours
 returns-clause-neighbours c =
     let served = c.serve_supplied-served in
