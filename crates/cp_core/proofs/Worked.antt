@@ -157,7 +157,7 @@ pub loading_lent : (typed : List ℕ) (before : Equipped) (device : ℕ) (old mi
     → IsLineLent typed before old new r
 loading_lent typed before device old middle new first r ipl asked lent size out brought between =
     let needs : ℕ → Type 0 = LineWants typed before in
-    let more : (page : ℕ) → IplNeeds device before page → needs page = load_wanted typed before device in
+    let more : (page : ℕ) → IplNeeds device before page → needs page = λ page need. load_wanted typed before device page asked need in
     let kept : KeepsFrames old new = keeps_frames_on old middle new lent.kept brought.1.came.kept in
     record {
       kept = kept;

@@ -31,6 +31,15 @@ returns-in-Some-clause-memory g c = λ failed. (
     let l = loads_ipl (g.W.World.known c.args.world.now) c.args.typed.now before c.in-Ok.first after c.in-Some.device c.in-Ok.ensures.ok loads in
     inr l.ipl)
 
+pub returns-in-Some-clause-same : goal.returns-in-Some-clause-same
+returns-in-Some-clause-same g c = λ failed.
+    (
+    let before = equipped c.args.machine.now (devices_on c.args.devices.now c.args.queues.now) (disks_on c.args.channels.now) (lent_bytes c.args.storage.now) (lent_keys c.args.storage.now) in
+    let after = equipped c.type_line.new.machine (devices_on c.type_line.new.devices c.type_line.new.queues) (disks_on c.type_line.new.channels) (lent_bytes c.type_line.new.storage) (lent_keys c.type_line.new.storage) in
+    let loads : loads_from c.in-Ok.first ≡ Some c.in-Some.device = sym c.loads_from.ensures ∙ c.in-Some.is in
+    let l = loads_ipl (g.W.World.known c.args.world.now) c.args.typed.now before c.in-Ok.first after c.in-Some.device c.in-Ok.ensures.ok loads in
+    c.ipl.ensures.same refl failed ∙ l.same)
+
 pub returns-in-Some-clause-lent : goal.returns-in-Some-clause-lent
 returns-in-Some-clause-lent g c =
     let before = equipped c.args.machine.now (devices_on c.args.devices.now c.args.queues.now) (disks_on c.args.channels.now) (lent_bytes c.args.storage.now) (lent_keys c.args.storage.now) in
