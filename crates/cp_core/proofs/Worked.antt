@@ -41,7 +41,7 @@ no_room d needs page = NoRoom (λ (e : Dat) (p : ℕ). HasNoRoom (lent_pool e).s
 
 is_taken : (o : Option UserPage) (page : UserPage) → o ≡ Some page → IsSome o
 is_taken None page e = cc
-is_taken (Some there) page e = tt
+is_taken (Some there) page e = refl
 
 held_there : (owners : List (Option UserPage)) (user page frame : ℕ) → Holds owners frame (owned user page) → is_there owners user page ≡ true
 held_there owners user page frame here = found_from (is_page user page) None 0 owners frame refl (ap (is_page user page) here ∙ is_this_page user page)
