@@ -41,7 +41,7 @@ no_room d needs page = NoRoom (λ (e : Dat) (p : ℕ). HasNoRoom (lent_pool e).s
 
 is_taken : (o : Option UserPage) (page : UserPage) → o ≡ Some page → IsSome o
 is_taken None page e = cc
-is_taken (Some there) page e = tt
+is_taken (Some there) page e = refl
 
 held_there : (owners : List (Option UserPage)) (user page frame : ℕ) → Holds owners frame (owned user page) → is_there owners user page ≡ true
 held_there owners user page frame here = found_from (is_page user page) None 0 owners frame refl (ap (is_page user page) here ∙ is_this_page user page)
@@ -157,7 +157,7 @@ pub loading_lent : (typed : List ℕ) (before : Equipped) (device : ℕ) (old mi
     → IsLineLent typed before old new r
 loading_lent typed before device old middle new first r ipl asked lent size out brought between =
     let needs : ℕ → Type 0 = LineWants typed before in
-    let more : (page : ℕ) → IplNeeds device before page → needs page = load_wanted typed before device in
+    let more : (page : ℕ) → IplNeeds device before page → needs page = λ page need. load_wanted typed before device page asked need in
     let kept : KeepsFrames old new = keeps_frames_on old middle new lent.kept brought.1.came.kept in
     record {
       kept = kept;
