@@ -1,5 +1,5 @@
 -- What an event does to a machine with its devices, and how its life is made of what happens to it alone.
-use Rattle.std.specs.Prelude.{ℕ, ◌≡◌, ◌+◌, Bool, true, false, nat_lt, List, [], ◌∷◌, ◌++◌, length, slice_get, Option, Some, None}
+use Rattle.std.specs.Prelude.{ℕ, ◌≡◌, ◌<◌, ◌+◌, Bool, true, false, nat_lt, List, [], ◌∷◌, ◌++◌, length, slice_get, Option, Some, None}
 use Rattle.cp_console.specs.ConsoleLine.{characters_of}
 use Rattle.s370_channel.specs.declared.running.ChannelError.TheVariants as errors
 use Rattle.s370_channel.specs.Reading.{as_reached}
@@ -9,6 +9,7 @@ use Rattle.unit_record.specs.declared.reader.Sender.TheVariants as senders
 use Rattle.unit_record.specs.Output.{FileValue}
 use Rattle.cp_panel.specs.Run.{run}
 use Rattle.cp_panel.specs.Tick.{ticked}
+use Rattle.cp_devices.specs.Comes.{LineMay}
 use Rattle.cp_devices.specs.Attention.{AttentionAgrees}
 use Rattle.cp_devices.specs.declared.line.Told.{Told}
 use Rattle.cp_devices.specs.declared.line.Told.TheVariants.{Silent, Said, Files, Sent, Loads, Closed}
@@ -69,13 +70,13 @@ IsApplied old (events.Deck cards) reply new = IsGiven cards.now old reply new
 abbrev pub LacksMemory : ℕ → Bare → Type 0
 LacksMemory device old = StopsAt as_reached (λ page. true) device old.equipped errors.Memory
 
--- a run and a tick take no memory; a line and a deck take some of their own
+-- a run and a tick take no memory; a line takes some only where one to a machine with devices may, and cards where there are any
 abbrev pub MayLackMemory : Bare → Event → Type 0
 MayLackMemory old (events.Run count) = ⊥
-MayLackMemory old (events.Line typed) = Unit {0}
+MayLackMemory old (events.Line typed) = LineMay typed.now old.equipped
 MayLackMemory old (events.Serve device) = LacksMemory device old
 MayLackMemory old events.Tick = ⊥
-MayLackMemory old (events.Deck cards) = Unit {0}
+MayLackMemory old (events.Deck cards) = 0 < length cards.now
 
 -- ---- one event after another
 

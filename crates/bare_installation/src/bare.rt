@@ -12,7 +12,8 @@ ghost use Rattle.s370_subchannels.specs.declared.subchannel.Subchannel.{Subchann
 ghost use Rattle.cp_devices.specs.Devices.{AreAttached, can_attach, devices_new, no_places, places_of};
 ghost use Rattle.cp_devices.specs.declared.attaching.AttachError.TheVariants as errors;
 ghost use Rattle.cp_devices.specs.Lent.{devices_on};
-ghost use Rattle.cp_devices.specs.Lines.{IsIpl, IsLine, IsWholeLine};
+ghost use Rattle.cp_devices.specs.Comes.{HasClosed, LineMay, is_sent};
+ghost use Rattle.cp_devices.specs.Lines.{IsIpl, IsLine, IsWholeLine, MayTakeMemory, requested};
 ghost use Rattle.cp_devices.specs.Serve.{IsServedAt};
 ghost use Rattle.bare_installation.specs.Bare.{IsTyped, alone, given_back, is_for_user, next_file, noted, printed_file, punched, received, with_deck, world_of};
 ghost use Rattle.bare_installation.specs.Life.{AttentionAgreesThroughout, EachIsLife, IsApplied, LacksMemory, MayLackMemory};
@@ -170,6 +171,9 @@ impl Bare {
                 Ok(Reply::Done)
             }
             Event::Deck(cards) => {
+                if cards.is_empty() {
+                    return Ok(Reply::Done);
+                }
                 self.deck(copy_of(alloc, cards)?)?;
                 Ok(Reply::Done)
             }
@@ -234,7 +238,8 @@ impl Bare {
     /// A deck that the operator gives to the reader; no cards are no deck. Where memory is refused, nothing is said of
     /// the machine.
     pub fn deck(&mut self, cards: Vec<Card>) -> Result<(), AllocError>
-        ensures { OnOk result (self.new ≡ with_deck cards.items self.old) }
+        ensures after { OnOk result (self.new ≡ with_deck cards.items self.old) }
+        ensures memory { OnErr result (0 < length cards.items) }
     {
         if cards.is_empty() {
             return Ok(());
@@ -246,9 +251,12 @@ impl Bare {
         Ok(())
     }
 
-    /// A line that is typed, and what is told. Where memory is refused, nothing is said of the machine.
+    /// A line that is typed, and what is told. Memory is refused only where it closes a file, sends a message, resets or
+    /// loads the machine, waits for the console, or is one for which a machine makes room; nothing is said of the machine
+    /// then.
     pub fn line(&mut self, alloc: Global, typed: &[u8]) -> Result<Told, AllocError>
-        ensures { IfOk result (λ told. IsTyped typed.now self.old told self.new) }
+        ensures told { IfOk result (λ told. IsTyped typed.now self.old told self.new) }
+        ensures memory { OnErr result (LineMay typed.now self.old.equipped) }
     {
         let punched = self.punched();
         let printed = self.printed_files();
@@ -278,6 +286,7 @@ impl Bare {
         ensures line { IfOk result
             (λ told. IsWholeLine (W.known world.now) typed.now self.old.equipped told self.new.equipped) }
         ensures files { self.new.files ≡ self.old.files }
+        ensures memory { OnErr result (LineMay typed.now self.old.equipped) }
     {
         let first = self.answer(alloc, world, typed)?;
         match first.loads_from() {
@@ -296,6 +305,7 @@ impl Bare {
         ensures line { IfOk result
             (λ told. IsLine (W.known world.now) typed.now self.old.equipped told self.new.equipped) }
         ensures files { self.new.files ≡ self.old.files }
+        ensures memory { OnErr result (MayTakeMemory (requested typed.now self.old.equipped) typed.now self.old.equipped) }
     {
         let told = self.devices.line(
             alloc,
@@ -340,6 +350,7 @@ impl Bare {
         ensures after { OnOk result
             (self.new.equipped ≡ (received (next_file self.old.files) told self.old.equipped).equipped) }
         ensures files { self.new.files ≡ self.old.files }
+        ensures memory { OnErr result (is_sent told ≡ true) }
     {
         match told {
             Told::Sent(_, line) => {
@@ -362,7 +373,8 @@ impl Bare {
 
     /// Each file that was closed, of so many punched and printed ones before, gets its number.
     fn note(&mut self, punched_before: usize, printed_before: usize) -> Result<(), AllocError>
-        ensures { OnOk result (self.new ≡ noted punched_before printed_before self.old) }
+        ensures after { OnOk result (self.new ≡ noted punched_before printed_before self.old) }
+        ensures memory { OnErr result (HasClosed punched_before printed_before self.old.equipped) }
     {
         let has_printed = self.printed_files() > printed_before;
         if self.punched() > punched_before {

@@ -1,5 +1,4 @@
 pub mod Led
-pub mod Answered
 pub mod Systems
 pub mod Boots
 pub mod Switches

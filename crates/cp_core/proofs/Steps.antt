@@ -29,12 +29,12 @@ use Rattle.cp_devices.specs.Equipped.{Equipped}
 use Rattle.cp_devices.specs.Life.{Event as Local, Units, Serve as Serves, Line as Types, Tick as Ticks, Deck as Gets, Leaves, Lives}
 use Rattle.cp_devices.specs.Lines.{requested, said}
 use Rattle.cp_spool.specs.Queues.{cards_of}
-use Rattle.cp_core.specs.Come.{HasCome, NeedsMemory, comes_by_line, comes_from_operator}
+use Rattle.cp_devices.specs.Comes.{NeedsMemory, closes, is_cut, is_ipl}
+use Rattle.cp_core.specs.Come.{HasCome, comes_by_line, comes_from_operator}
 use Rattle.cp_core.specs.Files.{closed_by, closed_since, next_file, note_where}
 use Rattle.cp_core.specs.Histories.{IsStep}
 use Rattle.cp_core.specs.Local.{Step, coming, run_of, units_of}
-use Rattle.cp_core.specs.Memory.{IsCutShort, closes, is_cut}
-use Rattle.cp_core.specs.Wants.{is_ipl}
+use Rattle.cp_core.specs.Memory.{IsCutShort}
 use Rattle.cp_devices.specs.declared.request.Request.{Request}
 use Rattle.cp_core.specs.Replies.{silent}
 use Rattle.cp_core.specs.Supply.{IsGivenBack}
@@ -48,7 +48,7 @@ use Rattle.cp_core.specs.declared.events.Ended.TheVariants.{Ran, Served, Done, F
 use Rattle.cp_core.specs.declared.events.Event.TheVariants.{Run, Line, Tick, Deck, Serve}
 use Rattle.cp_core.specs.declared.events.Reply.{Reply}
 use Rattle.cp_core.specs.declared.files.FileNote.{FileNote}
-use Rattle.cp_core.proofs.Answered.{follow_may, follow_same}
+use Rattle.cp_devices.proofs.Answered.{follow_may, follow_same}
 use Rattle.cp_core.proofs.Kept.{nine_each}
 use Rattle.cp_core.proofs.Led.{come_led, led_alone, lives_on, others_stay, printer_stays, punch_stays, stays_each}
 use Rattle.cp_core.proofs.Switches.{switch_wants_none}

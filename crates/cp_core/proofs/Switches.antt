@@ -15,7 +15,8 @@ use Rattle.s370_intr.specs.Run.{AllNeeded}
 use Rattle.cp_devices.specs.Equipped.{Equipped}
 use Rattle.cp_devices.specs.Lines.{IplNeeds, requested}
 use Rattle.cp_devices.specs.Requests.{asked_request, command_request, off_request, plain_request, request_in}
-use Rattle.cp_core.specs.Wants.{LineWants, LoadWants, asks_to_load, is_ipl}
+use Rattle.cp_devices.specs.Comes.{asks_to_load, is_ipl}
+use Rattle.cp_core.specs.Wants.{LineWants, LoadWants}
 use Rattle.cp_panel.specs.Panel.{asked_needs, asked_switches, command_needs, is_logoff, line_needs, needs_in, plain_needs, plain_switches, switches, switches_in}
 
 logoff_needs : (r : Result Command CommandError) (page : ℕ) → is_logoff r ≡ true → Touches (command_needs r) page → ⊥

@@ -28,7 +28,8 @@ use Rattle.cp_devices.specs.World.{World}
 use Rattle.cp_resident.specs.Resident.{CameIn, IsFilled}
 use Rattle.cp_core.specs.Supply.{IsGivenBack, IsShort, LineBrings, NeedsAll}
 use Rattle.cp_core.specs.Typed.{IsLineLent}
-use Rattle.cp_core.specs.Wants.{DeviceNeeds, LineMay, LineWants, asks_to_load, is_ipl}
+use Rattle.cp_devices.specs.Comes.{LineMay, asks_to_load, is_ipl}
+use Rattle.cp_core.specs.Wants.{DeviceNeeds, LineWants}
 use Rattle.cp_core.specs.Work.{HasServed, HasTyped, LineGivesBack, LineLeaves, ServeLeaves}
 use Rattle.cp_core.proofs.Switches.{all_wanted, load_wanted, switch_no_ipl, wanted}
 use Rattle.cp_core.proofs.Kept.{either, given_back, given_for, lengths_left, line_short, marks_left}

@@ -1,10 +1,8 @@
 -- What has come to a user of what is delivered.
-use Rattle.std.specs.Prelude.{◌≡◌, ℕ, ◌<◌, ◌⊎◌, Bool, true, false, List, length, slice_set, Option, Some, None}
+use Rattle.std.specs.Prelude.{◌≡◌, ℕ, ◌<◌, List, length, slice_set, Option, Some, None}
 use Rattle.s370_channel.specs.Reading.{as_reached}
 use Rattle.unit_record.specs.declared.reader.Sender.TheVariants as senders
 use Rattle.cp_console.specs.ConsoleLine.{characters_of}
-use Rattle.cp_devices.specs.declared.line.Told.{Told}
-use Rattle.cp_devices.specs.declared.line.Told.TheVariants.{Silent, Said, Files, Sent, Loads, Closed}
 use Rattle.cp_devices.specs.Equipped.{Equipped}
 use Rattle.cp_devices.specs.Life.{Event as Local, Deck as Gets, Message as Hears, Leaves}
 use Rattle.cp_devices.specs.Spooling.{deck_punched}
@@ -32,22 +30,3 @@ pub record ComesTo (coming : Delivery → Local) (delivered : Delivered) (old ne
 abbrev pub HasCome : (Delivery → Local) → Option Delivered → SystemView → SystemView → Type 0
 HasCome coming None old new = new.users ≡ old.users
 HasCome coming (Some delivered) old new = ComesTo coming delivered old new
-
--- ---- what takes memory
-
--- the punch or the printer, which had closed so many files, has closed one since
-abbrev pub HasClosed : ℕ → ℕ → Equipped → Type 0
-HasClosed punched printed e = (punched < length e.devices.punched) ⊎ (printed < length e.devices.printed)
-
--- a message is to be sent
-abbrev pub is_sent : Told → Bool
-is_sent (Sent user line) = true
-is_sent Silent = false
-is_sent (Said response) = false
-is_sent Files = false
-is_sent (Loads device) = false
-is_sent Closed = false
-
--- and what comes of a line that was answered so takes memory only for a message and for files that it closed
-abbrev pub NeedsMemory : ℕ → ℕ → Told → Equipped → Type 0
-NeedsMemory punched printed told e = (is_sent told ≡ true) ⊎ HasClosed punched printed e

@@ -1,13 +1,9 @@
 -- Where memory may be refused, and what is left then.
-use Rattle.std.specs.Prelude.{◌≡◌, ℕ, ◌<◌, ◌==◌, ◌&&◌, ◌||◌, Bool, true, false, length, IsSome}
+use Rattle.std.specs.Prelude.{◌≡◌, ℕ, ◌<◌, ◌==◌, ◌&&◌, Bool, true, false, length, IsSome}
 use Rattle.s370_subchannels.specs.Programs.{program_of}
-use Rattle.cp_console.specs.declared.device_commands.DeviceCommand.{DeviceCommand}
-use Rattle.cp_console.specs.declared.device_commands.DeviceCommand.TheVariants as commands
-use Rattle.cp_devices.specs.declared.request.Request.{Request}
-use Rattle.cp_devices.specs.declared.request.Request.TheVariants.{LogsOn, LogsOff, Resets, Types, Asks, Elsewhere}
+use Rattle.cp_devices.specs.Comes.{LineMay, is_cut}
 use Rattle.cp_devices.specs.Lines.{requested}
 use Rattle.cp_core.specs.Supply.{IsSuppliedInPart}
-use Rattle.cp_core.specs.Wants.{LineMay, is_ipl}
 use Rattle.cp_core.specs.System.{SystemView, machine_at, user_at}
 use Rattle.cp_core.specs.declared.events.Event.{Event}
 use Rattle.cp_core.specs.declared.events.Event.TheVariants.{Run, Line, Tick, Deck, Serve}
@@ -19,29 +15,6 @@ MayTakeMemory old (Line user typed) = LineMay typed.now (user_at old user)
 MayTakeMemory old (Tick user) = ⊥
 MayTakeMemory old (Deck user cards) = 0 < length cards.now
 MayTakeMemory old (Serve user device) = IsSome (program_of device (machine_at old user).core.subchannels)
-
--- CLOSE closes a file
-abbrev pub command_closes : DeviceCommand → Bool
-command_closes (commands.Close device) = true
-command_closes (commands.Ipl device) = false
-command_closes commands.QueryFiles = false
-command_closes commands.QueryUsers = false
-command_closes (commands.Spool device name) = false
-command_closes (commands.Purge file) = false
-command_closes (commands.Message name text) = false
-
--- and LOGOFF closes two
-abbrev pub closes : Request → Bool
-closes LogsOff = true
-closes (Asks command) = command_closes command
-closes LogsOn = false
-closes Resets = false
-closes Types = false
-closes Elsewhere = false
-
--- such a line, or an IPL, is cut short where memory is refused meanwhile
-abbrev pub is_cut : Request → Bool
-is_cut q = closes q || is_ipl q
 
 -- a user whose own line is one of those, or whose device is served: nothing is said of his machine then
 abbrev pub is_cut_short : SystemView → Event → ℕ → Bool

@@ -13,7 +13,8 @@ use Rattle.cp_panel.specs.Tick.{TickNeeds}
 use Rattle.cp_core.specs.Events.{user_of}
 use Rattle.cp_core.specs.System.{SystemView, machine_at, user_at}
 use Rattle.cp_devices.specs.Lines.{requested}
-use Rattle.cp_core.specs.Wants.{DeviceNeeds, LineWants, is_ipl}
+use Rattle.cp_devices.specs.Comes.{is_ipl}
+use Rattle.cp_core.specs.Wants.{DeviceNeeds, LineWants}
 use Rattle.cp_core.specs.declared.events.Ended.{Ended}
 use Rattle.cp_core.specs.declared.events.Ended.TheVariants.{Ran, Served, Done, FramesOut}
 use Rattle.cp_core.specs.declared.events.Event.{Event}

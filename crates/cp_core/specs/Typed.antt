@@ -11,7 +11,8 @@ use Rattle.cp_devices.specs.declared.line.Told.{Told}
 use Rattle.cp_devices.specs.Equipped.{Equipped}
 use Rattle.cp_devices.specs.Lines.{requested}
 use Rattle.cp_core.specs.Supply.{IsGivenBack, IsShort, LineBrings}
-use Rattle.cp_core.specs.Wants.{LineWants, is_ipl}
+use Rattle.cp_devices.specs.Comes.{is_ipl}
+use Rattle.cp_core.specs.Wants.{LineWants}
 
 -- LOGON and LOGOFF give back all pages, unless they are refused memory; every other line brings pages that it needs; no frame is
 -- pinned then

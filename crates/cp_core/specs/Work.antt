@@ -21,7 +21,8 @@ use Rattle.cp_devices.specs.Lines.{IsWholeLine, requested}
 use Rattle.cp_devices.specs.Serve.{IsServedAt}
 use Rattle.cp_devices.specs.World.{World}
 use Rattle.cp_core.specs.Supply.{IsGivenBack, IsShort, LineBrings}
-use Rattle.cp_core.specs.Wants.{DeviceNeeds, LineMay, LineWants, is_ipl}
+use Rattle.cp_devices.specs.Comes.{LineMay, is_ipl}
+use Rattle.cp_core.specs.Wants.{DeviceNeeds, LineWants}
 
 -- ---- a run
 

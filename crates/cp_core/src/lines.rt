@@ -3,7 +3,8 @@ ghost use Rattle.std.specs.Prelude.{◌≡◌, ◌<◌, ◌≤◌, ◌++◌, [],
 ghost use Rattle.cp_dat.specs.Supplied.{IsBetweenUnits};
 ghost use Rattle.cp_devices.specs.World.{is_logged_on};
 ghost use Rattle.cp_core.specs.declared.events.Event.TheVariants as happening;
-ghost use Rattle.cp_core.specs.Come.{HasClosed, HasCome, NeedsMemory, comes_by_line, comes_from_operator};
+ghost use Rattle.cp_devices.specs.Comes.{HasClosed, NeedsMemory};
+ghost use Rattle.cp_core.specs.Come.{HasCome, comes_by_line, comes_from_operator};
 ghost use Rattle.cp_core.specs.Files.{closed_since, next_file};
 ghost use Rattle.cp_core.specs.Histories.{IsStep};
 ghost use Rattle.cp_core.specs.Memory.{IsCutShort};

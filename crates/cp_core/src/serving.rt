@@ -11,7 +11,7 @@ ghost use Rattle.cp_dat.specs.Supplied.{IsBetweenUnits};
 ghost use Rattle.cp_devices.specs.Lines.{IsLine, IsWholeLine, MayTakeMemory, requested};
 ghost use Rattle.cp_resident.specs.Resident.{KeepsHung, disks_on};
 ghost use Rattle.cp_core.specs.Typed.{IsLineLent};
-ghost use Rattle.cp_core.specs.Wants.{LineMay, is_ipl};
+ghost use Rattle.cp_devices.specs.Comes.{LineMay, is_ipl};
 
 use cp_channels::Channels;
 use cp_dat::Dat;

@@ -8,3 +8,4 @@ pub mod Attention
 pub mod Staying
 pub mod Fed
 pub mod Beside
+pub mod Answered

@@ -8,6 +8,7 @@ pub mod Loading
 pub mod World
 pub mod Requests
 pub mod Lines
+pub mod Comes
 pub mod Life
 pub mod Attention
 pub mod Files

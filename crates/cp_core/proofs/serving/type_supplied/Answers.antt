@@ -9,7 +9,7 @@ use Rattle.cp_core.proofs.Owned.{owner_still}
 use Rattle.cp_channels.specs.Channels.{Brings, LacksRoom}
 use Rattle.cp_panel.specs.declared.line.LineError.TheVariants as errors
 use Rattle.cp_resident.specs.Resident.{CameIn, disks_on, hung_further}
-use Rattle.cp_core.proofs.Answered.{loaded_whole, loads_ipl, plain_whole}
+use Rattle.cp_devices.proofs.Answered.{loaded_whole, loads_ipl, plain_whole}
 use Rattle.cp_core.proofs.Worked.{loading_lent, no_room}
 use Rattle.cp_core.proofs.serving.type_supplied.Goals as goal
 

@@ -10,7 +10,7 @@ use Rattle.ckd_volume.specs.Volume.{VolumeFormat}
 use Rattle.cp_resident.specs.Resident.{disks_on, hung_on}
 use Rattle.cp_core.specs.System.{world_among}
 use Rattle.cp_core.specs.Typed.{IsLineLent}
-use Rattle.cp_core.specs.Wants.{LineMay, is_ipl}
+use Rattle.cp_devices.specs.Comes.{LineMay, is_ipl}
 use Rattle.cp_core.proofs.Worked.{typed_work}
 use Rattle.cp_core.proofs.work.LineWork.work.Goals as goal
 

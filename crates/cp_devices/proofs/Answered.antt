@@ -22,9 +22,7 @@ use Rattle.cp_devices.specs.Equipped.{Equipped}
 use Rattle.cp_devices.specs.Lines.{IsAnswered, IsFollowed, IsIpl, IsLine, IsObeyed, IsWholeLine, MayTakeMemory, Outcome, SendsTo, SendsWhere, answered_alone, close_answered, closed_where, files_told, loads_from, logged_off, logged_on, outcome, purge_answered, requested, said, spool_answered, spooled_to, target_of, typed_at, typed_where, was_reset}
 use Rattle.cp_devices.specs.Spooling.{is_punch, output_of, spooled}
 use Rattle.cp_devices.specs.World.{World, is_on}
-use Rattle.cp_core.specs.Come.{HasClosed, NeedsMemory, is_sent}
-use Rattle.cp_core.specs.Memory.{closes, command_closes, is_cut}
-use Rattle.cp_core.specs.Wants.{LineMay, asks_to_load, is_ipl}
+use Rattle.cp_devices.specs.Comes.{HasClosed, NeedsMemory, is_sent, closes, command_closes, is_cut, LineMay, asks_to_load, is_ipl}
 
 -- a message that is sent leaves its sender's machine
 abbrev pub SentSame : Equipped → Told → Equipped → Type 0
