@@ -18,11 +18,11 @@ returns-in-Ok-clause-machine c =
 pub returns-in-Ok-clause-apart : goal.returns-in-Ok-clause-apart
 returns-in-Ok-clause-apart c = λ ok. (
     subst (λ (d : DevicesParts). can_attach (places_of d.places ++ map (λ (disk : DiskAt). disk.address) c.args.disks.items) ≡ true) c.new-devices.ensures
-    (subst (λ (ds : List DiskAt). can_attach (places_of c.new-devices.devices.places ++ map (λ (disk : DiskAt). disk.address) ds) ≡ true) c.deref.ensures.value (c.in_ok-subchannels.ensures.apart ok)))
+    (subst (λ (ds : List DiskAt). can_attach (places_of c.new-devices.result.places ++ map (λ (disk : DiskAt). disk.address) ds) ≡ true) c.deref.ensures.value (c.in_ok-subchannels.ensures.apart ok)))
 
 pub returns-in_err-subchannels-clause-address : goal.returns-in_err-subchannels-clause-address
 returns-in_err-subchannels-clause-address c = λ failed. (
     let p = err_from_is_err_and c.from_residual.result c.from_residual.ensures.1 in
     let told = err_same c.in_err-subchannels.field-0.0 errors.Address (sym (p.1 ∙ ap Err p.2) ∙ failed) in
     subst (λ (d : DevicesParts). can_attach (places_of d.places ++ map (λ (disk : DiskAt). disk.address) c.args.disks.items) ≡ false) c.new-devices.ensures
-    (subst (λ (ds : List DiskAt). can_attach (places_of c.new-devices.devices.places ++ map (λ (disk : DiskAt). disk.address) ds) ≡ false) c.deref.ensures.value (c.in_err-subchannels.ensures.address (ap Err told))))
+    (subst (λ (ds : List DiskAt). can_attach (places_of c.new-devices.result.places ++ map (λ (disk : DiskAt). disk.address) ds) ≡ false) c.deref.ensures.value (c.in_err-subchannels.ensures.address (ap Err told))))

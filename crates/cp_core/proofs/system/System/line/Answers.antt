@@ -1,6 +1,12 @@
-use Rattle.std.proofs.Common.{◌∙◌, ap, arith, ℕ}
+use Rattle.std.proofs.Common.{◌∙◌, Err, ap, arith, subst, sym, ℕ}
+use Rattle.cp_panel.specs.declared.line.LineError.{LineError}
+use Rattle.cp_core.specs.Histories.{IsStep}
+use Rattle.cp_core.specs.System.{user_at, world_of}
 use Rattle.cp_core.specs.Told.{said_to_line}
-use Rattle.cp_core.proofs.Steps.{if_err, line_cut, line_done}
+use Rattle.cp_core.specs.Work.{HasTyped}
+use Rattle.cp_core.specs.declared.events.Event.TheVariants.{Line}
+use Rattle.cp_core.specs.declared.events.Reply.{Reply}
+use Rattle.cp_core.proofs.Steps.{if_err, line_cut, line_done, line_out}
 use Rattle.cp_core.proofs.system.System.line.Goals as goal
 
 pub returns-in_err-delivered-in-Ok-clause-cut : goal.returns-in_err-delivered-in-Ok-clause-cut
@@ -17,3 +23,9 @@ returns-in_ok-delivered-in-Ok-clause-step c =
     f.delivered f.files f.come f.deliveries c.follow.ensures.supply
     (c.said_to_line.ensures ∙ ap (λ (n : ℕ). said_to_line n c.in-Ok.told) c.next_file-number.ensures.value)
     (omega (arith, c.saturating_sub.ensures, c.printed_by.ensures, c.printed_by-printed.ensures))
+
+pub returns-in-Err-FramesOut-clause-step : goal.returns-in-Err-FramesOut-clause-step
+returns-in-Err-FramesOut-clause-step c =
+    let t = c.type_line.ensures in
+    subst (λ (reply : Reply). IsStep c.args.self.now (record { event = Line c.args.user c.args.typed; reply = reply; seen = c.type_line.new.self })) (sym c.silent.ensures)
+    (line_out c.args.self.now c.type_line.new.self c.args.user c.args.typed (subst (λ (e : LineError). HasTyped (world_of c.args.self.now c.args.user) c.args.user c.args.typed.now (user_at c.args.self.now c.args.user) c.args.self.now.supply (Err e) (user_at c.type_line.new.self c.args.user) c.type_line.new.self.supply) c.in-Err-FramesOut.field-0-is c.in-Err-FramesOut.ensures.typed) t.rest t.between_before t.between)
