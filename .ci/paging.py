@@ -312,6 +312,8 @@ class Short:
             walk.run(8, self.unit, is_first=False)
         else:
             walk.run(self.start, self.unit)
+        # (a word that was changed may name bytes past storage, which are in no page)
+        walk.pages = {it for it in walk.pages if it * PAGE < len(self.storage)}
         return walk
 
     def is_out(self, there, taken, walk):
