@@ -37,6 +37,7 @@ FOUND = ["STORE 800 07000840400000063100084640000005", "STORE 810 08000808000000
 CHANNELS = {
     "card": ("00C", ["STORE 800 0200200020000050"], 80),
     "record": ("190", [FOUND[0], FOUND[1].format("06", 0, 80), FOUND[2]], 80),
+    "page": ("190", [FOUND[0], FOUND[1].format("06", *divmod(4096, 256)), FOUND[2]], 4096),
     "track": ("190", [FOUND[0], FOUND[1].format("06", *divmod(TRACK, 256)), FOUND[2]], TRACK),
     "written": ("190", [FOUND[0], FOUND[1].format("05", *divmod(TRACK, 256)), FOUND[2]], TRACK),
     "printed": ("00E", ["STORE 800 0900200020000084"], 132),
