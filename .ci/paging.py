@@ -56,7 +56,7 @@ class Large:
         self.high = (32 << step) - PAGE
         devices = "CONSOLE 009 3215\nSPOOL 00C READER\nSPOOL 00D PUNCH\nSPOOL 00E PRINTER\nMDISK 190 3330 000 001 LARGE W\n"
         disk = volume("LARGE", 1).write(0, self.records(step))
-        self.user = session(self.place, f"USER LARGE PW {size}\n{devices}", None, [disk], [places], "LARGE")
+        self.user = session(self.place, f"USER LARGE PW {size}\n{devices}", None, [disk], places, "LARGE")
         self.bare = session(self.place, None, size, [disk])
         for one in (self.user, self.bare):
             (self.from_cards if way == "reader" else self.from_disk)(one, step)
@@ -88,7 +88,7 @@ class Large:
         """What the user is shown otherwise than the machine."""
         shown = []
         for one in (self.user, self.bare):
-            status, told, errors, volumes = player.play(one, one.sizes[0])
+            status, told, errors, volumes = player.play(one, one.size)
             if status or volumes != one.volumes:
                 return f"{one.user}: status {status}: {errors}"
             shown.append(re.sub(r"\bBARE\b", "LARGE", told).splitlines())
@@ -338,7 +338,7 @@ class Short:
     def of(self, script):
         directory = ("USER A PW 64K\nCONSOLE 009 3215\nSPOOL 00C READER\nSPOOL 00D PUNCH\nSPOOL 00E PRINTER\n"
                      "USER B PW 256K\n")
-        one = self.session(self.place, directory, None, (), [self.places])
+        one = self.session(self.place, directory, None, (), self.places)
         one.script = list(script)
         return one
 
