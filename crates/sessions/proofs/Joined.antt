@@ -1,0 +1,104 @@
+-- Parts of a script that are joined.
+use Rattle.std.proofs.Common.{◌≡◌, ℕ, zero, suc, Bool, true, false, inl, inr, List, [], ◌∷◌, ◌++◌, Ok, refl, ap, ◌∙◌, subst, append_assoc, append-nil}
+use Rattle.std.specs.Prelude.{◌==◌}
+use Rattle.std.proofs.KnownBytes.{Appends-trans}
+use Rattle.cp_text.specs.Lines.{lines_of}
+use Rattle.cp_script.specs.Grammar.{Reads, ReadsGrammar, Says}
+use Rattle.cp_script.specs.Script.{Said, Run, Line, Tick, Serve, Auto, Deck, cards_after, script_of}
+use Rattle.cp_script.specs.Users.{KnownUser}
+use Rattle.sessions.specs.Files.{closing_lines}
+use Rattle.sessions.specs.Installed.{Installation, names_of}
+use Rattle.sessions.specs.Follow.{BeginsWithNothing, EndsAsSession, HasWholeLines, PartsJoin}
+use Rattle.sessions.specs.Schedule.{acts}
+use Rattle.sessions.specs.Session.{at_first}
+use Rattle.sessions.specs.Transcript.{ended, transcript}
+use Rattle.sessions.proofs.Histories.{acts_append, history, played_more, played_none}
+
+-- ---- lines
+
+-- a text with an LF in it has a first line, and what stands behind that LF are lines of their own
+abbrev Splits : List ℕ → List ℕ → Type 0
+Splits front more = (line : List ℕ) × (lines : List (List ℕ)) × (lines_of (front ++ 10 ∷ []) ≡ line ∷ lines) × (lines_of (front ++ 10 ∷ more) ≡ line ∷ (lines ++ lines_of more))
+
+one_further : (c : ℕ) (front more : List ℕ) (b : Bool) → (c == 10) ≡ b → Splits front more → Splits (c ∷ front) more
+one_further c front more true e h = ([], h.0 ∷ h.1, rw (e, h.2) refl, rw (e, h.3) refl)
+one_further c front more false e h = (c ∷ h.0, h.1, rw (e, h.2) refl, rw (e, h.3) refl)
+
+splits : (front more : List ℕ) → Splits front more
+splits [] more = ([], [], refl, refl)
+splits (c ∷ front) more = one_further c front more (c == 10) refl (splits front more)
+
+lines_join : (one other : List ℕ) → HasWholeLines one → lines_of (one ++ other) ≡ lines_of one ++ lines_of other
+lines_join one other (inl none) = rw none refl
+lines_join one other (inr whole) =
+    let front = whole.0 in
+    let h = splits front other in
+    let joined : (front ++ 10 ∷ []) ++ other ≡ front ++ 10 ∷ other = append_assoc front (10 ∷ []) other in
+    rw (whole.1, joined, h.2, h.3) refl
+
+-- ---- the grammar
+
+-- a line says the same before more lines
+says_more : (users : List KnownUser) (line : List ℕ) (after more : List (List ℕ)) (e : Said) → Says users line after e → Says users line (after ++ more) e
+says_more users line after more (Run user units) h = h
+says_more users line after more (Line user text) h = h
+says_more users line after more (Tick user) h = h
+says_more users line after more (Serve user device) h = h
+says_more users line after more (Auto turns) h = h
+says_more users line after more (Deck user cards) h = record {
+  name = h.name;
+  digits = h.digits;
+  own = h.own;
+  others = h.others ++ more;
+  spelled = h.spelled;
+  named = h.named;
+  number = h.number;
+  least = h.least;
+  most = h.most;
+  follow = ap (λ (l : List (List ℕ)). l ++ more) h.follow ∙ append_assoc h.own h.others more;
+  punched = h.punched;
+}
+
+reads_join : (users : List KnownUser) (cards : ℕ) (xs ys : List (List ℕ)) (es fs : List Said) → Reads users cards xs [] es 0 → Reads users 0 ys [] fs 0 → Reads users cards (xs ++ ys) [] (es ++ fs) 0
+reads_join users cards [] ys es fs h k = subst (λ (n : ℕ). Reads users n ys [] (es ++ fs) 0) h.1 (rw h.0 k)
+reads_join users (suc cards) (x ∷ xs) ys es fs h k = (h.0, reads_join users cards xs ys es fs h.1 k)
+reads_join users zero (x ∷ xs) ys es fs (inl h) k = inl (h.0, reads_join users 0 xs ys es fs h.1 k)
+reads_join users zero (x ∷ xs) ys es fs (inr h) k =
+    let says : Says users x ((xs ++ ys) ++ []) h.1 = rw append-nil (says_more users x xs ys h.1 (rw append-nil at h.4)) in
+    inr (h.0, h.1, h.2 ++ fs, ap (λ (l : List Said). l ++ fs) h.3, says, reads_join users (cards_after h.1) xs ys h.2 fs h.5 k)
+
+scripts_join : ReadsGrammar → (users : List KnownUser) (one other : List ℕ) (es fs : List Said) → HasWholeLines one → script_of users one ≡ Ok es → script_of users other ≡ Ok fs → script_of users (one ++ other) ≡ Ok (es ++ fs)
+scripts_join grammar users one other es fs whole first second =
+    let both = reads_join users 0 (lines_of one) (lines_of other) es fs ((grammar users one).0 es first) ((grammar users other).0 fs second) in
+    (grammar users (one ++ other)).1 (es ++ fs) (rw (lines_join one other whole) both)
+
+-- ---- what is followed
+
+pub nothing : {W : Type 0} (i : Installation W) → BeginsWithNothing i
+nothing i first before dealing = record { script = []; accepted = refl; played = played_none i first before dealing }
+
+pub join : ReadsGrammar → {W : Type 0} (i : Installation W) → PartsJoin i
+join grammar i one other first middle last before between after whole p q =
+    let users = (i.seen first.world).users in
+    let second = subst (λ (u : List KnownUser). script_of u other ≡ Ok q.script) p.played.users q.accepted in
+    record {
+      script = p.script ++ q.script;
+      accepted = scripts_join grammar users one other p.script q.script whole p.accepted second;
+      played = rw (acts_append p.script q.script) (played_more i (acts p.script) (acts q.script) first middle last before between after p.played q.played);
+    }
+
+pub session : {W : Type 0} (i : Installation W) → EndsAsSession i
+session i detail text first last r s before between after read followed closed =
+    let p = followed.played in
+    record {
+      text = text;
+      read = read;
+      script = followed.script;
+      accepted = followed.accepted;
+      entries = p.entries;
+      last = last;
+      done = p.done;
+      left = refl;
+      history = history i (acts followed.script) (at_first i detail first) last p.entries p.done;
+      written = Appends-trans before between after (transcript i detail (names_of (i.seen first)) p.entries) (ended (closing_lines (i.seen last.world))) p.written closed;
+    }

@@ -1,0 +1,13 @@
+pub mod Endings
+pub mod Lists
+pub mod Rest
+pub mod Decks
+pub mod Written
+pub mod Lined
+pub mod FileLines
+pub mod Stated
+pub mod Histories
+pub mod Queues
+pub mod Sessions
+pub mod Joined
+pub mod Known

@@ -1,0 +1,10 @@
+use Rattle.std.proofs.Common.{◌≡◌, ◌≤◌, ◌+◌, drop}
+use Rattle.sessions.specs.Files.{count_of, is_printed}
+use Rattle.sessions.proofs.files.printed_by.Given as goal
+
+-- with those that are left, all are counted
+abbrev pub invariant-loop-file : goal.invariant-loop-file
+invariant-loop-file l = record {
+  counted : l.count + count_of (is_printed l.user) (drop l.file-index l.files) ≡ count_of (is_printed l.user) l.files;
+  most : l.count ≤ l.file-index;
+}

@@ -1,0 +1,11 @@
+use Rattle.sessions.proofs.Joined.{join, nothing, session}
+use Rattle.sessions.proofs.follow.parts_are_a_session.Goals as goal
+
+pub returns-clause-nothing : goal.returns-clause-nothing
+returns-clause-nothing c = nothing
+
+pub returns-clause-join : goal.returns-clause-join
+returns-clause-join c = join c.reads_grammar.ensures
+
+pub returns-clause-session : goal.returns-clause-session
+returns-clause-session c = session

@@ -1,0 +1,118 @@
+-- The lines of the files that were closed for the operator, by their numbers.
+use Rattle.std.specs.Prelude.{ℕ, ◌+◌, ◌==◌, ◌&&◌, Bool, true, false, if◌then◌else◌, List, [], ◌∷◌, ◌++◌, codes, drop, length, map, slice_get, take, Option, Some, None}
+use Rattle.s370_num.specs.Address.{two_digits}
+use Rattle.s370_num.specs.Ebcdic.{printable_of}
+use Rattle.unit_record.specs.Output.{EntryValue, FileValue}
+use Rattle.unit_record.specs.declared.output.Target.{Target}
+use Rattle.unit_record.specs.declared.output.Target.TheVariants as targets
+use Rattle.cp_users.specs.Users.{name_of}
+use Rattle.cp_console.specs.Responses.{file_number}
+use Rattle.cp_devices.specs.declared.files.FileKind.{FileKind}
+use Rattle.cp_devices.specs.declared.files.FileKind.TheVariants as kinds
+use Rattle.cp_devices.specs.declared.files.FileNote.{FileNote}
+use Rattle.sessions.specs.declared.files.Telling.{Telling}
+use Rattle.sessions.specs.declared.files.Telling.TheVariants as tellings
+use Rattle.sessions.specs.Installed.{Installed, names_of, user_at}
+
+-- ---- the lines of a file
+
+-- the bytes as they print
+abbrev pub printed_text : List ℕ → List ℕ
+printed_text bytes = map printable_of bytes
+
+-- a card; of a printer the code of the command, and what it printed
+abbrev pub entry_line : FileKind → EntryValue → List ℕ
+entry_line kinds.Printer entry = two_digits entry.code ++ 32 ∷ printed_text entry.bytes
+entry_line kinds.Punch entry = printed_text entry.bytes
+entry_line kinds.Deck entry = printed_text entry.bytes
+
+abbrev pub kind_word : FileKind → List ℕ
+kind_word kinds.Printer = codes "PRT"
+kind_word kinds.Punch = codes "PUN"
+kind_word kinds.Deck = []
+
+-- `== PRT 0001 A`, or `== PUN 0001 A`
+abbrev pub heading : FileKind → ℕ → List ℕ → List ℕ
+heading kind number name = codes "== " ++ kind_word kind ++ codes " " ++ file_number number ++ codes " " ++ name
+
+-- what stands before a heading and before an entry: in a transcript nothing
+abbrev pub heading_mark : Telling → List ℕ
+heading_mark tellings.Transcript = []
+heading_mark tellings.Answer = codes "> "
+
+abbrev pub entry_mark : Telling → List ℕ
+entry_mark tellings.Transcript = []
+entry_mark tellings.Answer = codes "> |"
+
+abbrev pub heading_line : Telling → FileKind → ℕ → List ℕ → List ℕ
+heading_line telling kind number name = heading_mark telling ++ heading kind number name
+
+abbrev pub marked_entry : Telling → FileKind → EntryValue → List ℕ
+marked_entry telling kind entry = entry_mark telling ++ entry_line kind entry
+
+-- a file that is for the operator
+abbrev pub lines_for : Telling → Target → FileKind → ℕ → List ℕ → List EntryValue → List (List ℕ)
+lines_for telling targets.System kind number name entries = heading_line telling kind number name ∷ map (marked_entry telling kind) entries
+lines_for telling (targets.User user) kind number name entries = []
+
+abbrev pub file_lines : Telling → FileKind → ℕ → List ℕ → FileValue → List (List ℕ)
+file_lines telling kind number name file = lines_for telling file.target kind number name file.entries
+
+-- where there is one
+abbrev pub found_lines : Telling → FileKind → ℕ → List ℕ → Option FileValue → List (List ℕ)
+found_lines telling kind number name None = []
+found_lines telling kind number name (Some file) = file_lines telling kind number name file
+
+-- ---- the files of all users
+
+abbrev pub is_punch : FileKind → Bool
+is_punch kinds.Punch = true
+is_punch kinds.Printer = false
+is_punch kinds.Deck = false
+
+abbrev pub is_printer : FileKind → Bool
+is_printer kinds.Printer = true
+is_printer kinds.Punch = false
+is_printer kinds.Deck = false
+
+-- whether a file was closed by the punch of this user, or by his printer
+abbrev pub is_punched : ℕ → FileNote → Bool
+is_punched user note = (note.user == user) && is_punch note.kind
+
+abbrev pub is_printed : ℕ → FileNote → Bool
+is_printed user note = (note.user == user) && is_printer note.kind
+
+-- how many are such
+abbrev pub count_of : {X : Type 0} → (X → Bool) → List X → ℕ
+count_of is_such [] = 0
+count_of is_such (x ∷ xs) = if is_such x then count_of is_such xs + 1 else count_of is_such xs
+
+-- the closed file that this note is of, where these were noted before it: of the files that a punch has closed the one after as many as
+-- it has closed before, and so of a printer
+abbrev pub closed_in : Installed → List FileNote → ℕ → FileKind → Option FileValue
+closed_in s before user kinds.Punch = slice_get (user_at s user).devices.punched (count_of (is_punched user) before)
+closed_in s before user kinds.Printer = slice_get (user_at s user).devices.printed (count_of (is_printed user) before)
+closed_in s before user kinds.Deck = None
+
+-- the lines of a file that was noted so, after these: its number is one more than theirs
+abbrev pub note_lines : Telling → Installed → List FileNote → FileNote → List (List ℕ)
+note_lines telling s before note =
+    found_lines telling note.kind (length before + 1) (name_of (names_of s) note.user) (closed_in s before note.user note.kind)
+
+-- where there is one
+abbrev pub place_lines : Telling → Installed → List FileNote → Option FileNote → List (List ℕ)
+place_lines telling s before None = []
+place_lines telling s before (Some note) = note_lines telling s before note
+
+-- those of files that were noted one after another, after these
+abbrev pub lines_after : Telling → Installed → List FileNote → List FileNote → List (List ℕ)
+lines_after telling s before [] = []
+lines_after telling s before (note ∷ notes) = note_lines telling s before note ++ lines_after telling s (before ++ note ∷ []) notes
+
+-- those of all files but the first so many
+abbrev pub lines_since : Telling → ℕ → Installed → List (List ℕ)
+lines_since telling count s = lines_after telling s (take count s.files) (drop count s.files)
+
+-- those of all files end a transcript
+abbrev pub closing_lines : Installed → List (List ℕ)
+closing_lines s = lines_since tellings.Transcript 0 s

@@ -1,0 +1,62 @@
+-- An installation as a session sees it.
+use Rattle.std.specs.Prelude.{ℕ, ◌≡◌, Bool, true, List, [], ◌∷◌, slice_index_or}
+use Rattle.std.specs.List.{list_all}
+use Rattle.s370_subchannels.specs.declared.subchannel.Subchannel.{Subchannel}
+use Rattle.cp_panel.specs.Machine.{Machine, unused}
+use Rattle.cp_devices.specs.Devices.{devices_new, no_places}
+use Rattle.cp_devices.specs.Equipped.{Equipped}
+use Rattle.cp_devices.specs.declared.files.FileNote.{FileNote}
+use Rattle.cp_devices.specs.declared.reply.Reply.{Reply}
+use Rattle.cp_dispatch.specs.declared.program.Program.{Program}
+use Rattle.cp_script.specs.Script.{Said}
+use Rattle.cp_script.specs.Users.{KnownUser, has_device, names_of as names_in}
+
+-- its users, as scripts know them; each one's machine with its devices; and of each file what it was and whose when it got its number
+pub record Installed : Type 0 where
+  pub users : List KnownUser
+  pub machines : List Equipped
+  pub files : List FileNote
+
+-- the machine of nobody
+abbrev pub nobody : Equipped
+nobody = record { machine = unused [] [] []; devices = devices_new no_places; disks = [] }
+
+-- a user's machine with its devices
+abbrev pub user_at : Installed → ℕ → Equipped
+user_at s user = slice_index_or s.machines user nobody
+
+-- his machine alone
+abbrev pub machine_at : Installed → ℕ → Machine
+machine_at s user = (user_at s user).machine
+
+abbrev pub subchannels_at : Installed → ℕ → List Subchannel
+subchannels_at s user = (machine_at s user).core.subchannels
+
+abbrev pub names_of : Installed → List (List ℕ)
+names_of s = names_in s.users
+
+-- a program is of a device of its user, and so is each in a line
+abbrev pub is_stated : List KnownUser → Program → Bool
+is_stated users program = has_device users program.user program.device
+
+abbrev pub IsLineStated : List KnownUser → List Program → Type 0
+IsLineStated users line = list_all (is_stated users) line ≡ true
+
+-- How an installation goes on: what is seen of it; what an event that a script says leaves of it, and what it replies; what want of
+-- memory may leave; and whether that has ended it.
+pub record Installation (W : Type 0) : Type 1 where
+  pub seen : W → Installed
+  pub Happens : W → Said → Reply → W → Type 0
+  pub Lacks : W → Said → W → Type 0
+  pub is_spent : W → Bool
+
+-- an event that was said, the reply, and what it has left
+pub record Step (W : Type 0) : Type 0 where
+  pub said : Said
+  pub reply : Reply
+  pub left : W
+
+-- events that happened one after another
+abbrev pub IsHistory : {W : Type 0} → Installation W → W → List (Step W) → W → Type 0
+IsHistory i first [] last = last ≡ first
+IsHistory i first (step ∷ steps) last = i.Happens first step.said step.reply step.left × IsHistory i step.left steps last

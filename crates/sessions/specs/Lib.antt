@@ -1,0 +1,6 @@
+pub mod Installed
+pub mod Schedule
+pub mod Transcript
+pub mod Files
+pub mod Session
+pub mod Follow

@@ -1,0 +1,182 @@
+//! What a script asks for, one after another: events that happen, and turns that are dealt.
+ghost use Rattle.std.specs.Prelude.{[], ◌∷◌, Bool, IfOk, OnErr, OnOk};
+ghost use Rattle.std.specs.Io.KnownBytes.{Appends};
+ghost use Rattle.s370_num.specs.Host.{AppendsFront};
+ghost use Rattle.cp_script.specs.Script.{IsOfDevice, IsOfUser, said};
+ghost use Rattle.sessions.specs.Schedule.{Applies, IsEvent, IsOf, Serves, Slices, acts_of, passed, scene, turn, turns, within};
+ghost use Rattle.sessions.specs.Session.{Accounts, IsPartly, IsPlayed};
+ghost use Rattle.sessions.specs.Transcript.{ended, passed_lines};
+
+use crate::answers::{follow, user_in};
+use crate::faults::PlayError;
+use crate::installation::Installation;
+use crate::schedule::{Detail, SLICE_UNITS, is_on, note, ready_users};
+use crate::transcript::idle_line;
+use cp_dispatch::Policy;
+use cp_script::ScriptEvent;
+use s370_num::host::{HostWriter, write_all};
+use std::alloc::Global;
+
+/// Does what a line of the script asks for, and writes the lines that come of it.
+pub(crate) fn act<I: Installation, W: HostWriter>(
+    alloc: Global,
+    installation: &mut I,
+    policy: &mut Policy,
+    detail: Detail,
+    event: &ScriptEvent<'_>,
+    writer: &mut W,
+) -> Result<(), PlayError>
+    requires user { IsOfUser (I.goes.seen installation.old).users event.now }
+    requires device { IsOfDevice (I.goes.seen installation.old).users event.now }
+    requires dealing { IsOf (I.goes.seen installation.old) policy.old }
+    ensures ok { OnOk result (IsPlayed I.goes (acts_of (said event.now)) (scene installation.old policy.old detail)
+        (scene installation.new policy.new detail) (W.contents writer.old) (W.contents writer.new)) }
+    ensures err { OnErr result (IsPartly I.goes (acts_of (said event.now)) (scene installation.old policy.old detail)
+        installation.new (W.contents writer.old) (W.contents writer.new)) }
+    ensures why { Accounts result (I.goes.is_spent installation.old) (I.goes.is_spent installation.new)
+        (W.HostFile.failures writer.old) (W.HostFile.failures writer.new) }
+{
+    match event {
+        ScriptEvent::Auto(turns) => deal(alloc, installation, policy, detail, *turns, writer),
+        _ => apply(alloc, installation, policy, detail, event, writer),
+    }
+}
+
+/// Lets an event happen, and writes its lines. A user who logs on by it stands at the end of the queue, one who logs off
+/// stands in it no more.
+fn apply<I: Installation, W: HostWriter>(
+    alloc: Global,
+    installation: &mut I,
+    policy: &mut Policy,
+    detail: Detail,
+    event: &ScriptEvent<'_>,
+    writer: &mut W,
+) -> Result<(), PlayError>
+    requires user { IsOfUser (I.goes.seen installation.old).users event.now }
+    requires device { IsOfDevice (I.goes.seen installation.old).users event.now }
+    requires event { IsEvent event.now }
+    requires dealing { IsOf (I.goes.seen installation.old) policy.old }
+    ensures ok { OnOk result (IsPlayed I.goes (Applies (said event.now) ∷ []) (scene installation.old policy.old detail)
+        (scene installation.new policy.new detail) (W.contents writer.old) (W.contents writer.new)) }
+    ensures err { OnErr result (IsPartly I.goes (Applies (said event.now) ∷ []) (scene installation.old policy.old detail)
+        installation.new (W.contents writer.old) (W.contents writer.new)) }
+    ensures why { Accounts result (I.goes.is_spent installation.old) (I.goes.is_spent installation.new)
+        (W.HostFile.failures writer.old) (W.HostFile.failures writer.new) }
+{
+    let user = user_in(event);
+    let was_on = is_on(installation, user);
+    follow(alloc, installation, policy, Detail::Whole, event, writer)?;
+    let is_on = is_on(installation, user);
+    note(policy, user, was_on, is_on);
+    Ok(())
+}
+
+/// Deals so many turns, one after another, and writes the lines of each.
+fn deal<I: Installation, W: HostWriter>(
+    alloc: Global,
+    installation: &mut I,
+    policy: &mut Policy,
+    detail: Detail,
+    count: u32,
+    writer: &mut W,
+) -> Result<(), PlayError>
+    requires dealing { IsOf (I.goes.seen installation.old) policy.old }
+    ensures ok { OnOk result (IsPlayed I.goes (turns count) (scene installation.old policy.old detail)
+        (scene installation.new policy.new detail) (W.contents writer.old) (W.contents writer.new)) }
+    ensures err { OnErr result (IsPartly I.goes (turns count) (scene installation.old policy.old detail)
+        installation.new (W.contents writer.old) (W.contents writer.new)) }
+    ensures why { Accounts result (I.goes.is_spent installation.old) (I.goes.is_spent installation.new)
+        (W.HostFile.failures writer.old) (W.HostFile.failures writer.new) }
+{
+    for _turn in 0..count {
+        turn(alloc, installation, policy, detail, writer)?;
+    }
+    Ok(())
+}
+
+/// Deals a turn: a slice to the first in the queue who is ready, and then a serve to the first program in the line. Its
+/// lines are those of both, or that there was neither.
+fn turn<I: Installation, W: HostWriter>(
+    alloc: Global,
+    installation: &mut I,
+    policy: &mut Policy,
+    detail: Detail,
+    writer: &mut W,
+) -> Result<(), PlayError>
+    requires dealing { IsOf (I.goes.seen installation.old) policy.old }
+    ensures ok { OnOk result (IsPlayed I.goes (turn) (scene installation.old policy.old detail)
+        (scene installation.new policy.new detail) (W.contents writer.old) (W.contents writer.new)) }
+    ensures err { OnErr result (IsPartly I.goes (turn) (scene installation.old policy.old detail)
+        installation.new (W.contents writer.old) (W.contents writer.new)) }
+    ensures why { Accounts result (I.goes.is_spent installation.old) (I.goes.is_spent installation.new)
+        (W.HostFile.failures writer.old) (W.HostFile.failures writer.new) }
+{
+    let had_slice = slice(alloc, installation, policy, detail, writer)?;
+    serve(alloc, installation, policy, detail, had_slice, writer)
+}
+
+/// Deals a slice to the first in the queue who is ready, and tells whether there was one.
+fn slice<I: Installation, W: HostWriter>(
+    alloc: Global,
+    installation: &mut I,
+    policy: &mut Policy,
+    detail: Detail,
+    writer: &mut W,
+) -> Result<bool, PlayError>
+    requires dealing { IsOf (I.goes.seen installation.old) policy.old }
+    ensures ok { IfOk result (λ had. IsPlayed I.goes (Slices ∷ []) (scene installation.old policy.old detail)
+        (within had installation.new policy.new detail) (W.contents writer.old) (W.contents writer.new)) }
+    ensures err { OnErr result (IsPartly I.goes (Slices ∷ []) (scene installation.old policy.old detail)
+        installation.new (W.contents writer.old) (W.contents writer.new)) }
+    ensures why { Accounts result (I.goes.is_spent installation.old) (I.goes.is_spent installation.new)
+        (W.HostFile.failures writer.old) (W.HostFile.failures writer.new) }
+{
+    let ready = ready_users(installation);
+    let Some(user) = policy.slice(&ready) else {
+        return Ok(false);
+    };
+    let event = ScriptEvent::Run(user, SLICE_UNITS);
+    follow(alloc, installation, policy, detail, &event, writer)?;
+    Ok(true)
+}
+
+/// Deals a serve to the first program in the line. Where there is none, and nobody had the slice of the turn, its line
+/// says so.
+fn serve<I: Installation, W: HostWriter>(
+    alloc: Global,
+    installation: &mut I,
+    policy: &mut Policy,
+    detail: Detail,
+    had_slice: bool,
+    writer: &mut W,
+) -> Result<(), PlayError>
+    requires dealing { IsOf (I.goes.seen installation.old) policy.old }
+    ensures ok { OnOk result (IsPlayed I.goes (Serves ∷ []) (within had_slice installation.old policy.old detail)
+        (scene installation.new policy.new detail) (W.contents writer.old) (W.contents writer.new)) }
+    ensures err { OnErr result (IsPartly I.goes (Serves ∷ []) (within had_slice installation.old policy.old detail)
+        installation.new (W.contents writer.old) (W.contents writer.new)) }
+    ensures why { Accounts result (I.goes.is_spent installation.old) (I.goes.is_spent installation.new)
+        (W.HostFile.failures writer.old) (W.HostFile.failures writer.new) }
+{
+    match policy.serve() {
+        Some(program) => {
+            let event = ScriptEvent::Serve(program.user, program.device.get());
+            follow(alloc, installation, policy, detail, &event, writer)
+        }
+        None => pass(detail, had_slice, writer),
+    }
+}
+
+/// Writes that a turn had neither half, if nobody had its slice either.
+fn pass<W: HostWriter>(detail: Detail, had_slice: bool, writer: &mut W) -> Result<(), PlayError>
+    ensures ok { OnOk result
+        (Appends (W.contents writer.old) (W.contents writer.new) (ended (passed_lines detail had_slice))) }
+    ensures err { OnErr result
+        (AppendsFront (W.contents writer.old) (W.contents writer.new) (ended (passed_lines detail had_slice))) }
+    ensures why { (is : Bool) → Accounts result is is (W.HostFile.failures writer.old) (W.HostFile.failures writer.new) }
+{
+    if !had_slice {
+        write_all(writer, idle_line(detail))?;
+    }
+    Ok(())
+}

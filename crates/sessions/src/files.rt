@@ -1,0 +1,353 @@
+//! The files that were closed for the operator, by their numbers: the last part of a transcript, and what a part of a
+//! script has closed.
+ghost use Rattle.std.specs.Prelude.{◌≡◌, ◌++◌, ◌∷◌, ◌<◌, [], IfOk, OnOk, Some, length, map, slice_get, take};
+ghost use Rattle.std.specs.Option.{option_copied, option_map};
+ghost use Rattle.cp_spool.specs.File.{closed_file};
+ghost use Rattle.cp_users.specs.Users.{name_of};
+ghost use Rattle.std.specs.String.{string_bytes};
+ghost use Rattle.cp_console.specs.Responses.{file_number};
+ghost use Rattle.s370_num.specs.Address.{two_digits};
+ghost use Rattle.sessions.specs.Files.{closed_in, count_of, entry_line, entry_mark, file_lines, found_lines, heading_line, heading_mark, is_printed, is_printer, is_punch, is_punched, kind_word, lines_since, marked_entry, note_lines, place_lines, printed_text};
+ghost use Rattle.sessions.specs.Installed.{names_of};
+ghost use Rattle.sessions.specs.Transcript.{ended};
+
+use crate::installation::Installation;
+use cp_devices::{FileKind, FileNote};
+use cp_spool::SpoolFile;
+use cp_users::UserNo;
+use s370_num::ebcdic::printable;
+use std::alloc::{AllocError, Global};
+use unit_record::{Entry, Target};
+
+/// Where the lines of a file are told.
+#[derive(Clone, Copy, Debug, PartialEq, Eq)]
+pub enum Telling {
+    /// In a transcript.
+    Transcript,
+    /// In the answer to a part of a script: each line behind `> `, an entry behind `> |`.
+    Answer,
+}
+
+/// The lines of all files but the first so many that were closed for the operator, by their numbers, each ended by LF.
+pub(crate) fn print_files<I: Installation>(
+    alloc: Global,
+    installation: &I,
+    telling: Telling,
+    since: usize,
+) -> Result<Vec<u8>, AllocError>
+    ensures { IfOk result (λ text. text.items ≡ ended (lines_since telling since (I.goes.seen installation.now))) }
+{
+    let mut text = Vec::new(alloc);
+    let notes = notes(alloc, installation)?;
+    for place in since..notes.len() {
+        print_note(alloc, &mut text, installation, telling, &notes, place)?;
+    }
+    Ok(text)
+}
+
+/// What each file was and whose, when it got its number.
+fn notes<I: Installation>(alloc: Global, installation: &I) -> Result<Vec<FileNote>, AllocError>
+    ensures { IfOk result (λ notes. notes.items ≡ (I.goes.seen installation.now).files) }
+{
+    let mut notes = Vec::new(alloc);
+    for place in 0..installation.files() {
+        let Some(note) = installation.file(place) else {
+            unreachable!();
+        };
+        notes.push(note)?;
+    }
+    Ok(notes)
+}
+
+/// Adds the lines of the file that was noted at this place among all.
+fn print_note<I: Installation>(
+    alloc: Global,
+    out: &mut Vec<u8>,
+    installation: &I,
+    telling: Telling,
+    notes: &[FileNote],
+    place: usize,
+) -> Result<(), AllocError>
+    requires { place < length notes.now }
+    ensures { OnOk result (out.new.items ≡ out.old.items
+        ++ ended (place_lines telling (I.goes.seen installation.now) (take place notes.now) (slice_get notes.now place))) }
+{
+    let note = note_at(notes, place);
+    let before = notes_before(notes, place);
+    print_noted(alloc, out, installation, telling, before, note)
+}
+
+/// What the file at this place was when it got its number.
+fn note_at(notes: &[FileNote], place: usize) -> FileNote
+    requires { place < length notes.now }
+    ensures { Some result ≡ slice_get notes.now place }
+{
+    notes[place]
+}
+
+/// The files before this place.
+fn notes_before(notes: &[FileNote], place: usize) -> &[FileNote]
+    requires { place < length notes.now }
+    ensures { result.now ≡ take place notes.now }
+{
+    &notes[..place]
+}
+
+/// Adds the lines of the file that was noted so, after these.
+fn print_noted<I: Installation>(
+    alloc: Global,
+    out: &mut Vec<u8>,
+    installation: &I,
+    telling: Telling,
+    before: &[FileNote],
+    note: FileNote,
+) -> Result<(), AllocError>
+    ensures { OnOk result (out.new.items ≡ out.old.items
+        ++ ended (note_lines telling (I.goes.seen installation.now) before.now note)) }
+{
+    let number = before.len() as u64 + 1;
+    let file = closed_file(installation, before, note.user, note.kind);
+    print_found(
+        alloc,
+        out,
+        telling,
+        note.kind,
+        number,
+        installation.name(note.user),
+        file,
+    )
+}
+
+/// Adds the lines of a file of this kind and this number of the user of this name, where there is one.
+fn print_found(
+    alloc: Global,
+    out: &mut Vec<u8>,
+    telling: Telling,
+    kind: FileKind,
+    number: u64,
+    name: &[u8],
+    file: Option<&SpoolFile>,
+) -> Result<(), AllocError>
+    ensures { OnOk result (out.new.items ≡ out.old.items
+        ++ ended (found_lines telling kind number name.now (option_map closed_file (option_copied file.entry)))) }
+{
+    match file {
+        Some(file) => print_file(alloc, out, telling, kind, number, name, file),
+        None => Ok(()),
+    }
+}
+
+/// The file of this kind that a user has closed, where these were noted before it.
+fn closed_file<'a, I: Installation>(
+    installation: &'a I,
+    before: &[FileNote],
+    user: UserNo,
+    kind: FileKind,
+) -> Option<&'a SpoolFile>
+    ensures { option_map closed_file (option_copied result) ≡ closed_in (I.goes.seen installation.now) before.now user kind }
+{
+    if user.index() >= installation.users() {
+        return None;
+    }
+    let devices = installation.devices(user);
+    match kind {
+        FileKind::Punch => devices.punched(punched_by(before, user)),
+        FileKind::Printer => devices.printed(printed_by(before, user)),
+        FileKind::Deck => None,
+    }
+}
+
+/// How many of these files the punch of a user has closed.
+fn punched_by(files: &[FileNote], user: UserNo) -> usize
+    ensures { result ≡ count_of (is_punched user) files.now }
+{
+    let mut count = 0;
+    for file in files {
+        count += usize::from(file.user == user && is_punch(file.kind));
+    }
+    count
+}
+
+/// How many of these files the printer of a user has closed.
+fn printed_by(files: &[FileNote], user: UserNo) -> usize
+    ensures { result ≡ count_of (is_printed user) files.now }
+{
+    let mut count = 0;
+    for file in files {
+        count += usize::from(file.user == user && is_printer(file.kind));
+    }
+    count
+}
+
+/// Whether a punch has closed a file of this kind.
+fn is_punch(kind: FileKind) -> bool
+    ensures { result ≡ is_punch kind }
+{
+    match kind {
+        FileKind::Punch => true,
+        FileKind::Printer | FileKind::Deck => false,
+    }
+}
+
+/// Whether a printer has closed a file of this kind.
+fn is_printer(kind: FileKind) -> bool
+    ensures { result ≡ is_printer kind }
+{
+    match kind {
+        FileKind::Printer => true,
+        FileKind::Punch | FileKind::Deck => false,
+    }
+}
+
+/// Adds the lines of a file of this kind and this number of the user of this name, if it is for the operator: a first
+/// line, and then a line for each entry.
+///
+/// ```text
+/// == PRT 0001 A
+/// 09 HELLO
+/// ```
+fn print_file(
+    alloc: Global,
+    out: &mut Vec<u8>,
+    telling: Telling,
+    kind: FileKind,
+    number: u64,
+    name: &[u8],
+    file: &SpoolFile,
+) -> Result<(), AllocError>
+    ensures { OnOk result (out.new.items ≡ out.old.items
+        ++ ended (file_lines telling kind number name.now (closed_file file.now))) }
+{
+    match file.target() {
+        Target::System => {
+            print_heading(alloc, out, telling, kind, number, name)?;
+            print_entries(alloc, out, telling, kind, file.entries())
+        }
+        Target::User(_) => Ok(()),
+    }
+}
+
+/// What stands before the first line of a file.
+fn heading_mark(telling: Telling) -> &'static [u8]
+    ensures { result.now ≡ heading_mark telling }
+{
+    match telling {
+        Telling::Transcript => &[],
+        Telling::Answer => b"> ",
+    }
+}
+
+/// What stands before an entry of a file.
+fn entry_mark(telling: Telling) -> &'static [u8]
+    ensures { result.now ≡ entry_mark telling }
+{
+    match telling {
+        Telling::Transcript => &[],
+        Telling::Answer => b"> |",
+    }
+}
+
+/// Adds the first line of a file.
+fn print_heading(
+    alloc: Global,
+    out: &mut Vec<u8>,
+    telling: Telling,
+    kind: FileKind,
+    number: u64,
+    name: &[u8],
+) -> Result<(), AllocError>
+    ensures { OnOk result (out.new.items ≡ out.old.items
+        ++ ended (heading_line telling kind number name.now ∷ [])) }
+{
+    let number = number_text(alloc, number)?;
+    out.extend_from_slice(heading_mark(telling))?;
+    out.extend_from_slice(b"== ")?;
+    out.extend_from_slice(kind_word(kind))?;
+    out.push(b' ')?;
+    out.extend_from_slice(number.as_bytes())?;
+    out.push(b' ')?;
+    out.extend_from_slice(name)?;
+    out.push(b'\n')?;
+    Ok(())
+}
+
+/// What makes a file of this kind, in three letters.
+fn kind_word(kind: FileKind) -> &'static [u8]
+    ensures { result.now ≡ kind_word kind }
+{
+    match kind {
+        FileKind::Printer => b"PRT",
+        FileKind::Punch => b"PUN",
+        FileKind::Deck => &[],
+    }
+}
+
+/// Adds a line for each of these entries of a file of this kind.
+fn print_entries(
+    alloc: Global,
+    out: &mut Vec<u8>,
+    telling: Telling,
+    kind: FileKind,
+    entries: &[Entry],
+) -> Result<(), AllocError>
+    ensures { OnOk result (out.new.items ≡ out.old.items ++ ended (map (marked_entry telling kind) entries.now)) }
+{
+    for entry in entries {
+        print_entry(alloc, out, telling, kind, entry)?;
+    }
+    Ok(())
+}
+
+/// Adds the line of an entry of a file of this kind.
+fn print_entry(
+    alloc: Global,
+    out: &mut Vec<u8>,
+    telling: Telling,
+    kind: FileKind,
+    entry: &Entry,
+) -> Result<(), AllocError>
+    ensures { OnOk result (out.new.items ≡ out.old.items ++ ended (marked_entry telling kind entry.now ∷ [])) }
+{
+    out.extend_from_slice(entry_mark(telling))?;
+    match kind {
+        FileKind::Printer => print_code(alloc, out, entry.code())?,
+        FileKind::Punch | FileKind::Deck => {}
+    }
+    print_bytes(out, entry.bytes())?;
+    out.push(b'\n')?;
+    Ok(())
+}
+
+/// Adds the code of a command in two digits, and a blank.
+fn print_code(alloc: Global, out: &mut Vec<u8>, code: u8) -> Result<(), AllocError>
+    ensures { OnOk result (out.new.items ≡ out.old.items ++ (two_digits code ++ 32 ∷ [])) }
+{
+    let code = code_text(alloc, code)?;
+    out.extend_from_slice(code.as_bytes())?;
+    out.push(b' ')?;
+    Ok(())
+}
+
+/// The code of a command in two digits.
+fn code_text(alloc: Global, code: u8) -> Result<String, AllocError>
+    ensures { IfOk result (λ text. string_bytes text ≡ two_digits code) }
+{
+    format!(in alloc; "{code:02X}")
+}
+
+/// The number of a file in at least four digits.
+fn number_text(alloc: Global, number: u64) -> Result<String, AllocError>
+    ensures { IfOk result (λ text. string_bytes text ≡ file_number number) }
+{
+    format!(in alloc; "{number:04}")
+}
+
+/// Adds bytes as they print.
+fn print_bytes(out: &mut Vec<u8>, bytes: &[u8]) -> Result<(), AllocError>
+    ensures { OnOk result (out.new.items ≡ out.old.items ++ printed_text bytes.now) }
+{
+    for byte in bytes {
+        out.push(printable(*byte))?;
+    }
+    Ok(())
+}

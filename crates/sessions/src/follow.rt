@@ -1,0 +1,155 @@
+//! A script that is given part by part: each is judged and done where the parts before it have led.
+//!
+//! What was written since the beginning is the transcript of all that was done, as if it had been one script: parts that
+//! are joined are followed as one, and one that was followed to its end is a session ([`parts_are_a_session`]).
+ghost use Rattle.std.specs.Prelude.{◌≡◌, ◌⊎◌, ℕ, Bool, [], Err, IfOk, Ok, OnErr, OnOk, true};
+ghost use Rattle.std.specs.Io.KnownBytes.{Appends};
+ghost use Rattle.s370_num.specs.Host.{AppendsFront};
+ghost use Rattle.sessions.specs.Files.{closing_lines, lines_since};
+ghost use Rattle.sessions.specs.Follow.{Became, BeginsWithNothing, EndsAsSession, IsFollowedPartly, PartsJoin};
+ghost use Rattle.sessions.specs.Schedule.{Scene};
+ghost use Rattle.sessions.specs.Session.{Accounts, at_first};
+ghost use Rattle.sessions.specs.Transcript.{ended};
+ghost use Rattle.sessions.specs.declared.files.Telling.TheVariants.{Answer};
+
+use crate::faults::PlayError;
+use crate::files::{Telling, print_files};
+use crate::installation::Installation;
+use crate::known::read_events;
+use crate::schedule::{Detail, first_policy};
+use crate::session::{close, play};
+use cp_dispatch::Policy;
+use cp_script::{ScriptError, reads_grammar};
+use s370_num::host::HostWriter;
+use std::alloc::{AllocError, Global};
+use std::marker::Model;
+
+/// An installation that goes on from where a script has led it.
+#[derive(Drop)]
+pub struct Follower<I: Installation> {
+    installation: I,
+    policy: Policy,
+    detail: Detail,
+}
+
+impl<I: Installation> Model for Follower<I> {
+    ghost use Rattle.sessions.specs.Schedule.{IsOf, Scene, scene};
+
+    ghost Value = { Scene I };
+
+    ghost view = { λ f. scene f.installation f.policy f.detail };
+
+    ghost invariant = { λ f. IsOf (I.goes.seen f.installation) f.policy };
+}
+
+/// What became of a part of a script.
+#[derive(Drop)]
+pub enum Part<I: Installation> {
+    /// It was done.
+    Done(Follower<I>),
+    /// Nothing of it was: this line of it, counted from 1, is the first that is refused.
+    Refused(Follower<I>, u64),
+}
+
+impl<I: Installation + Drop> Follower<I> {
+    /// An installation of which no script has been followed yet.
+    pub fn begin(alloc: Global, installation: I, detail: Detail) -> Result<Follower<I>, AllocError>
+        ensures { IfOk result (λ follower. follower ≡ at_first I.goes detail installation) }
+    {
+        let policy = first_policy(alloc, &installation)?;
+        Ok(Follower {
+            installation,
+            policy,
+            detail,
+        })
+    }
+
+    /// The installation as it is.
+    pub fn installation(&self) -> &I
+        ensures { result.now ≡ self.now.world }
+    {
+        &self.installation
+    }
+
+    /// Judges a part of the script as a whole; then does it, and writes the lines that come of it as they come. After a
+    /// failure there is nothing that goes on.
+    pub fn part<W: HostWriter>(
+        self,
+        alloc: Global,
+        text: &[u8],
+        writer: &mut W,
+    ) -> Result<Part<I>, PlayError>
+        ensures ok { IfOk result (λ part.
+            Became I.goes text.now self part (W.contents writer.old) (W.contents writer.new)) }
+        ensures unwritten { (same : Scene I) (n : ℕ) → result ≡ Ok (Part.Refused same n) → writer.new ≡ writer.old }
+        ensures err { OnErr result ((writer.new ≡ writer.old)
+            ⊎ IsFollowedPartly I.goes text.now self (W.contents writer.old) (W.contents writer.new)) }
+        ensures why { Accounts result (I.goes.is_spent self.world) (I.goes.is_spent self.world)
+            (W.HostFile.failures writer.old) (W.HostFile.failures writer.new) }
+    {
+        let Follower {
+            mut installation,
+            mut policy,
+            detail,
+        } = self;
+        let events = match read_events(alloc, &installation, text) {
+            Ok(events) => events,
+            Err(ScriptError::Line(line)) => {
+                return Ok(Part::Refused(
+                    Follower {
+                        installation,
+                        policy,
+                        detail,
+                    },
+                    line,
+                ));
+            }
+            Err(ScriptError::Memory) => return Err(PlayError::Memory),
+        };
+        play(
+            alloc,
+            &mut installation,
+            &mut policy,
+            detail,
+            &events,
+            writer,
+        )?;
+        Ok(Part::Done(Follower {
+            installation,
+            policy,
+            detail,
+        }))
+    }
+
+    /// Ends the session: writes the files for the operator, holds nothing back, and gives the installation.
+    pub fn close<W: HostWriter>(self, alloc: Global, writer: &mut W) -> Result<I, PlayError>
+        ensures installation { IfOk result (λ installation. installation ≡ self.world) }
+        ensures ok { OnOk result (Appends (W.contents writer.old) (W.contents writer.new)
+            (ended (closing_lines (I.goes.seen self.world)))) }
+        ensures err { OnErr result (AppendsFront (W.contents writer.old) (W.contents writer.new)
+            (ended (closing_lines (I.goes.seen self.world)))) }
+        ensures flushed { OnOk result (W.held writer.new ≡ []) }
+        ensures why { (is : Bool) → Accounts result is is (W.HostFile.failures writer.old)
+            (W.HostFile.failures writer.new) }
+    {
+        close(alloc, &self.installation, writer)?;
+        Ok(self.installation)
+    }
+
+    /// The lines of the files that were closed for the operator since there were so many files, as the answer to a part
+    /// has them, each ended by LF.
+    pub fn closed_since(&self, alloc: Global, files: usize) -> Result<Vec<u8>, AllocError>
+        ensures { IfOk result (λ text. text.items ≡ ended (lines_since Answer files (I.goes.seen self.now.world))) }
+    {
+        print_files(alloc, &self.installation, Telling::Answer, files)
+    }
+}
+
+/// Parts that are followed one after another are one script, and one that was followed to its end is a session.
+pub fn parts_are_a_session<I: Installation>()
+    ensures nothing { BeginsWithNothing I.goes }
+    ensures join { PartsJoin I.goes }
+    ensures session { EndsAsSession I.goes }
+{
+    reads_grammar();
+}

@@ -1,0 +1,104 @@
+//! What a session needs of the machines that its script speaks to.
+ghost use Rattle.std.specs.Prelude.{◌≡◌, ◌<◌, ◌≤◌, ◌⊎◌, Bool, true, false, Err, IfOk, OnErr, OnOk, length, slice_get};
+ghost use Rattle.std.specs.Option.{option_map};
+ghost use Rattle.cp_console.specs.Responses.{text_of};
+ghost use Rattle.cp_script.specs.Script.{IsOfDevice, IsOfUser, said};
+ghost use Rattle.cp_script.specs.Users.{devices_of, has_device};
+ghost use Rattle.cp_users.specs.Users.{name_of};
+ghost use Rattle.sessions.specs.Installed.{Installation as Goings, machine_at, names_of, subchannels_at, user_at};
+ghost use Rattle.sessions.specs.Schedule.{IsEvent, ready_in};
+
+use cp_console::responses::Response;
+use cp_devices::{FileNote, Reply, SeenDevices};
+use cp_panel::Mode;
+use cp_script::ScriptEvent;
+use cp_users::UserNo;
+use s370_subchannels::Subchannel;
+use std::alloc::{AllocError, Global};
+use thiserror::Error;
+
+/// Why an event did not happen.
+#[derive(Clone, Copy, Debug, PartialEq, Eq, Drop, Error)]
+pub enum Refused {
+    /// A growth was refused.
+    #[error("no memory is left")]
+    Memory,
+    /// Want of memory has ended the installation before.
+    #[error("the installation is spent")]
+    Spent,
+}
+
+/// The machines of one or several users, to which events happen: many on one system, or one of its own.
+pub trait Installation {
+    /// What is seen of it, and what happens to it.
+    ghost goes: { Goings Self };
+
+    /// How many users there are.
+    fn users(&self) -> usize
+        ensures value { result ≡ length ((goes).seen self.now).users }
+        ensures machines { result ≡ length ((goes).seen self.now).machines }
+        ensures few { result ≤ 64 };
+
+    /// The name of a user.
+    fn name(&self, user: UserNo) -> &[u8]
+        ensures { result.now ≡ name_of (names_of ((goes).seen self.now)) user };
+
+    /// The addresses of a user's devices.
+    fn addresses(&self, alloc: Global, user: UserNo) -> Result<Vec<u16>, AllocError>
+        requires { user < length ((goes).seen self.now).users }
+        ensures { IfOk result (λ list. list.items ≡ devices_of ((goes).seen self.now).users user) };
+
+    /// Whether a user has a device of this address.
+    fn has_device(&self, user: UserNo, address: u16) -> bool
+        requires { user < length ((goes).seen self.now).users }
+        ensures { result ≡ has_device ((goes).seen self.now).users user address };
+
+    /// Whether a user's machine is on, and whether it runs.
+    fn mode(&self, user: UserNo) -> Mode
+        requires { user < length ((goes).seen self.now).users }
+        ensures { result ≡ (machine_at ((goes).seen self.now) user).mode };
+
+    /// Whether a user's machine is ready for a slice.
+    fn is_ready(&self, user: UserNo) -> bool
+        requires { user < length ((goes).seen self.now).users }
+        ensures { result ≡ ready_in ((goes).seen self.now) user };
+
+    /// The subchannels of a user's machine.
+    fn subchannels(&self, user: UserNo) -> &[Subchannel]
+        requires { user < length ((goes).seen self.now).users }
+        ensures { result.now ≡ subchannels_at ((goes).seen self.now) user };
+
+    /// A user's console, reader, punch and printer, with their files.
+    fn devices(&self, user: UserNo) -> SeenDevices<'_>
+        requires { user < length ((goes).seen self.now).users }
+        ensures { result ≡ (user_at ((goes).seen self.now) user).devices };
+
+    /// How many lines a user's console has printed.
+    fn printed(&self, user: UserNo) -> usize
+        requires { user < length ((goes).seen self.now).users }
+        ensures { result ≡ length (machine_at ((goes).seen self.now) user).output };
+
+    /// A line that a user's console has printed, `None` past the last.
+    fn console_output(&self, user: UserNo, line: usize) -> Option<Response>
+        requires { user < length ((goes).seen self.now).users }
+        ensures { option_map text_of result ≡ slice_get (machine_at ((goes).seen self.now) user).output line };
+
+    /// How many files have got a number.
+    fn files(&self) -> usize
+        ensures { result ≡ length ((goes).seen self.now).files };
+
+    /// Whose a file was when it got its number, and what, by its place from 0.
+    fn file(&self, place: usize) -> Option<FileNote>
+        ensures { result ≡ slice_get ((goes).seen self.now).files place };
+
+    /// An event that a script says happens.
+    fn happen(&mut self, alloc: Global, event: &ScriptEvent<'_>) -> Result<Reply, Refused>
+        requires user { IsOfUser ((goes).seen self.old).users event.now }
+        requires device { IsOfDevice ((goes).seen self.old).users event.now }
+        requires event { IsEvent event.now }
+        ensures ok { IfOk result (λ reply. (goes).Happens self.old (said event.now) reply self.new) }
+        ensures err { OnErr result ((self.new ≡ self.old) ⊎ (goes).Lacks self.old (said event.now) self.new) }
+        ensures users { ((goes).seen self.new).users ≡ ((goes).seen self.old).users }
+        ensures alive { OnOk result ((goes).is_spent self.new ≡ false) }
+        ensures spent { result ≡ Err Refused.Spent → (goes).is_spent self.old ≡ true };
+}

@@ -1,0 +1,29 @@
+//! A session: from a script's bytes to exactly its transcript's bytes, for any installation.
+//!
+//! What a session writes is what the installation answered to the events that the script names and to the slices and
+//! serves that its turns deal ([`session::session`]). After any failure it is a beginning of that. A script may also be
+//! given part by part, and is followed ([`follow::Follower`]): the parts joined are one session.
+//!
+//! A script's bytes name events exactly where they are a text of the grammar of docs/FORMATS.md, and any other text is
+//! refused at its first line that the grammar does not have ([`cp_script::reads_grammar`] carries that law,
+//! [`cp_script::read_script`] keeps it). The lines that the transcript has for an event are those of that document, in its
+//! order.
+#![tactic(auto)]
+
+mod acts;
+mod answers;
+pub mod faults;
+pub mod files;
+pub mod follow;
+pub mod installation;
+mod known;
+pub mod schedule;
+pub mod session;
+mod starts;
+pub mod transcript;
+
+pub use faults::{PlayError, SessionError};
+pub use follow::{Follower, Part, parts_are_a_session};
+pub use installation::{Installation, Refused};
+pub use schedule::Detail;
+pub use transcript::cuts_back;

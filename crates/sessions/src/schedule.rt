@@ -1,0 +1,85 @@
+//! Who is dealt the slices: the users who are on, of whom some are ready.
+ghost use Rattle.std.specs.Prelude.{◌≡◌, ◌<◌, IfOk, ℕ, length, true};
+ghost use Rattle.cp_dispatch.specs.Policy.{is_ready as is_flagged};
+ghost use Rattle.sessions.specs.Schedule.{first_lines, is_on, is_user_on, queue_with, ready_in};
+
+use crate::installation::Installation;
+use crate::starts::line_up;
+use cp_dispatch::{Policy, Ready};
+use cp_panel::Mode;
+use cp_users::UserNo;
+use std::alloc::{AllocError, Global};
+
+/// How many units a slice has.
+pub(crate) const SLICE_UNITS: u32 = 100;
+
+/// Which lines a transcript has of turns.
+#[derive(Clone, Copy, Debug, PartialEq, Eq)]
+pub enum Detail {
+    /// All: how each half of a turn ended, and that a turn had neither.
+    Whole,
+    /// Those at the users' terminals, and where frames were lacking.
+    Terminals,
+}
+
+/// Whether a machine of this mode has a user who is logged on.
+fn is_mode_of_user(mode: Mode) -> bool
+    ensures { result ≡ is_on mode }
+{
+    match mode {
+        Mode::Off => false,
+        Mode::Stopped | Mode::Running => true,
+    }
+}
+
+/// Whether a user is logged on.
+pub(crate) fn is_on<I: Installation>(installation: &I, user: UserNo) -> bool
+    requires { user < length (I.goes.seen installation.now).users }
+    ensures { result ≡ is_user_on (I.goes.seen installation.now) user }
+{
+    is_mode_of_user(installation.mode(user))
+}
+
+/// Tells the policy that a user has logged on or off, where he has.
+pub(crate) fn note(policy: &mut Policy, user: UserNo, was_on: bool, is_on: bool)
+    requires { user < policy.old.most_users }
+    ensures { policy.new ≡ record policy.old { users = queue_with user was_on is_on policy.old.users } }
+{
+    if is_on && !was_on {
+        policy.join(user);
+    }
+    if was_on && !is_on {
+        policy.leave(user);
+    }
+}
+
+/// The policy for the users of an installation: those who are on stand in the queue by their numbers, and in the line
+/// stand the programs of each by their starts.
+pub(crate) fn first_policy<I: Installation>(
+    alloc: Global,
+    installation: &I,
+) -> Result<Policy, AllocError>
+    ensures { IfOk result (λ policy. policy ≡ first_lines (I.goes.seen installation.now)) }
+{
+    let users = installation.users();
+    let mut policy = Policy::new(alloc, users)?;
+    for number in 0..users {
+        let user = UserNo::new(number as u8);
+        note(&mut policy, user, false, is_on(installation, user));
+        line_up(alloc, installation, &mut policy, user, 0)?;
+    }
+    Ok(policy)
+}
+
+/// Who is ready for a slice.
+pub(crate) fn ready_users<I: Installation>(installation: &I) -> Ready
+    ensures ready { (user : ℕ) → is_flagged result user ≡ ready_in (I.goes.seen installation.now) user }
+    ensures users { (user : ℕ) → is_flagged result user ≡ true → user < length (I.goes.seen installation.now).users }
+{
+    let mut ready = Ready::nobody();
+    for number in 0..installation.users() {
+        let user = UserNo::new(number as u8);
+        ready.set(user, installation.is_ready(user));
+    }
+    ready
+}

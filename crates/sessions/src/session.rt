@@ -1,0 +1,107 @@
+//! A session: from a script's bytes to a transcript's bytes.
+ghost use Rattle.std.specs.Prelude.{◌≡◌, ◌⊎◌, ℕ, Bool, [], All, Err, OnErr, OnOk, map};
+ghost use Rattle.std.specs.Io.KnownBytes.{Appends};
+ghost use Rattle.s370_num.specs.Host.{AppendsFront};
+ghost use Rattle.cp_script.specs.Script.{IsOfDevice, IsOfUser, said};
+ghost use Rattle.sessions.specs.Files.{closing_lines};
+ghost use Rattle.sessions.specs.Schedule.{IsOf, acts, scene};
+ghost use Rattle.sessions.specs.Session.{Accounts, AccountsFiles, IsCut, IsPartly, IsPlayed, IsRefused, IsSession};
+ghost use Rattle.sessions.specs.Transcript.{ended};
+ghost use Rattle.sessions.specs.declared.schedule.Detail.TheVariants.{Whole};
+
+use crate::acts::act;
+use crate::faults::{PlayError, SessionError};
+use crate::files::{Telling, print_files};
+use crate::installation::Installation;
+use crate::known::read_events;
+use crate::schedule::{Detail, first_policy};
+use cp_dispatch::Policy;
+use cp_script::ScriptEvent;
+use s370_num::host::{HostReader, HostWriter, read_all, write_all};
+use std::alloc::Global;
+
+/// Reads a whole script and judges it; then lets its events happen and deals its turns one after another, and writes the
+/// lines of each as they come, and at the end the files for the operator. When it ends well, nothing that was written is
+/// held back.
+///
+/// Turns are dealt among the users who are on: those who are on at first, by their numbers, and behind them who
+/// logs on later; and among the programs that were started, in the order of their starts.
+pub fn session<I: Installation, R: HostReader, W: HostWriter>(
+    alloc: Global,
+    installation: &mut I,
+    reader: &mut R,
+    writer: &mut W,
+) -> Result<(), SessionError>
+    ensures ok { OnOk result (IsSession I.goes Whole installation.old installation.new (R.remaining reader.old)
+        (R.remaining reader.new) (W.contents writer.old) (W.contents writer.new)) }
+    ensures line { (n : ℕ) → result ≡ Err (SessionError.Line n)
+        → IsRefused (I.goes.seen installation.old).users (R.remaining reader.old) (R.remaining reader.new) n }
+    ensures refused { (n : ℕ) → result ≡ Err (SessionError.Line n) → (installation.new ≡ installation.old)
+        × (writer.new ≡ writer.old) }
+    ensures err { OnErr result
+        (((installation.new ≡ installation.old) × (writer.new ≡ writer.old))
+        ⊎ IsCut I.goes Whole installation.old installation.new (R.remaining reader.old) (R.remaining reader.new)
+        (W.contents writer.old) (W.contents writer.new)) }
+    ensures flushed { OnOk result (W.held writer.new ≡ []) }
+    ensures why { AccountsFiles result (I.goes.is_spent installation.old) (R.HostFile.failures reader.old)
+        (R.HostFile.failures reader.new) (W.HostFile.failures writer.old) (W.HostFile.failures writer.new) }
+{
+    let text = read_all(alloc, reader)?;
+    let events = read_events(alloc, installation, &text)?;
+    let mut policy = first_policy(alloc, installation)?;
+    play(
+        alloc,
+        installation,
+        &mut policy,
+        Detail::Whole,
+        &events,
+        writer,
+    )?;
+    close(alloc, installation, writer)?;
+    Ok(())
+}
+
+/// Lets the events happen and deals the turns one after another, and writes the lines of each as they come.
+pub(crate) fn play<I: Installation, W: HostWriter>(
+    alloc: Global,
+    installation: &mut I,
+    policy: &mut Policy,
+    detail: Detail,
+    events: &[ScriptEvent<'_>],
+    writer: &mut W,
+) -> Result<(), PlayError>
+    requires users { All (IsOfUser (I.goes.seen installation.old).users) events.now }
+    requires devices { All (IsOfDevice (I.goes.seen installation.old).users) events.now }
+    requires dealing { IsOf (I.goes.seen installation.old) policy.old }
+    ensures ok { OnOk result (IsPlayed I.goes (acts (map said events.now)) (scene installation.old policy.old detail)
+        (scene installation.new policy.new detail) (W.contents writer.old) (W.contents writer.new)) }
+    ensures err { OnErr result (IsPartly I.goes (acts (map said events.now)) (scene installation.old policy.old detail)
+        installation.new (W.contents writer.old) (W.contents writer.new)) }
+    ensures why { Accounts result (I.goes.is_spent installation.old) (I.goes.is_spent installation.new)
+        (W.HostFile.failures writer.old) (W.HostFile.failures writer.new) }
+{
+    for event in events {
+        act(alloc, installation, policy, detail, event, writer)?;
+    }
+    Ok(())
+}
+
+/// Writes the files for the operator, and nothing that was written is held back.
+pub(crate) fn close<I: Installation, W: HostWriter>(
+    alloc: Global,
+    installation: &I,
+    writer: &mut W,
+) -> Result<(), PlayError>
+    ensures ok { OnOk result (Appends (W.contents writer.old) (W.contents writer.new)
+        (ended (closing_lines (I.goes.seen installation.now)))) }
+    ensures err { OnErr result (AppendsFront (W.contents writer.old) (W.contents writer.new)
+        (ended (closing_lines (I.goes.seen installation.now)))) }
+    ensures flushed { OnOk result (W.held writer.new ≡ []) }
+    ensures why { (is : Bool) → Accounts result is is (W.HostFile.failures writer.old)
+        (W.HostFile.failures writer.new) }
+{
+    let files = print_files(alloc, installation, Telling::Transcript, 0)?;
+    write_all(writer, &files)?;
+    writer.flush()?;
+    Ok(())
+}

@@ -1,0 +1,347 @@
+//! The transcript: the lines of an event and its reply.
+ghost use Rattle.std.specs.Prelude.{◌≡◌, ◌++◌, ◌∷◌, ◌<◌, [], IfOk, OnOk, length, map};
+ghost use Rattle.cp_script.specs.Script.{said};
+ghost use Rattle.cp_users.specs.Users.{name_of};
+ghost use Rattle.sessions.specs.Installed.{machine_at, names_of, user_at};
+ghost use Rattle.sessions.specs.Schedule.{Idle};
+ghost use Rattle.sessions.specs.Transcript.{CutsBack, delivered_lines, ended, ending_lines, frames_line, idle_lines, lacking_lines, last_lines, queue_lines, ran_line, reason_word, reply_lines, said_lines, scant_lines, served_line, served_lines, served_word, told_line, end_lines, written_lines};
+
+use crate::installation::Installation;
+use crate::schedule::Detail;
+use cp_console::printing;
+use cp_devices::{Delivered, Delivery, Ended, Reply, Told, deck_line};
+use cp_script::ScriptEvent;
+use cp_users::UserNo;
+use s370_intr::{Ran, Reason};
+use s370_num::DevAddr;
+use std::alloc::{AllocError, Global};
+
+/// The transcript's lines for the reply to an event of this user, each ended by LF: what was said to the
+/// user, what has been written at his console, what stands at another's terminal, and then how the event ended.
+#[tactic(auto, using(crate::proofs::Endings::four_ended))]
+pub(crate) fn print_reply<I: Installation>(
+    alloc: Global,
+    installation: &I,
+    detail: Detail,
+    user: UserNo,
+    event: &ScriptEvent<'_>,
+    reply: &Reply,
+) -> Result<Vec<u8>, AllocError>
+    requires { user < length (I.goes.seen installation.now).users }
+    ensures { let seen = user_at (I.goes.seen installation.now) user in
+        IfOk result (λ text. text.items ≡ ended (reply_lines detail (names_of (I.goes.seen installation.now)) user
+        (said event.now) seen.devices.reader.decks seen.machine.output reply.now)) }
+{
+    let mut text = Vec::new(alloc);
+    print_said(alloc, &mut text, installation, user, reply.said)?;
+    print_written(alloc, &mut text, installation, user, reply)?;
+    print_delivered(&mut text, installation, reply.delivered)?;
+    print_end(
+        alloc,
+        &mut text,
+        detail,
+        installation.name(user),
+        event,
+        reply.ended,
+    )?;
+    Ok(text)
+}
+
+/// Adds the lines of what was said to this user.
+fn print_said<I: Installation>(
+    alloc: Global,
+    out: &mut Vec<u8>,
+    installation: &I,
+    user: UserNo,
+    said: Told,
+) -> Result<(), AllocError>
+    requires { user < length (I.goes.seen installation.now).users }
+    ensures { let names = names_of (I.goes.seen installation.now) in OnOk result (out.new.items ≡ out.old.items
+        ++ ended (said_lines names (name_of names user) (user_at (I.goes.seen installation.now) user).devices.reader.decks said)) }
+{
+    match said {
+        Told::Said(response) => {
+            let text = printing::reply(alloc, &response)?;
+            print_line(out, installation.name(user), &text)
+        }
+        Told::Files => {
+            let names = names(alloc, installation)?;
+            print_queue(alloc, out, installation, &names, user)
+        }
+        Told::Silent | Told::Sent(_, _) | Told::Loads(_) | Told::Closed => Ok(()),
+    }
+}
+
+/// The names of all users.
+fn names<I: Installation>(alloc: Global, installation: &I) -> Result<Vec<Vec<u8>>, AllocError>
+    ensures { IfOk result (λ names. map (λ name. name.items) names.items ≡ names_of (I.goes.seen installation.now)) }
+{
+    let mut names = Vec::new(alloc);
+    for number in 0..installation.users() {
+        let name = installation.name(UserNo::new(number as u8));
+        names.push(name.to_vec(alloc)?)?;
+    }
+    Ok(names)
+}
+
+/// Adds a line for each deck of the reader, in their order.
+#[tactic(auto, using(crate::proofs::Decks::one_more, crate::proofs::Decks::no_more))]
+fn print_queue<I: Installation>(
+    alloc: Global,
+    out: &mut Vec<u8>,
+    installation: &I,
+    names: &[Vec<u8>],
+    user: UserNo,
+) -> Result<(), AllocError>
+    requires user { user < length (I.goes.seen installation.now).users }
+    requires names { map (λ name. name.items) names.now ≡ names_of (I.goes.seen installation.now) }
+    ensures { let names = names_of (I.goes.seen installation.now) in OnOk result (out.new.items ≡ out.old.items
+        ++ ended (queue_lines names (name_of names user) (user_at (I.goes.seen installation.now) user).devices.reader.decks)) }
+{
+    let devices = installation.devices(user);
+    for index in 0..devices.decks() {
+        let Some(deck) = devices.deck(index) else {
+            unreachable!();
+        };
+        let line = deck_line(alloc, names, &deck)?;
+        print_line(out, installation.name(user), &line)?;
+    }
+    Ok(())
+}
+
+/// Adds what a program has written at the console of this user while it was served.
+fn print_written<I: Installation>(
+    alloc: Global,
+    out: &mut Vec<u8>,
+    installation: &I,
+    user: UserNo,
+    reply: &Reply,
+) -> Result<(), AllocError>
+    requires { user < length (I.goes.seen installation.now).users }
+    ensures { OnOk result (out.new.items ≡ out.old.items
+        ++ ended (written_lines (name_of (names_of (I.goes.seen installation.now)) user) reply.now.lines (machine_at (I.goes.seen installation.now) user).output
+        reply.now.ended)) }
+{
+    match reply.ended {
+        Ended::Served(_) => print_last(alloc, out, installation, user, reply.lines),
+        Ended::Ran(_) | Ended::Done | Ended::FramesOut => Ok(()),
+    }
+}
+
+/// Adds the last so many lines that the console of this user has printed.
+#[tactic(auto, using(crate::proofs::Written::one_more, crate::proofs::Written::no_more))]
+fn print_last<I: Installation>(
+    alloc: Global,
+    out: &mut Vec<u8>,
+    installation: &I,
+    user: UserNo,
+    count: usize,
+) -> Result<(), AllocError>
+    requires { user < length (I.goes.seen installation.now).users }
+    ensures { OnOk result (out.new.items ≡ out.old.items
+        ++ ended (map (told_line (name_of (names_of (I.goes.seen installation.now)) user)) (last_lines count (machine_at (I.goes.seen installation.now) user).output))) }
+{
+    let printed = installation.printed(user);
+    for index in printed.saturating_sub(count)..printed {
+        let Some(response) = installation.console_output(user, index) else {
+            unreachable!();
+        };
+        let line = printing::reply(alloc, &response)?;
+        print_line(out, installation.name(user), &line)?;
+    }
+    Ok(())
+}
+
+/// Adds the line of a message at its receiver's terminal.
+fn print_delivered<I: Installation>(
+    out: &mut Vec<u8>,
+    installation: &I,
+    delivered: Option<Delivered>,
+) -> Result<(), AllocError>
+    ensures { OnOk result (out.new.items ≡ out.old.items ++ ended (delivered_lines (names_of (I.goes.seen installation.now)) delivered)) }
+{
+    let Some(Delivered { to, what }) = delivered else {
+        return Ok(());
+    };
+    match what {
+        Delivery::Deck(_) => Ok(()),
+        Delivery::Message(line) => print_line(out, installation.name(to), line.as_slice()),
+    }
+}
+
+/// Adds the line `u: text`.
+fn print_line(out: &mut Vec<u8>, name: &[u8], text: &[u8]) -> Result<(), AllocError>
+    ensures { OnOk result (out.new.items ≡ out.old.items ++ ended (told_line name.now text.now ∷ [])) }
+{
+    out.extend_from_slice(name)?;
+    out.extend_from_slice(b": ")?;
+    out.extend_from_slice(text)?;
+    out.push(b'\n')?;
+    Ok(())
+}
+
+/// Adds the line of an ending of an event, where the transcript has one for it.
+fn print_ending(
+    alloc: Global,
+    out: &mut Vec<u8>,
+    name: &[u8],
+    event: &ScriptEvent<'_>,
+    ending: Ended,
+) -> Result<(), AllocError>
+    ensures { OnOk result (out.new.items ≡ out.old.items ++ ended (ending_lines name.now (said event.now) ending)) }
+{
+    match ending {
+        Ended::Ran(ran) => print_ran(alloc, out, name, ran),
+        Ended::Served(done) => print_serve(alloc, out, name, event, done),
+        Ended::Done => Ok(()),
+        Ended::FramesOut => print_frames_out(out, name),
+    }
+}
+
+/// Adds the line of a serve.
+fn print_serve(
+    alloc: Global,
+    out: &mut Vec<u8>,
+    name: &[u8],
+    event: &ScriptEvent<'_>,
+    done: bool,
+) -> Result<(), AllocError>
+    ensures { OnOk result (out.new.items ≡ out.old.items ++ ended (served_lines name.now (said event.now) done)) }
+{
+    match event {
+        ScriptEvent::Serve(_, device) => {
+            print_served(alloc, out, name, DevAddr::new(*device), done)
+        }
+        ScriptEvent::Run(_, _)
+        | ScriptEvent::Line(_, _)
+        | ScriptEvent::Tick(_)
+        | ScriptEvent::Deck(_, _)
+        | ScriptEvent::Auto(_) => Ok(()),
+    }
+}
+
+/// Adds the line `= u SERVED addr`, or `= u IDLE addr`.
+fn print_served(
+    alloc: Global,
+    out: &mut Vec<u8>,
+    name: &[u8],
+    device: DevAddr,
+    done: bool,
+) -> Result<(), AllocError>
+    ensures { OnOk result (out.new.items ≡ out.old.items ++ ended (served_line name.now device done ∷ [])) }
+{
+    let device = device.to_string(alloc)?;
+    out.extend_from_slice(b"= ")?;
+    out.extend_from_slice(name)?;
+    out.extend_from_slice(served_word(done))?;
+    out.extend_from_slice(device.as_bytes())?;
+    out.push(b'\n')?;
+    Ok(())
+}
+
+/// Whether a device was working that was served, as the transcript says it.
+fn served_word(done: bool) -> &'static [u8]
+    ensures { result.now ≡ served_word done }
+{
+    if done { b" SERVED " } else { b" IDLE " }
+}
+
+/// Adds the line `= u units REASON`.
+fn print_ran(alloc: Global, out: &mut Vec<u8>, name: &[u8], ran: Ran) -> Result<(), AllocError>
+    ensures { OnOk result (out.new.items ≡ out.old.items ++ ended (ran_line name.now ran ∷ [])) }
+{
+    let units = ran.units.to_string(alloc)?;
+    out.extend_from_slice(b"= ")?;
+    out.extend_from_slice(name)?;
+    out.push(b' ')?;
+    out.extend_from_slice(units.as_bytes())?;
+    out.push(b' ')?;
+    out.extend_from_slice(reason_word(ran.reason))?;
+    out.push(b'\n')?;
+    Ok(())
+}
+
+/// Adds the line of an ending, where it is wanted and the transcript has one for it.
+fn print_end(
+    alloc: Global,
+    out: &mut Vec<u8>,
+    detail: Detail,
+    name: &[u8],
+    event: &ScriptEvent<'_>,
+    ending: Ended,
+) -> Result<(), AllocError>
+    ensures { OnOk result (out.new.items ≡ out.old.items
+        ++ ended (end_lines detail name.now (said event.now) ending)) }
+{
+    match detail {
+        Detail::Whole => print_ending(alloc, out, name, event, ending),
+        Detail::Terminals => print_scant(alloc, out, name, ending),
+    }
+}
+
+/// Adds the line of an ending where frames were lacking.
+fn print_scant(
+    alloc: Global,
+    out: &mut Vec<u8>,
+    name: &[u8],
+    ending: Ended,
+) -> Result<(), AllocError>
+    ensures { OnOk result (out.new.items ≡ out.old.items ++ ended (scant_lines name.now ending)) }
+{
+    match ending {
+        Ended::Ran(ran) => print_lacking(alloc, out, name, ran),
+        Ended::FramesOut => print_frames_out(out, name),
+        Ended::Served(_) | Ended::Done => Ok(()),
+    }
+}
+
+/// Adds the line of a run that was out of frames.
+fn print_lacking(alloc: Global, out: &mut Vec<u8>, name: &[u8], ran: Ran) -> Result<(), AllocError>
+    ensures { OnOk result (out.new.items ≡ out.old.items ++ ended (lacking_lines name.now ran ran.reason)) }
+{
+    match ran.reason {
+        Reason::FramesOut => print_ran(alloc, out, name, ran),
+        Reason::Count | Reason::Wait | Reason::DisabledWait | Reason::EcMode | Reason::Stopped =>
+            Ok(()),
+    }
+}
+
+/// The line of a turn that nobody had, with its end, where the transcript has one for it.
+pub(crate) fn idle_line(detail: Detail) -> &'static [u8]
+    ensures { result.now ≡ ended (idle_lines detail) }
+{
+    match detail {
+        Detail::Whole => b"= IDLE\n",
+        Detail::Terminals => &[],
+    }
+}
+
+/// Adds `= u FRAMES` and its end.
+fn print_frames_out(out: &mut Vec<u8>, name: &[u8]) -> Result<(), AllocError>
+    ensures { OnOk result (out.new.items ≡ out.old.items ++ ended (frames_line name.now ∷ [])) }
+{
+    out.extend_from_slice(b"= ")?;
+    out.extend_from_slice(name)?;
+    out.extend_from_slice(b" FRAMES\n")?;
+    Ok(())
+}
+
+/// Why a run did no further unit, as the transcript names it.
+fn reason_word(reason: Reason) -> &'static [u8]
+    ensures { result.now ≡ reason_word reason }
+{
+    match reason {
+        Reason::Count => b"COUNT",
+        Reason::Wait => b"WAIT",
+        Reason::DisabledWait => b"DISABLEDWAIT",
+        Reason::EcMode => b"ECMODE",
+        Reason::Stopped => b"STOPPED",
+        Reason::FramesOut => b"FRAMES",
+    }
+}
+
+/// Cut at its LFs, what is printed is the lines that were told, one for one, where no text holds an
+/// LF.
+pub fn cuts_back()
+    ensures { CutsBack }
+{}
