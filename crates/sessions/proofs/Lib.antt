@@ -10,4 +10,4 @@ pub mod Histories
 pub mod Queues
 pub mod Sessions
 pub mod Joined
-pub mod Known
+pub mod UsersKnown
