@@ -28,7 +28,7 @@ use Rattle.cp_directory.specs.Users.{AreApart, addresses_of}
 use Rattle.cp_directory.specs.declared.minidisk.Minidisk.{Minidisk}
 use Rattle.std.specs.List.{find, position}
 use Rattle.cp_core.specs.Whole.{AreNew, AreSeated, IsNew, IsWhole, no_user}
-use Rattle.cp_core.specs.declared.delivery.Delivery.{Delivery}
+use Rattle.cp_devices.specs.declared.reply.Delivery.{Delivery}
 
 -- the devices of a lawful user can be attached
 low_all : (xs : List ℕ) → All (λ address. address ≤ 0x5FF) xs → list_all (λ (address : ℕ). nat_lt address 0x600) xs ≡ true

@@ -9,9 +9,9 @@ use Rattle.cp_devices.specs.Life.{Event as Local, Leaves, Lives}
 use Rattle.cp_core.specs.Come.{HasCome, comes_by_line}
 use Rattle.cp_core.specs.Local.{Step, comes_to, coming}
 use Rattle.cp_core.specs.System.{SystemView, nobody, user_at}
-use Rattle.cp_core.specs.declared.delivery.Delivered.{Delivered}
-use Rattle.cp_core.specs.declared.delivery.Delivery.{Delivery}
-use Rattle.cp_core.specs.declared.delivery.Delivery.TheVariants as deliveries
+use Rattle.cp_devices.specs.declared.reply.Delivered.{Delivered}
+use Rattle.cp_devices.specs.declared.reply.Delivery.{Delivery}
+use Rattle.cp_devices.specs.declared.reply.Delivery.TheVariants as deliveries
 
 -- events and then more events
 pub lives_on : (reads : Reading) (es fs : List Local) (a b c : Equipped) → Lives reads es a b → Lives reads fs b c → Lives reads (es ++ fs) a c

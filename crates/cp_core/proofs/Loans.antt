@@ -16,7 +16,7 @@ use Rattle.cp_core.specs.UserMachines.{UserParts, user_with, Fits}
 use Rattle.cp_core.specs.System.{SystemView, nobody, users_of}
 use Rattle.ckd_volume.specs.Volume.{VolumeFormat}
 use Rattle.cp_core.proofs.Systems.{seen}
-use Rattle.cp_core.specs.declared.files.FileNote.{FileNote}
+use Rattle.cp_devices.specs.declared.files.FileNote.{FileNote}
 use Rattle.cp_core.specs.Loan.{frame_at, slot_at, with_page, written_page, written_frame}
 use Rattle.cp_core.specs.Whole.{IsSystem, IsWhole, no_user}
 

@@ -36,18 +36,18 @@ use Rattle.cp_core.specs.Histories.{IsStep}
 use Rattle.cp_core.specs.Local.{Step, coming, run_of, units_of}
 use Rattle.cp_core.specs.Memory.{IsCutShort}
 use Rattle.cp_devices.specs.declared.request.Request.{Request}
-use Rattle.cp_core.specs.Replies.{silent}
+use Rattle.cp_devices.specs.Replies.{silent}
 use Rattle.cp_core.specs.Supply.{IsGivenBack}
 use Rattle.cp_core.specs.System.{SystemView, machine_at, nobody, user_at, world_of}
 use Rattle.cp_core.specs.Told.{deck_noted, delivered_by, given, said_to_line, with_delivered}
 use Rattle.cp_core.specs.Work.{HasRun, HasServed, HasTicked, HasTyped}
-use Rattle.cp_core.specs.declared.delivery.Delivered.{Delivered}
-use Rattle.cp_core.specs.declared.delivery.Delivery.{Delivery}
-use Rattle.cp_core.specs.declared.delivery.Delivery.TheVariants as deliveries
-use Rattle.cp_core.specs.declared.events.Ended.TheVariants.{Ran, Served, Done, FramesOut}
+use Rattle.cp_devices.specs.declared.reply.Delivered.{Delivered}
+use Rattle.cp_devices.specs.declared.reply.Delivery.{Delivery}
+use Rattle.cp_devices.specs.declared.reply.Delivery.TheVariants as deliveries
+use Rattle.cp_devices.specs.declared.reply.Ended.TheVariants.{Ran, Served, Done, FramesOut}
 use Rattle.cp_core.specs.declared.events.Event.TheVariants.{Run, Line, Tick, Deck, Serve}
-use Rattle.cp_core.specs.declared.events.Reply.{Reply}
-use Rattle.cp_core.specs.declared.files.FileNote.{FileNote}
+use Rattle.cp_devices.specs.declared.reply.Reply.{Reply}
+use Rattle.cp_devices.specs.declared.files.FileNote.{FileNote}
 use Rattle.cp_devices.proofs.Answered.{follow_may, follow_same}
 use Rattle.cp_core.proofs.Kept.{nine_each}
 use Rattle.cp_core.proofs.Led.{come_led, led_alone, lives_on, others_stay, printer_stays, punch_stays, stays_each}

@@ -14,8 +14,8 @@ use Rattle.cp_channels.specs.Disks.{DiskAt}
 use Rattle.cp_volumes.specs.Shared.{AllLeaveBe, DisksValue, IsConfined, IsUsers, KeepsNeighbours, SharedMinidisk, Stand, disks_on, stand_of, stands_of}
 use Rattle.cp_volumes.proofs.Seats.{disks_stay, stand_at, users_on}
 use Rattle.cp_core.specs.Whole.{AreSeated, IsWhole, no_user}
-use Rattle.cp_core.specs.declared.delivery.Delivery.{Delivery}
-use Rattle.cp_core.specs.declared.files.FileNote.{FileNote}
+use Rattle.cp_devices.specs.declared.reply.Delivery.{Delivery}
+use Rattle.cp_devices.specs.declared.files.FileNote.{FileNote}
 
 pub length-users : (seats : List UserParts) (volumes : List VolumeFormat) (storages : List (List ℕ)) → length seats ≡ length storages → length (users_of seats volumes storages) ≡ length seats
 length-users [] volumes storages e = refl

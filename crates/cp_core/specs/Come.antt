@@ -7,9 +7,9 @@ use Rattle.cp_devices.specs.Equipped.{Equipped}
 use Rattle.cp_devices.specs.Life.{Event as Local, Deck as Gets, Message as Hears, Leaves}
 use Rattle.cp_devices.specs.Spooling.{deck_punched}
 use Rattle.cp_core.specs.System.{SystemView, user_at}
-use Rattle.cp_core.specs.declared.delivery.Delivered.{Delivered}
-use Rattle.cp_core.specs.declared.delivery.Delivery.{Delivery}
-use Rattle.cp_core.specs.declared.delivery.Delivery.TheVariants as deliveries
+use Rattle.cp_devices.specs.declared.reply.Delivered.{Delivered}
+use Rattle.cp_devices.specs.declared.reply.Delivery.{Delivery}
+use Rattle.cp_devices.specs.declared.reply.Delivery.TheVariants as deliveries
 
 -- what comes of the line of this user: the deck that his punch's file of this index is, or a message
 abbrev pub comes_by_line : ℕ → ℕ → Equipped → Delivery → Local

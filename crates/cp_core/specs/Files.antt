@@ -3,7 +3,7 @@ use Rattle.std.specs.Prelude.{ℕ, ◌+◌, Bool, true, false, nat_lt, List, [],
 use Rattle.cp_devices.specs.declared.files.FileKind.{FileKind}
 use Rattle.cp_devices.specs.declared.files.FileKind.TheVariants as kinds
 use Rattle.cp_devices.specs.Equipped.{Equipped}
-use Rattle.cp_core.specs.declared.files.FileNote.{FileNote}
+use Rattle.cp_devices.specs.declared.files.FileNote.{FileNote}
 
 -- the number of the next file
 abbrev pub next_file : List FileNote → ℕ

@@ -9,7 +9,6 @@ pub mod Wants
 pub mod Typed
 pub mod Local
 pub mod Parcels
-pub mod Replies
 pub mod Told
 pub mod Work
 pub mod Supply

@@ -10,14 +10,14 @@ use Rattle.cp_devices.specs.Life.{Event as Local, Units, Serve as Serves, Line a
 use Rattle.cp_devices.specs.Spooling.{deck_punched}
 use Rattle.cp_core.specs.Events.{user_of}
 use Rattle.cp_core.specs.System.{SystemView, user_at, world_of}
-use Rattle.cp_core.specs.declared.delivery.Delivered.{Delivered}
-use Rattle.cp_core.specs.declared.delivery.Delivery.{Delivery}
-use Rattle.cp_core.specs.declared.delivery.Delivery.TheVariants as deliveries
-use Rattle.cp_core.specs.declared.events.Ended.{Ended}
-use Rattle.cp_core.specs.declared.events.Ended.TheVariants.{Ran, Done, Served, FramesOut}
+use Rattle.cp_devices.specs.declared.reply.Delivered.{Delivered}
+use Rattle.cp_devices.specs.declared.reply.Delivery.{Delivery}
+use Rattle.cp_devices.specs.declared.reply.Delivery.TheVariants as deliveries
+use Rattle.cp_devices.specs.declared.reply.Ended.{Ended}
+use Rattle.cp_devices.specs.declared.reply.Ended.TheVariants.{Ran, Done, Served, FramesOut}
 use Rattle.cp_core.specs.declared.events.Event.{Event}
 use Rattle.cp_core.specs.declared.events.Event.TheVariants.{Run, Line, Tick, Deck, Serve}
-use Rattle.cp_core.specs.declared.events.Reply.{Reply}
+use Rattle.cp_devices.specs.declared.reply.Reply.{Reply}
 
 -- an event that was applied, its reply, and what was seen after it
 pub record Step : Type 0 where

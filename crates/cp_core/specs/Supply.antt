@@ -15,8 +15,8 @@ use Rattle.cp_core.specs.System.{SystemView, machine_at, user_at}
 use Rattle.cp_devices.specs.Lines.{requested}
 use Rattle.cp_devices.specs.Comes.{is_ipl}
 use Rattle.cp_core.specs.Wants.{DeviceNeeds, LineWants}
-use Rattle.cp_core.specs.declared.events.Ended.{Ended}
-use Rattle.cp_core.specs.declared.events.Ended.TheVariants.{Ran, Served, Done, FramesOut}
+use Rattle.cp_devices.specs.declared.reply.Ended.{Ended}
+use Rattle.cp_devices.specs.declared.reply.Ended.TheVariants.{Ran, Served, Done, FramesOut}
 use Rattle.cp_core.specs.declared.events.Event.{Event}
 use Rattle.cp_core.specs.declared.events.Event.TheVariants.{Run, Line, Tick, Deck, Serve}
 

@@ -10,8 +10,8 @@ use Rattle.cp_devices.specs.Equipped.{Equipped}
 use Rattle.cp_devices.specs.World.{World, is_logged_on}
 use Rattle.cp_volumes.specs.Shared.{Stand, stands_of}
 use Rattle.cp_core.specs.UserMachines.{UserParts, user_with}
-use Rattle.cp_core.specs.declared.delivery.Delivery.{Delivery}
-use Rattle.cp_core.specs.declared.files.FileNote.{FileNote}
+use Rattle.cp_devices.specs.declared.reply.Delivery.{Delivery}
+use Rattle.cp_devices.specs.declared.files.FileNote.{FileNote}
 
 -- each user's machine with its devices, the users of the directory, where pages stand and how many have come, what each file
 -- was when it got its number and whose it is, what was delivered to each user, the volumes as they are now, where each user's

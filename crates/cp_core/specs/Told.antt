@@ -21,15 +21,15 @@ use Rattle.cp_core.specs.Local.{Step}
 use Rattle.cp_core.specs.Supply.{IsShort}
 use Rattle.cp_core.specs.Wants.{DeviceNeeds, LineWants}
 use Rattle.cp_core.specs.System.{SystemView, deliveries_at, machine_at, user_at, world_of}
-use Rattle.cp_core.specs.declared.delivery.Delivered.{Delivered}
-use Rattle.cp_core.specs.declared.delivery.Delivery.{Delivery}
-use Rattle.cp_core.specs.declared.delivery.Delivery.TheVariants as deliveries
-use Rattle.cp_core.specs.declared.events.Ended.{Ended}
-use Rattle.cp_core.specs.declared.events.Ended.TheVariants.{Ran, Served, Done, FramesOut}
+use Rattle.cp_devices.specs.declared.reply.Delivered.{Delivered}
+use Rattle.cp_devices.specs.declared.reply.Delivery.{Delivery}
+use Rattle.cp_devices.specs.declared.reply.Delivery.TheVariants as deliveries
+use Rattle.cp_devices.specs.declared.reply.Ended.{Ended}
+use Rattle.cp_devices.specs.declared.reply.Ended.TheVariants.{Ran, Served, Done, FramesOut}
 use Rattle.cp_core.specs.declared.events.Event.{Event}
 use Rattle.cp_core.specs.declared.events.Event.TheVariants.{Run, Line, Tick, Deck, Serve}
-use Rattle.cp_core.specs.declared.events.Reply.{Reply}
-use Rattle.cp_core.specs.declared.files.FileNote.{FileNote}
+use Rattle.cp_devices.specs.declared.reply.Reply.{Reply}
+use Rattle.cp_devices.specs.declared.files.FileNote.{FileNote}
 
 -- ---- out of frames
 

@@ -9,7 +9,7 @@ use Rattle.cp_volumes.specs.Shared.{SharedMinidisk, disks_on}
 use Rattle.cp_devices.specs.Equipped.{Equipped, equipped}
 use Rattle.cp_spool.specs.Queues.{QueuesValue, no_files}
 use Rattle.cp_devices.specs.Lent.{DevicesParts, devices_on, devices_with}
-use Rattle.cp_core.specs.declared.delivery.Delivery.{Delivery}
+use Rattle.cp_devices.specs.declared.reply.Delivery.{Delivery}
 
 -- a machine with its devices but for the bytes of its storage and the cylinders of its minidisks, and what was delivered to its
 -- user

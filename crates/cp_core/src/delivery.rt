@@ -2,26 +2,9 @@
 ghost use Rattle.std.specs.Prelude.{◌≡◌};
 
 use cp_console::console_line::ConsoleLine;
+use cp_devices::Delivery;
 use cp_users::UserNo;
 use unit_record::Card;
-
-/// What a user was told as delivered to him.
-#[derive(Clone, Copy, Debug, PartialEq, Eq)]
-pub enum Delivery {
-    /// The deck of the file with this number, which is the last of his reader.
-    Deck(u64),
-    /// A message, as the whole line that his console prints.
-    Message(ConsoleLine),
-}
-
-/// What was delivered by an event, and to whom.
-#[derive(Clone, Copy, Debug, PartialEq, Eq)]
-pub struct Delivered {
-    /// The number of the user.
-    pub to: UserNo,
-    /// What he gets.
-    pub what: Delivery,
-}
 
 /// What is to be delivered to a user.
 #[derive(Drop)]

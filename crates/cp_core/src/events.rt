@@ -1,12 +1,8 @@
-//! What happens to the system, and what it answers.
+//! What happens to the system, and why it refuses.
 ghost use Rattle.std.specs.Prelude.{◌≡◌};
-ghost use Rattle.cp_core.specs.Replies.{silent};
 
-use crate::delivery::Delivered;
-use cp_devices::Told;
 use cp_directory::Volser;
 use cp_users::UserNo;
-use s370_intr::Ran;
 use s370_num::DevAddr;
 use thiserror::Error;
 use unit_record::Card;
@@ -40,47 +36,6 @@ impl<'a> Event<'a> {
             Event::Tick(user) => *user,
             Event::Deck(user, _) => *user,
             Event::Serve(user, _) => *user,
-        }
-    }
-}
-
-/// How an event ended.
-#[derive(Clone, Copy, PartialEq, Eq)]
-pub enum Ended {
-    /// A run: so many units were done, and why no more.
-    Ran(Ran),
-    /// A serve: whether there was a program.
-    Served(bool),
-    /// Any other event is done.
-    Done,
-    /// An event that is no run needs a page for which there is no room. Nothing has happened.
-    FramesOut,
-}
-
-/// What the system answers to an event. It has no memory of its own.
-#[derive(Clone, Copy, PartialEq, Eq)]
-pub struct Reply {
-    /// How the event ended.
-    pub ended: Ended,
-    /// What is said to the user whom the event names: the answer to his line, or the notice of a machine that stopped.
-    /// Of his files only that they are to be listed is told; they are the decks of his reader.
-    pub said: Told,
-    /// How many lines have joined the console of that user, the last of its output.
-    pub lines: usize,
-    /// What was delivered, and to whom. The cards of a deck are those of the last deck of his reader.
-    pub delivered: Option<Delivered>,
-}
-
-impl Reply {
-    /// Nothing is said, and nothing was delivered.
-    pub(crate) fn silent(ended: Ended) -> Reply
-        ensures { result ≡ silent ended }
-    {
-        Reply {
-            ended,
-            said: Told::Silent,
-            lines: 0,
-            delivered: None,
         }
     }
 }

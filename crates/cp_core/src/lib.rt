@@ -20,7 +20,6 @@
 mod boot;
 mod delivery;
 mod events;
-mod files;
 mod lines;
 mod loan;
 mod ready;
@@ -34,7 +33,5 @@ mod world;
 pub use boot::Sizes;
 pub use cp_frames::{FRAME_SIZE, FrameNo};
 pub use cp_volumes::SeenDisk;
-pub use delivery::{Delivered, Delivery};
-pub use events::{BootError, CpError, Ended, Event, Reply};
-pub use files::FileNote;
+pub use events::{BootError, CpError, Event};
 pub use system::{System, each_is_bare};

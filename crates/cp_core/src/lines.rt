@@ -14,14 +14,13 @@ ghost use Rattle.cp_core.specs.System.{SystemView, logged_on_of, stands_at, user
 ghost use Rattle.cp_core.specs.Told.{receiver_of, delivered_by, delivery_to, punched, said_to_line, with_delivered};
 ghost use Rattle.cp_core.specs.Work.{HasTyped};
 
-use crate::delivery::{Delivered, Delivery, Parcel};
-use crate::events::{Ended, Reply};
+use crate::delivery::Parcel;
 use crate::system::System;
 use crate::user_machine::UserMachine;
 use crate::work::Line;
 use arrayvec::ArrayVec;
 use cp_console::responses::Response;
-use cp_devices::{FileKind, Told, copy_of, is_logged_on};
+use cp_devices::{Delivered, Delivery, Ended, FileKind, Reply, Told, copy_of, is_logged_on};
 use cp_panel::LineError;
 use cp_users::UserNo;
 use std::alloc::AllocError;

@@ -3,7 +3,7 @@ ghost use Rattle.std.specs.Prelude.{◌≡◌, ◌<◌, ◌≤◌, ◌↔◌, �
 ghost use Rattle.s370_channel.specs.Reading.{as_reached};
 ghost use Rattle.cp_dat.specs.Supplied.{IsBetweenUnits};
 ghost use Rattle.cp_devices.specs.Life.{Leaves};
-ghost use Rattle.cp_core.specs.declared.events.Ended.TheVariants.{Done};
+ghost use Rattle.cp_devices.specs.declared.reply.Ended.TheVariants.{Done};
 ghost use Rattle.cp_core.specs.Events.{IsNoRun, user_of};
 ghost use Rattle.cp_core.specs.Files.{next_file};
 ghost use Rattle.cp_core.specs.Histories.{EachIsBare, IsStep};
@@ -17,12 +17,11 @@ ghost use Rattle.cp_core.specs.System.{SystemView, deliveries_at, machine_at, st
 ghost use Rattle.cp_core.specs.Told.{IsTold};
 
 use crate::delivery::Parcel;
-use crate::events::{CpError, Ended, Event, Reply};
-use crate::files::FileNote;
+use crate::events::{CpError, Event};
 use crate::user_machine::UserMachine;
 use crate::work::{Service, Tick, Units, Work};
 use ckd_volume::Volume;
-use cp_devices::{FileKind, SeenDevices, Told};
+use cp_devices::{Ended, FileKind, FileNote, Reply, SeenDevices, Told};
 use cp_directory::Directory;
 use cp_frames::Frames;
 use cp_panel::{LineError, notice_of};

@@ -13,11 +13,11 @@ ghost use Rattle.cp_core.specs.UserMachines.{Fits, IsUnused, seat_on, user_with}
 ghost use Rattle.ckd_volume.specs.Volume.{VolumeFormat};
 ghost use Rattle.cp_volumes.specs.Shared.{IsUsers, KeepsNeighbours, disks_on, stands_of};
 
-use crate::delivery::{Delivery, Parcel};
+use crate::delivery::Parcel;
 use crate::work::Work;
 use cp_console::responses::Response;
 use cp_dat::Dat;
-use cp_devices::{AttachError, Devices, Places};
+use cp_devices::{AttachError, Delivery, Devices, Places};
 use cp_directory::Directory;
 use cp_frames::Frames;
 use cp_panel::Machine;

@@ -9,11 +9,10 @@ ghost use Rattle.cp_volumes.specs.Seen.{seen_disk};
 ghost use Rattle.cp_core.specs.UserMachines.{seat_with, user_with};
 ghost use Rattle.cp_core.specs.System.{deliveries_at, machine_at, user_at};
 
-use crate::delivery::Delivery;
 use crate::system::System;
 use crate::user_machine::UserMachine;
 use cp_console::responses::Response;
-use cp_devices::SeenDevices;
+use cp_devices::{Delivery, SeenDevices};
 use cp_panel::Mode;
 use cp_users::UserNo;
 use cp_volumes::SeenDisk;

@@ -13,3 +13,4 @@ pub mod Life
 pub mod Attention
 pub mod Files
 pub mod Lent
+pub mod Replies

@@ -4,7 +4,7 @@ ghost use Rattle.cp_devices.specs.Files.{deck_line, sender_name};
 
 use cp_console::printing::file_line;
 use cp_spool::SeenDeck;
-use cp_users::Named;
+use cp_users::{Named, UserNo};
 use std::alloc::{AllocError, Global};
 use unit_record::Sender;
 
@@ -17,6 +17,15 @@ pub enum FileKind {
     Punch,
     /// A file of the printer.
     Printer,
+}
+
+/// Whose a file was when it got its number, and what.
+#[derive(Clone, Copy, Debug, PartialEq, Eq)]
+pub struct FileNote {
+    /// The number of the user who closed it, or to whom the operator gave the deck.
+    pub user: UserNo,
+    /// What it was.
+    pub kind: FileKind,
 }
 
 /// The line that tells of a deck of the reader, where these are all users: its number, from whom it comes, and how many

@@ -9,8 +9,8 @@
 use crate::guest::READY;
 use crate::happening::{Happening, USERS, channel_of, next_happening, ready_line};
 use anyhow::{Context, Result, bail};
-use cp_core::{Delivery, Sizes};
-use cp_devices::is_logged_on;
+use cp_core::Sizes;
+use cp_devices::{Delivery, is_logged_on};
 use cp_users::UserNo;
 use s370_num::DevAddr;
 use side_by_side::{Sequence, SideBySide, SideError};

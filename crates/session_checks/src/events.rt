@@ -1,6 +1,7 @@
 //! Systems, and the events that are given to them.
 use anyhow::{Context, Result, bail};
-use cp_core::{CpError, Ended, Event, Sizes, System};
+use cp_core::{CpError, Event, Sizes, System};
+use cp_devices::Ended;
 use cp_directory::read_directory;
 use cp_users::UserNo;
 use s370_num::DevAddr;

@@ -5,7 +5,8 @@ use crate::events::{
 use anyhow::{Result, bail};
 use cp_console::console_line::ConsoleLine;
 use cp_console::responses::Response;
-use cp_core::{CpError, Ended, FrameNo, System};
+use cp_core::{CpError, FrameNo, System};
+use cp_devices::Ended;
 use cp_users::UserNo;
 use s370_store::Page;
 

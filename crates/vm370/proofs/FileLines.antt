@@ -2,7 +2,7 @@
 use Rattle.std.proofs.Common.{◌≡◌, ℕ, zero, suc, ◌+◌, ◌<◌, List, [], ◌∷◌, ◌++◌, Option, Some, None, take, drop, length, refl, ap, sym, ◌∙◌, add-one, arith}
 use Rattle.std.specs.Prelude.{slice_get}
 use Rattle.cp_core.specs.System.{SystemView}
-use Rattle.cp_core.specs.declared.files.FileNote.{FileNote}
+use Rattle.cp_devices.specs.declared.files.FileNote.{FileNote}
 use Rattle.vm370.specs.Files.{lines_after, note_lines, place_lines}
 use Rattle.vm370.specs.Transcript.{ended}
 use Rattle.vm370.proofs.Rest.{from_here, lines_more}

@@ -4,7 +4,7 @@ use Rattle.cp_directory.specs.Users.{DirectoryUser}
 use Rattle.cp_core.specs.Events.{user_of}
 use Rattle.cp_core.specs.System.{SystemView, names_of as names_in, user_at}
 use Rattle.cp_core.specs.declared.events.Event.{Event}
-use Rattle.cp_core.specs.declared.events.Reply.{Reply}
+use Rattle.cp_devices.specs.declared.reply.Reply.{Reply}
 use Rattle.cp_script.specs.Script.{Said, said}
 use Rattle.cp_script.specs.declared.event.ScriptEvent.{ScriptEvent}
 use Rattle.vm370.specs.Script.{as_said, number_of}

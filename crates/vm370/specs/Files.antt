@@ -10,7 +10,7 @@ use Rattle.cp_console.specs.Responses.{file_number}
 use Rattle.cp_devices.specs.declared.files.FileKind.{FileKind}
 use Rattle.cp_devices.specs.declared.files.FileKind.TheVariants as kinds
 use Rattle.cp_core.specs.System.{SystemView, names_of, user_at}
-use Rattle.cp_core.specs.declared.files.FileNote.{FileNote}
+use Rattle.cp_devices.specs.declared.files.FileNote.{FileNote}
 
 -- ---- the lines of a file
 

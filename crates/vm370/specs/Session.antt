@@ -8,7 +8,7 @@ use Rattle.cp_core.specs.Histories.{IsHistory, IsStep}
 use Rattle.cp_core.specs.Memory.{is_cut_short}
 use Rattle.cp_core.specs.System.{SystemView, names_of as names_in, user_at}
 use Rattle.cp_core.specs.declared.events.Event.{Event}
-use Rattle.cp_core.specs.declared.events.Reply.{Reply}
+use Rattle.cp_devices.specs.declared.reply.Reply.{Reply}
 use Rattle.cp_script.specs.Users.{KnownUser}
 use Rattle.cp_script.specs.Script.{Said, script_of}
 use Rattle.vm370.specs.Files.{closing_lines}

@@ -16,12 +16,12 @@ use Rattle.cp_devices.specs.Files.{file_lines}
 use Rattle.cp_core.specs.Events.{user_of}
 use Rattle.cp_core.specs.Local.{Step}
 use Rattle.cp_core.specs.System.{machine_at, user_at}
-use Rattle.cp_core.specs.declared.events.Ended.{Ended}
-use Rattle.cp_core.specs.declared.events.Ended.TheVariants.{Ran, Served, Done, FramesOut}
-use Rattle.cp_core.specs.declared.delivery.Delivered.{Delivered}
-use Rattle.cp_core.specs.declared.delivery.Delivery.{Delivery}
-use Rattle.cp_core.specs.declared.delivery.Delivery.TheVariants as deliveries
-use Rattle.cp_core.specs.declared.events.Reply.{Reply}
+use Rattle.cp_devices.specs.declared.reply.Ended.{Ended}
+use Rattle.cp_devices.specs.declared.reply.Ended.TheVariants.{Ran, Served, Done, FramesOut}
+use Rattle.cp_devices.specs.declared.reply.Delivered.{Delivered}
+use Rattle.cp_devices.specs.declared.reply.Delivery.{Delivery}
+use Rattle.cp_devices.specs.declared.reply.Delivery.TheVariants as deliveries
+use Rattle.cp_devices.specs.declared.reply.Reply.{Reply}
 use Rattle.cp_script.specs.Script.{Said as Asked}
 use Rattle.cp_script.specs.Script as asked
 use Rattle.vm370.specs.Script.{as_said}

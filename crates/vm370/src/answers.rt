@@ -8,7 +8,8 @@ ghost use Rattle.vm370.specs.Session.{CountsWriter, HasHappened, IsAnswered, IsA
 use crate::session::SessionError;
 use crate::starts::{line_up, next_start};
 use crate::transcript::print_reply;
-use cp_core::{CpError, Event, Reply, System};
+use cp_core::{CpError, Event, System};
+use cp_devices::Reply;
 use cp_dispatch::Policy;
 use cp_script::ScriptEvent;
 use cp_users::UserNo;

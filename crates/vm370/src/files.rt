@@ -8,8 +8,8 @@ ghost use Rattle.s370_num.specs.Address.{two_digits};
 ghost use Rattle.vm370.specs.Files.{closed_in, closing_lines, count_of, entry_line, file_lines, found_lines, heading, is_printed, is_printer, is_punch, is_punched, kind_word, note_lines, place_lines, printed_text};
 ghost use Rattle.vm370.specs.Transcript.{ended};
 
-use cp_core::{FileNote, System};
-use cp_devices::FileKind;
+use cp_core::System;
+use cp_devices::{FileKind, FileNote};
 use cp_spool::SpoolFile;
 use cp_users::{UserNo, name_of};
 use s370_num::ebcdic::printable;

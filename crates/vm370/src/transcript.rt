@@ -7,8 +7,8 @@ ghost use Rattle.vm370.specs.Schedule.{Idle};
 ghost use Rattle.vm370.specs.Transcript.{CutsBack, delivered_lines, ended, ending_lines, entry_lines, frames_line, last_lines, queue_lines, ran_line, reason_word, reply_lines, said_lines, served_line, served_lines, served_word, told_line, written_lines};
 
 use cp_console::printing;
-use cp_core::{Delivered, Delivery, Ended, Reply, System};
-use cp_devices::{SeenDevices, Told, deck_line};
+use cp_core::System;
+use cp_devices::{Delivered, Delivery, Ended, Reply, SeenDevices, Told, deck_line};
 use cp_script::ScriptEvent;
 use cp_users::{Named, UserNo, name_of};
 use s370_intr::{Ran, Reason};

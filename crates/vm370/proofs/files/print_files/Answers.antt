@@ -1,5 +1,5 @@
 use Rattle.std.proofs.Common.{◌∙◌, ◌<◌, List, ap, length, arith}
-use Rattle.cp_core.specs.declared.files.FileNote.{FileNote}
+use Rattle.cp_devices.specs.declared.files.FileNote.{FileNote}
 use Rattle.vm370.proofs.FileLines.{note_more}
 use Rattle.vm370.proofs.files.print_files.Goals as goal
 

@@ -1,6 +1,6 @@
 use Rattle.std.proofs.Common.{◌≡◌, ◌++◌, Option, take, subst}
 use Rattle.std.specs.Prelude.{OnOk}
-use Rattle.cp_core.specs.declared.files.FileNote.{FileNote}
+use Rattle.cp_devices.specs.declared.files.FileNote.{FileNote}
 use Rattle.vm370.specs.Files.{place_lines}
 use Rattle.vm370.specs.Transcript.{ended}
 use Rattle.vm370.proofs.files.print_note.Goals as goal

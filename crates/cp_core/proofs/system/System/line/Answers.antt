@@ -5,7 +5,7 @@ use Rattle.cp_core.specs.System.{user_at, world_of}
 use Rattle.cp_core.specs.Told.{said_to_line}
 use Rattle.cp_core.specs.Work.{HasTyped}
 use Rattle.cp_core.specs.declared.events.Event.TheVariants.{Line}
-use Rattle.cp_core.specs.declared.events.Reply.{Reply}
+use Rattle.cp_devices.specs.declared.reply.Reply.{Reply}
 use Rattle.cp_core.proofs.Steps.{if_err, line_cut, line_done, line_out}
 use Rattle.cp_core.proofs.system.System.line.Goals as goal
 
