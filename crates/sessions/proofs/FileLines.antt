@@ -24,6 +24,10 @@ take_suc [] k x e = absurd (none_some x e)
 take_suc {X} (y ∷ xs) zero x e = ap (λ (z : X). z ∷ []) (first_is x y e)
 take_suc {X} (y ∷ xs) (suc k) x e = ap (λ (l : List X). y ∷ l) (take_suc xs k x e)
 
+-- those before the next one
+pub take_more : {X : Type 0} (xs : List X) (k : ℕ) (x : X) → Some x ≡ slice_get xs k → take (k + 1) xs ≡ take k xs ++ x ∷ []
+take_more xs k x e = rw add-one (take_suc xs k x e)
+
 split_at : (telling : Telling) (s : Installed) (notes : List FileNote) (k : ℕ) (note : FileNote) → Some note ≡ slice_get notes k → lines_after telling s (take k notes) (drop k notes) ≡ place_lines telling s (take k notes) (slice_get notes k) ++ lines_after telling s (take (k + 1) notes) (drop (k + 1) notes)
 split_at telling s notes k note is =
     let more : take (k + 1) notes ≡ take k notes ++ note ∷ [] = rw add-one (take_suc notes k note is) in

@@ -37,7 +37,7 @@ pub history : {W : Type 0} (i : Installation W) (xs : List Act) (old new : Scene
 history i [] old new [] h = world_is new old h
 history i [] old new (e ∷ es) h = absurd h
 history i (x ∷ xs) old new [] h = absurd h
-history {W} i (Applies what ∷ xs) old new (Answered step ∷ es) h = (h.1.happened, from_world i (steps_of es) h.0.world step.left new.world (ap (λ (s : Scene W). s.world) h.1.left) (history i xs h.0 new es h.2))
+history {W} i (Applies what ∷ xs) old new (Answered step ∷ es) h = (subst (λ (s : Said). i.Happens old.world s step.reply step.left) (sym h.1.named) h.1.happened, from_world i (steps_of es) h.0.world step.left new.world (ap (λ (s : Scene W). s.world) h.1.left) (history i xs h.0 new es h.2))
 history i (Applies what ∷ xs) old new (Dealt step ∷ es) h = absurd h.1
 history i (Applies what ∷ xs) old new (Passed ∷ es) h = absurd h.1
 history i (Applies what ∷ xs) old new (Idle ∷ es) h = absurd h.1
@@ -213,9 +213,16 @@ sliced_partly {W} i detail user queue old new lines a b dealt (inr h) =
     partly_one i Slices (Dealt step) (scene old lines detail) (within true new (sliced_lines i old new user queue lines) detail) a b (record { user = user; queue = queue; dealt = dealt; slice = refl; happened = h.happened; left = refl }) h.written
 
 -- nobody was ready
-pub not_sliced : {W : Type 0} (i : Installation W) (detail : Detail) (old : W) (lines : Lines) (a : Option (List ℕ)) → IsDealt (ready_in (i.seen old)) lines.users None lines.users → IsOf (i.seen old) lines → IsPlayed i (Slices ∷ []) (scene old lines detail) (within false old lines detail) a a
-not_sliced i detail old lines a dealt dealing =
-    played_one i Slices Passed (scene old lines detail) (within false old lines detail) a a (record { dealt = dealt; left = refl }) (Appends-nil a) refl refl dealing
+pub not_sliced : {W : Type 0} (i : Installation W) (detail : Detail) (old : W) (lines after : Lines) (a : Option (List ℕ)) → IsDealt (ready_in (i.seen old)) lines.users None lines.users → after ≡ lines → IsOf (i.seen old) lines → IsPlayed i (Slices ∷ []) (scene old lines detail) (within false old after detail) a a
+not_sliced i detail old lines after a dealt stays dealing =
+    played_one i Slices Passed (scene old lines detail) (within false old after detail) a a (record { dealt = dealt; left = ap (λ (l : Lines). within false old l detail) stays }) (Appends-nil a) refl refl (subst (IsOf (i.seen old)) (sym stays) dealing)
+
+-- lines whose queue has stayed, or whose programs have
+pub same_queue : (old new : Lines) → new ≡ record old { users = new.users } → new.users ≡ old.users → new ≡ old
+same_queue old new e f = e ∙ ap (λ (users : List ℕ). record old { users = users }) f
+
+pub same_lines : (old new : Lines) → new ≡ record old { programs = new.programs } → new.programs ≡ old.programs → new ≡ old
+same_lines old new e f = e ∙ ap (λ (programs : List Program). record old { programs = programs }) f
 
 -- ---- a serve
 
@@ -234,9 +241,9 @@ served_partly {W} i detail had program turned old new lines a b dealt (inr h) =
     let step : Step W = record { said = said.Serve program.user program.device; reply = h.reply; left = new } in
     partly_one i Serves (Dealt step) (within had old lines detail) (scene new (served_with i old new program turned lines) detail) a b (record { program = program; turned = turned; dealt = dealt; served = refl; happened = h.happened; left = refl }) h.written
 
-not_served_as : {W : Type 0} (i : Installation W) (detail : Detail) (had : Bool) (old : W) (lines : Lines) → IsDealt always lines.programs None lines.programs → IsDone i Serves (passed had) (within had old lines detail) (scene old lines detail)
-not_served_as i detail true old lines dealt = record { dealt = dealt; had = refl; left = refl }
-not_served_as i detail false old lines dealt = record { dealt = dealt; had = refl; left = refl }
+not_served_as : {W : Type 0} (i : Installation W) (detail : Detail) (had : Bool) (old : W) (lines after : Lines) → IsDealt always lines.programs None lines.programs → after ≡ lines → IsDone i Serves (passed had) (within had old lines detail) (scene old after detail)
+not_served_as i detail true old lines after dealt stays = record { dealt = dealt; had = refl; left = ap (λ (l : Lines). scene old l detail) stays }
+not_served_as i detail false old lines after dealt stays = record { dealt = dealt; had = refl; left = ap (λ (l : Lines). scene old l detail) stays }
 
 -- the lines of half a turn that nobody had
 passed_as : {W : Type 0} (i : Installation W) (detail : Detail) (had : Bool) (names : List (List ℕ)) → ended (passed_lines detail had) ≡ ended (entry_lines i detail names (passed had))
@@ -244,13 +251,13 @@ passed_as i detail true names = refl
 passed_as i detail false names = refl
 
 -- no program stood in the line
-pub not_served : {W : Type 0} (i : Installation W) (detail : Detail) (had : Bool) (old : W) (lines : Lines) (a b : Option (List ℕ)) → IsDealt always lines.programs None lines.programs → Appends a b (ended (passed_lines detail had)) → IsOf (i.seen old) lines → IsPlayed i (Serves ∷ []) (within had old lines detail) (scene old lines detail) a b
-not_served i detail had old lines a b dealt w dealing =
-    played_one i Serves (passed had) (within had old lines detail) (scene old lines detail) a b (not_served_as i detail had old lines dealt) (subst (λ (t : List ℕ). Appends a b t) (passed_as i detail had (names_of (i.seen old))) w) refl refl dealing
+pub not_served : {W : Type 0} (i : Installation W) (detail : Detail) (had : Bool) (old : W) (lines after : Lines) (a b : Option (List ℕ)) → IsDealt always lines.programs None lines.programs → after ≡ lines → Appends a b (ended (passed_lines detail had)) → IsOf (i.seen old) lines → IsPlayed i (Serves ∷ []) (within had old lines detail) (scene old after detail) a b
+not_served i detail had old lines after a b dealt stays w dealing =
+    played_one i Serves (passed had) (within had old lines detail) (scene old after detail) a b (not_served_as i detail had old lines after dealt stays) (subst (λ (t : List ℕ). Appends a b t) (passed_as i detail had (names_of (i.seen old))) w) refl refl (subst (IsOf (i.seen old)) (sym stays) dealing)
 
 pub not_served_partly : {W : Type 0} (i : Installation W) (detail : Detail) (had : Bool) (old : W) (lines : Lines) (a b : Option (List ℕ)) → IsDealt always lines.programs None lines.programs → AppendsFront a b (ended (passed_lines detail had)) → IsPartly i (Serves ∷ []) (within had old lines detail) old a b
 not_served_partly i detail had old lines a b dealt w =
-    partly_one i Serves (passed had) (within had old lines detail) (scene old lines detail) a b (not_served_as i detail had old lines dealt) (subst (λ (t : List ℕ). AppendsFront a b t) (passed_as i detail had (names_of (i.seen old))) w)
+    partly_one i Serves (passed had) (within had old lines detail) (scene old lines detail) a b (not_served_as i detail had old lines lines dealt refl) (subst (λ (t : List ℕ). AppendsFront a b t) (passed_as i detail had (names_of (i.seen old))) w)
 
 -- ---- answers
 

@@ -11,3 +11,4 @@ pub mod Queues
 pub mod Sessions
 pub mod Joined
 pub mod UsersKnown
+pub mod Told

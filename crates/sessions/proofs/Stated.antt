@@ -10,7 +10,7 @@ use Rattle.cp_dispatch.specs.Turns.{IsTaken, at_end, without}
 use Rattle.cp_dispatch.specs.declared.program.Program.{Program}
 use Rattle.cp_script.specs.Users.{KnownUser, devices_of, has_device}
 use Rattle.sessions.specs.Installed.{Installed, IsLineStated, is_stated, subchannels_at}
-use Rattle.sessions.specs.Schedule.{IsOf, first_line, in_order, is_before, is_joining, joined, line_after, line_since, started_since, with_joining, withdrawn}
+use Rattle.sessions.specs.Schedule.{IsOf, first_line, first_lines, in_order, is_before, is_joining, joined, line_after, line_since, started_since, with_joining, withdrawn}
 
 not_both : (b : Bool) → b ≡ true → b ≡ false → ⊥
 not_both b h k = cc
@@ -131,3 +131,7 @@ after_event old new user lines line after same h seats most e = record {
 pub first_stated : (s : Installed) (users : ℕ) → IsLineStated s.users (first_line s users)
 first_stated s zero = refl
 first_stated s (suc user) = line_stated s user 0 (first_line s user) (first_stated s user)
+
+-- at first turns are dealt among the users, and to programs of their devices
+pub first_dealing : (s : Installed) → IsOf s (first_lines s)
+first_dealing s = record { seats = refl; stated = first_stated s (length s.users) }

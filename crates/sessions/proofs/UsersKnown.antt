@@ -1,6 +1,7 @@
 -- Users as scripts know them, one after another.
 use Rattle.std.proofs.Common.{◌≡◌, ℕ, ◌+◌, ◌<◌, zero, suc, List, [], ◌∷◌, ◌++◌, length, map, take, get_or, refl, ap, sym, ◌∙◌, add-one, arith}
 use Rattle.std.specs.Prelude.{slice_index_or}
+use Rattle.std.proofs.lemmas.List.{length-map}
 use Rattle.cp_script.specs.Users.{KnownUser, devices_of, names_of}
 use Rattle.cp_users.specs.Users.{name_of}
 
@@ -34,3 +35,39 @@ names_suc (n ∷ ns) (suc k) h = ap (λ (l : List (List ℕ)). n ∷ l) (names_s
 -- the name of one user more
 pub name_more : (names : List (List ℕ)) (k : ℕ) → k < length names → take (k + 1) names ≡ take k names ++ name_of names k ∷ []
 name_more names k h = rw add-one (names_suc names k h)
+
+map_behind : {A B : Type 0} (f : A → B) (xs : List A) (x : A) → map f (xs ++ x ∷ []) ≡ map f xs ++ f x ∷ []
+map_behind f [] x = refl
+map_behind f (y ∷ ys) x = ap (λ l. f y ∷ l) (map_behind f ys x)
+
+-- lists of which each is of one user's devices, and one more
+pub lists_more : {L : Type 0} (items : L → List ℕ) (users : List KnownUser) (before after : List L) (k : ℕ) (one : L) → k < length users → after ≡ before ++ one ∷ [] → map items before ≡ map (λ user. user.devices) (take k users) → items one ≡ devices_of users k → map items after ≡ map (λ user. user.devices) (take (k + 1) users)
+lists_more items users before after k one h e so_far is =
+    ap (map items) e
+    ∙ (map_behind items before one
+    ∙ (ap (λ (l : List (List ℕ)). l ++ items one ∷ []) so_far
+    ∙ (ap (λ (d : List ℕ). map (λ user. user.devices) (take k users) ++ d ∷ []) is
+    ∙ sym (devices_more users k h))))
+
+-- users of whom each is known, and one more
+pub users_more : (users before after : List KnownUser) (k : ℕ) (name devices : List ℕ) → k < length users → after ≡ before ++ record { name = name; devices = devices } ∷ [] → before ≡ take k users → name ≡ name_of (names_of users) k → devices ≡ devices_of users k → after ≡ take (k + 1) users
+users_more users before after k name devices h e so_far named had =
+    e
+    ∙ (ap (λ (l : List KnownUser). l ++ record { name = name; devices = devices } ∷ []) so_far
+    ∙ (ap (λ (n : List ℕ). take k users ++ record { name = n; devices = devices } ∷ []) named
+    ∙ (ap (λ (d : List ℕ). take k users ++ record { name = name_of (names_of users) k; devices = d } ∷ []) had
+    ∙ sym (user_more users k h))))
+
+-- lists with the same images are as long
+pub as_long : {A B C : Type 0} (f : A → C) (g : B → C) (xs : List A) (ys : List B) → map f xs ≡ map g ys → length xs ≡ length ys
+as_long {A} {B} {C} f g xs ys e = sym (length-map xs f) ∙ (ap (λ (l : List C). length l) e ∙ length-map ys g)
+
+image_at : {L : Type 0} (items : L → List ℕ) (lists : List L) (k : ℕ) (one : L) → k < length lists → one ≡ get_or lists k one → items one ≡ slice_index_or (map items lists) k []
+image_at items [] k one h is = absurd (omega (arith, h))
+image_at items (l ∷ ls) zero one h is = ap items is
+image_at items (l ∷ ls) (suc k) one h is = image_at items ls k one (omega (arith, h)) is
+
+-- of lists of which each is of one user's devices, one
+pub devices_at : {L : Type 0} (items : L → List ℕ) (lists : List L) (users : List KnownUser) (k : ℕ) (one : L) → map items lists ≡ map (λ user. user.devices) users → k < length lists → one ≡ get_or lists k one → items one ≡ devices_of users k
+devices_at items [] users k one e h is = absurd (omega (arith, h))
+devices_at items (l ∷ ls) users k one e h is = image_at items (l ∷ ls) k one h is ∙ ap (λ (all : List (List ℕ)). slice_index_or all k []) e

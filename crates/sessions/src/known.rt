@@ -18,6 +18,8 @@ pub(crate) fn read_events<'a, I: Installation>(
     ensures devices { IfOk result (λ events. All (IsOfDevice (I.goes.seen installation.now).users) events.items) }
     ensures err { IfErr result (IsRefusal (script_of (I.goes.seen installation.now).users text.now)) }
 {
+    // There are few users.
+    let _users = installation.users();
     let Ok(devices) = addresses(alloc, installation) else {
         return Err(ScriptError::Memory);
     };
@@ -47,6 +49,8 @@ fn script_users<'a, I: Installation>(
     requires { map (λ list. list.items) devices.now ≡ map (λ user. user.devices) (I.goes.seen installation.now).users }
     ensures { IfOk result (λ known. known.items ≡ (I.goes.seen installation.now).users) }
 {
+    // There are few users.
+    let _users = installation.users();
     let mut known = Vec::new(alloc);
     for number in 0..devices.len() {
         let name = installation.name(UserNo::new(number as u8));

@@ -1,15 +1,13 @@
 use Rattle.std.proofs.Common.{◌≡◌, true}
 use Rattle.sessions.specs.Schedule.{scene, turns}
-use Rattle.sessions.specs.Script.{IsLineStated}
 use Rattle.sessions.specs.Session.{IsPlayed}
 use Rattle.sessions.proofs.acts.deal.Given as goal
 
 abbrev pub invariant-loop-turn : goal.invariant-loop-turn
-invariant-loop-turn g l = record {
-  so_far : IsPlayed (turns l._turn) (scene l.fn.system l.fn.policy) (scene l.system l.policy) (g.W.HostWriter.contents l.fn.writer) (g.W.HostWriter.contents l.writer);
-  directory : l.system.directory ≡ l.fn.system.directory;
-  seats : l.policy.most_users ≡ l.fn.policy.most_users;
-  stated : IsLineStated l.system l.policy.programs;
-  spent : l.system.is_spent ≡ true → l.fn.system.is_spent ≡ true;
-  same : g.W.HostFile.failures l.writer ≡ g.W.HostFile.failures l.fn.writer;
-}
+invariant-loop-turn g l =
+    let i = g.I.Installation.goes in
+    record {
+      so_far : IsPlayed i (turns l._turn) (scene l.fn.installation l.fn.policy l.detail) (scene l.installation l.policy l.detail) (g.W.HostWriter.contents l.fn.writer) (g.W.HostWriter.contents l.writer);
+      spent : i.is_spent l.installation ≡ true → i.is_spent l.fn.installation ≡ true;
+      same : g.W.HostFile.failures l.writer ≡ g.W.HostFile.failures l.fn.writer;
+    }

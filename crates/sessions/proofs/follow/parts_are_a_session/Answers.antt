@@ -2,10 +2,10 @@ use Rattle.sessions.proofs.Joined.{join, nothing, session}
 use Rattle.sessions.proofs.follow.parts_are_a_session.Goals as goal
 
 pub returns-clause-nothing : goal.returns-clause-nothing
-returns-clause-nothing c = nothing
+returns-clause-nothing g c = nothing g.I.Installation.goes
 
 pub returns-clause-join : goal.returns-clause-join
-returns-clause-join c = join c.reads_grammar.ensures
+returns-clause-join g c = join c.reads_grammar.ensures g.I.Installation.goes
 
 pub returns-clause-session : goal.returns-clause-session
-returns-clause-session c = session
+returns-clause-session g c = session g.I.Installation.goes

@@ -1,11 +1,9 @@
-use Rattle.std.proofs.Common.{List, length, subst, sym}
-use Rattle.cp_dispatch.specs.declared.program.Program.{Program}
-use Rattle.sessions.specs.Script.{IsLineStated}
-use Rattle.sessions.proofs.Stated.{first_stated}
+use Rattle.std.proofs.Common.{sym, subst}
+use Rattle.sessions.specs.Schedule.{IsOf}
+use Rattle.sessions.proofs.Stated.{first_dealing}
 use Rattle.sessions.proofs.follow.Follower.begin.Goals as goal
 
 pub invariant_of-result : goal.invariant_of-result
-invariant_of-result c =
-    let policy = c.in_ok-policy.ensures in
-    let stated = first_stated c.args.system (length c.args.system.directory) in
-    (policy.seats, subst (λ (line : List Program). IsLineStated c.args.system line) (sym policy.programs) stated)
+invariant_of-result g c =
+    let seen = g.I.Installation.goes.seen c.args.installation in
+    subst (IsOf seen) (sym c.in_ok-policy.ensures) (first_dealing seen)
