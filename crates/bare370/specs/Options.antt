@@ -3,7 +3,7 @@ use Rattle.std.specs.Prelude.{◌≡◌, ℕ, Bool, true, List, [], map, codes, 
 use Rattle.std.specs.Option.{option_and_then}
 use Rattle.clap.specs.Words.{App, Row, Rule, all_of, fault_of, first_of, matches_of, new_app, new_rule, one_of, takes, with_rule}
 use Rattle.cp_directory.specs.Sizes.{storage_of}
-use Rattle.vm370.specs.Options.{IsFlag, save_rule, script_rule, texts_of, volume_rule}
+use Rattle.programs.specs.Arguments.{IsFlag, save_rule, script_rule, texts_of, volume_rule}
 use Rattle.bare370.specs.declared.arguments.BareOptions.{BareOptions}
 
 -- the first word after the program's name: the size of the storage

@@ -1,14 +1,14 @@
 //! The words of the program: its machine's storage, its script and its volumes.
 ghost use Rattle.std.specs.Prelude.{◌≡◌, ◌≤◌, ℕ, IfErr, IfOk, OnOk, Some, codes, false, length, map, true};
 ghost use Rattle.clap.specs.Words.{all_of, app_of, found_of, rows_of, rule_of};
-ghost use Rattle.vm370.specs.Options.{script_rule, texts_of, volume_rule};
+ghost use Rattle.programs.specs.Arguments.{script_rule, texts_of, volume_rule};
 ghost use Rattle.bare370.specs.Options.{HasNoFault, IsNamed, command_of, gives_script, is_taken, rows_named, storage_named, storage_rule};
 
 use clap::{Arg, ArgAction, ArgMatches, Command};
 use cp_directory::{StorageSize, storage_of};
+use programs::words::{UsageError, is_given, paths_of, refusal, save, text_of, usage};
 use std::alloc::{AllocError, Global};
 use std::convert::AsStr;
-use vm370::arguments::{UsageError, is_given, paths_of, refusal, save, text_of, usage};
 
 /// The most volumes that a machine has.
 pub const MOST_VOLUMES: usize = 16;
@@ -79,7 +79,7 @@ fn options_in<'a>(alloc: Global, matches: &ArgMatches<'a>) -> Result<BareOptions
 }
 
 /// The size of the storage, where it is written so and a machine may have it.
-fn storage_in(matches: &ArgMatches<'_>) -> Option<StorageSize>
+pub(crate) fn storage_in(matches: &ArgMatches<'_>) -> Option<StorageSize>
     ensures { result ≡ storage_named (rows_of (found_of matches.now)) }
 {
     storage_of(text_of(matches, "STORAGE")?.as_bytes())
@@ -117,7 +117,7 @@ fn command<'a>(alloc: Global, program: &'a str) -> Result<Command<'a>, AllocErro
 }
 
 /// The first word, which is the size of the storage.
-fn storage<'a>(alloc: Global) -> Arg<'a>
+pub(crate) fn storage<'a>(alloc: Global) -> Arg<'a>
     ensures rule { rule_of result ≡ storage_rule }
     ensures local { result.global ≡ false }
 {
@@ -137,7 +137,7 @@ fn script<'a>(alloc: Global) -> Arg<'a>
 }
 
 /// The words after them, which are the paths of images.
-fn volumes<'a>(alloc: Global) -> Arg<'a>
+pub(crate) fn volumes<'a>(alloc: Global) -> Arg<'a>
     ensures rule { rule_of result ≡ volume_rule }
     ensures local { result.global ≡ false }
 {

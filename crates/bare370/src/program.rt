@@ -1,18 +1,19 @@
 //! The program `bare370 [--save] STORAGE SCRIPT [VOLUME]...`: its words, its files, its session, and what it says of a
-//! failure.
+//! failure. With `--follow` there is no `SCRIPT`, and standard input has its parts.
 //!
 //! The transcript goes to standard output. A failure is one line on standard error, and its kind is the
 //! exit status.
+ghost use Rattle.std.specs.Prelude.{◌≤◌};
+
 use crate::arguments::bare_arguments;
-use crate::session::{bare_session, machine_of};
-use bare_installation::Bare;
+use crate::follow_arguments::follow_arguments;
+use crate::installation::{OneMachine, machine_of};
 use cp_devices::AttachError;
-use s370_num::host::Counted;
-use std::io;
+use programs::parts::Left;
+use programs::program::{asks_to_follow, follow_input, play, words, wrong_use};
+use programs::{Ended, Failure, finish, owned, read_volumes, save_volume};
+use sessions::Detail;
 use std::rt::{Env, Files};
-use vm370::faults::Failure;
-use vm370::images::{owned, read_volumes, save_volume};
-use vm370::program::{Ended, finish, open, words, wrong_use};
 
 /// The program's name, as it tells it.
 const PROGRAM: &str = "bare370";
@@ -33,42 +34,67 @@ The transcript goes to standard output, a fault as one line to standard error. E
 
 /// The whole program: what it is started with names a storage, a script and volumes, and the transcript of that script
 /// is written. A failure is told on standard error.
-pub fn bare_program<R: AllocGlobal + Files + Env + Print + Eprint>(rt: &R) -> Ended {
+pub fn bare_program<R: AllocGlobal + Files + Env + Input + Print + Eprint>(rt: &R) -> Ended {
     finish(rt, run(rt))
 }
 
 /// Reads the words, the images and the script, writes the transcript, and saves the volumes where that is asked for. A
 /// wrong use is told here.
-fn run<R: AllocGlobal + Files + Env + Print + Eprint>(rt: &R) -> Result<(), Failure> {
-    let alloc = rt.alloc();
+fn run<R: AllocGlobal + Files + Env + Input + Print + Eprint>(rt: &R) -> Result<(), Failure> {
     let words = words(rt, PROGRAM)?;
-    let options = match bare_arguments(alloc, PROGRAM, words.as_slice()) {
+    if asks_to_follow(words.as_slice()) {
+        return follow(rt, words.as_slice());
+    }
+    let options = match bare_arguments(rt.alloc(), PROGRAM, words.as_slice()) {
         Ok(options) => options,
         Err(error) => return Err(wrong_use(rt, &error, USAGE_NOTE)),
     };
-    let volumes = read_volumes(rt, options.volumes.as_slice())?;
-    let mut machine = match machine_of(alloc, options.storage.blocks(), volumes) {
-        Ok(machine) => machine,
-        Err(error) => return Err(unattached(error)),
-    };
+    let volumes = options.volumes.as_slice();
+    let mut machine = machine(rt, options.storage.blocks(), volumes)?;
     play(rt, &mut machine, options.script)?;
     if options.save {
-        save_disks(rt, &machine, options.volumes.as_slice())?;
+        save_disks(rt, &machine, volumes)?;
     }
     Ok(())
 }
 
-/// Plays the script at a path, and writes its transcript to standard output.
-fn play<R: AllocGlobal + Files + Print>(
+/// Follows a script by these words, whose parts are read from standard input, and writes its transcript to standard
+/// output; where its end is asked for, saves the volumes if the words want that. A wrong use is told here.
+fn follow<R: AllocGlobal + Files + Input + Print + Eprint>(
     rt: &R,
-    machine: &mut Bare,
-    path: &str,
+    words: &[String],
 ) -> Result<(), Failure> {
-    let mut script = open(rt, path)?;
-    let Ok(output) = io::BufWriter::new(rt.alloc(), io::writer(rt)) else {
-        return Err(Failure::Memory);
+    let options = match follow_arguments(rt.alloc(), PROGRAM, words) {
+        Ok(options) => options,
+        Err(error) => return Err(wrong_use(rt, &error, USAGE_NOTE)),
     };
-    Ok(bare_session(rt.alloc(), machine, &mut script, &mut Counted::new(output))?)
+    let volumes = options.volumes.as_slice();
+    let detail = if options.terminals {
+        Detail::Terminals
+    } else {
+        Detail::Whole
+    };
+    let machine = machine(rt, options.storage.blocks(), volumes)?;
+    match follow_input(rt, machine, detail)? {
+        Left::Ended(machine) if options.save => save_disks(rt, &machine, volumes),
+        Left::Ended(_) | Left::Cut(_) => Ok(()),
+    }
+}
+
+/// The machine with so many blocks of storage and disks of the volumes at these paths.
+fn machine<R: AllocGlobal + Files>(
+    rt: &R,
+    blocks: u32,
+    volumes: &[&str],
+) -> Result<OneMachine, Failure>
+    requires least { 4 ≤ blocks }
+    requires most { blocks ≤ 2048 }
+{
+    let volumes = read_volumes(rt, volumes)?;
+    match machine_of(rt.alloc(), blocks, volumes) {
+        Ok(machine) => Ok(machine),
+        Err(error) => Err(unattached(error)),
+    }
 }
 
 /// Why no machine is made whose disks are not attached.
@@ -83,11 +109,11 @@ fn unattached(error: AttachError) -> Failure {
 /// Writes the images of all volumes of the machine back to these paths, in their order.
 fn save_disks<R: AllocGlobal + Files>(
     rt: &R,
-    machine: &Bare,
+    machine: &OneMachine,
     paths: &[&str],
 ) -> Result<(), Failure> {
     let paths = owned(rt.alloc(), paths)?;
-    for (disk, path) in machine.disks().iter().zip(paths) {
+    for (disk, path) in machine.machine().disks().iter().zip(paths) {
         save_volume(rt, disk.unit().volume(), path)?;
     }
     Ok(())

@@ -11,4 +11,5 @@ pub mod Queues
 pub mod Sessions
 pub mod Joined
 pub mod UsersKnown
+pub mod Changes
 pub mod Told

@@ -3,4 +3,5 @@ pub mod Schedule
 pub mod Transcript
 pub mod Files
 pub mod Session
+pub mod News
 pub mod Follow

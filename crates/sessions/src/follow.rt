@@ -2,11 +2,15 @@
 //!
 //! What was written since the beginning is the transcript of all that was done, as if it had been one script: parts that
 //! are joined are followed as one, and one that was followed to its end is a session ([`parts_are_a_session`]).
-ghost use Rattle.std.specs.Prelude.{◌≡◌, ◌⊎◌, ℕ, Bool, [], Err, IfOk, Ok, OnErr, OnOk, true};
+ghost use Rattle.std.specs.Prelude.{◌≡◌, ◌⊎◌, ℕ, Bool, [], Err, IfOk, Ok, OnErr, OnOk, length, true};
 ghost use Rattle.std.specs.Io.KnownBytes.{Appends};
 ghost use Rattle.s370_num.specs.Host.{AppendsFront};
 ghost use Rattle.sessions.specs.Files.{closing_lines, lines_since};
 ghost use Rattle.sessions.specs.Follow.{Became, BeginsWithNothing, EndsAsSession, IsFollowedPartly, PartsJoin};
+ghost use Rattle.std.specs.List.{list_any};
+ghost use Rattle.cp_dispatch.specs.Policy.{is_ready};
+ghost use Rattle.sessions.specs.Installed.{names_of};
+ghost use Rattle.sessions.specs.News.{changed_lines, is_idle, modes_of};
 ghost use Rattle.sessions.specs.Schedule.{Scene};
 ghost use Rattle.sessions.specs.Session.{Accounts, at_first};
 ghost use Rattle.sessions.specs.Transcript.{ended};
@@ -16,10 +20,14 @@ use crate::faults::PlayError;
 use crate::files::{Telling, print_files};
 use crate::installation::Installation;
 use crate::known::read_events;
-use crate::schedule::{Detail, first_policy};
+use crate::news::{modes, print_changes};
+use crate::schedule::{Detail, first_policy, ready_users};
 use crate::session::{close, play};
-use cp_dispatch::Policy;
+use crate::transcript::names;
+use cp_dispatch::{Policy, Ready};
+use cp_panel::Mode;
 use cp_script::{ScriptError, reads_grammar};
+use cp_users::UserNo;
 use s370_num::host::HostWriter;
 use std::alloc::{AllocError, Global};
 use std::marker::Model;
@@ -143,6 +151,42 @@ impl<I: Installation + Drop> Follower<I> {
     {
         print_files(alloc, &self.installation, Telling::Answer, files)
     }
+
+    /// In which mode each user's machine is.
+    pub fn modes(&self, alloc: Global) -> Result<Vec<Mode>, AllocError>
+        ensures { IfOk result (λ modes. modes.items ≡ modes_of (I.goes.seen self.now.world)) }
+    {
+        modes(alloc, &self.installation)
+    }
+
+    /// The lines of who has logged on or off, and whose machine was started or stopped, since the machines were in these
+    /// modes, as the answer to a part has them, each ended by LF.
+    pub fn changes_since(&self, alloc: Global, olds: &[Mode]) -> Result<Vec<u8>, AllocError>
+        requires { length olds.now ≡ length (I.goes.seen self.now.world).machines }
+        ensures { let seen = I.goes.seen self.now.world in
+            IfOk result (λ text. text.items ≡ ended (changed_lines (names_of seen) olds.now (modes_of seen))) }
+    {
+        // There are as many users as machines.
+        let _users = self.installation.users();
+        let names = names(alloc, &self.installation)?;
+        let news = modes(alloc, &self.installation)?;
+        print_changes(alloc, &names, olds, &news)
+    }
+
+    /// Whether nobody is ready for a slice, and no program waits for a serve.
+    pub fn is_idle(&self) -> bool
+        ensures { result ≡ is_idle I.goes self.now }
+    {
+        let ready = ready_users(&self.installation);
+        self.policy.programs().is_empty() && !has_ready(self.policy.users(), &ready)
+    }
+}
+
+/// Whether one of these users is ready.
+fn has_ready(users: &[UserNo], ready: &Ready) -> bool
+    ensures { result ≡ list_any (is_ready ready.now) users.now }
+{
+    users.iter().any(|user| ready.has(*user))
 }
 
 /// Parts that are followed one after another are one script, and one that was followed to its end is a session.

@@ -17,6 +17,7 @@ pub mod files;
 pub mod follow;
 pub mod installation;
 mod known;
+mod news;
 pub mod schedule;
 pub mod session;
 mod starts;

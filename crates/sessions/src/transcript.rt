@@ -73,7 +73,10 @@ fn print_said<I: Installation>(
 }
 
 /// The names of all users.
-fn names<I: Installation>(alloc: Global, installation: &I) -> Result<Vec<Vec<u8>>, AllocError>
+pub(crate) fn names<I: Installation>(
+    alloc: Global,
+    installation: &I,
+) -> Result<Vec<Vec<u8>>, AllocError>
     ensures { IfOk result (λ names. map (λ name. name.items) names.items ≡ names_of (I.goes.seen installation.now)) }
 {
     let mut names = Vec::new(alloc);

@@ -1,15 +1,1 @@
-pub mod Endings
-pub mod Lists
-pub mod Rest
-pub mod Decks
-pub mod Written
-pub mod Lined
-pub mod FileLines
 pub mod Stated
-pub mod Histories
-pub mod Queues
-pub mod Sessions
-pub mod Joined
-pub mod Told
-pub mod Rules
-pub mod Words

@@ -1,10 +1,5 @@
-pub mod Script
-pub mod Schedule
-pub mod Transcript
+pub mod Goes
 pub mod Options
-pub mod BootFaults
-pub mod Faults
-pub mod Session
-pub mod Files
-pub mod Follow
 pub mod FollowOptions
+pub mod BootFaults
+pub mod Histories

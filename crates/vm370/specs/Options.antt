@@ -1,9 +1,10 @@
 -- What the words of the program name, as those of a simple command of `clap`.
 use Rattle.std.specs.Prelude.{◌≡◌, ◌≤◌, ◌&&◌, ℕ, Bool, true, false, List, [], map, codes, Option, Some, None, is_some}
 use Rattle.clap.specs.Words.{App, Row, Rule, all_of, fault_of, first_of, matches_of, new_app, new_rule, one_of, takes, with_rule}
-use Rattle.clap.specs.declared.builder.action.ArgAction.TheVariants.{Append, Set, SetTrue}
+use Rattle.clap.specs.declared.builder.action.ArgAction.TheVariants.{Set}
 use Rattle.cp_text.specs.Numbers.{decimal_of}
 use Rattle.cp_core.specs.Sizes.{SystemSizes}
+use Rattle.programs.specs.Arguments.{IsFlag, save_rule, script_rule, texts_of, volume_rule}
 use Rattle.vm370.specs.declared.arguments.Options.{Options}
 
 -- `--frames N`
@@ -14,21 +15,9 @@ frames_rule = record (new_rule (codes "frames")) { long = Some (codes "frames");
 abbrev pub slots_rule : Rule
 slots_rule = record (new_rule (codes "slots")) { long = Some (codes "slots"); action = Some Set }
 
--- `--save`
-abbrev pub save_rule : Rule
-save_rule = record (new_rule (codes "save")) { long = Some (codes "save"); action = Some SetTrue }
-
 -- the first word after the program's name: the directory
 abbrev pub directory_rule : Rule
 directory_rule = record (new_rule (codes "DIRECTORY")) { required = true }
-
--- the word after it: the script
-abbrev pub script_rule : Rule
-script_rule = record (new_rule (codes "SCRIPT")) { required = true }
-
--- the words after it, any number of them: the volumes
-abbrev pub volume_rule : Rule
-volume_rule = record (new_rule (codes "VOLUME")) { action = Some Append }
 
 -- `[--frames N] [--slots N] [--save]`
 abbrev pub with_options : App → App
@@ -69,17 +58,6 @@ pub record IsSized (rows : List Row) (sizes : SystemSizes) : Type 0 where
   pub slots : number_or 256 (first_of (codes "slots") rows) ≡ Some sizes.slots
   pub most_frames : sizes.frames ≤ 4096
   pub most_slots : sizes.slots ≤ 65536
-
--- a flag is given where its text is `true`, and not where it is `false` or there is none
-pub record IsFlag (text : Option (List ℕ)) (given : Bool) : Type 0 where
-  pub yes : text ≡ Some (codes "true") → given ≡ true
-  pub no : text ≡ Some (codes "false") → given ≡ false
-  pub none : text ≡ None → given ≡ false
-
--- the texts of an argument that need not be given
-abbrev pub texts_of : Option (List (List ℕ)) → List (List ℕ)
-texts_of None = []
-texts_of (Some texts) = texts
 
 -- the options are what these words give
 pub record IsNamed (rows : List Row) (options : Options) : Type 0 where

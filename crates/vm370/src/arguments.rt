@@ -1,19 +1,17 @@
 //! The words of the program: how much it has, and which files it is to read and to write.
-ghost use Rattle.std.specs.Prelude.{◌≡◌, IfOk, IfErr, IfSome, OnOk, IsSome, Some, codes, map, option_map, false, true};
-ghost use Rattle.clap.specs.Words.{all_of, app_of, first_of, found_of, one_of, rows_of, rule_of};
-ghost use Rattle.clap.specs.Values.{kind_of};
-ghost use Rattle.clap.specs.declared.error.kind.ErrorKind.TheVariants.{OutOfMemory};
-ghost use Rattle.vm370.specs.declared.arguments.UsageError.TheVariants.{Memory};
+ghost use Rattle.std.specs.Prelude.{◌≡◌, IfOk, IfErr, IfSome, OnOk, IsSome, Some, codes, map, false, true};
+ghost use Rattle.clap.specs.Words.{app_of, first_of, found_of, rows_of, rule_of};
 ghost use Rattle.cp_core.specs.Sizes.{SystemSizes};
-ghost use Rattle.vm370.specs.Options.{HasNoFault, IsFlag, IsNamed, IsSized, command_of, directory_rule, frames_rule, gives_paths, is_taken, number_or, rows_named, save_rule, script_rule, slots_rule, texts_of, volume_rule};
+ghost use Rattle.vm370.specs.Options.{HasNoFault, IsNamed, IsSized, command_of, directory_rule, frames_rule, gives_paths, is_taken, number_or, rows_named, slots_rule};
 
-use clap::error::ErrorKind;
-use clap::{Arg, ArgAction, ArgMatches, Command, Error as ClapError};
+use clap::{Arg, ArgAction, ArgMatches, Command};
 use cp_core::Sizes;
 use cp_text::numbers::decimal_of;
+use programs::words::{
+    UsageError, is_given, paths_of, refusal, save, script, text_of, usage, volumes,
+};
 use std::alloc::{AllocError, Global};
 use std::convert::AsStr;
-use thiserror::Error;
 
 /// How many frames the machine has where the words name no number.
 const FRAMES: u32 = 64;
@@ -35,26 +33,6 @@ pub struct Options<'a> {
     pub script: &'a str,
     /// The paths of the volumes' images, in order.
     pub volumes: Vec<&'a str>,
-}
-
-/// Why the words of the program name no options.
-#[derive(Debug, Drop, Error)]
-pub enum UsageError {
-    /// A growth was refused.
-    #[error("no memory for the words of the program")]
-    Memory,
-    /// The words are not those of the program, or ask for its help: the text for the person who wrote
-    /// them, of whole lines.
-    #[error("{0}")]
-    Usage(String),
-}
-
-impl From<AllocError> for UsageError {
-    ghost from_gives = { λ _ error. error ≡ Memory };
-
-    fn from(_error: AllocError) -> UsageError {
-        UsageError::Memory
-    }
 }
 
 /// What the words name, the first of which is the name that the program was started by; `program` is
@@ -88,14 +66,6 @@ pub fn arguments<'a, S: AsStr>(
         script,
         volumes,
     })
-}
-
-/// A wrong use, told by this text.
-pub fn usage(alloc: Global, text: &str) -> UsageError {
-    match String::from_str(alloc, text) {
-        Ok(text) => UsageError::Usage(text),
-        Err(_) => UsageError::Memory,
-    }
 }
 
 /// A wrong use: frames or slots that there can't be.
@@ -139,50 +109,6 @@ fn paths_in<'a>(matches: &ArgMatches<'a>) -> Option<(&'a str, &'a str)>
     Some((directory, script))
 }
 
-/// The first text that the words give for an argument.
-pub fn text_of<'a>(matches: &ArgMatches<'a>, id: &str) -> Option<&'a str>
-    ensures { option_map (λ s. s.now) result ≡ first_of id.now (rows_of (found_of matches.now)) }
-{
-    matches.get_str(id)
-}
-
-/// Whether the words have this flag.
-pub fn is_given(matches: &ArgMatches<'_>, id: &str) -> bool
-    ensures { IsFlag (one_of id.now (rows_of (found_of matches.now))) result }
-{
-    matches.get_flag(id)
-}
-
-/// The texts that the words give for an argument, in order.
-pub fn paths_of<'a>(
-    alloc: Global,
-    matches: &ArgMatches<'a>,
-    id: &str,
-) -> Result<Vec<&'a str>, AllocError>
-    ensures { IfOk result (λ paths. map (λ path. path.now) paths.items
-        ≡ texts_of (all_of id.now (rows_of (found_of matches.now)))) }
-{
-    match texts_in(matches, id) {
-        Some(paths) => copied(alloc, paths),
-        None => Ok(Vec::new(alloc)),
-    }
-}
-
-/// The texts that the words give for an argument, where they give any.
-fn texts_in<'b, 'a>(matches: &'b ArgMatches<'a>, id: &str) -> Option<&'b [&'a str]>
-    ensures { option_map (λ texts. map (λ text. text.now) texts.now) result
-        ≡ all_of id.now (rows_of (found_of matches.now)) }
-{
-    matches.get_strs(id)
-}
-
-/// The same texts, in a list of their own.
-fn copied<'a>(alloc: Global, texts: &[&'a str]) -> Result<Vec<&'a str>, AllocError>
-    ensures { IfOk result (λ all. map (λ text. text.now) all.items ≡ map (λ text. text.now) texts.now) }
-{
-    texts.iter().copied().collect(alloc)
-}
-
 /// What `clap` finds in the words.
 fn matched<'a, S: AsStr>(
     alloc: Global,
@@ -198,19 +124,6 @@ fn matched<'a, S: AsStr>(
     match command.try_get_matches_from(words) {
         Ok(matches) => Ok(matches),
         Err(error) => Err(refusal(alloc, &error)),
-    }
-}
-
-/// What is told of an error of `clap`.
-pub fn refusal(alloc: Global, error: &ClapError) -> UsageError
-    ensures { kind_of error.now ≡ OutOfMemory → result ≡ UsageError.Memory }
-{
-    if error.kind() == ErrorKind::OutOfMemory {
-        return UsageError::Memory;
-    }
-    match error.to_string(alloc) {
-        Ok(text) => UsageError::Usage(text),
-        Err(_) => UsageError::Memory,
     }
 }
 
@@ -255,17 +168,6 @@ pub(crate) fn slots<'a>(alloc: Global) -> Arg<'a>
         )
 }
 
-/// `--save`
-pub fn save<'a>(alloc: Global) -> Arg<'a>
-    ensures rule { rule_of result ≡ save_rule }
-    ensures local { result.global ≡ false }
-{
-    Arg::new(alloc, "save")
-        .long("save")
-        .action(ArgAction::SetTrue)
-        .help("Writes the images of the volumes back at the end")
-}
-
 /// The first word, which is the path of the directory.
 pub(crate) fn directory<'a>(alloc: Global) -> Arg<'a>
     ensures rule { rule_of result ≡ directory_rule }
@@ -273,25 +175,5 @@ pub(crate) fn directory<'a>(alloc: Global) -> Arg<'a>
 {
     Arg::new(alloc, "DIRECTORY").required(true).help(
         "The users, and the storage and the devices of each (docs/FORMATS.md)",
-    )
-}
-
-/// The second word, which is the path of the script.
-fn script<'a>(alloc: Global) -> Arg<'a>
-    ensures rule { rule_of result ≡ script_rule }
-    ensures local { result.global ≡ false }
-{
-    Arg::new(alloc, "SCRIPT").required(true).help(
-        "What happens to their machines, one event a line (docs/FORMATS.md)",
-    )
-}
-
-/// The words after them, which are the paths of images.
-pub(crate) fn volumes<'a>(alloc: Global) -> Arg<'a>
-    ensures rule { rule_of result ≡ volume_rule }
-    ensures local { result.global ≡ false }
-{
-    Arg::new(alloc, "VOLUME").action(ArgAction::Append).help(
-        "The images of the volumes that have the users' disks (docs/FORMATS.md)",
     )
 }

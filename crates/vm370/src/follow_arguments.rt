@@ -1,47 +1,33 @@
 //! The words of the program where it follows a script that it is given part by part.
-ghost use Rattle.std.specs.Prelude.{◌≡◌, IfErr, IfOk, OnOk, false, map, true};
-ghost use Rattle.clap.specs.Words.{app_of, found_of, rows_of, rule_of};
+ghost use Rattle.std.specs.Prelude.{◌≡◌, IfErr, IfOk, OnOk, map, true};
+ghost use Rattle.clap.specs.Words.{app_of, found_of, rows_of};
 ghost use Rattle.cp_core.specs.Sizes.{SystemSizes};
 ghost use Rattle.vm370.specs.Options.{IsSized};
-ghost use Rattle.vm370.specs.FollowOptions.{HasNoFault, IsNamed, command_of, follow_rule, gives_directory, is_taken, rows_named};
+ghost use Rattle.vm370.specs.FollowOptions.{HasNoFault, IsNamed, command_of, gives_directory, is_taken, rows_named};
 
-use crate::arguments::{
-    UsageError, directory, frames, is_given, paths_of, refusal, save, sizes_in, slots, text_of,
-    usage, volumes, wrong_sizes,
-};
-use clap::{Arg, ArgAction, ArgMatches, Command};
+use crate::arguments::{directory, frames, sizes_in, slots, wrong_sizes};
+use clap::{ArgMatches, Command};
 use cp_core::Sizes;
+use programs::words::{
+    UsageError, follow, is_given, paths_of, refusal, save, terminals, text_of, usage, volumes,
+};
 use std::alloc::{AllocError, Global};
 use std::convert::AsStr;
 
-/// The word that asks for that.
-const FOLLOW: &str = "--follow";
-
 /// What the words of the program name:
-/// `vm370 [--frames N] [--slots N] [--save] --follow DIRECTORY [VOLUME]...`.
+/// `vm370 [--frames N] [--slots N] [--save] [--terminals] --follow DIRECTORY [VOLUME]...`.
 #[derive(Drop)]
 pub struct FollowOptions<'a> {
     /// How many frames and slots the machine has.
     pub sizes: Sizes,
     /// The images of the volumes are written back at the end.
     pub save: bool,
+    /// How turns ended is left out.
+    pub terminals: bool,
     /// The path of the directory.
     pub directory: &'a str,
     /// The paths of the volumes' images, in order.
     pub volumes: Vec<&'a str>,
-}
-
-/// Whether the words ask for a script to be followed: the word for that stands before any `--`.
-pub fn asks_to_follow(words: &[String]) -> bool {
-    for word in words {
-        if word.as_str() == "--" {
-            return false;
-        }
-        if word.as_str() == FOLLOW {
-            return true;
-        }
-    }
-    false
 }
 
 /// What the words name, the first of which is the name that the program was started by, as
@@ -69,6 +55,7 @@ pub fn follow_arguments<'a, S: AsStr>(
     Ok(FollowOptions {
         sizes,
         save: is_given(&matches, "save"),
+        terminals: is_given(&matches, "terminals"),
         directory,
         volumes,
     })
@@ -101,19 +88,9 @@ fn command<'a>(alloc: Global, program: &'a str) -> Result<Command<'a>, AllocErro
         .arg(frames(alloc))?
         .arg(slots(alloc))?
         .arg(save(alloc))?
+        .arg(terminals(alloc))?
         .arg(follow(alloc))?
         .arg(directory(alloc))?
         .arg(volumes(alloc))?;
     Ok(command)
-}
-
-/// `--follow`
-fn follow<'a>(alloc: Global) -> Arg<'a>
-    ensures rule { rule_of result ≡ follow_rule }
-    ensures local { result.global ≡ false }
-{
-    Arg::new(alloc, "follow")
-        .long("follow")
-        .action(ArgAction::SetTrue)
-        .help("Reads parts of a script from standard input (docs/COMMAND_LINE.md)")
 }

@@ -3,29 +3,22 @@
 //!
 //! The transcript goes to standard output. A failure is one line on standard error, and its kind is the
 //! exit status; of an image that is not saved a second line has the path.
-ghost use Rattle.std.specs.Prelude.{◌≡◌};
-ghost use Rattle.std.specs.Process.{exit_status};
-ghost use Rattle.vm370.specs.Faults.{outcome_of};
 
-use crate::arguments::{Options, UsageError, arguments};
+use crate::arguments::{Options, arguments};
 use crate::boot_faults::{boot_failure, names_of};
-use crate::faults::{Failure, fault_line, outcome};
-use crate::follow_arguments::{asks_to_follow, follow_arguments};
-use crate::images::{owned, read_volumes, save_volume, without_volume};
-use crate::parts::follow_parts;
-use crate::session::session;
+use crate::follow_arguments::follow_arguments;
+use crate::installation::SharedMachines;
 use cp_core::{Sizes, System};
 use cp_directory::read_directory;
-use s370_num::host::{Counted, read_all};
-use std::process::{ExitCode, Termination};
+use programs::parts::Left;
+use programs::program::{asks_to_follow, follow_input, open, play, words, wrong_use};
+use programs::{Ended, Failure, finish, owned, read_volumes, save_volume, without_volume};
+use s370_num::host::read_all;
+use sessions::Detail;
 use std::rt::{Env, Files};
-use std::{env, fs, io};
 
 /// The program's name, as it tells it.
 const PROGRAM: &str = "vm370";
-
-/// What is told where there is no memory for the line of a failure: that of [`Failure::Memory`].
-const NO_MEMORY: &str = "fault: memory Memory";
 
 /// What is told after a usage text: an example, and the exit statuses.
 const USAGE_NOTE: &str = "
@@ -42,54 +35,10 @@ The transcript goes to standard output, a fault as one line to standard error. E
   4  there was not memory enough
 ";
 
-/// How a program ended. Only [`finish`] makes one, so that a `main` which returns it has no other exit status to give.
-#[derive(Drop)]
-pub struct Ended {
-    ended: Result<(), Failure>,
-}
-
-impl Termination for Ended {
-    fn report<R: Eprint>(self, _rt: &R) -> ExitCode
-        ensures { exit_status result ≡ outcome_of self.ended }
-    {
-        ExitCode::from(outcome(&self.ended))
-    }
-}
-
 /// The whole program: what it is started with names a directory, a script and volumes, and the transcript of that
 /// script is written. A failure is told on standard error.
 pub fn program<R: AllocGlobal + Files + Env + Input + Print + Eprint>(rt: &R) -> Ended {
     finish(rt, run(rt))
-}
-
-/// The end of a program: a failure is told on standard error, and gives the exit status. One that there is no memory to
-/// tell is want of memory.
-pub fn finish<R: AllocGlobal + Eprint>(rt: &R, ended: Result<(), Failure>) -> Ended {
-    match ended {
-        Ok(()) => Ended { ended: Ok(()) },
-        Err(failure) => Ended {
-            ended: Err(tell(rt, failure)),
-        },
-    }
-}
-
-/// Prints the line of a failure, and gives what was told. A wrong use has been told by a longer text.
-fn tell<R: AllocGlobal + Eprint>(rt: &R, failure: Failure) -> Failure {
-    if failure == Failure::Usage {
-        return failure;
-    }
-    let line = fault_line(rt.alloc(), &failure);
-    let _ = match &line {
-        Ok(line) => rt.eprintln(line),
-        Err(_) => rt.eprintln(NO_MEMORY),
-    };
-    if let Failure::Unsaved(_, path) = &failure {
-        let _ = eprintln!(rt; "not saved: {path}");
-    }
-    match line {
-        Ok(_) => failure,
-        Err(_) => Failure::Memory,
-    }
 }
 
 /// Reads the words, the directory, the images and the script, writes the transcript, and saves the volumes where that
@@ -104,26 +53,13 @@ fn run<R: AllocGlobal + Files + Env + Input + Print + Eprint>(rt: &R) -> Result<
         Ok(options) => options,
         Err(error) => return Err(wrong_use(rt, &error, USAGE_NOTE)),
     };
-    let mut system = boot(rt, &options)?;
-    play(rt, &mut system, options.script)?;
-    save(rt, &system, &options)
-}
-
-/// Plays the script at a path, and writes its transcript to standard output.
-fn play<R: AllocGlobal + Files + Print>(
-    rt: &R,
-    system: &mut System,
-    path: &str,
-) -> Result<(), Failure> {
-    let mut script = open(rt, path)?;
-    let Ok(output) = io::BufWriter::new(rt.alloc(), io::writer(rt)) else {
-        return Err(Failure::Memory);
-    };
-    Ok(session(rt.alloc(), system, &mut script, &mut Counted::new(output))?)
+    let mut machines = boot(rt, &options)?;
+    play(rt, &mut machines, options.script)?;
+    save(rt, machines.system(), &options)
 }
 
 /// Follows a script by these words, whose parts are read from standard input, and writes its transcript to standard
-/// output; at the end of the input saves the volumes where that is asked for. A wrong use is told here.
+/// output; where its end is asked for, saves the volumes if the words want that. A wrong use is told here.
 fn follow<R: AllocGlobal + Files + Input + Print + Eprint>(
     rt: &R,
     words: &[String],
@@ -134,71 +70,23 @@ fn follow<R: AllocGlobal + Files + Input + Print + Eprint>(
         Err(error) => return Err(wrong_use(rt, &error, USAGE_NOTE)),
     };
     let volumes = options.volumes.as_slice();
-    let system = boot_of(rt, options.directory, volumes, options.sizes)?;
-    let system = follow_input(rt, system)?;
-    if options.save {
-        save_volumes(rt, &system, volumes)?;
-    }
-    Ok(())
-}
-
-/// Follows the parts of a script on standard input, and gives the system at the end.
-fn follow_input<R: AllocGlobal + Input + Print>(rt: &R, system: System) -> Result<System, Failure> {
-    let Ok(input) = io::BufReader::new(rt.alloc(), rt.reader()) else {
-        return Err(Failure::Memory);
+    let detail = if options.terminals {
+        Detail::Terminals
+    } else {
+        Detail::Whole
     };
-    let Ok(output) = io::BufWriter::new(rt.alloc(), io::writer(rt)) else {
-        return Err(Failure::Memory);
-    };
-    let mut reader = Counted::new(input);
-    let mut writer = Counted::new(output);
-    Ok(follow_parts(rt.alloc(), system, &mut reader, &mut writer)?)
-}
-
-/// What words that name no options are as a failure. A wrong use is told here, by its text and then this note.
-pub fn wrong_use<R: Eprint>(rt: &R, error: &UsageError, note: &str) -> Failure {
-    match error {
-        UsageError::Memory => Failure::Memory,
-        UsageError::Usage(text) => {
-            let _ = rt.eprint(text);
-            let _ = rt.eprint(note);
-            Failure::Usage
-        }
-    }
-}
-
-/// The words that a program was started with, of which the first is its name. Words that are no UTF-8 are a wrong use,
-/// which is told here: no file can be opened by such a name.
-pub fn words<R: AllocGlobal + Env + Eprint>(rt: &R, program: &str) -> Result<Vec<String>, Failure> {
-    match env::args(rt) {
-        Ok(typed) => {
-            let alloc = rt.alloc();
-            let mut words: Vec<String> = typed.collect(alloc)?;
-            if let Some(name) = words.first_mut() {
-                *name = String::from_str(alloc, program)?;
-            }
-            Ok(words)
-        }
-        Err(error) if error.kind() == io::ErrorKind::InvalidData => {
-            let _ = rt.eprintln(
-                "a word of the command line is no UTF-8 text, and so names no file here",
-            );
-            Err(Failure::Usage)
-        }
-        Err(_) => Err(Failure::Memory),
-    }
-}
-
-/// The file at a path, to be read. One that can't be opened has failed once.
-pub fn open<R: Files>(rt: &R, path: &str) -> Result<Counted<R::File>, Failure> {
-    match fs::open(rt, path) {
-        Ok(file) => Ok(Counted::new(file)),
-        Err(_) => Err(Failure::File(1)),
+    let machines = boot_of(rt, options.directory, volumes, options.sizes)?;
+    match follow_input(rt, machines, detail)? {
+        Left::Ended(machines) if options.save => save_volumes(rt, machines.system(), volumes),
+        Left::Ended(_) | Left::Cut(_) => Ok(()),
     }
 }
 
 /// The system that the directory and the volumes of these options state.
-pub fn boot<R: AllocGlobal + Files>(rt: &R, options: &Options<'_>) -> Result<System, Failure> {
+pub fn boot<R: AllocGlobal + Files>(
+    rt: &R,
+    options: &Options<'_>,
+) -> Result<SharedMachines, Failure> {
     boot_of(
         rt,
         options.directory,
@@ -213,14 +101,14 @@ fn boot_of<R: AllocGlobal + Files>(
     directory: &str,
     volumes: &[&str],
     sizes: Sizes,
-) -> Result<System, Failure> {
+) -> Result<SharedMachines, Failure> {
     let alloc = rt.alloc();
     let text = read_all(alloc, &mut open(rt, directory)?)?;
     let directory = read_directory(alloc, &text)?;
     let volumes = read_volumes(rt, volumes)?;
     let names = names_of(alloc, directory.users())?;
     match System::boot(alloc, directory, volumes, sizes) {
-        Ok(system) => Ok(system),
+        Ok(system) => Ok(SharedMachines::new(system)),
         Err(error) => Err(boot_failure(alloc, names, error)),
     }
 }

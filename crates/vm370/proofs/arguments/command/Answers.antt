@@ -1,6 +1,6 @@
 use Rattle.std.proofs.Common.{◌≡◌, rules}
 use Rattle.clap.specs.Words.{app_of, new_app}
-use Rattle.vm370.proofs.Rules.{one_more}
+use Rattle.programs.proofs.Rules.{one_more}
 use Rattle.vm370.proofs.arguments.command.Goals as goal
 
 pub returns : goal.returns

@@ -1,0 +1,65 @@
+-- How a machine of its own goes on, as sessions see it.
+use Rattle.std.specs.Prelude.{◌≡◌, ℕ, false, List, [], ◌∷◌, map}
+use Rattle.s370_subchannels.specs.declared.subchannel.Subchannel.{Subchannel}
+use Rattle.cp_devices.specs.declared.reply.Reply.{Reply}
+use Rattle.cp_script.specs.Script.{Said, Run, Line, Tick, Serve, Deck}
+use Rattle.cp_script.specs.declared.event.ScriptEvent.{ScriptEvent}
+use Rattle.cp_script.specs.declared.event.ScriptEvent.TheVariants as scripts
+use Rattle.bare_installation.specs.Bare.{Bare, bare}
+use Rattle.bare_installation.specs.Life.{IsApplied, MayLackMemory}
+use Rattle.bare_installation.specs.declared.happening.Happening.{Happening}
+use Rattle.bare_installation.specs.declared.happening.Happening.TheVariants as happenings
+use Rattle.sessions.specs.Installed.{Installation, Installed}
+
+-- the machine, and the addresses of its devices as scripts know them
+pub record Alone : Type 0 where
+  pub machine : Bare
+  pub addresses : List ℕ
+
+-- its one user has the number 0
+abbrev pub user : ℕ
+user = 0
+
+abbrev pub seen_in : Alone → Installed
+seen_in a = record {
+  users = record { name = bare; devices = a.addresses } ∷ [];
+  machines = a.machine.equipped ∷ [];
+  files = a.machine.files;
+}
+
+-- an event as a script names it
+abbrev pub as_said : Happening → Said
+as_said (happenings.Run units) = Run user units
+as_said (happenings.Line typed) = Line user typed.now
+as_said (happenings.Serve device) = Serve user device
+as_said happenings.Tick = Tick user
+as_said (happenings.Deck cards) = Deck user cards.now
+
+-- the event that was said happened to the machine, and was answered so
+pub record HasHappened (old : Alone) (said : Said) (reply : Reply) (new : Alone) : Type 0 where
+  pub event : Happening
+  pub named : as_said event ≡ said
+  pub applied : IsApplied old.machine event reply new.machine
+  pub addresses : new.addresses ≡ old.addresses
+
+-- it may be refused memory by this machine, of which nothing is said then
+pub record MayLack (old : Alone) (said : Said) (new : Alone) : Type 0 where
+  pub event : Happening
+  pub named : as_said event ≡ said
+  pub lacks : MayLackMemory old.machine event
+
+abbrev pub machine_goes : Installation Alone
+machine_goes = record { seen = seen_in; Happens = HasHappened; Lacks = MayLack; is_spent = λ a. false }
+
+-- the addresses of these devices
+abbrev pub addresses_of : List Subchannel → List ℕ
+addresses_of devices = map (λ device. device.address) devices
+
+-- an event that a script says with all that it has: no deck, whose cards are still to be made, and no turns
+abbrev pub IsWhole : ScriptEvent → Type 0
+IsWhole (scripts.Run user units) = Unit {0}
+IsWhole (scripts.Line user text) = Unit {0}
+IsWhole (scripts.Tick user) = Unit {0}
+IsWhole (scripts.Serve user device) = Unit {0}
+IsWhole (scripts.Deck user cards) = ⊥
+IsWhole (scripts.Auto turns) = ⊥

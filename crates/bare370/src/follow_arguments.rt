@@ -1,0 +1,105 @@
+//! The words of the program where it follows a script that it is given part by part.
+ghost use Rattle.std.specs.Prelude.{◌≡◌, ◌≤◌, ℕ, IfErr, IfOk, OnOk, Some, codes, length, map, true};
+ghost use Rattle.clap.specs.Words.{all_of, app_of, found_of, rows_of};
+ghost use Rattle.programs.specs.Arguments.{texts_of};
+ghost use Rattle.bare370.specs.FollowOptions.{HasNoFault, IsNamed, command_of, is_taken, rows_named};
+ghost use Rattle.bare370.specs.Options.{storage_named};
+
+use crate::arguments::{MOST_VOLUMES, storage, storage_in, volumes};
+use clap::{ArgMatches, Command};
+use cp_directory::StorageSize;
+use programs::words::{
+    UsageError, follow, is_given, paths_of, refusal, save, terminals, usage,
+};
+use std::alloc::{AllocError, Global};
+use std::convert::AsStr;
+
+/// What the words of the program name: `bare370 [--save] [--terminals] --follow STORAGE [VOLUME]...`.
+#[derive(Drop)]
+pub struct FollowOptions<'a> {
+    /// The images of the volumes are written back at the end.
+    pub save: bool,
+    /// How turns ended is left out.
+    pub terminals: bool,
+    /// The size of the machine's storage.
+    pub storage: StorageSize,
+    /// The paths of the volumes' images, at most [`MOST_VOLUMES`].
+    pub volumes: Vec<&'a str>,
+}
+
+/// What the words name, the first of which is the name that the program was started by, as
+/// [`bare_arguments`](crate::arguments::bare_arguments) reads them.
+pub fn follow_arguments<'a, S: AsStr>(
+    alloc: Global,
+    program: &'a str,
+    words: &'a [S],
+) -> Result<FollowOptions<'a>, UsageError>
+    ensures ok { IfOk result (IsNamed (rows_named program.entry.now (map S.text words.entry.now))) }
+    ensures few { IfOk result (λ options. length options.volumes.items ≤ MOST_VOLUMES) }
+    ensures taken { OnOk result (HasNoFault program.entry.now (map S.text words.entry.now)) }
+    ensures err { (pages : ℕ) → is_taken program.entry.now (map S.text words.entry.now) ≡ true →
+        storage_named (rows_named program.entry.now (map S.text words.entry.now)) ≡ Some pages →
+        length (texts_of (all_of (codes "VOLUME") (rows_named program.entry.now (map S.text words.entry.now)))) ≤ MOST_VOLUMES →
+        IfErr result (λ error. error ≡ UsageError.Memory) }
+{
+    let matches = matched(alloc, program, words)?;
+    options_in(alloc, &matches)
+}
+
+/// The options that were found in the words.
+fn options_in<'a>(alloc: Global, matches: &ArgMatches<'a>) -> Result<FollowOptions<'a>, UsageError>
+    ensures ok { IfOk result (IsNamed (rows_of (found_of matches.now))) }
+    ensures few { IfOk result (λ options. length options.volumes.items ≤ MOST_VOLUMES) }
+    ensures err { (pages : ℕ) → storage_named (rows_of (found_of matches.now)) ≡ Some pages →
+        length (texts_of (all_of (codes "VOLUME") (rows_of (found_of matches.now)))) ≤ MOST_VOLUMES →
+        IfErr result (λ error. error ≡ UsageError.Memory) }
+{
+    let Some(storage) = storage_in(matches) else {
+        return Err(usage(
+            alloc,
+            "STORAGE is 8K to 4096K in steps of 4K, or 1M to 4M\n",
+        ));
+    };
+    let volumes = paths_of(alloc, matches, "VOLUME")?;
+    if volumes.len() > MOST_VOLUMES {
+        return Err(usage(alloc, "a machine has at most 16 volumes\n"));
+    }
+    Ok(FollowOptions {
+        save: is_given(matches, "save"),
+        terminals: is_given(matches, "terminals"),
+        storage,
+        volumes,
+    })
+}
+
+/// What `clap` finds in the words.
+fn matched<'a, S: AsStr>(
+    alloc: Global,
+    program: &'a str,
+    words: &'a [S],
+) -> Result<ArgMatches<'a>, UsageError>
+    ensures ok { IfOk result (λ m. rows_of (found_of m) ≡ rows_named program.entry.now (map S.text words.entry.now)) }
+    ensures taken { OnOk result (HasNoFault program.entry.now (map S.text words.entry.now)) }
+    ensures err { is_taken program.entry.now (map S.text words.entry.now) ≡ true
+        → IfErr result (λ error. error ≡ UsageError.Memory) }
+{
+    let command = command(alloc, program)?;
+    match command.try_get_matches_from(words) {
+        Ok(matches) => Ok(matches),
+        Err(error) => Err(refusal(alloc, &error)),
+    }
+}
+
+/// The program's words, as `clap` is told of them.
+fn command<'a>(alloc: Global, program: &'a str) -> Result<Command<'a>, AllocError>
+    ensures { IfOk result (λ c. app_of c ≡ command_of program.entry.now) }
+{
+    let command = Command::new(alloc, program)
+        .about("Runs one System/370 machine, by a script that it is given part by part")
+        .arg(save(alloc))?
+        .arg(terminals(alloc))?
+        .arg(follow(alloc))?
+        .arg(storage(alloc))?
+        .arg(volumes(alloc))?;
+    Ok(command)
+}

@@ -1,0 +1,264 @@
+//! A machine of its own as sessions know it.
+ghost use Rattle.std.specs.Prelude.{◌≡◌, ◌<◌, ◌≤◌, ◌×◌, ◌==◌, IfErr, IfOk, IfSome, length};
+ghost use Rattle.std.specs.List.{list_any};
+ghost use Rattle.s370_store.specs.Plain.{plain_bytes};
+ghost use Rattle.cp_script.specs.Script.{Deck, said, user_of_event};
+ghost use Rattle.bare_installation.specs.Life.{IsApplied, MayLackMemory};
+ghost use Rattle.bare_installation.specs.declared.happening.Happening.{Happening};
+ghost use Rattle.bare370.specs.Goes.{IsWhole, addresses_of, as_said, machine_goes};
+
+use bare_installation::{BARE, Bare, Happening};
+use cp_channels::AttachedDisk;
+use cp_console::responses::Response;
+use cp_devices::{AttachError, FileNote, Places, Reply, SeenDevices};
+use cp_panel::Mode;
+use cp_script::ScriptEvent;
+use cp_users::UserNo;
+use ckd_volume::{Arm, Sense, Unit, Volume};
+use s370_num::DevAddr;
+use s370_store::PlainStorage;
+use s370_subchannels::Subchannel;
+use sessions::{Installation, Refused};
+use std::alloc::{AllocError, Global};
+use std::marker::Model;
+use unit_record::Card;
+
+/// The address of the console.
+pub const CONSOLE: u16 = 0x009;
+/// The address of the card reader.
+pub const READER: u16 = 0x00C;
+/// The address of the card punch.
+pub const PUNCH: u16 = 0x00D;
+/// The address of the line printer.
+pub const PRINTER: u16 = 0x00E;
+/// The address of the first disk.
+pub const FIRST_DISK: u16 = 0x190;
+/// The most disks.
+pub const MOST_DISKS: u16 = 16;
+
+/// The arm of a disk that may be written, as a machine finds it.
+const FIRST_CYLINDER: Arm = Arm {
+    cylinder: 0,
+    head: 0,
+    home: 0,
+    writable: true,
+    sense: Sense {
+        first: 0,
+        second: 0,
+    },
+};
+
+/// A machine of its own, whose user is [`BARE`].
+#[derive(Drop)]
+pub struct OneMachine {
+    machine: Bare,
+    addresses: Vec<u16>,
+}
+
+impl Model for OneMachine {
+    ghost use Rattle.bare370.specs.Goes.{Alone};
+
+    ghost Value = { Alone };
+
+    ghost view = { λ m. record { machine = m.machine; addresses = m.addresses.items } };
+}
+
+impl OneMachine {
+    /// A machine, whose devices scripts may name.
+    pub fn new(alloc: Global, machine: Bare) -> Result<OneMachine, AllocError>
+        ensures machine { IfOk result (λ one. one.machine ≡ machine) }
+        ensures addresses { IfOk result
+            (λ one. one.addresses ≡ addresses_of machine.equipped.machine.core.subchannels) }
+    {
+        let addresses = addresses(alloc, machine.subchannels())?;
+        Ok(OneMachine { machine, addresses })
+    }
+
+    /// The machine.
+    pub fn machine(&self) -> &Bare
+        ensures { result.now ≡ self.now.machine }
+    {
+        &self.machine
+    }
+}
+
+impl Installation for OneMachine {
+    ghost goes = { machine_goes };
+
+    fn users(&self) -> usize {
+        1
+    }
+
+    fn name(&self, user: UserNo) -> &[u8] {
+        if user.number() == 0 { BARE } else { &[] }
+    }
+
+    fn addresses(&self, alloc: Global, _user: UserNo) -> Result<Vec<u16>, AllocError> {
+        self.addresses.as_slice().to_vec(alloc)
+    }
+
+    fn has_device(&self, _user: UserNo, address: u16) -> bool {
+        has_address(self.addresses.as_slice(), address)
+    }
+
+    fn mode(&self, _user: UserNo) -> Mode {
+        self.machine.mode()
+    }
+
+    fn is_ready(&self, _user: UserNo) -> bool {
+        self.machine.is_ready()
+    }
+
+    fn subchannels(&self, _user: UserNo) -> &[Subchannel] {
+        self.machine.subchannels()
+    }
+
+    fn devices(&self, _user: UserNo) -> SeenDevices<'_> {
+        self.machine.devices()
+    }
+
+    fn printed(&self, _user: UserNo) -> usize {
+        self.machine.printed()
+    }
+
+    fn console_output(&self, _user: UserNo, line: usize) -> Option<Response> {
+        self.machine.console_output(line)
+    }
+
+    fn files(&self) -> usize {
+        self.machine.files().len()
+    }
+
+    fn file(&self, place: usize) -> Option<FileNote> {
+        self.machine.files().get(place).copied()
+    }
+
+    fn happen(&mut self, alloc: Global, event: &ScriptEvent<'_>) -> Result<Reply, Refused> {
+        match event {
+            ScriptEvent::Deck(_, cards) => {
+                let Ok(cards) = cards.to_vec(alloc) else {
+                    return Err(Refused::Memory);
+                };
+                give(alloc, &mut self.machine, &cards)
+            }
+            _ => ask(alloc, &mut self.machine, event),
+        }
+    }
+}
+
+/// The addresses of these devices.
+fn addresses(alloc: Global, devices: &[Subchannel]) -> Result<Vec<u16>, AllocError>
+    ensures { IfOk result (λ list. list.items ≡ addresses_of devices.now) }
+{
+    let mut list = Vec::new(alloc);
+    for device in devices {
+        list.push(device.address.get())?;
+    }
+    Ok(list)
+}
+
+/// Whether an address is one of these.
+fn has_address(addresses: &[u16], address: u16) -> bool
+    ensures { result ≡ list_any (λ device. device == address) addresses.now }
+{
+    addresses.iter().any(|device| *device == address)
+}
+
+/// The operator gives a deck of these cards.
+fn give(alloc: Global, machine: &mut Bare, cards: &[Card]) -> Result<Reply, Refused>
+    ensures ok { IfOk result (λ reply. (event : Happening) × (as_said event ≡ Deck 0 cards.now)
+        × IsApplied machine.old event reply machine.new) }
+    ensures err { IfErr result (λ error. (error ≡ Refused.Memory) × (event : Happening) × (as_said event ≡ Deck 0 cards.now)
+        × MayLackMemory machine.old event) }
+{
+    match machine.apply(alloc, Happening::Deck(cards)) {
+        Ok(reply) => Ok(reply),
+        Err(_) => Err(Refused::Memory),
+    }
+}
+
+/// Lets an event happen that a script says with all that it has.
+fn ask(alloc: Global, machine: &mut Bare, event: &ScriptEvent<'_>) -> Result<Reply, Refused>
+    requires user { IfSome (user_of_event event.now) (λ user. user < 1) }
+    requires event { IsWhole event.now }
+    ensures ok { IfOk result (λ reply. (happening : Happening) × (as_said happening ≡ said event.now)
+        × IsApplied machine.old happening reply machine.new) }
+    ensures err { IfErr result (λ error. (error ≡ Refused.Memory) × (happening : Happening) × (as_said happening ≡ said event.now)
+        × MayLackMemory machine.old happening) }
+{
+    match machine.apply(alloc, happening(event)) {
+        Ok(reply) => Ok(reply),
+        Err(_) => Err(Refused::Memory),
+    }
+}
+
+/// What a line of a script says with all that it has.
+fn happening<'a>(event: &ScriptEvent<'a>) -> Happening<'a>
+    requires user { IfSome (user_of_event event.now) (λ user. user < 1) }
+    requires event { IsWhole event.now }
+    ensures { as_said result ≡ said event.now }
+{
+    match *event {
+        ScriptEvent::Run(_, units) => Happening::Run(units),
+        ScriptEvent::Line(_, typed) => Happening::Line(typed),
+        ScriptEvent::Tick(_) => Happening::Tick,
+        ScriptEvent::Serve(_, device) => Happening::Serve(DevAddr::new(device)),
+        ScriptEvent::Deck(_, _) | ScriptEvent::Auto(_) => unreachable!(),
+    }
+}
+
+/// A machine that is off, with a storage of so many blocks of 2048 bytes, console, reader, punch and printer, and a
+/// disk for each of these volumes, of which there are at most [`MOST_DISKS`].
+pub fn machine_of(alloc: Global, blocks: u32, volumes: Vec<Volume>) -> Result<OneMachine, AttachError>
+    requires least { 4 ≤ blocks }
+    requires most { blocks ≤ 2048 }
+{
+    let places = Places {
+        console: Some(DevAddr::new(CONSOLE)),
+        reader: Some(DevAddr::new(READER)),
+        punch: Some(DevAddr::new(PUNCH)),
+        printer: Some(DevAddr::new(PRINTER)),
+    };
+    let Ok((storage, disks)) = parts_of(alloc, blocks, volumes) else {
+        return Err(AttachError::Memory);
+    };
+    let machine = Bare::new(alloc, storage, places, disks)?;
+    match OneMachine::new(alloc, machine) {
+        Ok(machine) => Ok(machine),
+        Err(_) => Err(AttachError::Memory),
+    }
+}
+
+/// Its storage, and its disks.
+fn parts_of(
+    alloc: Global,
+    blocks: u32,
+    volumes: Vec<Volume>,
+) -> Result<(PlainStorage, Vec<AttachedDisk>), AllocError>
+    requires least { 4 ≤ blocks }
+    requires most { blocks ≤ 2048 }
+    ensures size { IfOk result (λ parts. 8192 ≤ length (plain_bytes parts.0)) }
+{
+    let storage = PlainStorage::new(alloc, blocks)?;
+    let disks = disks_of(alloc, volumes)?;
+    Ok((storage, disks))
+}
+
+/// A disk for each of these volumes, at an address of its own.
+fn disks_of(alloc: Global, volumes: Vec<Volume>) -> Result<Vec<AttachedDisk>, AllocError> {
+    let mut disks = Vec::new(alloc);
+    let mut address = FIRST_DISK;
+    for volume in volumes {
+        let unit = disk(alloc, volume)?;
+        disks.push(AttachedDisk::new(DevAddr::new(address), unit))?;
+        address = address.saturating_add(1);
+    }
+    Ok(disks)
+}
+
+/// A disk over a volume.
+fn disk(alloc: Global, volume: Volume) -> Result<Unit, AllocError> {
+    // A volume has a first cylinder.
+    let _cylinders = volume.count();
+    Unit::new(alloc, volume, FIRST_CYLINDER)
+}

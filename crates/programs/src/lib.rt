@@ -1,0 +1,18 @@
+//! What both programs do around a session: words, files, images of volumes, parts of a script, and what is said of a
+//! failure.
+//!
+//! Each failure has its line and its exit status ([`fault_line`], [`outcome`]).
+#![tactic(auto)]
+
+mod boot_faults;
+mod faults;
+mod images;
+pub mod parts;
+pub mod program;
+pub mod words;
+
+pub use boot_faults::BootFault;
+pub use faults::{Failure, fault_line, outcome};
+pub use images::{owned, read_volumes, save_volume, without_volume};
+pub use program::{Ended, finish};
+pub use words::UsageError;

@@ -1,0 +1,169 @@
+//! The parts of a script as they come to the program, and what it writes behind the lines of each.
+//!
+//! A part is a line with the decimal number of its bytes, and then these, whole lines of a script; the line `END` in the
+//! place of a number asks for the end. Behind the lines that come of a part stand lines that begin with `>`, as none of an
+//! event does: the files that it has closed for the operator, each with its entries behind `> |`; who has logged on or off
+//! and whose machine was started or stopped; and that it is done; or that a line of it is refused, and nothing of it was
+//! done.
+//!
+//! ```text
+//! 13
+//! LINE A LOGON
+//! ```
+//!
+//! ```text
+//! A: LOGON OK
+//! > ON A
+//! > DONE
+//! ```
+use crate::faults::Failure;
+use cp_panel::Mode;
+use cp_text::numbers::decimal_of;
+use s370_num::host::{HostFault, HostReader, HostWriter, write_all};
+use sessions::{Detail, Follower, Installation, Part};
+use std::alloc::{AllocError, Global};
+
+/// The most decimal digits of the size of a part.
+const MOST_DIGITS: usize = 9;
+
+/// What is told of an input with a size that is no number, or a part that is cut off: it has failed once.
+const BROKEN: HostFault = HostFault::Device(1);
+
+/// What is left of an input that was followed.
+pub enum Left<I> {
+    /// The end was asked for: the session is over.
+    Ended(I),
+    /// The input has ended without that.
+    Cut(I),
+}
+
+/// What an input has next.
+enum Next {
+    /// A part of the script.
+    Part(Vec<u8>),
+    /// The end is asked for.
+    End,
+    /// Nothing more.
+    Nothing,
+}
+
+/// Follows the parts of a script that an input has until its end is asked for, or there are no more, and gives the
+/// installation then. What comes of each part is written, and not held back, before the next one is read.
+pub fn follow_parts<R: HostReader, W: HostWriter, I: Installation + Drop>(
+    alloc: Global,
+    installation: I,
+    detail: Detail,
+    reader: &mut R,
+    writer: &mut W,
+) -> Result<Left<I>, Failure> {
+    let mut follower = Follower::begin(alloc, installation, detail)?;
+    'parts: for _ in 0..u64::MAX {
+        match next_part(alloc, reader)? {
+            Next::Part(part) => follower = follow_part(alloc, follower, detail, &part, writer)?,
+            Next::End => return Ok(Left::Ended(follower.close(alloc, writer)?)),
+            Next::Nothing => break 'parts,
+        }
+    }
+    Ok(Left::Cut(follower.close(alloc, writer)?))
+}
+
+/// Follows a part, and writes behind its lines what became of it.
+fn follow_part<W: HostWriter, I: Installation + Drop>(
+    alloc: Global,
+    follower: Follower<I>,
+    detail: Detail,
+    part: &[u8],
+    writer: &mut W,
+) -> Result<Follower<I>, Failure> {
+    let closed = follower.installation().files();
+    let modes = follower.modes(alloc)?;
+    match follower.part(alloc, part, writer)? {
+        Part::Done(follower) => {
+            let told = news(alloc, &follower, detail, closed, &modes)?;
+            tell(writer, &told)?;
+            Ok(follower)
+        }
+        Part::Refused(follower, line) => {
+            let told = format!(in alloc; "> REFUSED {line}\n")?;
+            tell(writer, told.as_bytes())?;
+            Ok(follower)
+        }
+    }
+}
+
+/// What is told of a part that was done, before which so many files were closed and machines were in these modes.
+fn news<I: Installation + Drop>(
+    alloc: Global,
+    follower: &Follower<I>,
+    detail: Detail,
+    closed: usize,
+    modes: &[Mode],
+) -> Result<Vec<u8>, AllocError> {
+    let mut told = follower.closed_since(alloc, closed)?;
+    let changes = follower.changes_since(alloc, modes)?;
+    told.extend_from_slice(&changes)?;
+    if detail == Detail::Terminals && follower.is_idle() {
+        told.extend_from_slice(b"> IDLE\n")?;
+    }
+    told.extend_from_slice(b"> DONE\n")?;
+    Ok(told)
+}
+
+/// Writes what became of a part, and holds nothing back.
+fn tell<W: HostWriter>(writer: &mut W, told: &[u8]) -> Result<(), HostFault> {
+    write_all(writer, told)?;
+    writer.flush()
+}
+
+/// What comes next: a part behind its size, the word for the end, or nothing.
+fn next_part<R: HostReader>(alloc: Global, reader: &mut R) -> Result<Next, HostFault> {
+    let Some(word) = next_size(alloc, reader)? else {
+        return Ok(Next::Nothing);
+    };
+    if word.as_slice() == b"END".as_slice() {
+        return Ok(Next::End);
+    }
+    match decimal_of(MOST_DIGITS, &word) {
+        Some(size) => Ok(Next::Part(next_bytes(alloc, reader, size)?)),
+        None => Err(BROKEN),
+    }
+}
+
+/// The line before a part, without its end, or none at the end of the input.
+fn next_size<R: HostReader>(alloc: Global, reader: &mut R) -> Result<Option<Vec<u8>>, HostFault> {
+    let mut line = Vec::new(alloc);
+    for _ in 0..=MOST_DIGITS {
+        match next_byte(reader)? {
+            Some(b'\n') => return Ok(Some(line)),
+            Some(byte) => line.extend_from_slice(&[byte])?,
+            None if line.is_empty() => return Ok(None),
+            None => return Err(BROKEN),
+        }
+    }
+    Err(BROKEN)
+}
+
+/// The next bytes, so many.
+fn next_bytes<R: HostReader>(
+    alloc: Global,
+    reader: &mut R,
+    count: u32,
+) -> Result<Vec<u8>, HostFault> {
+    let mut bytes = Vec::new(alloc);
+    for _ in 0..count {
+        match next_byte(reader)? {
+            Some(byte) => bytes.extend_from_slice(&[byte])?,
+            None => return Err(BROKEN),
+        }
+    }
+    Ok(bytes)
+}
+
+/// The next byte, or none at the end of the input.
+fn next_byte<R: HostReader>(reader: &mut R) -> Result<Option<u8>, HostFault> {
+    let mut byte = [0u8; 1];
+    if reader.read(&mut byte)? == 0 {
+        return Ok(None);
+    }
+    Ok(Some(byte[0]))
+}

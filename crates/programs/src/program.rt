@@ -1,0 +1,152 @@
+//! What a program does around its session: its words, its files, and what it says of a failure.
+ghost use Rattle.std.specs.Prelude.{◌≡◌};
+ghost use Rattle.std.specs.Process.{exit_status};
+ghost use Rattle.programs.specs.Faults.{outcome_of};
+
+use crate::faults::{Failure, fault_line, outcome};
+use crate::parts::{Left, follow_parts};
+use crate::words::UsageError;
+use s370_num::host::Counted;
+use sessions::session::session;
+use sessions::{Detail, Installation};
+use std::process::{ExitCode, Termination};
+use std::rt::{Env, Files};
+use std::{env, fs, io};
+
+/// What is told where there is no memory for the line of a failure: that of [`Failure::Memory`].
+const NO_MEMORY: &str = "fault: memory Memory";
+
+/// How a program ended. Only [`finish`] makes one, so that a `main` which returns it has no other exit status to give.
+#[derive(Drop)]
+pub struct Ended {
+    ended: Result<(), Failure>,
+}
+
+impl Termination for Ended {
+    fn report<R: Eprint>(self, _rt: &R) -> ExitCode
+        ensures { exit_status result ≡ outcome_of self.ended }
+    {
+        ExitCode::from(outcome(&self.ended))
+    }
+}
+
+/// The end of a program: a failure is told on standard error, and gives the exit status. One that there is no memory to
+/// tell is want of memory.
+pub fn finish<R: AllocGlobal + Eprint>(rt: &R, ended: Result<(), Failure>) -> Ended {
+    match ended {
+        Ok(()) => Ended { ended: Ok(()) },
+        Err(failure) => Ended {
+            ended: Err(tell(rt, failure)),
+        },
+    }
+}
+
+/// Prints the line of a failure, and gives what was told. A wrong use has been told by a longer text.
+fn tell<R: AllocGlobal + Eprint>(rt: &R, failure: Failure) -> Failure {
+    if failure == Failure::Usage {
+        return failure;
+    }
+    let line = fault_line(rt.alloc(), &failure);
+    let _ = match &line {
+        Ok(line) => rt.eprintln(line),
+        Err(_) => rt.eprintln(NO_MEMORY),
+    };
+    if let Failure::Unsaved(_, path) = &failure {
+        let _ = eprintln!(rt; "not saved: {path}");
+    }
+    match line {
+        Ok(_) => failure,
+        Err(_) => Failure::Memory,
+    }
+}
+
+/// Plays the script at a path, and writes its transcript to standard output.
+pub fn play<R: AllocGlobal + Files + Print, I: Installation>(
+    rt: &R,
+    installation: &mut I,
+    path: &str,
+) -> Result<(), Failure> {
+    let mut script = open(rt, path)?;
+    let Ok(output) = io::BufWriter::new(rt.alloc(), io::writer(rt)) else {
+        return Err(Failure::Memory);
+    };
+    Ok(session(
+        rt.alloc(),
+        installation,
+        &mut script,
+        &mut Counted::new(output),
+    )?)
+}
+
+/// Follows the parts of a script on standard input, writes its transcript to standard output, and gives the installation
+/// at the end, and whether the end was asked for.
+pub fn follow_input<R: AllocGlobal + Input + Print, I: Installation + Drop>(
+    rt: &R,
+    installation: I,
+    detail: Detail,
+) -> Result<Left<I>, Failure> {
+    let Ok(input) = io::BufReader::new(rt.alloc(), rt.reader()) else {
+        return Err(Failure::Memory);
+    };
+    let Ok(output) = io::BufWriter::new(rt.alloc(), io::writer(rt)) else {
+        return Err(Failure::Memory);
+    };
+    let mut reader = Counted::new(input);
+    let mut writer = Counted::new(output);
+    Ok(follow_parts(rt.alloc(), installation, detail, &mut reader, &mut writer)?)
+}
+
+/// What words that name no options are as a failure. A wrong use is told here, by its text and then this note.
+pub fn wrong_use<R: Eprint>(rt: &R, error: &UsageError, note: &str) -> Failure {
+    match error {
+        UsageError::Memory => Failure::Memory,
+        UsageError::Usage(text) => {
+            let _ = rt.eprint(text);
+            let _ = rt.eprint(note);
+            Failure::Usage
+        }
+    }
+}
+
+/// The words that a program was started with, of which the first is its name. Words that are no UTF-8 are a wrong use,
+/// which is told here: no file can be opened by such a name.
+pub fn words<R: AllocGlobal + Env + Eprint>(rt: &R, program: &str) -> Result<Vec<String>, Failure> {
+    match env::args(rt) {
+        Ok(typed) => {
+            let alloc = rt.alloc();
+            let mut words: Vec<String> = typed.collect(alloc)?;
+            if let Some(name) = words.first_mut() {
+                *name = String::from_str(alloc, program)?;
+            }
+            Ok(words)
+        }
+        Err(error) if error.kind() == io::ErrorKind::InvalidData => {
+            let _ = rt.eprintln(
+                "a word of the command line is no UTF-8 text, and so names no file here",
+            );
+            Err(Failure::Usage)
+        }
+        Err(_) => Err(Failure::Memory),
+    }
+}
+
+/// The file at a path, to be read. One that can't be opened has failed once.
+pub fn open<R: Files>(rt: &R, path: &str) -> Result<Counted<R::File>, Failure> {
+    match fs::open(rt, path) {
+        Ok(file) => Ok(Counted::new(file)),
+        Err(_) => Err(Failure::File(1)),
+    }
+}
+
+/// Whether the words ask for a script to be followed: the word for that stands before any `--`.
+pub fn asks_to_follow(words: &[String]) -> bool {
+    for word in words {
+        if word.as_str() == "--" {
+            return false;
+        }
+        if word.as_str() == "--follow" {
+            return true;
+        }
+    }
+    false
+}

@@ -1,0 +1,152 @@
+//! The words of a program, as `clap` reads them.
+ghost use Rattle.std.specs.Prelude.{◌≡◌, IfOk, codes, false, map, option_map};
+ghost use Rattle.clap.specs.Words.{all_of, first_of, found_of, one_of, rows_of, rule_of};
+ghost use Rattle.clap.specs.Values.{kind_of};
+ghost use Rattle.clap.specs.declared.error.kind.ErrorKind.TheVariants.{OutOfMemory};
+ghost use Rattle.programs.specs.Arguments.{IsFlag, follow_rule, save_rule, script_rule, terminals_rule, texts_of, volume_rule};
+ghost use Rattle.programs.specs.declared.words.UsageError.TheVariants.{Memory};
+
+use clap::error::ErrorKind;
+use clap::{Arg, ArgAction, ArgMatches, Error as ClapError};
+use std::alloc::{AllocError, Global};
+use thiserror::Error;
+
+/// Why the words of the program name no options.
+#[derive(Debug, Drop, Error)]
+pub enum UsageError {
+    /// A growth was refused.
+    #[error("no memory for the words of the program")]
+    Memory,
+    /// The words are not those of the program, or ask for its help: the text for the person who wrote
+    /// them, of whole lines.
+    #[error("{0}")]
+    Usage(String),
+}
+
+impl From<AllocError> for UsageError {
+    ghost from_gives = { λ _ error. error ≡ Memory };
+
+    fn from(_error: AllocError) -> UsageError {
+        UsageError::Memory
+    }
+}
+
+/// A wrong use, told by this text.
+pub fn usage(alloc: Global, text: &str) -> UsageError {
+    match String::from_str(alloc, text) {
+        Ok(text) => UsageError::Usage(text),
+        Err(_) => UsageError::Memory,
+    }
+}
+
+/// The first text that the words give for an argument.
+pub fn text_of<'a>(matches: &ArgMatches<'a>, id: &str) -> Option<&'a str>
+    ensures { option_map (λ s. s.now) result ≡ first_of id.now (rows_of (found_of matches.now)) }
+{
+    matches.get_str(id)
+}
+
+/// Whether the words have this flag.
+pub fn is_given(matches: &ArgMatches<'_>, id: &str) -> bool
+    ensures { IsFlag (one_of id.now (rows_of (found_of matches.now))) result }
+{
+    matches.get_flag(id)
+}
+
+/// The texts that the words give for an argument, in order.
+pub fn paths_of<'a>(
+    alloc: Global,
+    matches: &ArgMatches<'a>,
+    id: &str,
+) -> Result<Vec<&'a str>, AllocError>
+    ensures { IfOk result (λ paths. map (λ path. path.now) paths.items
+        ≡ texts_of (all_of id.now (rows_of (found_of matches.now)))) }
+{
+    match texts_in(matches, id) {
+        Some(paths) => copied(alloc, paths),
+        None => Ok(Vec::new(alloc)),
+    }
+}
+
+/// The texts that the words give for an argument, where they give any.
+fn texts_in<'b, 'a>(matches: &'b ArgMatches<'a>, id: &str) -> Option<&'b [&'a str]>
+    ensures { option_map (λ texts. map (λ text. text.now) texts.now) result
+        ≡ all_of id.now (rows_of (found_of matches.now)) }
+{
+    matches.get_strs(id)
+}
+
+/// The same texts, in a list of their own.
+fn copied<'a>(alloc: Global, texts: &[&'a str]) -> Result<Vec<&'a str>, AllocError>
+    ensures { IfOk result (λ all. map (λ text. text.now) all.items ≡ map (λ text. text.now) texts.now) }
+{
+    texts.iter().copied().collect(alloc)
+}
+
+/// What is told of an error of `clap`.
+pub fn refusal(alloc: Global, error: &ClapError) -> UsageError
+    ensures { kind_of error.now ≡ OutOfMemory → result ≡ UsageError.Memory }
+{
+    if error.kind() == ErrorKind::OutOfMemory {
+        return UsageError::Memory;
+    }
+    match error.to_string(alloc) {
+        Ok(text) => UsageError::Usage(text),
+        Err(_) => UsageError::Memory,
+    }
+}
+
+/// `--save`
+pub fn save<'a>(alloc: Global) -> Arg<'a>
+    ensures rule { rule_of result ≡ save_rule }
+    ensures local { result.global ≡ false }
+{
+    Arg::new(alloc, "save")
+        .long("save")
+        .action(ArgAction::SetTrue)
+        .help("Writes the images of the volumes back at the end")
+}
+
+/// `--follow`
+pub fn follow<'a>(alloc: Global) -> Arg<'a>
+    ensures rule { rule_of result ≡ follow_rule }
+    ensures local { result.global ≡ false }
+{
+    Arg::new(alloc, "follow")
+        .long("follow")
+        .action(ArgAction::SetTrue)
+        .help(
+            "Reads the parts of a script from standard input, and answers each (docs/COMMAND_LINE.md)",
+        )
+}
+
+/// `--terminals`
+pub fn terminals<'a>(alloc: Global) -> Arg<'a>
+    ensures rule { rule_of result ≡ terminals_rule }
+    ensures local { result.global ≡ false }
+{
+    Arg::new(alloc, "terminals")
+        .long("terminals")
+        .action(ArgAction::SetTrue)
+        .help("Leaves out how turns ended, unless frames were lacking")
+}
+
+/// The word that is the path of the script.
+pub fn script<'a>(alloc: Global) -> Arg<'a>
+    ensures rule { rule_of result ≡ script_rule }
+    ensures local { result.global ≡ false }
+{
+    Arg::new(alloc, "SCRIPT").required(true).help(
+        "What happens to their machines, one event a line (docs/FORMATS.md)",
+    )
+}
+
+/// The words after them, which are the paths of images.
+pub fn volumes<'a>(alloc: Global) -> Arg<'a>
+    ensures rule { rule_of result ≡ volume_rule }
+    ensures local { result.global ≡ false }
+{
+    Arg::new(alloc, "VOLUME").action(ArgAction::Append).help(
+        "The images of the volumes that have the users' disks (docs/FORMATS.md)",
+    )
+}

@@ -1,0 +1,86 @@
+//! What the answer to a part of a script tells of the users' machines: who has logged on or off, and whose machine was
+//! started or stopped.
+ghost use Rattle.std.specs.Prelude.{◌≡◌, ◌++◌, ◌∷◌, ◌<◌, [], IfOk, OnOk, Some, length, map, slice_get};
+ghost use Rattle.sessions.specs.News.{change_lines, changed_lines, modes_of};
+ghost use Rattle.sessions.specs.Transcript.{ended};
+
+use crate::installation::Installation;
+use cp_panel::Mode;
+use cp_users::UserNo;
+use std::alloc::{AllocError, Global};
+
+/// In which mode each user's machine is.
+pub(crate) fn modes<I: Installation>(
+    alloc: Global,
+    installation: &I,
+) -> Result<Vec<Mode>, AllocError>
+    ensures { IfOk result (λ modes. modes.items ≡ modes_of (I.goes.seen installation.now)) }
+{
+    let mut modes = Vec::new(alloc);
+    for number in 0..installation.users() {
+        modes.push(installation.mode(UserNo::new(number as u8)))?;
+    }
+    Ok(modes)
+}
+
+/// The lines of what has changed for users of these names, whose machines were in the first modes and are in the
+/// others, each ended by LF.
+pub(crate) fn print_changes(
+    alloc: Global,
+    names: &[Vec<u8>],
+    olds: &[Mode],
+    news: &[Mode],
+) -> Result<Vec<u8>, AllocError>
+    requires olds { length names.now ≡ length olds.now }
+    requires news { length names.now ≡ length news.now }
+    ensures { IfOk result (λ text. text.items
+        ≡ ended (changed_lines (map (λ name. name.items) names.now) olds.now news.now)) }
+{
+    let mut text = Vec::new(alloc);
+    for place in 0..names.len() {
+        let old = mode_at(olds, place);
+        let new = mode_at(news, place);
+        print_change(&mut text, &names[place], old, new)?;
+    }
+    Ok(text)
+}
+
+/// The mode at a place.
+fn mode_at(modes: &[Mode], place: usize) -> Mode
+    requires { place < length modes.now }
+    ensures { Some result ≡ slice_get modes.now place }
+{
+    modes[place]
+}
+
+/// Adds the lines of what has changed for the user of this name.
+fn print_change(out: &mut Vec<u8>, name: &[u8], old: Mode, new: Mode) -> Result<(), AllocError>
+    ensures { OnOk result (out.new.items ≡ out.old.items ++ ended (change_lines name.now old new)) }
+{
+    match (old, new) {
+        (Mode::Off, Mode::Stopped) => print_news(out, b"> ON ", name),
+        (Mode::Off, Mode::Running) => {
+            print_news(out, b"> ON ", name)?;
+            print_news(out, b"> RUNS ", name)
+        }
+        (Mode::Stopped, Mode::Off) => print_news(out, b"> OFF ", name),
+        (Mode::Stopped, Mode::Running) => print_news(out, b"> RUNS ", name),
+        (Mode::Running, Mode::Off) => {
+            print_news(out, b"> STOPS ", name)?;
+            print_news(out, b"> OFF ", name)
+        }
+        (Mode::Running, Mode::Stopped) => print_news(out, b"> STOPS ", name),
+        (Mode::Off, Mode::Off) | (Mode::Stopped, Mode::Stopped) | (Mode::Running, Mode::Running) =>
+            Ok(()),
+    }
+}
+
+/// Adds a line of this word and a name.
+fn print_news(out: &mut Vec<u8>, word: &[u8], name: &[u8]) -> Result<(), AllocError>
+    ensures { OnOk result (out.new.items ≡ out.old.items ++ ended ((word.now ++ name.now) ∷ [])) }
+{
+    out.extend_from_slice(word)?;
+    out.extend_from_slice(name)?;
+    out.push(b'\n')?;
+    Ok(())
+}

@@ -1,8 +1,0 @@
-use Rattle.std.proofs.Common.{inr}
-use Rattle.cp_script.specs.Script.{said}
-use Rattle.vm370.proofs.Histories.{answered_partly, on_err}
-use Rattle.vm370.proofs.answers.follow.Goals as goal
-
-pub returns-in_err-line_up-clause-err : goal.returns-in_err-line_up-clause-err
-returns-in_err-line_up-clause-err g c =
-    on_err c.from_residual-in_err-line_up.result (inr (answered_partly (said c.args.event.now) c.args.system.now c.answer.new.system (g.W.HostWriter.contents c.args.writer.now) (g.W.HostWriter.contents c.answer.new.writer) c.in_ok-answer.ensures.ok))

@@ -1,0 +1,65 @@
+-- How a system goes on, as sessions see it.
+use Rattle.std.specs.Prelude.{◌≡◌, ℕ, true, false, List, map}
+use Rattle.cp_core.specs.Histories.{IsStep}
+use Rattle.cp_core.specs.Memory.{is_cut_short}
+use Rattle.cp_core.specs.Stated.{LacksDevice}
+use Rattle.cp_core.specs.System.{SystemView, user_at}
+use Rattle.cp_core.specs.declared.events.Event.{Event}
+use Rattle.cp_core.specs.declared.events.Event.TheVariants as events
+use Rattle.cp_devices.specs.declared.reply.Reply.{Reply}
+use Rattle.cp_directory.specs.Users.{DirectoryUser, addresses_of}
+use Rattle.cp_script.specs.Cards.{cards_of}
+use Rattle.cp_script.specs.Script.{Said, Run, Line, Tick, Serve, Deck}
+use Rattle.cp_script.specs.Users.{KnownUser}
+use Rattle.cp_script.specs.declared.event.ScriptEvent.{ScriptEvent}
+use Rattle.cp_script.specs.declared.event.ScriptEvent.TheVariants as scripts
+use Rattle.sessions.specs.Installed.{Installation, Installed}
+
+-- scripts know a user of a directory by his name, and the addresses of his devices
+abbrev pub known_user : DirectoryUser → KnownUser
+known_user user = record { name = user.name; devices = addresses_of user }
+
+abbrev pub known_users : List DirectoryUser → List KnownUser
+known_users users = map known_user users
+
+abbrev pub seen_in : SystemView → Installed
+seen_in s = record { users = known_users s.directory; machines = s.users; files = s.files }
+
+-- an event as a script names it
+abbrev pub as_said : Event → Said
+as_said (events.Run user units) = Run user units
+as_said (events.Line user text) = Line user text.now
+as_said (events.Tick user) = Tick user
+as_said (events.Serve user device) = Serve user device
+as_said (events.Deck user cards) = Deck user cards.now
+
+-- the event that was said was applied, and was answered so
+pub record HasHappened (old : SystemView) (said : Said) (reply : Reply) (new : SystemView) : Type 0 where
+  pub event : Event
+  pub named : as_said event ≡ said
+  pub step : IsStep old (record { event = event; reply = reply; seen = new })
+
+-- it was refused memory: each user is as he was, but for one whose own line closes files or whose device is served, and the system is
+-- spent
+pub record IsSpent (old : SystemView) (said : Said) (new : SystemView) : Type 0 where
+  pub event : Event
+  pub named : as_said event ≡ said
+  pub spent : new.is_spent ≡ true
+  pub directory : new.directory ≡ old.directory
+  pub others : (user : ℕ) → is_cut_short old event user ≡ false → user_at new user ≡ user_at old user
+
+abbrev pub system_goes : Installation SystemView
+system_goes = record { seen = seen_in; Happens = HasHappened; Lacks = IsSpent; is_spent = λ s. s.is_spent }
+
+-- the cards that an event gives: those of a deck
+abbrev pub HasCards : ScriptEvent → List (List ℕ) → Type 0
+HasCards (scripts.Run user units) cards = Unit {0}
+HasCards (scripts.Line user text) cards = Unit {0}
+HasCards (scripts.Tick user) cards = Unit {0}
+HasCards (scripts.Serve user device) cards = Unit {0}
+HasCards (scripts.Deck user deck) cards = cards ≡ cards_of deck
+HasCards (scripts.Auto turns) cards = Unit {0}
+
+-- a device that an event of the control program names is one that the directory gives the user
+abbrev pub IsStated : SystemView → Event → Type 0
+IsStated s event = LacksDevice s event → ⊥

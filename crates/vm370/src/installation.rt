@@ -1,0 +1,233 @@
+//! The system as sessions know it.
+ghost use Rattle.std.specs.Prelude.{◌≡◌, ◌++◌, ◌<◌, ◌⊎◌, Err, IfOk, OnErr, OnOk, false, length, map, true};
+ghost use Rattle.std.specs.Option.{option_to_list};
+ghost use Rattle.cp_directory.specs.Devices.{places_of};
+ghost use Rattle.cp_directory.specs.Users.{addresses_of};
+ghost use Rattle.cp_script.specs.Script.{IsOfDevice, IsOfUser, said};
+ghost use Rattle.sessions.specs.Schedule.{IsEvent};
+ghost use Rattle.vm370.specs.Goes.{HasCards, HasHappened, IsSpent, as_said, known_users, seen_in, system_goes};
+
+use cp_console::responses::Response;
+use cp_core::{CpError, Event, System};
+use cp_devices::{FileNote, Reply, SeenDevices};
+use cp_directory::{Minidisk, User, UserDevices};
+use cp_panel::Mode;
+use cp_script::ScriptEvent;
+use cp_users::{UserNo, name_of};
+use s370_num::DevAddr;
+use s370_subchannels::Subchannel;
+use sessions::{Installation, Refused};
+use std::alloc::{AllocError, Global};
+use std::marker::Model;
+use unit_record::Card;
+
+/// The machines of many users, on one system.
+#[derive(Drop)]
+pub struct SharedMachines {
+    system: System,
+}
+
+impl Model for SharedMachines {
+    ghost use Rattle.cp_core.specs.System.{SystemView};
+
+    ghost Value = { SystemView };
+
+    ghost view = { λ m. m.system };
+}
+
+impl SharedMachines {
+    /// Those of a system.
+    pub fn new(system: System) -> SharedMachines
+        ensures { result ≡ system }
+    {
+        SharedMachines { system }
+    }
+
+    /// The system.
+    pub fn system(&self) -> &System
+        ensures { result.now ≡ self.now }
+    {
+        &self.system
+    }
+
+    /// A user whom scripts know is one of the system's.
+    fn place(&self, user: UserNo) -> UserNo
+        requires { user < length (seen_in self.now).users }
+        ensures user { result ≡ user }
+        ensures machine { result < length self.now.users }
+        ensures directory { result < length self.now.directory }
+    {
+        // There are as many machines as users of the directory.
+        let _users = self.system.users();
+        user
+    }
+}
+
+impl Installation for SharedMachines {
+    ghost goes = { system_goes };
+
+    fn users(&self) -> usize {
+        self.system.users()
+    }
+
+    fn name(&self, user: UserNo) -> &[u8] {
+        name_of(self.system.directory().users(), user)
+    }
+
+    fn addresses(&self, alloc: Global, user: UserNo) -> Result<Vec<u16>, AllocError> {
+        let user = self.place(user);
+        addresses_of(alloc, &self.system.directory().users()[user.index()])
+    }
+
+    fn has_device(&self, user: UserNo, address: u16) -> bool {
+        match self.system.directory().users().get(user.index()) {
+            Some(user) => user.has_device(DevAddr::new(address)),
+            None => false,
+        }
+    }
+
+    fn mode(&self, user: UserNo) -> Mode {
+        match self.system.mode(self.place(user)) {
+            Some(mode) => mode,
+            None => unreachable!(),
+        }
+    }
+
+    fn is_ready(&self, user: UserNo) -> bool {
+        self.system.is_ready(user)
+    }
+
+    fn subchannels(&self, user: UserNo) -> &[Subchannel] {
+        match self.system.subchannels(self.place(user)) {
+            Some(list) => list,
+            None => unreachable!(),
+        }
+    }
+
+    fn devices(&self, user: UserNo) -> SeenDevices<'_> {
+        match self.system.spool(self.place(user)) {
+            Some(devices) => devices,
+            None => unreachable!(),
+        }
+    }
+
+    fn printed(&self, user: UserNo) -> usize {
+        match self.system.printed(self.place(user)) {
+            Some(lines) => lines,
+            None => unreachable!(),
+        }
+    }
+
+    fn console_output(&self, user: UserNo, line: usize) -> Option<Response> {
+        self.system.console_output(user, line)
+    }
+
+    fn files(&self) -> usize {
+        self.system.files().len()
+    }
+
+    fn file(&self, place: usize) -> Option<FileNote> {
+        self.system.files().get(place).copied()
+    }
+
+    fn happen(&mut self, alloc: Global, event: &ScriptEvent<'_>) -> Result<Reply, Refused> {
+        let Ok(cards) = cards_in(alloc, event) else {
+            return Err(Refused::Memory);
+        };
+        ask(&mut self.system, event, &cards)
+    }
+}
+
+/// The addresses of the devices of a user.
+fn addresses_of(alloc: Global, user: &User) -> Result<Vec<u16>, AllocError>
+    ensures { IfOk result (λ list. list.items ≡ addresses_of user.now) }
+{
+    let mut list = Vec::new(alloc);
+    add_places(&mut list, user.devices())?;
+    add_disks(&mut list, user.minidisks())?;
+    Ok(list)
+}
+
+/// Adds the addresses of devices that are no disks.
+fn add_places(list: &mut Vec<u16>, devices: UserDevices) -> Result<(), AllocError>
+    ensures { OnOk result (list.new.items ≡ list.old.items ++ places_of devices) }
+{
+    add_place(list, devices.console)?;
+    add_place(list, devices.reader)?;
+    add_place(list, devices.punch)?;
+    add_place(list, devices.printer)?;
+    Ok(())
+}
+
+/// Adds the addresses of disks.
+fn add_disks(list: &mut Vec<u16>, disks: &[Minidisk]) -> Result<(), AllocError>
+    ensures { OnOk result (list.new.items ≡ list.old.items ++ map (λ disk. disk.address) disks.now) }
+{
+    for disk in disks {
+        list.push(disk.address.get())?;
+    }
+    Ok(())
+}
+
+/// Adds the address of a device, where there is one.
+fn add_place(list: &mut Vec<u16>, place: Option<DevAddr>) -> Result<(), AllocError>
+    ensures { OnOk result (list.new.items ≡ list.old.items ++ option_to_list place) }
+{
+    match place {
+        Some(address) => {
+            list.push(address.get())?;
+            Ok(())
+        }
+        None => Ok(()),
+    }
+}
+
+/// The cards that an event gives.
+fn cards_in(alloc: Global, event: &ScriptEvent<'_>) -> Result<Vec<Card>, AllocError>
+    ensures { IfOk result (λ cards. HasCards event.now cards.items) }
+{
+    match event {
+        ScriptEvent::Deck(_, cards) => cards.to_vec(alloc),
+        _ => Ok(Vec::new(alloc)),
+    }
+}
+
+/// Applies an event of a user and a device that the directory has, which gives these cards.
+fn ask(system: &mut System, event: &ScriptEvent<'_>, cards: &[Card]) -> Result<Reply, Refused>
+    requires user { IsOfUser (known_users system.old.directory) event.now }
+    requires device { IsOfDevice (known_users system.old.directory) event.now }
+    requires event { IsEvent event.now }
+    requires cards { HasCards event.now cards.now }
+    ensures ok { IfOk result (λ reply. HasHappened system.old (said event.now) reply system.new) }
+    ensures err { OnErr result ((system.new ≡ system.old) ⊎ IsSpent system.old (said event.now) system.new) }
+    ensures directory { system.new.directory ≡ system.old.directory }
+    ensures alive { OnOk result (system.new.is_spent ≡ false) }
+    ensures spent { result ≡ Err Refused.Spent → system.old.is_spent ≡ true }
+{
+    let _device = DevAddr::new(0);
+    // There are as many machines as users of the directory.
+    let _users = system.users();
+    match system.apply(event_of(event, cards)) {
+        Ok(reply) => Ok(reply),
+        Err(CpError::Memory) => Err(Refused::Memory),
+        Err(CpError::Spent) => Err(Refused::Spent),
+        Err(CpError::NoSuchUser) => unreachable!(),
+        Err(CpError::NoSuchDevice) => unreachable!(),
+    }
+}
+
+/// The event that a line of a script says, which gives these cards.
+fn event_of<'a>(event: &ScriptEvent<'a>, cards: &'a [Card]) -> Event<'a>
+    requires event { IsEvent event.now }
+    requires cards { HasCards event.now cards.now }
+    ensures said { as_said result ≡ said event.now }
+{
+    match *event {
+        ScriptEvent::Run(user, units) => Event::Run(user, units),
+        ScriptEvent::Line(user, typed) => Event::Line(user, typed),
+        ScriptEvent::Tick(user) => Event::Tick(user),
+        ScriptEvent::Serve(user, device) => Event::Serve(user, DevAddr::new(device)),
+        ScriptEvent::Deck(user, _) => Event::Deck(user, cards),
+        ScriptEvent::Auto(_) => unreachable!(),
+    }
+}
