@@ -1,21 +1,24 @@
 -- The life of a machine with its devices, event by event.
-use Rattle.std.proofs.Common.{◌≡◌, ◌+◌, ℕ, Bool, true, false, List, [], ◌∷◌, ◌++◌, length, Option, Some, None, refl, sym, ◌∙◌, ap, subst}
-use Rattle.std.specs.Prelude.{nat_lt, slice_get}
-use Rattle.unit_record.specs.declared.output.Target.{Target}
-use Rattle.unit_record.specs.declared.output.Target.TheVariants as targets
+use Rattle.std.proofs.Common.{◌≡◌, ℕ, List, [], ◌∷◌, ◌++◌, length, Option, Some, None, refl, sym, ◌∙◌, ap, subst}
+use Rattle.std.specs.Prelude.{slice_get}
+use Rattle.unit_record.specs.declared.reader.Sender.TheVariants as senders
 use Rattle.unit_record.specs.Output.{FileValue}
 use Rattle.s370_channel.specs.Reading.{as_reached}
+use Rattle.cp_spool.specs.Queues.{cards_of}
 use Rattle.cp_panel.specs.Run.{MachineRun}
-use Rattle.cp_devices.specs.declared.line.Told.{Told}
-use Rattle.cp_devices.specs.declared.line.Told.TheVariants.{Silent, Said, Files, Sent, Loads, Closed}
+use Rattle.cp_devices.specs.declared.reply.Delivered.{Delivered}
+use Rattle.cp_devices.specs.declared.reply.Delivery.{Delivery}
+use Rattle.cp_devices.specs.declared.reply.Delivery.TheVariants as deliveries
+use Rattle.cp_devices.specs.declared.reply.Ended.{Ended}
+use Rattle.cp_devices.specs.declared.reply.Ended.TheVariants.{Ran, Served, Done, FramesOut}
+use Rattle.cp_devices.specs.declared.reply.Reply.{Reply}
+use Rattle.cp_devices.specs.Coming.{comes_by_line, comes_from_operator, coming_of}
 use Rattle.cp_devices.specs.Equipped.{Equipped}
-use Rattle.cp_devices.specs.Life.{Event as Local, Units, Serve as Serves, Line as Types, Tick as Ticks, Leaves, Lives}
-use Rattle.bare_installation.specs.declared.events.Event.{Event}
-use Rattle.bare_installation.specs.declared.events.Event.TheVariants as events
-use Rattle.bare_installation.specs.declared.events.Reply.{Reply}
-use Rattle.bare_installation.specs.declared.events.Reply.TheVariants as replies
-use Rattle.bare_installation.specs.Bare.{Bare, IsTyped, world_of, delivered, delivered_to, next_file, printed_file, punched, received, with_deck}
-use Rattle.bare_installation.specs.Life.{AttentionAgreesThroughout, EachIsLife, IsApplied, IsLife, IsOwn, IsOwnLine, deck_for, deck_of, got, gotten, heard}
+use Rattle.cp_devices.specs.Life.{Event as Local, Units, Serve as Serves, Line as Types, Tick as Ticks, Deck as Gets, Leaves, Lives}
+use Rattle.bare_installation.specs.declared.happening.Happening.{Happening}
+use Rattle.bare_installation.specs.declared.happening.Happening.TheVariants as happenings
+use Rattle.bare_installation.specs.Bare.{Bare, IsTyped, world_of}
+use Rattle.bare_installation.specs.Life.{AttentionAgreesThroughout, EachIsLife, IsDone, IsAnswer, IsGiven, IsRun, IsService, IsTicked, Step, coming, happens, own}
 use Rattle.cp_devices.proofs.Attention.{goes_on_agreeing}
 
 -- events and then more events
@@ -23,102 +26,90 @@ lives_on : (es fs : List Local) (a b c : Equipped) → Lives as_reached es a b �
 lives_on [] fs a b c h g = subst (λ (e : Equipped). Lives as_reached fs e c) h g
 lives_on (e ∷ es) fs a b c h g = (h.0, h.1, lives_on es fs h.0 b c h.2 g)
 
--- one event
-lives_once : (e : Local) (a b : Equipped) → Leaves as_reached e a b → Lives as_reached (e ∷ []) a b
-lives_once e a b h = (b, h, refl)
+-- one event, by which nothing is delivered
+alone : (e : Local) (c : Delivery → Local) (d : Option Delivered) (a b : Equipped) → d ≡ None → Leaves as_reached e a b → Lives as_reached (e ∷ [] ++ coming_of c d) a b
+alone e c d a b none h = subst (λ (x : Option Delivered). Lives as_reached (e ∷ [] ++ coming_of c x) a b) (sym none) (b, h, refl)
 
--- a message to oneself
-hears : (number : ℕ) (told : Told) (e : Equipped) → Lives as_reached (heard told) e (received number told e).equipped
-hears number (Sent user line) e = ((received number (Sent user line) e).equipped, refl, refl)
-hears number Silent e = refl
-hears number (Said response) e = refl
-hears number Files e = refl
-hears number (Loads device) e = refl
-hears number Closed e = refl
+-- ---- what comes leaves the punch
 
--- a punched file for oneself
-gets_for : (target : Target) (index number : ℕ) (e : Equipped) → Lives as_reached (deck_for target index number e) e (delivered_to target index number e)
-gets_for targets.System index number e = refl
-gets_for (targets.User user) index number e = (delivered_to (targets.User user) index number e, refl, refl)
+punch_kept : (index : ℕ) (e : Equipped) (what : Delivery) (old new : Equipped) → Leaves as_reached (comes_by_line 0 index e what) old new → new.devices.punched ≡ old.devices.punched
+punch_kept index e (deliveries.Deck number) old new h = ap (λ (x : Equipped). x.devices.punched) h
+punch_kept index e (deliveries.Message line) old new h = ap (λ (x : Equipped). x.devices.punched) h
 
-gets_file : (file : Option FileValue) (index number : ℕ) (e : Equipped) → Lives as_reached (deck_of file index number e) e (delivered file index number e)
-gets_file None index number e = refl
-gets_file (Some file) index number e = gets_for file.target index number e
+deck_from : ℕ → ℕ → List FileValue → Local
+deck_from index number files = Gets (record { label = number; sender = senders.User 0; cards = cards_of (slice_get files index) })
 
-gets : (is_closed : Bool) (index : ℕ) (i : Bare) → Lives as_reached (got is_closed index i.files i.equipped) i.equipped (punched is_closed index i).equipped
-gets false index i = refl
-gets true index i = gets_file (slice_get i.equipped.devices.punched index) index (next_file i.files) i.equipped
+comes_same : (index : ℕ) (e e' : Equipped) (what : Delivery) → e.devices.punched ≡ e'.devices.punched → comes_by_line 0 index e what ≡ comes_by_line 0 index e' what
+unfolding deck_from
+comes_same index e e' (deliveries.Deck number) same = ap (deck_from index number) same
+comes_same index e e' (deliveries.Message line) same = refl
 
--- a printed file changes nothing of the machine and its devices
-printed_alone : (is_closed : Bool) (i : Bare) → (printed_file is_closed i).equipped ≡ i.equipped
-printed_alone true i = refl
-printed_alone false i = refl
+came : (index : ℕ) (d : Option Delivered) (a b : Equipped) → Lives as_reached (coming_of (comes_by_line 0 index a) d) a b → Lives as_reached (coming_of (comes_by_line 0 index b) d) a b
+came index None a b h = h
+came index (Some d) a b h =
+    let stays : b.devices.punched ≡ a.devices.punched = ap (λ (e : Equipped). e.devices.punched) h.2 ∙ punch_kept index a d.what a h.0 h.1 in
+    (h.0, subst (λ (l : Local). Leaves as_reached l a h.0) (comes_same index a b d.what (sym stays)) h.1, h.2)
 
--- what one event brings about
-abbrev OnceBy : (List Local → Type 0) → Bare → Bare → Type 0
-OnceBy AreIts old new = (own : List Local) × AreIts own × Lives as_reached own old.equipped new.equipped
+-- ---- one event
 
-abbrev Once : Bare → Event → Bare → Type 0
-Once old event new = OnceBy (IsOwn old event) old new
+abbrev Once : Bare → Happening → Reply → Bare → Type 0
+Once old event reply new =
+    Lives as_reached (happens old event ++ coming_of (coming old event new) reply.delivered) old.equipped new.equipped
 
-line_once : (typed : List ℕ) (old new : Bare) (told : Told) → IsTyped typed old told new → OnceBy (IsOwnLine typed old) old new
-line_once typed old new told h =
-    let after : Equipped = (received (next_file old.files) h.first h.answered).equipped in
-    let before : ℕ = length old.equipped.devices.punched in
-    let is_closed : Bool = nat_lt before (length after.devices.punched) in
-    let i : Bare = record { equipped = after; files = old.files } in
-    let is_printed : Bool = nat_lt (length old.equipped.devices.printed) (length after.devices.printed) in
-    let left : new.equipped ≡ (punched is_closed before i).equipped =
-    ap (λ (x : Bare). x.equipped) h.left ∙ printed_alone is_printed (punched is_closed before i) in
-    let lives : Lives as_reached (got is_closed before old.files after) after new.equipped =
-    subst (λ (e : Equipped). Lives as_reached (got is_closed before old.files after) after e) (sym left) (gets is_closed before i) in (
-      Types (world_of old) typed ∷ heard h.first ++ got is_closed before old.files after,
-      record { answered = h.answered; told = h.first; line = h.line; made = refl },
-      (h.answered, (h.first, h.line), lives_on (heard h.first) (got is_closed before old.files after) h.answered after new.equipped (hears (next_file old.files) h.first h.answered) lives),
-    )
+run_once : (count : ℕ) (old new : Bare) (reply : Reply) (ended : Ended) → IsRun count old reply ended new → Once old (happenings.Run count) reply new
+run_once count old new reply (Ran ran) h =
+    alone (Units count) (comes_from_operator []) reply.delivered old.equipped new.equipped h.5 (sym (ap (λ (r : MachineRun). r.machine) h.0), h.1, h.2)
+run_once count old new reply (Served done) h = absurd h
+run_once count old new reply Done h = absurd h
+run_once count old new reply FramesOut h = absurd h
 
-deck_once : (cards : List (List ℕ)) (old new : Bare) → new ≡ with_deck cards old → OnceBy (λ (own : List Local). own ≡ gotten cards old.files) old new
-deck_once [] old new h = ([], refl, ap (λ (i : Bare). i.equipped) h)
-deck_once (card ∷ cards) old new h =
-    (gotten (card ∷ cards) old.files, refl, (new.equipped, ap (λ (i : Bare). i.equipped) h, refl))
+serve_once : (device : ℕ) (old new : Bare) (reply : Reply) (ended : Ended) → IsService device old reply ended new → Once old (happenings.Serve device) reply new
+serve_once device old new reply (Served done) h =
+    alone (Serves device) (comes_from_operator []) reply.delivered old.equipped new.equipped h.3 (done, h.0)
+serve_once device old new reply (Ran ran) h = absurd h
+serve_once device old new reply Done h = absurd h
+serve_once device old new reply FramesOut h = absurd h
 
-once : (old new : Bare) (event : Event) (reply : Reply) → IsApplied old event reply new → Once old event new
-once old new (events.Run count) (replies.Ran told) h =
-    (Units count ∷ [], refl, lives_once (Units count) old.equipped new.equipped (sym (ap (λ (r : MachineRun). r.machine) h.0), h.1, h.2))
-once old new (events.Run count) (replies.Told told) h = absurd h
-once old new (events.Run count) (replies.Served done) h = absurd h
-once old new (events.Run count) replies.Done h = absurd h
-once old new (events.Line typed) (replies.Told told) h = line_once typed.now old new told h
-once old new (events.Line typed) (replies.Ran told) h = absurd h
-once old new (events.Line typed) (replies.Served done) h = absurd h
-once old new (events.Line typed) replies.Done h = absurd h
-once old new (events.Serve device) (replies.Served done) h =
-    (Serves device ∷ [], refl, lives_once (Serves device) old.equipped new.equipped (done, h.0))
-once old new (events.Serve device) (replies.Ran told) h = absurd h
-once old new (events.Serve device) (replies.Told told) h = absurd h
-once old new (events.Serve device) replies.Done h = absurd h
-once old new events.Tick replies.Done h = (Ticks ∷ [], refl, lives_once Ticks old.equipped new.equipped (h.0, h.1, h.2))
-once old new events.Tick (replies.Ran told) h = absurd h
-once old new events.Tick (replies.Told told) h = absurd h
-once old new events.Tick (replies.Served done) h = absurd h
-once old new (events.Deck cards) replies.Done h = deck_once cards.now old new h
-once old new (events.Deck cards) (replies.Ran told) h = absurd h
-once old new (events.Deck cards) (replies.Told told) h = absurd h
-once old new (events.Deck cards) (replies.Served done) h = absurd h
+tick_once : (old new : Bare) (reply : Reply) (ended : Ended) → IsTicked old reply ended new → Once old happenings.Tick reply new
+tick_once old new reply Done h =
+    alone Ticks (comes_from_operator []) reply.delivered old.equipped new.equipped h.5 (h.0, h.1, h.2)
+tick_once old new reply (Ran ran) h = absurd h
+tick_once old new reply (Served done) h = absurd h
+tick_once old new reply FramesOut h = absurd h
+
+line_lives : (typed : List ℕ) (old new : Bare) (reply : Reply) → IsTyped typed old reply new → Lives as_reached (Types (world_of old) typed ∷ [] ++ coming_of (comes_by_line 0 (length old.equipped.devices.punched) new.equipped) reply.delivered) old.equipped new.equipped
+line_lives typed old new reply h =
+    (h.tells.answered, (h.tells.told, h.tells.line), came (length old.equipped.devices.punched) reply.delivered h.tells.answered new.equipped h.come)
+
+line_once : (typed : List ℕ) (old new : Bare) (reply : Reply) (ended : Ended) → IsAnswer typed old reply ended new → Lives as_reached (Types (world_of old) typed ∷ [] ++ coming_of (comes_by_line 0 (length old.equipped.devices.punched) new.equipped) reply.delivered) old.equipped new.equipped
+line_once typed old new reply Done h = line_lives typed old new reply h
+line_once typed old new reply (Ran ran) h = absurd h
+line_once typed old new reply (Served done) h = absurd h
+line_once typed old new reply FramesOut h = absurd h
+
+deck_once : (cards : List (List ℕ)) (old new : Bare) (reply : Reply) (ended : Ended) → IsGiven cards old reply ended new → Lives as_reached ([] ++ coming_of (comes_from_operator cards) reply.delivered) old.equipped new.equipped
+deck_once [] old new reply Done h =
+    subst (λ (x : Option Delivered). Lives as_reached (coming_of (comes_from_operator []) x) old.equipped new.equipped) (sym h.2) (ap (λ (i : Bare). i.equipped) h.0)
+deck_once (card ∷ cards) old new reply Done h =
+    subst (λ (x : Option Delivered). Lives as_reached (coming_of (comes_from_operator (card ∷ cards)) x) old.equipped new.equipped) (sym h.2) (new.equipped, ap (λ (i : Bare). i.equipped) h.0, refl)
+deck_once cards old new reply (Ran ran) h = absurd h
+deck_once cards old new reply (Served done) h = absurd h
+deck_once cards old new reply FramesOut h = absurd h
+
+once : (old new : Bare) (event : Happening) (reply : Reply) → IsDone old event reply new → Once old event reply new
+once old new (happenings.Run count) reply h = run_once count old new reply reply.ended h
+once old new (happenings.Line typed) reply h = line_once typed.now old new reply reply.ended h
+once old new (happenings.Serve device) reply h = serve_once device old new reply reply.ended h
+once old new happenings.Tick reply h = tick_once old new reply reply.ended h
+once old new (happenings.Deck cards) reply h = deck_once cards.now old new reply reply.ended h
 
 pub each : EachIsLife
-each first last [] h = record { own = []; are_own = refl; lives = ap (λ (i : Bare). i.equipped) h }
+each first last [] h = ap (λ (i : Bare). i.equipped) h
 each first last (step ∷ steps) h =
-    let now : Once first step.event step.left = once first step.left step.event step.reply h.0 in
-    let later : IsLife step.left steps last = each step.left last steps h.1 in
-    record {
-      own = now.0 ++ later.own;
-      are_own = record { now = now.0; later = later.own; is_now = now.1; are_later = later.are_own; together = refl };
-      lives = lives_on now.0 later.own first.equipped step.left.equipped last.equipped now.2 later.lives;
-    }
+    lives_on (happens first step.event ++ coming_of (coming first step.event step.left) step.reply.delivered) (own step.left steps) first.equipped step.left.equipped last.equipped
+    (once first step.left step.event step.reply h.0.does) (each step.left last steps h.1)
 
 -- and so attention agrees
 pub throughout : AttentionAgreesThroughout
 throughout first last steps agrees h =
-    let life : IsLife first steps last = each first last steps h in
-    goes_on_agreeing as_reached life.own first.equipped last.equipped agrees life.lives
+    goes_on_agreeing as_reached (own first steps) first.equipped last.equipped agrees (each first last steps h)

@@ -1,5 +1,5 @@
 //! A machine with its devices, and nobody else.
-ghost use Rattle.std.specs.Prelude.{Err, IsOk, false, map, ◌++◌, ◌≡◌, ◌<◌, ◌≤◌, ◌^◌, [], List, Option, true, IfOk, OnErr, OnOk, length, slice_get};
+ghost use Rattle.std.specs.Prelude.{Err, IsOk, None, false, map, ◌++◌, ◌≡◌, ◌-◌, ◌<◌, ◌≤◌, ◌^◌, [], List, Option, true, IfOk, OnErr, OnOk, length, slice_get};
 ghost use Rattle.std.specs.Option.{option_map};
 ghost use Rattle.s370_store.specs.Plain.{plain_bytes, plain_keys};
 ghost use Rattle.s370_channel.specs.Reading.{as_reached};
@@ -12,20 +12,20 @@ ghost use Rattle.s370_subchannels.specs.declared.subchannel.Subchannel.{Subchann
 ghost use Rattle.cp_devices.specs.Devices.{AreAttached, can_attach, devices_new, no_places, places_of};
 ghost use Rattle.cp_devices.specs.declared.attaching.AttachError.TheVariants as errors;
 ghost use Rattle.cp_devices.specs.Lent.{devices_on};
-ghost use Rattle.cp_devices.specs.Comes.{HasClosed, LineMay, is_sent};
-ghost use Rattle.cp_devices.specs.Lines.{IsIpl, IsLine, IsWholeLine, MayTakeMemory, requested};
+ghost use Rattle.cp_devices.specs.Notes.{next_file};
+ghost use Rattle.cp_devices.specs.Replies.{given};
 ghost use Rattle.cp_devices.specs.Serve.{IsServedAt};
-ghost use Rattle.bare_installation.specs.Bare.{IsTyped, alone, given_back, is_for_user, next_file, noted, printed_file, punched, received, with_deck, world_of};
+ghost use Rattle.bare_installation.specs.Bare.{with_deck};
 ghost use Rattle.bare_installation.specs.Life.{AttentionAgreesThroughout, EachIsLife, IsApplied, LacksMemory, MayLackMemory};
 
-use crate::alone::Alone;
-use crate::events::{Event, Reply};
+use crate::happening::Happening;
 use cp_channels::{AttachedDisk, Own};
 use cp_console::responses::Response;
 use cp_devices::{
-    AttachError, Devices, FileKind, Places, SeenDevices, Told, World, copy_of, is_logged_on,
+    AttachError, Delivered, Delivery, Devices, Ended, FileKind, FileNote, Places, Reply,
+    SeenDevices, Told, copy_of,
 };
-use cp_panel::{LineError, Machine, MachineRan, Mode};
+use cp_panel::{Machine, MachineRan, Mode};
 use cp_spool::Queues;
 use cp_users::UserNo;
 use s370_channel::ChannelError;
@@ -36,7 +36,7 @@ use s370_store::{PlainStorage, Supply};
 use s370_subchannels::{Subchannel, Subchannels};
 use std::alloc::{AllocError, Global};
 use std::marker::Model;
-use unit_record::{Card, Sender, Target};
+use unit_record::{Card, Sender};
 
 /// One System/370 with its panel, its own storage and its devices. Its user is `BARE`.
 #[derive(Drop)]
@@ -44,9 +44,9 @@ pub struct Bare {
     pub(crate) machine: Machine,
     pub(crate) devices: Devices,
     pub(crate) queues: Queues,
-    channels: Own,
-    storage: PlainStorage,
-    files: Vec<FileKind>,
+    pub(crate) channels: Own,
+    pub(crate) storage: PlainStorage,
+    pub(crate) files: Vec<FileNote>,
 }
 
 impl Model for Bare {
@@ -151,33 +151,74 @@ impl Bare {
         ))
     }
 
-    /// What an event does to the machine, and what is told. Where memory is refused, nothing is said of the machine.
-    pub fn apply(&mut self, alloc: Global, event: Event<'_>) -> Result<Reply, AllocError>
+    /// What an event does to the machine, and what is answered. Where memory is refused, nothing is said of the machine.
+    pub fn apply(&mut self, alloc: Global, event: Happening<'_>) -> Result<Reply, AllocError>
         ensures applied { IfOk result (λ reply. IsApplied self.old event.entry reply self.new) }
         ensures memory { OnErr result (MayLackMemory self.old event.entry) }
     {
+        let printed = self.printed();
         match event {
-            Event::Run(count) => Ok(Reply::Ran(self.units(count))),
-            Event::Line(typed) => match self.line(alloc, typed) {
-                Ok(told) => Ok(Reply::Told(told)),
+            Happening::Run(count) => {
+                let told = self.units(count);
+                Ok(self.reply(printed, Ended::Ran(told.ran), Told::of(told.notice)))
+            }
+            Happening::Line(typed) => self.line(alloc, typed),
+            Happening::Serve(device) => match self.serve(device) {
+                Ok(done) => Ok(self.reply(printed, Ended::Served(done), Told::Silent)),
                 Err(error) => Err(error),
             },
-            Event::Serve(device) => match self.serve(device) {
-                Ok(done) => Ok(Reply::Served(done)),
-                Err(error) => Err(error),
-            },
-            Event::Tick => {
+            Happening::Tick => {
                 self.tick();
-                Ok(Reply::Done)
+                Ok(self.reply(printed, Ended::Done, Told::Silent))
             }
-            Event::Deck(cards) => {
-                if cards.is_empty() {
-                    return Ok(Reply::Done);
-                }
-                self.deck(copy_of(alloc, cards)?)?;
-                Ok(Reply::Done)
-            }
+            Happening::Deck(cards) => self.give(alloc, cards),
         }
+    }
+
+    /// The reply where nothing was delivered, this is said, and the console had printed so many lines before.
+    pub(crate) fn reply(&self, printed: usize, ended: Ended, said: Told) -> Reply
+        ensures { result ≡ record {
+          ended = ended;
+          said = said;
+          lines = length self.now.equipped.machine.output - printed;
+          delivered = None;
+        } }
+    {
+        Reply {
+            ended,
+            said,
+            lines: self.printed().saturating_sub(printed),
+            delivered: None,
+        }
+    }
+
+    /// The operator gives a copy of these cards to the reader; no cards are no deck. Where memory is refused, nothing is
+    /// said of the machine.
+    fn give(&mut self, alloc: Global, cards: &[Card]) -> Result<Reply, AllocError>
+        ensures after { OnOk result (self.new ≡ with_deck cards.now self.old) }
+        ensures reply { IfOk result
+            (λ reply. reply ≡ record {
+              ended = Ended.Done;
+              said = Told.Silent;
+              lines = length self.new.equipped.machine.output - length self.old.equipped.machine.output;
+              delivered = given 0 (next_file self.old.files) cards.now;
+            }) }
+        ensures memory { OnErr result (0 < length cards.now) }
+    {
+        let printed = self.printed();
+        let number = self.next_file();
+        if cards.is_empty() {
+            return Ok(self.reply(printed, Ended::Done, Told::Silent));
+        }
+        self.deck(copy_of(alloc, cards)?)?;
+        let reply = self.reply(printed, Ended::Done, Told::Silent);
+        Ok(Reply {
+            delivered: Some(Delivered {
+                to: UserNo::new(0),
+                what: Delivery::Deck(number),
+            }),
+            ..reply
+        })
     }
 
     /// Lets the machine run for at most so many units. This takes no memory.
@@ -247,200 +288,19 @@ impl Bare {
         let number = self.next_file();
         self.devices
             .deck(&mut self.queues, number, Sender::System, cards)?;
-        self.files.push(FileKind::Deck)?;
+        self.files.push(FileNote {
+            user: UserNo::new(0),
+            kind: FileKind::Deck,
+        })?;
         Ok(())
     }
 
-    /// A line that is typed, and what is told. Memory is refused only where it closes a file, sends a message, resets or
-    /// loads the machine, waits for the console, or is one for which a machine makes room; nothing is said of the machine
-    /// then.
-    pub fn line(&mut self, alloc: Global, typed: &[u8]) -> Result<Told, AllocError>
-        ensures told { IfOk result (λ told. IsTyped typed.now self.old told self.new) }
-        ensures memory { OnErr result (LineMay typed.now self.old.equipped) }
-    {
-        let punched = self.punched();
-        let printed = self.printed_files();
-        let world = self.world();
-        let first = self.answer_whole(alloc, &world, typed)?;
-        let told = self.receive(first)?;
-        self.note(punched, printed)?;
-        Ok(told)
-    }
-
-    /// The small world of its one user.
-    fn world(&self) -> Alone
-        ensures { alone result.on ≡ world_of self.now }
-    {
-        Alone {
-            on: is_logged_on(self.machine.mode()),
-        }
-    }
-
-    /// What a line does in this world, an IPL included.
-    pub(crate) fn answer_whole<W: World>(
-        &mut self,
-        alloc: Global,
-        world: &W,
-        typed: &[u8],
-    ) -> Result<Told, AllocError>
-        ensures line { IfOk result
-            (λ told. IsWholeLine (W.known world.now) typed.now self.old.equipped told self.new.equipped) }
-        ensures files { self.new.files ≡ self.old.files }
-        ensures memory { OnErr result (LineMay typed.now self.old.equipped) }
-    {
-        let first = self.answer(alloc, world, typed)?;
-        match first.loads_from() {
-            Some(device) => self.ipl(device),
-            None => Ok(first),
-        }
-    }
-
-    /// What a line does in this world.
-    fn answer<W: World>(
-        &mut self,
-        alloc: Global,
-        world: &W,
-        typed: &[u8],
-    ) -> Result<Told, AllocError>
-        ensures line { IfOk result
-            (λ told. IsLine (W.known world.now) typed.now self.old.equipped told self.new.equipped) }
-        ensures files { self.new.files ≡ self.old.files }
-        ensures memory { OnErr result (MayTakeMemory (requested typed.now self.old.equipped) typed.now self.old.equipped) }
-    {
-        let told = self.devices.line(
-            alloc,
-            &mut self.queues,
-            &mut self.machine,
-            &mut self.storage,
-            &mut self.channels,
-            world,
-            typed,
-        );
-        match told {
-            Ok(told) => Ok(told),
-            Err(LineError::Memory) => Err(AllocError),
-            // Every page of its storage is present.
-            Err(LineError::FramesOut) => unreachable!(),
-        }
-    }
-
-    /// The machine is loaded from the device of this address.
-    fn ipl(&mut self, device: DevAddr) -> Result<Told, AllocError>
-        ensures loaded { IfOk result (λ told. IsIpl device self.old.equipped told self.new.equipped) }
-        ensures files { self.new.files ≡ self.old.files }
-    {
-        let told = self.devices.ipl(
-            &mut self.queues,
-            &mut self.machine,
-            &mut self.storage,
-            &mut self.channels,
-            device,
-        );
-        match told {
-            Ok(told) => Ok(told),
-            Err(LineError::Memory) => Err(AllocError),
-            // Every page of its storage is present.
-            Err(LineError::FramesOut) => unreachable!(),
-        }
-    }
-
-    /// A message to itself is printed, and a file that was closed has the next number.
-    fn receive(&mut self, told: Told) -> Result<Told, AllocError>
-        ensures told { IfOk result (λ last. last ≡ (received (next_file self.old.files) told self.old.equipped).told) }
-        ensures after { OnOk result
-            (self.new.equipped ≡ (received (next_file self.old.files) told self.old.equipped).equipped) }
-        ensures files { self.new.files ≡ self.old.files }
-        ensures memory { OnErr result (is_sent told ≡ true) }
-    {
-        match told {
-            Told::Sent(_, line) => {
-                self.machine.make_room(1)?;
-                self.machine.print(&Response::Written(line));
-                Ok(Told::Said(Response::Sent))
-            }
-            Told::Closed => Ok(Told::Said(Response::FileClosed(self.next_file()))),
-            other => Ok(other),
-        }
-    }
-
     /// The number of the next file. A list ends before numbers do, so none is used again.
-    fn next_file(&self) -> u64
+    pub(crate) fn next_file(&self) -> u64
         ensures value { result ≡ next_file self.now.files }
         ensures fits { result ≤ 2 ^ 63 }
     {
         self.files.len() as u64 + 1
-    }
-
-    /// Each file that was closed, of so many punched and printed ones before, gets its number.
-    fn note(&mut self, punched_before: usize, printed_before: usize) -> Result<(), AllocError>
-        ensures after { OnOk result (self.new ≡ noted punched_before printed_before self.old) }
-        ensures memory { OnErr result (HasClosed punched_before printed_before self.old.equipped) }
-    {
-        let has_printed = self.printed_files() > printed_before;
-        if self.punched() > punched_before {
-            self.note_punched(punched_before)?;
-        }
-        if has_printed {
-            self.files.push(FileKind::Printer)?;
-        }
-        Ok(())
-    }
-
-    /// The punched file of this index gets its number, and goes where it is for.
-    fn note_punched(&mut self, index: usize) -> Result<(), AllocError>
-        requires { index < length self.old.equipped.devices.punched }
-        ensures { OnOk result (self.new ≡ punched true index self.old) }
-    {
-        if self.is_for_user(index) {
-            self.deliver(index)?;
-        }
-        self.files.push(FileKind::Punch)?;
-        Ok(())
-    }
-
-    /// Whether the punched file of this index is for a user.
-    fn is_for_user(&self, index: usize) -> bool
-        ensures { result ≡ is_for_user (slice_get self.now.equipped.devices.punched index) }
-    {
-        match self.queues.punched(self.devices.user(), index) {
-            Some(file) => match file.target() {
-                Target::User(_) => true,
-                Target::System => false,
-            },
-            None => false,
-        }
-    }
-
-    /// The punched file of this index comes to the reader, as a deck with the next number.
-    fn deliver(&mut self, index: usize) -> Result<(), AllocError>
-        requires { index < length self.old.equipped.devices.punched }
-        ensures equipped { OnOk result (self.new.equipped
-            ≡ given_back index (next_file self.old.files) self.old.equipped) }
-        ensures files { self.new.files ≡ self.old.files }
-    {
-        let number = self.next_file();
-        let user = self.devices.user();
-        match self
-            .queues
-            .deliver(user, index, user, number, Sender::User(0))
-        {
-            Ok(()) => Ok(()),
-            Err(_) => Err(AllocError),
-        }
-    }
-
-    /// How many files the punch closed.
-    fn punched(&self) -> usize
-        ensures { result ≡ length self.now.equipped.devices.punched }
-    {
-        self.queues.punched_count(self.devices.user())
-    }
-
-    /// How many files the printer closed.
-    fn printed_files(&self) -> usize
-        ensures { result ≡ length self.now.equipped.devices.printed }
-    {
-        self.queues.printed_count(self.devices.user())
     }
 
     /// The general registers.
@@ -533,8 +393,8 @@ impl Bare {
         self.channels.disks()
     }
 
-    /// What each file was so far: the one with number 1 stands first.
-    pub fn files(&self) -> &[FileKind]
+    /// What each file was so far: the one with number 1 stands first. All are those of user 0.
+    pub fn files(&self) -> &[FileNote]
         ensures { result.now ≡ self.now.files }
     {
         self.files.as_slice()

@@ -6,7 +6,8 @@ use Rattle.s370_channel.specs.Reading.{Reading, as_reached}
 use Rattle.unit_record.specs.Output.{FileValue}
 use Rattle.cp_devices.specs.Equipped.{Equipped}
 use Rattle.cp_devices.specs.Life.{Event as Local, Leaves, Lives}
-use Rattle.cp_core.specs.Come.{HasCome, comes_by_line}
+use Rattle.cp_core.specs.Come.{HasCome}
+use Rattle.cp_devices.specs.Coming.{comes_by_line}
 use Rattle.cp_core.specs.Local.{Step, comes_to, coming}
 use Rattle.cp_core.specs.System.{SystemView, nobody, user_at}
 use Rattle.cp_devices.specs.declared.reply.Delivered.{Delivered}

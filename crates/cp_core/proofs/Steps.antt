@@ -30,8 +30,9 @@ use Rattle.cp_devices.specs.Life.{Event as Local, Units, Serve as Serves, Line a
 use Rattle.cp_devices.specs.Lines.{requested, said}
 use Rattle.cp_spool.specs.Queues.{cards_of}
 use Rattle.cp_devices.specs.Comes.{NeedsMemory, closes, is_cut, is_ipl}
-use Rattle.cp_core.specs.Come.{HasCome, comes_by_line, comes_from_operator}
-use Rattle.cp_core.specs.Files.{closed_by, closed_since, next_file, note_where}
+use Rattle.cp_core.specs.Come.{HasCome}
+use Rattle.cp_devices.specs.Coming.{comes_by_line, comes_from_operator}
+use Rattle.cp_devices.specs.Notes.{closed_by, closed_since, next_file, note_where}
 use Rattle.cp_core.specs.Histories.{IsStep}
 use Rattle.cp_core.specs.Local.{Step, coming, run_of, units_of}
 use Rattle.cp_core.specs.Memory.{IsCutShort}
@@ -39,7 +40,9 @@ use Rattle.cp_devices.specs.declared.request.Request.{Request}
 use Rattle.cp_devices.specs.Replies.{silent}
 use Rattle.cp_core.specs.Supply.{IsGivenBack}
 use Rattle.cp_core.specs.System.{SystemView, machine_at, nobody, user_at, world_of}
-use Rattle.cp_core.specs.Told.{deck_noted, delivered_by, given, said_to_line, with_delivered}
+use Rattle.cp_devices.specs.Notes.{deck_noted}
+use Rattle.cp_devices.specs.Replies.{delivered_by, given, said_to_line}
+use Rattle.cp_core.specs.Told.{with_delivered}
 use Rattle.cp_core.specs.Work.{HasRun, HasServed, HasTicked, HasTyped}
 use Rattle.cp_devices.specs.declared.reply.Delivered.{Delivered}
 use Rattle.cp_devices.specs.declared.reply.Delivery.{Delivery}
@@ -373,7 +376,7 @@ no_deck old user cards rest none = record {
   };
 }
 
-some_given : (user : ℕ) (files : List FileNote) (cards : List (List ℕ)) → (cards ≡ [] → ⊥) → given user files cards ≡ Some (record { to = user; what = deliveries.Deck (next_file files) })
+some_given : (user : ℕ) (files : List FileNote) (cards : List (List ℕ)) → (cards ≡ [] → ⊥) → given user (next_file files) cards ≡ Some (record { to = user; what = deliveries.Deck (next_file files) })
 some_given user files [] some = absurd (some refl)
 some_given user files (card ∷ cards) some = refl
 

@@ -1,5 +1,4 @@
 pub mod Events
-pub mod Files
 pub mod UserMachines
 pub mod System
 pub mod Stated

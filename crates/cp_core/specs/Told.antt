@@ -1,29 +1,22 @@
 -- What is told to an event, and what becomes of the files and deliveries of all users.
-use Rattle.std.specs.Prelude.{◌≡◌, ℕ, ◌-◌, nat_lt, if◌then◌else◌, Bool, true, false, List, [], ◌∷◌, ◌++◌, length, slice_get, slice_index_or, slice_set, Option, Some, None}
+use Rattle.std.specs.Prelude.{◌≡◌, ℕ, ◌-◌, List, [], ◌∷◌, ◌++◌, length, slice_set, Option, Some, None}
 use Rattle.s370_channel.specs.Reading.{as_reached}
 use Rattle.s370_intr.specs.Run.{IsLacking}
-use Rattle.unit_record.specs.declared.output.Target.{Target}
-use Rattle.unit_record.specs.declared.output.Target.TheVariants as targets
-use Rattle.unit_record.specs.Output.{FileValue}
-use Rattle.cp_console.specs.declared.responses.Response.TheVariants as responses
 use Rattle.cp_dat.specs.Supplied.{HasNoRoom}
 use Rattle.cp_panel.specs.Run.{TellsRun, notice_of}
 use Rattle.cp_panel.specs.Tick.{TickNeeds}
-use Rattle.cp_devices.specs.declared.files.FileKind.TheVariants as kinds
-use Rattle.cp_devices.specs.declared.line.Told.{Told}
-use Rattle.cp_devices.specs.declared.line.Told.TheVariants.{Silent, Said, Files, Sent, Loads, Closed}
-use Rattle.cp_devices.specs.Equipped.{Equipped}
-use Rattle.cp_devices.specs.Lines.{IsWholeLine, said}
+use Rattle.cp_devices.specs.declared.line.Told.TheVariants.{Silent}
+use Rattle.cp_devices.specs.Lines.{said}
 use Rattle.cp_devices.specs.Serve.{IsServedAt}
 use Rattle.cp_core.specs.Events.{user_of}
-use Rattle.cp_core.specs.Files.{closed_by, next_file}
+use Rattle.cp_devices.specs.Notes.{closed_by, deck_noted, next_file}
+use Rattle.cp_devices.specs.Replies.{IsLineTold, given}
 use Rattle.cp_core.specs.Local.{Step}
 use Rattle.cp_core.specs.Supply.{IsShort}
 use Rattle.cp_core.specs.Wants.{DeviceNeeds, LineWants}
 use Rattle.cp_core.specs.System.{SystemView, deliveries_at, machine_at, user_at, world_of}
 use Rattle.cp_devices.specs.declared.reply.Delivered.{Delivered}
 use Rattle.cp_devices.specs.declared.reply.Delivery.{Delivery}
-use Rattle.cp_devices.specs.declared.reply.Delivery.TheVariants as deliveries
 use Rattle.cp_devices.specs.declared.reply.Ended.{Ended}
 use Rattle.cp_devices.specs.declared.reply.Ended.TheVariants.{Ran, Served, Done, FramesOut}
 use Rattle.cp_core.specs.declared.events.Event.{Event}
@@ -62,61 +55,10 @@ TellsOfTick user old reply (Served done) new = ⊥
 
 -- ---- a line
 
--- a message is sent to its receiver, and a file that was closed has this number; that a machine is loaded is told by what the
--- loading tells
-abbrev pub said_to_line : ℕ → Told → Told
-said_to_line number Silent = Silent
-said_to_line number (Said response) = Said response
-said_to_line number Files = Files
-said_to_line number (Sent user line) = Said responses.Sent
-said_to_line number (Loads device) = Loads device
-said_to_line number Closed = Said (responses.FileClosed number)
-
--- what is for a user of whom there are fewer comes to nobody
-abbrev pub delivery_to : ℕ → ℕ → Delivery → Option Delivered
-delivery_to users user what = if nat_lt user users then Some (record { to = user; what = what }) else None
-
--- a file that is for a user comes to his reader, as a deck with this number
-abbrev pub deck_for : ℕ → ℕ → Target → Option Delivered
-deck_for users number targets.System = None
-deck_for users number (targets.User user) = delivery_to users user (deliveries.Deck number)
-
-abbrev pub deck_of : ℕ → ℕ → Option FileValue → Option Delivered
-deck_of users number None = None
-deck_of users number (Some file) = deck_for users number file.target
-
--- the user for whom a file is, if it is for one
-abbrev pub user_in : Target → Option ℕ
-user_in targets.System = None
-user_in (targets.User user) = Some user
-
-abbrev pub receiver_of : Option FileValue → Option ℕ
-receiver_of None = None
-receiver_of (Some file) = user_in file.target
-
--- the punch's file of this index, where there is one
-abbrev pub punched : ℕ → ℕ → ℕ → Equipped → Option Delivered
-punched users number index answered = deck_of users number (slice_get answered.devices.punched index)
-
--- what a line delivers: the message that it sends, or the file that the punch closed, which is the first after those of before
-abbrev pub delivered_by : ℕ → ℕ → ℕ → Told → Equipped → Option Delivered
-delivered_by users number before (Sent user line) answered = delivery_to users user (deliveries.Message line)
-delivered_by users number before Silent answered = punched users number before answered
-delivered_by users number before (Said response) answered = punched users number before answered
-delivered_by users number before Files answered = punched users number before answered
-delivered_by users number before (Loads device) answered = punched users number before answered
-delivered_by users number before Closed answered = punched users number before answered
-
 -- the user's machine answers as a machine with devices does in his world
-pub record IsLineTold (user : ℕ) (typed : List ℕ) (old : SystemView) (reply : Reply) : Type 0 where
-  pub told : Told
-  pub answered : Equipped
-  pub line : IsWholeLine (world_of old user) typed (user_at old user) told answered
-  pub said : reply.said ≡ said_to_line (next_file old.files) told
-  pub delivered : reply.delivered ≡ delivered_by (length old.users) (next_file old.files) (length (user_at old user).devices.punched) told answered
-
 abbrev pub TellsOfLine : ℕ → List ℕ → SystemView → Reply → Ended → SystemView → Type 0
-TellsOfLine user typed old reply Done new = IsLineTold user typed old reply
+TellsOfLine user typed old reply Done new =
+    IsLineTold (world_of old user) (length old.users) (next_file old.files) typed (user_at old user) reply
 TellsOfLine user typed old reply FramesOut new =
     let needs = LineWants typed (user_at old user) in
     IsOut needs (length (machine_at old user).core.processor.bytes) old reply new (IsShort new.supply user needs)
@@ -125,12 +67,8 @@ TellsOfLine user typed old reply (Served done) new = ⊥
 
 -- ---- a deck of the operator
 
-abbrev pub given : ℕ → List FileNote → List (List ℕ) → Option Delivered
-given user files [] = None
-given user files (card ∷ cards) = Some (record { to = user; what = deliveries.Deck (next_file files) })
-
 abbrev pub TellsOfDeck : ℕ → List (List ℕ) → SystemView → Reply → Ended → Type 0
-TellsOfDeck user cards old reply Done = (reply.said ≡ Silent) × (reply.delivered ≡ given user old.files cards)
+TellsOfDeck user cards old reply Done = (reply.said ≡ Silent) × (reply.delivered ≡ given user (next_file old.files) cards)
 TellsOfDeck user cards old reply FramesOut = ⊥
 TellsOfDeck user cards old reply (Ran ran) = ⊥
 TellsOfDeck user cards old reply (Served done) = ⊥
@@ -148,11 +86,6 @@ TellsOfServe user device old reply Done new = ⊥
 TellsOfServe user device old reply (Ran ran) new = ⊥
 
 -- ---- files and deliveries
-
--- no cards are no deck
-abbrev pub deck_noted : ℕ → List (List ℕ) → List FileNote
-deck_noted user [] = []
-deck_noted user (card ∷ cards) = record { user = user; kind = kinds.Deck } ∷ []
 
 -- the files that get numbers by an event
 abbrev pub noted_by : Event → SystemView → SystemView → List FileNote

@@ -4,14 +4,16 @@ ghost use Rattle.cp_dat.specs.Supplied.{IsBetweenUnits};
 ghost use Rattle.cp_devices.specs.World.{is_logged_on};
 ghost use Rattle.cp_core.specs.declared.events.Event.TheVariants as happening;
 ghost use Rattle.cp_devices.specs.Comes.{HasClosed, NeedsMemory};
-ghost use Rattle.cp_core.specs.Come.{HasCome, comes_by_line, comes_from_operator};
-ghost use Rattle.cp_core.specs.Files.{closed_since, next_file};
+ghost use Rattle.cp_core.specs.Come.{HasCome};
+ghost use Rattle.cp_devices.specs.Coming.{comes_by_line, comes_from_operator};
+ghost use Rattle.cp_devices.specs.Notes.{closed_since, next_file};
 ghost use Rattle.cp_core.specs.Histories.{IsStep};
 ghost use Rattle.cp_core.specs.Memory.{IsCutShort};
 ghost use Rattle.cp_core.specs.Parcels.{IsThere, contents, note_of};
 ghost use Rattle.cp_volumes.specs.Shared.{IsConfined};
 ghost use Rattle.cp_core.specs.System.{SystemView, logged_on_of, stands_at, user_at, world_of};
-ghost use Rattle.cp_core.specs.Told.{receiver_of, delivered_by, delivery_to, punched, said_to_line, with_delivered};
+ghost use Rattle.cp_devices.specs.Replies.{receiver_of, delivered_by, delivery_to, punched, said_to_line};
+ghost use Rattle.cp_core.specs.Told.{with_delivered};
 ghost use Rattle.cp_core.specs.Work.{HasTyped};
 
 use crate::delivery::Parcel;
@@ -19,8 +21,9 @@ use crate::system::System;
 use crate::user_machine::UserMachine;
 use crate::work::Line;
 use arrayvec::ArrayVec;
-use cp_console::responses::Response;
-use cp_devices::{Delivered, Delivery, Ended, FileKind, Reply, Told, copy_of, is_logged_on};
+use cp_devices::{
+    Delivered, Delivery, Ended, FileKind, Reply, Told, copy_of, is_logged_on, said_to_line,
+};
 use cp_panel::LineError;
 use cp_users::UserNo;
 use std::alloc::AllocError;
@@ -31,17 +34,6 @@ use unit_record::{Card, Target};
 struct Closed {
     punched: usize,
     printed: usize,
-}
-
-/// What is said to a line that was answered so, where the next file has this number.
-fn said_to_line(number: u64, told: &Told) -> Told
-    ensures { result ≡ said_to_line number told.now }
-{
-    match told {
-        Told::Sent(_, _) => Told::Said(Response::Sent),
-        Told::Closed => Told::Said(Response::FileClosed(number)),
-        Told::Silent | Told::Said(_) | Told::Files | Told::Loads(_) => *told,
-    }
 }
 
 /// Of each of these users, whether he is logged on.

@@ -5,7 +5,7 @@ ghost use Rattle.cp_dat.specs.Supplied.{IsBetweenUnits};
 ghost use Rattle.cp_devices.specs.Life.{Leaves};
 ghost use Rattle.cp_devices.specs.declared.reply.Ended.TheVariants.{Done};
 ghost use Rattle.cp_core.specs.Events.{IsNoRun, user_of};
-ghost use Rattle.cp_core.specs.Files.{next_file};
+ghost use Rattle.cp_devices.specs.Notes.{next_file};
 ghost use Rattle.cp_core.specs.Histories.{EachIsBare, IsStep};
 ghost use Rattle.cp_core.specs.Local.{IsApplied};
 ghost use Rattle.cp_core.specs.Memory.{IsCutShort, MayTakeMemory, is_cut_short};

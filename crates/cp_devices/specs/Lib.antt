@@ -14,3 +14,5 @@ pub mod Attention
 pub mod Files
 pub mod Lent
 pub mod Replies
+pub mod Notes
+pub mod Coming

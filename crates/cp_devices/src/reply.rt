@@ -1,9 +1,10 @@
 //! What a machine of one user, or the system of many, answers to an event.
 ghost use Rattle.std.specs.Prelude.{◌≡◌};
-ghost use Rattle.cp_devices.specs.Replies.{silent};
+ghost use Rattle.cp_devices.specs.Replies.{said_to_line, silent};
 
 use crate::line::Told;
 use cp_console::console_line::ConsoleLine;
+use cp_console::responses::Response;
 use cp_users::UserNo;
 use s370_intr::Ran;
 
@@ -64,4 +65,15 @@ pub struct Delivered {
     pub to: UserNo,
     /// What he gets.
     pub what: Delivery,
+}
+
+/// What is said to a line that was answered so, where the next file has this number.
+pub fn said_to_line(number: u64, told: &Told) -> Told
+    ensures { result ≡ said_to_line number told.now }
+{
+    match told {
+        Told::Sent(_, _) => Told::Said(Response::Sent),
+        Told::Closed => Told::Said(Response::FileClosed(number)),
+        Told::Silent | Told::Said(_) | Told::Files | Told::Loads(_) => *told,
+    }
 }

@@ -2,7 +2,7 @@ use Rattle.std.proofs.Common.{◌∙◌, Err, ap, arith, subst, sym, ℕ}
 use Rattle.cp_panel.specs.declared.line.LineError.{LineError}
 use Rattle.cp_core.specs.Histories.{IsStep}
 use Rattle.cp_core.specs.System.{user_at, world_of}
-use Rattle.cp_core.specs.Told.{said_to_line}
+use Rattle.cp_devices.specs.Replies.{said_to_line}
 use Rattle.cp_core.specs.Work.{HasTyped}
 use Rattle.cp_core.specs.declared.events.Event.TheVariants.{Line}
 use Rattle.cp_devices.specs.declared.reply.Reply.{Reply}

@@ -1,9 +1,9 @@
--- The files of all users: the first has number 1, and each the number after the last.
+-- The files of all users, by number: the first has number 1, and each the number after the last.
 use Rattle.std.specs.Prelude.{ℕ, ◌+◌, Bool, true, false, nat_lt, List, [], ◌∷◌, ◌++◌, length}
 use Rattle.cp_devices.specs.declared.files.FileKind.{FileKind}
 use Rattle.cp_devices.specs.declared.files.FileKind.TheVariants as kinds
-use Rattle.cp_devices.specs.Equipped.{Equipped}
 use Rattle.cp_devices.specs.declared.files.FileNote.{FileNote}
+use Rattle.cp_devices.specs.Equipped.{Equipped}
 
 -- the number of the next file
 abbrev pub next_file : List FileNote → ℕ
@@ -21,3 +21,8 @@ closed_since user punched printed new =
 
 abbrev pub closed_by : ℕ → Equipped → Equipped → List FileNote
 closed_by user old new = closed_since user (length old.devices.punched) (length old.devices.printed) new
+
+-- a deck of the operator; no cards are no deck
+abbrev pub deck_noted : ℕ → List (List ℕ) → List FileNote
+deck_noted user [] = []
+deck_noted user (card ∷ cards) = record { user = user; kind = kinds.Deck } ∷ []

@@ -1,0 +1,13 @@
+use Rattle.std.proofs.Common.{◌≡◌, IfOk, Option, ap, subst}
+use Rattle.s370_channel.specs.Reading.{as_reached}
+use Rattle.cp_devices.specs.declared.reply.Delivered.{Delivered}
+use Rattle.cp_devices.specs.Coming.{comes_by_line, coming_of}
+use Rattle.cp_devices.specs.Equipped.{Equipped}
+use Rattle.cp_devices.specs.Life.{Lives}
+use Rattle.bare_installation.specs.Bare.{Bare}
+use Rattle.bare_installation.proofs.bare.Bare.follow.Goals as goal
+
+pub returns-in-Sent-clause-come : goal.returns-in-Sent-clause-come
+returns-in-Sent-clause-come c =
+    let same : c.note_closed.new.self.equipped ≡ c.args.self.now.equipped = ap (λ (b : Bare). b.equipped) c.in_ok-note_closed.ensures.ok in
+    subst (λ (e : Equipped). IfOk c.send.result (λ (d : Option Delivered). Lives as_reached (coming_of (comes_by_line 0 c.args.punch_files e) d) e c.send.new.self.equipped)) same (c.send.ensures.come c.args.punch_files)

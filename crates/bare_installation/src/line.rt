@@ -1,0 +1,273 @@
+//! A line that is typed, and what comes of it.
+ghost use Rattle.std.specs.Prelude.{◌++◌, ◌∷◌, [], ◌≡◌, ◌<◌, ◌-◌, ℕ, IfOk, OnErr, OnOk, length, slice_get};
+ghost use Rattle.s370_channel.specs.Reading.{as_reached};
+ghost use Rattle.cp_devices.specs.Comes.{HasClosed, LineMay, NeedsMemory};
+ghost use Rattle.cp_devices.specs.Coming.{comes_by_line, coming_of};
+ghost use Rattle.cp_devices.specs.Life.{Leaves, Lives};
+ghost use Rattle.cp_devices.specs.Lines.{IsIpl, IsLine, IsWholeLine, MayTakeMemory, requested};
+ghost use Rattle.cp_devices.specs.Notes.{closed_since, next_file};
+ghost use Rattle.cp_devices.specs.Replies.{delivered_by, delivery_to, punched, receiver_of};
+ghost use Rattle.bare_installation.specs.Bare.{IsTyped, alone, world_of};
+
+use crate::alone::Alone;
+use crate::bare::Bare;
+use cp_console::console_line::ConsoleLine;
+use cp_devices::{
+    Delivered, Delivery, Ended, FileKind, FileNote, Reply, Told, World, is_logged_on, said_to_line,
+};
+use cp_panel::LineError;
+use cp_users::UserNo;
+use s370_num::DevAddr;
+use std::alloc::{AllocError, Global};
+use unit_record::{Sender, Target};
+
+/// How many users its world has.
+const USERS: u8 = 1;
+
+impl Bare {
+    /// A line that is typed, and what is answered. Memory is refused only where it closes a file, sends a message, resets
+    /// or loads the machine, waits for the console, or is one for which a machine makes room; nothing is said of the
+    /// machine then.
+    pub fn line(&mut self, alloc: Global, typed: &[u8]) -> Result<Reply, AllocError>
+        ensures ended { IfOk result (λ reply. reply.ended ≡ Ended.Done) }
+        ensures typed { IfOk result (λ reply. IsTyped typed.now self.old reply self.new) }
+        ensures lines { IfOk result
+            (λ reply. reply.lines
+            ≡ length self.new.equipped.machine.output - length self.old.equipped.machine.output) }
+        ensures memory { OnErr result (LineMay typed.now self.old.equipped) }
+    {
+        let printed = self.printed();
+        let punch_files = self.punched();
+        let printer_files = self.printed_files();
+        let number = self.next_file();
+        let world = self.world();
+        let told = self.answer_whole(alloc, &world, typed)?;
+        let delivered = self.follow(punch_files, printer_files, &told)?;
+        Ok(Reply {
+            ended: Ended::Done,
+            said: said_to_line(number, &told),
+            lines: self.printed().saturating_sub(printed),
+            delivered,
+        })
+    }
+
+    /// The small world of its one user.
+    fn world(&self) -> Alone
+        ensures { alone result.on ≡ world_of self.now }
+    {
+        Alone {
+            on: is_logged_on(self.machine.mode()),
+        }
+    }
+
+    /// What a line does in this world, an IPL included.
+    pub(crate) fn answer_whole<W: World>(
+        &mut self,
+        alloc: Global,
+        world: &W,
+        typed: &[u8],
+    ) -> Result<Told, AllocError>
+        ensures line { IfOk result
+            (λ told. IsWholeLine (W.known world.now) typed.now self.old.equipped told self.new.equipped) }
+        ensures files { self.new.files ≡ self.old.files }
+        ensures memory { OnErr result (LineMay typed.now self.old.equipped) }
+    {
+        let first = self.answer(alloc, world, typed)?;
+        match first.loads_from() {
+            Some(device) => self.ipl(device),
+            None => Ok(first),
+        }
+    }
+
+    /// What a line does in this world.
+    fn answer<W: World>(
+        &mut self,
+        alloc: Global,
+        world: &W,
+        typed: &[u8],
+    ) -> Result<Told, AllocError>
+        ensures line { IfOk result
+            (λ told. IsLine (W.known world.now) typed.now self.old.equipped told self.new.equipped) }
+        ensures files { self.new.files ≡ self.old.files }
+        ensures memory { OnErr result (MayTakeMemory (requested typed.now self.old.equipped) typed.now self.old.equipped) }
+    {
+        let told = self.devices.line(
+            alloc,
+            &mut self.queues,
+            &mut self.machine,
+            &mut self.storage,
+            &mut self.channels,
+            world,
+            typed,
+        );
+        match told {
+            Ok(told) => Ok(told),
+            Err(LineError::Memory) => Err(AllocError),
+            // Every page of its storage is present.
+            Err(LineError::FramesOut) => unreachable!(),
+        }
+    }
+
+    /// The machine is loaded from the device of this address.
+    fn ipl(&mut self, device: DevAddr) -> Result<Told, AllocError>
+        ensures loaded { IfOk result (λ told. IsIpl device self.old.equipped told self.new.equipped) }
+        ensures files { self.new.files ≡ self.old.files }
+    {
+        let told = self.devices.ipl(
+            &mut self.queues,
+            &mut self.machine,
+            &mut self.storage,
+            &mut self.channels,
+            device,
+        );
+        match told {
+            Ok(told) => Ok(told),
+            Err(LineError::Memory) => Err(AllocError),
+            // Every page of its storage is present.
+            Err(LineError::FramesOut) => unreachable!(),
+        }
+    }
+
+    /// What a line that was answered so, where the punch and the printer had closed so many files before, brings about:
+    /// each file that it closed has the next number, and the deck or the message that is for its user comes.
+    fn follow(
+        &mut self,
+        punch_files: usize,
+        printer_files: usize,
+        told: &Told,
+    ) -> Result<Option<Delivered>, AllocError>
+        ensures delivered { IfOk result
+            (λ delivered. delivered
+            ≡ delivered_by 1 (next_file self.old.files) punch_files told.now self.old.equipped) }
+        ensures come { IfOk result
+            (λ delivered. Lives as_reached (coming_of (comes_by_line 0 punch_files self.old.equipped) delivered)
+            self.old.equipped self.new.equipped) }
+        ensures files { OnOk result (self.new.files
+            ≡ self.old.files ++ closed_since 0 punch_files printer_files self.old.equipped) }
+        ensures memory { OnErr result (NeedsMemory punch_files printer_files told.now self.old.equipped) }
+    {
+        let number = self.next_file();
+        self.note_closed(punch_files, printer_files)?;
+        match told {
+            Told::Sent(to, line) => self.send(*to, *line),
+            _ => self.deliver_punched(punch_files, number),
+        }
+    }
+
+    /// Each file that was closed, of so many punched and printed ones before, has the next number, the punched one first.
+    fn note_closed(&mut self, punch_files: usize, printer_files: usize) -> Result<(), AllocError>
+        ensures ok { OnOk result (self.new ≡ record self.old {
+          files = self.old.files ++ closed_since 0 punch_files printer_files self.old.equipped;
+        }) }
+        ensures memory { OnErr result (HasClosed punch_files printer_files self.old.equipped) }
+    {
+        if self.punched() > punch_files {
+            self.note(FileKind::Punch)?;
+        }
+        if self.printed_files() > printer_files {
+            self.note(FileKind::Printer)?;
+        }
+        Ok(())
+    }
+
+    /// The next file is one of this kind.
+    fn note(&mut self, kind: FileKind) -> Result<(), AllocError>
+        ensures { OnOk result (self.new ≡ record self.old {
+          files = self.old.files ++ record { user = 0; kind = kind } ∷ [];
+        }) }
+    {
+        self.files.push(FileNote {
+            user: UserNo::new(0),
+            kind,
+        })?;
+        Ok(())
+    }
+
+    /// A message comes to the user of this number, where it is the one that is there.
+    fn send(&mut self, to: u8, line: ConsoleLine) -> Result<Option<Delivered>, AllocError>
+        ensures delivered { IfOk result (λ delivered. delivered ≡ delivery_to 1 to (Delivery.Message line)) }
+        ensures come { (index : ℕ) → IfOk result
+            (λ delivered. Lives as_reached (coming_of (comes_by_line 0 index self.old.equipped) delivered)
+            self.old.equipped self.new.equipped) }
+        ensures files { self.new.files ≡ self.old.files }
+    {
+        if to >= USERS {
+            return Ok(None);
+        }
+        self.hear(line)?;
+        Ok(Some(Delivered {
+            to: UserNo::new(to),
+            what: Delivery::Message(line),
+        }))
+    }
+
+    /// The punch's closed file of this index comes to the reader as a deck with this number, where it is there and for
+    /// the user who is.
+    fn deliver_punched(
+        &mut self,
+        index: usize,
+        number: u64,
+    ) -> Result<Option<Delivered>, AllocError>
+        ensures delivered { IfOk result (λ delivered. delivered ≡ punched 1 number index self.old.equipped) }
+        ensures come { IfOk result
+            (λ delivered. Lives as_reached (coming_of (comes_by_line 0 index self.old.equipped) delivered)
+            self.old.equipped self.new.equipped) }
+        ensures files { self.new.files ≡ self.old.files }
+        ensures memory { OnErr result (index < length self.old.equipped.devices.punched) }
+    {
+        match self.receiver_of(index) {
+            Some(to) if to < USERS => {
+                self.deliver(index, number)?;
+                Ok(Some(Delivered {
+                    to: UserNo::new(to),
+                    what: Delivery::Deck(number),
+                }))
+            }
+            _ => Ok(None),
+        }
+    }
+
+    /// For which user the punch's closed file of this index is, if it is there and for one.
+    fn receiver_of(&self, index: usize) -> Option<u8>
+        ensures { result ≡ receiver_of (slice_get self.now.equipped.devices.punched index) }
+    {
+        match self.queues.punched(self.devices.user(), index) {
+            Some(file) => match file.target() {
+                Target::User(to) => Some(to),
+                Target::System => None,
+            },
+            None => None,
+        }
+    }
+
+    /// The punched file of this index comes to the reader, as a deck with this number.
+    fn deliver(&mut self, index: usize, number: u64) -> Result<(), AllocError>
+        requires { index < length self.old.equipped.devices.punched }
+        ensures equipped { OnOk result (Leaves as_reached
+            (comes_by_line 0 index self.old.equipped (Delivery.Deck number)) self.old.equipped self.new.equipped) }
+        ensures files { self.new.files ≡ self.old.files }
+    {
+        let user = self.devices.user();
+        match self
+            .queues
+            .deliver(user, index, user, number, Sender::User(0))
+        {
+            Ok(()) => Ok(()),
+            Err(_) => Err(AllocError),
+        }
+    }
+
+    /// How many files the punch closed.
+    fn punched(&self) -> usize
+        ensures { result ≡ length self.now.equipped.devices.punched }
+    {
+        self.queues.punched_count(self.devices.user())
+    }
+
+    /// How many files the printer closed.
+    fn printed_files(&self) -> usize
+        ensures { result ≡ length self.now.equipped.devices.printed }
+    {
+        self.queues.printed_count(self.devices.user())
+    }
+}
