@@ -8,9 +8,7 @@ ghost use Rattle.bare370.specs.Options.{storage_named};
 use crate::arguments::{MOST_VOLUMES, storage, storage_in, volumes};
 use clap::{ArgMatches, Command};
 use cp_directory::StorageSize;
-use programs::words::{
-    UsageError, follow, is_given, paths_of, refusal, save, terminals, usage,
-};
+use programs::words::{UsageError, follow, is_given, paths_of, refusal, save, terminals, usage};
 use std::alloc::{AllocError, Global};
 use std::convert::AsStr;
 

@@ -1,5 +1,5 @@
 //! A machine of its own as sessions know it.
-ghost use Rattle.std.specs.Prelude.{◌≡◌, ◌<◌, ◌≤◌, ◌×◌, ◌==◌, IfErr, IfOk, IfSome, length};
+ghost use Rattle.std.specs.Prelude.{◌≡◌, ◌<◌, ◌≤◌, ◌==◌, IfErr, IfOk, IfSome, length};
 ghost use Rattle.std.specs.List.{list_any};
 ghost use Rattle.s370_store.specs.Plain.{plain_bytes};
 ghost use Rattle.cp_script.specs.Script.{Deck, said, user_of_event};
@@ -8,13 +8,13 @@ ghost use Rattle.bare_installation.specs.declared.happening.Happening.{Happening
 ghost use Rattle.bare370.specs.Goes.{IsWhole, addresses_of, as_said, machine_goes};
 
 use bare_installation::{BARE, Bare, Happening};
+use ckd_volume::{Arm, Sense, Unit, Volume};
 use cp_channels::AttachedDisk;
 use cp_console::responses::Response;
 use cp_devices::{AttachError, FileNote, Places, Reply, SeenDevices};
 use cp_panel::Mode;
 use cp_script::ScriptEvent;
 use cp_users::UserNo;
-use ckd_volume::{Arm, Sense, Unit, Volume};
 use s370_num::DevAddr;
 use s370_store::PlainStorage;
 use s370_subchannels::Subchannel;
@@ -209,7 +209,11 @@ fn happening<'a>(event: &ScriptEvent<'a>) -> Happening<'a>
 
 /// A machine that is off, with a storage of so many blocks of 2048 bytes, console, reader, punch and printer, and a
 /// disk for each of these volumes, of which there are at most [`MOST_DISKS`].
-pub fn machine_of(alloc: Global, blocks: u32, volumes: Vec<Volume>) -> Result<OneMachine, AttachError>
+pub fn machine_of(
+    alloc: Global,
+    blocks: u32,
+    volumes: Vec<Volume>,
+) -> Result<OneMachine, AttachError>
     requires least { 4 ≤ blocks }
     requires most { blocks ≤ 2048 }
 {

@@ -10,7 +10,7 @@ mod places;
 mod program;
 
 use crate::program::program;
-use vm370::program::Ended;
+use programs::Ended;
 
 fn main(rt: HostRuntime) -> Ended {
     program(&rt)

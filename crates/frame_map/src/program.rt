@@ -4,13 +4,14 @@
 //! Its words, its refusals and its exit statuses are those of `vm370`; what that would print is not kept.
 use crate::map::frame_map;
 use crate::nowhere::Nowhere;
+use programs::program::{open, words, wrong_use};
+use programs::{Ended, Failure, finish};
 use s370_num::host::{Counted, HostWriter, write_all};
+use sessions::session::session;
 use std::io;
 use std::rt::{Env, Files};
 use vm370::arguments::arguments;
-use vm370::faults::Failure;
-use vm370::program::{Ended, boot, finish, open, save, words, wrong_use};
-use vm370::session::session;
+use vm370::program::{boot, save};
 
 /// The program's name, as it tells it.
 const PROGRAM: &str = "framemap";
@@ -47,15 +48,15 @@ fn run<R: AllocGlobal + Files + Env + Print + Eprint>(rt: &R) -> Result<(), Fail
         Ok(options) => options,
         Err(error) => return Err(wrong_use(rt, &error, USAGE_NOTE)),
     };
-    let mut system = boot(rt, &options)?;
+    let mut machines = boot(rt, &options)?;
     let mut script = open(rt, options.script)?;
-    session(alloc, &mut system, &mut script, &mut Nowhere)?;
-    let map = frame_map(alloc, &system, options.sizes)?;
+    session(alloc, &mut machines, &mut script, &mut Nowhere)?;
+    let map = frame_map(alloc, machines.system(), options.sizes)?;
     let Ok(output) = io::BufWriter::new(alloc, io::writer(rt)) else {
         return Err(Failure::Memory);
     };
     let mut writer = Counted::new(output);
     write_all(&mut writer, &map)?;
     writer.flush()?;
-    save(rt, &system, &options)
+    save(rt, machines.system(), &options)
 }

@@ -4,9 +4,9 @@ use anyhow::Result;
 use ckd_image::ImageError;
 use cp_core::BootError;
 use cp_directory::DirError;
+use programs::{Failure, fault_line, outcome};
 use std::alloc::Global;
 use vm370::boot_faults::boot_failure;
-use vm370::faults::{Failure, fault_line, outcome};
 
 /// Whether a failure has this exit status and this line.
 fn see_told(alloc: Global, failure: Failure, status: u8, line: &str) -> Result<()> {

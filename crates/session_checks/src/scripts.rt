@@ -2,10 +2,10 @@
 //! programs that turns start again are run again as they were kept.
 use crate::events::{booted, see};
 use anyhow::Result;
-use cp_core::System;
 use s370_num::host::Bytes;
+use sessions::session::session;
 use std::alloc::Global;
-use vm370::session::session;
+use vm370::SharedMachines;
 
 /// A user with a console, and one without devices.
 const DIRECTORY: &[u8] = b"USER A PW 8K\nCONSOLE 009 3215\nUSER B PW 8K\n";
@@ -47,24 +47,29 @@ const THIRD: Session = Session {
 };
 
 /// Plays a session over the system.
-fn see_session(alloc: Global, system: &mut System, wanted: &Session) -> Result<()> {
+fn see_session(alloc: Global, machines: &mut SharedMachines, wanted: &Session) -> Result<()> {
     let mut written = Vec::new(alloc);
-    session(alloc, system, &mut Bytes::new(wanted.script), &mut written)?;
+    session(
+        alloc,
+        machines,
+        &mut Bytes::new(wanted.script),
+        &mut written,
+    )?;
     see(
         written.as_slice() == wanted.written,
         "a session writes what its turns bring about",
     )?;
     see(
-        system.reuses() == wanted.reuses,
+        machines.system().reuses() == wanted.reuses,
         "programs that turns start again are kept",
     )
 }
 
 /// Plays the sessions, in a system of their own.
 pub fn look_at_sessions(alloc: Global) -> Result<()> {
-    let mut system = booted(alloc, DIRECTORY)?;
+    let mut machines = SharedMachines::new(booted(alloc, DIRECTORY)?);
     for wanted in [&FIRST, &SECOND, &THIRD] {
-        see_session(alloc, &mut system, wanted)?;
+        see_session(alloc, &mut machines, wanted)?;
     }
     Ok(())
 }
