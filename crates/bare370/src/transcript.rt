@@ -31,7 +31,7 @@ pub(crate) fn print_reply(
 {
     let mut text = Vec::new(alloc);
     print_answer(alloc, &mut text, &machine.devices(), reply)?;
-    print_console(alloc, &mut text, machine, before)?;
+    print_console(&mut text, machine, before)?;
     print_ending(alloc, &mut text, event, reply)?;
     Ok(text)
 }
@@ -142,20 +142,15 @@ fn print_deck(alloc: Global, out: &mut Vec<u8>, deck: &SeenDeck<'_>) -> Result<(
 
 /// Adds the lines that the console has printed since it had printed so many.
 #[tactic(auto, using(vm370::proofs::Written::one_more, vm370::proofs::Written::no_more))]
-fn print_console(
-    alloc: Global,
-    out: &mut Vec<u8>,
-    machine: &Bare,
-    before: usize,
-) -> Result<(), AllocError>
+fn print_console(out: &mut Vec<u8>, machine: &Bare, before: usize) -> Result<(), AllocError>
     ensures { OnOk result (out.new.items
         ≡ out.old.items ++ ended (printed_lines before machine.now.equipped.machine.output)) }
 {
     for line in before..machine.printed() {
-        let Some(response) = machine.console_output(line) else {
+        let Some(text) = machine.console_output(line) else {
             unreachable!();
         };
-        print_response(alloc, out, &response)?;
+        print_line(out, BARE, text)?;
     }
     Ok(())
 }

@@ -38,7 +38,7 @@ pub fn print_reply(
     };
     let mut text = Vec::new(alloc);
     print_said(alloc, &mut text, users, name, &devices, reply.said)?;
-    print_written(alloc, &mut text, system, user, name, reply)?;
+    print_written(&mut text, system, user, name, reply)?;
     print_delivered(&mut text, users, reply.delivered)?;
     print_ending(alloc, &mut text, name, event, reply.ended)?;
     Ok(text)
@@ -90,7 +90,6 @@ fn print_queue<N: Named>(
 
 /// Adds what a program has written at the console of this user while it was served.
 fn print_written(
-    alloc: Global,
     out: &mut Vec<u8>,
     system: &System,
     user: UserNo,
@@ -102,7 +101,7 @@ fn print_written(
         ++ ended (written_lines name.now reply.now.lines (machine_at system.now user).output reply.now.ended)) }
 {
     match reply.ended {
-        Ended::Served(_) => print_last(alloc, out, system, user, name, reply.lines),
+        Ended::Served(_) => print_last(out, system, user, name, reply.lines),
         Ended::Ran(_) | Ended::Done | Ended::FramesOut => Ok(()),
     }
 }
@@ -110,7 +109,6 @@ fn print_written(
 /// Adds the last so many lines that the console of this user has printed.
 #[tactic(auto, using(crate::proofs::Written::one_more, crate::proofs::Written::no_more))]
 fn print_last(
-    alloc: Global,
     out: &mut Vec<u8>,
     system: &System,
     user: UserNo,
@@ -125,11 +123,10 @@ fn print_last(
         unreachable!();
     };
     for index in printed.saturating_sub(count)..printed {
-        let Some(response) = system.console_output(user, index) else {
+        let Some(line) = system.console_output(user, index) else {
             unreachable!();
         };
-        let line = printing::reply(alloc, &response)?;
-        print_line(out, name, &line)?;
+        print_line(out, name, line)?;
     }
     Ok(())
 }
