@@ -1,5 +1,8 @@
-# What the commands share that build a program of the repository and run it: the judging of their words and files, the build,
-# and what is told of a fault. Sourced behind bin/lib/common.sh.
+# What the commands share that run a program of the repository: the judging of their words and files, the run, and what is told of a
+# fault. Sourced behind bin/lib/common.sh.
+
+# shellcheck source=bin/lib/building.sh
+. "$root/bin/lib/building.sh"
 
 # the status of the programs for a file that failed
 file_failed=3
@@ -108,9 +111,15 @@ END_OF_STATUSES
 
 # --- running ---
 
-# Runs the program on these words, and ends as it does. Where it names a line of a text that is refused, that line is shown: of
-# the file in $script, $directory or $text. A signal ends the program too.
+# Runs the program on these words but --unproved, and ends as it does. Where it names a line of a text that is refused, that line is
+# shown: of the file in $script, $directory or $text. A signal ends the program too.
 run_program() {
+    is_option=true
+    for word in "$@"; do
+        shift
+        [ "$is_option$word" = true--unproved ] || set -- "$@" "$word"
+        [ "$word" != -- ] || is_option=
+    done
     errors=$(mktemp 2> /dev/null) || exec "$program" "$@"
     trap 'rm -f -- "$errors"' EXIT
     # what runs beside a shell has no standard input, unless it is given it
@@ -165,174 +174,4 @@ show_line() {
         }
         END { if (!is_found) print name ": line " number " is not there: the text has " NR " lines" }
     ' "$2" >&2
-}
-
-# --- building ---
-
-# the crates that a program stands on, lowest first and the program last
-crates_of() {
-    awk -v wanted="$1" '
-        { sub(/#.*/, "") }
-        /:/ {
-            split($0, halves, ":")
-            split(halves[1], words, " ")
-            listed[words[1]] = 1
-            below[words[1]] = halves[2]
-        }
-        function visit(crate,   count, names, i) {
-            if (seen[crate]++ || !listed[crate]) return
-            count = split(below[crate], names, " ")
-            for (i = 1; i <= count; i++) visit(names[i])
-            print crate
-        }
-        END { visit(wanted) }
-    ' "$root/crates.txt"
-}
-
-# the kit that rt belongs to, or nothing where there is none
-kit() {
-    rt=$(command -v rt) || return 0
-    identity=$(dirname -- "$(dirname -- "$(readlink -f -- "$rt")")")/KIT-ID
-    if [ -r "$identity" ]; then
-        cat -- "$identity"
-    else
-        rt version
-    fi
-}
-
-# the lines of crates.txt for these folders of crates
-listed() {
-    awk -v wanted=" $1 " '
-        { sub(/#.*/, ""); split($0, halves, ":"); split(halves[1], words, " ") }
-        words[1] != "" && index(wanted, " crates/" words[1] " ")
-    ' crates.txt
-}
-
-# one number for the names and the contents of all that a program is made of
-sources() {
-    (
-        unset CDPATH
-        cd -- "$root"
-        set --
-        for crate in $(crates_of "$program_crate"); do
-            set -- "$@" "crates/$crate"
-        done
-        {
-            listed "$*"
-            find "$@" \( -name out -o -name data -o -name must-fail -o -name planted \) -prune -o \
-                -type f \( -name '*.rt' -o -name '*.antt' \) -exec cksum {} +
-        } | LC_ALL=C sort | cksum
-    )
-}
-
-# whether the program was built of these sources by this kit; without a kit, whether of these sources
-is_built() {
-    [ -x "$program" ] && [ -r "$mark" ] || return 1
-    {
-        IFS= read -r built_sources
-        IFS= read -r built_kit
-    } < "$mark" || return 1
-    [ "$built_sources" = "$now_sources" ] || return 1
-    [ -z "$now_kit" ] || [ "$built_kit" = "$now_kit" ]
-}
-
-# ensure_built CRATE: $program is then the program of that crate, proved and built of what the sources are now
-ensure_built() {
-    program_crate=$1
-    folder=$root/crates/$program_crate
-    program=$folder/out/$program_crate
-    mark=$folder/out/built
-    now_sources=$(sources)
-    now_kit=$(kit)
-    is_built || build
-}
-
-# Proves each crate that the program stands on, and builds and runs the program on what lies beside its sources.
-# Two builds at once wait for each other in rt, crate by crate; each has a log of its own.
-build() {
-    [ -n "$now_kit" ] || fail "$no_kit" "the program is not built, and the Rattle kit is not there: no rt in PATH"
-    mkdir -p -- "$folder/out" 2> /dev/null && log=$(mktemp -- "$folder/out/build.XXXXXX" 2> /dev/null) ||
-        fail "$not_writable" "the program is not built, and $folder/out cannot be written"
-    # logs of builds that failed or were broken off
-    find "$folder/out" -name 'build.??????' -mtime +6 -exec rm -f -- {} +
-    crates=$(crates_of "$program_crate")
-    # shellcheck disable=SC2086
-    count=$(printf '%s\n' $crates | wc -l | tr -d ' ')
-    began=$(date +%s)
-    progress=$folder/out/building.$$
-    tell_prospects
-    say "the log is $log"
-    number=0
-    for crate in $crates; do
-        number=$((number + 1))
-        if [ "$crate" = "$program_crate" ]; then
-            tell_progress "building $crate, $number of $count"
-            command="run_once"
-        else
-            tell_progress "proving $crate, $number of $count"
-            command="rt lib"
-        fi
-        (unset CDPATH && cd -- "$root/crates/$crate" && $command) >> "$log" 2>&1 < /dev/null || {
-            rm -f -- "$progress"
-            cat -- "$log" >&2
-            fail "$not_built" "$crate was refused, and $program_crate is not built; the log is $log"
-        }
-    done
-    # of what the sources were when it began: an edit that was made meanwhile is seen the next time
-    printf '%s\n%s\n' "$now_sources" "$now_kit" > "$mark.$$"
-    mv -f -- "$mark.$$" "$mark"
-    [ "$unproved" -eq 0 ] || echo "$(minutes_gone) $unproved" > "$folder/out/took"
-    rm -f -- "$log" "$progress"
-}
-
-# how many minutes the build has taken so far
-minutes_gone() {
-    echo $((($(date +%s) - began) / 60))
-}
-
-# what is to be done, how long that may take, and which other build is under way
-tell_prospects() {
-    unproved=0
-    for crate in $crates; do
-        [ -e "$root/crates/$crate/out/rlib" ] || [ "$crate" = "$program_crate" ] || unproved=$((unproved + 1))
-    done
-    say "proving and building $program_crate: $count crates, of which $unproved were never proved here"
-    if [ -r "$folder/out/took" ] && read -r minutes proved < "$folder/out/took"; then
-        say "the last time it took $minutes minutes, for $proved crates that were never proved before"
-    elif [ "$unproved" -gt 0 ]; then
-        say "by the host that takes $(((unproved + 1) / 2)) to $((2 * unproved)) minutes"
-    else
-        say "after an edit that takes mostly less than a minute, and many minutes where much stands on what was edited"
-    fi
-    for other in "$root"/crates/*/out/building.*; do
-        [ -r "$other" ] || continue
-        if kill -0 "${other##*.}" 2> /dev/null; then
-            say "another build is under way: $(cat -- "$other"); what both need is proved once"
-        else
-            rm -f -- "$other"
-        fi
-    done
-}
-
-# tells a step, here and to other builds
-tell_progress() {
-    gone=$(minutes_gone)
-    if [ "$gone" -gt 0 ]; then
-        say "$1, after $gone minutes"
-    else
-        say "$1"
-    fi
-    echo "$program_crate is $1, after $gone minutes" > "$progress"
-}
-
-# builds the program of the current folder, by a run on the words that lie beside its sources; files that they name are in data
-run_once() {
-    set --
-    if [ -f args ]; then
-        while IFS= read -r word || [ -n "$word" ]; do
-            [ ! -e "data/$word" ] || word=data/$word
-            set -- "$@" "$word"
-        done < args
-    fi
-    rt run -- "$@"
 }

@@ -10,7 +10,6 @@ ghost use Rattle.bare370.specs.Goes.{IsWhole, addresses_of, as_said, machine_goe
 use bare_installation::{BARE, Bare, Happening};
 use ckd_volume::{Arm, Sense, Unit, Volume};
 use cp_channels::AttachedDisk;
-use cp_console::responses::Response;
 use cp_devices::{AttachError, FileNote, Places, Reply, SeenDevices};
 use cp_panel::Mode;
 use cp_script::ScriptEvent;
@@ -121,7 +120,7 @@ impl Installation for OneMachine {
         self.machine.printed()
     }
 
-    fn console_output(&self, _user: UserNo, line: usize) -> Option<Response> {
+    fn console_output(&self, _user: UserNo, line: usize) -> Option<&[u8]> {
         self.machine.console_output(line)
     }
 

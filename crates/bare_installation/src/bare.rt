@@ -3,7 +3,6 @@ ghost use Rattle.std.specs.Prelude.{Err, IsOk, None, false, map, ◌++◌, ◌�
 ghost use Rattle.std.specs.Option.{option_map};
 ghost use Rattle.s370_store.specs.Plain.{plain_bytes, plain_keys};
 ghost use Rattle.s370_channel.specs.Reading.{as_reached};
-ghost use Rattle.cp_console.specs.Responses.{text_of};
 ghost use Rattle.cp_panel.specs.Machine.{unused};
 ghost use Rattle.cp_panel.specs.Ready.{is_ready};
 ghost use Rattle.cp_panel.specs.Run.{run};
@@ -373,9 +372,9 @@ impl Bare {
         self.machine.printed()
     }
 
-    /// A line that the console has printed, as the response that it says.
-    pub fn console_output(&self, line: usize) -> Option<Response>
-        ensures { option_map text_of result ≡ slice_get self.now.equipped.machine.output line }
+    /// The text of a line that the console has printed.
+    pub fn console_output(&self, line: usize) -> Option<&[u8]>
+        ensures { option_map (λ text. text.now) result ≡ slice_get self.now.equipped.machine.output line }
     {
         self.machine.console_output(line)
     }

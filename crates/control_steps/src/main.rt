@@ -1,28 +1,22 @@
 //! Does the steps of tables over what the control program stands on, and compares what each tells with what its table
-//! says: values and texts, frames, and minidisks.
+//! says: values and texts, and frames.
 //!
 //! The words of the program are the tables, each of which has one step a line; their first lines tell the steps.
 //!
 //! - `values.txt`: numbers, status words, words and lines, responses, devices of directories, turns, and files that fail.
 //!   What commands, scripts and directories are is shown by scripts.
 //! - `frames.txt`: pages that come, leave and are pinned, keys, and the bytes of the tables.
-//! - `minidisks.txt`: seeks that are relocated, cylinders that are cut out and put back, and two minidisks that take
-//!   turns at the unit of their volume.
 #![tactic(auto)]
 
 mod commands;
 mod directories;
-mod extents;
 mod files;
 mod frames;
-mod minidisks;
-mod mounts;
 mod numbers;
 mod operands;
 mod responses;
 mod status;
 mod step;
-mod storage;
 mod telling;
 mod texts;
 mod turns;
@@ -45,15 +39,6 @@ fn main(rt: HostRuntime) -> Result<()> {
                 |step| values::told(alloc, step),
             )?,
             "frames.txt" => frames::compare_all(&rt, &table)?,
-            "minidisks.txt" => {
-                compare(
-                    &rt,
-                    "minidisks",
-                    &table,
-                    " |",
-                    |step| minidisks::told(alloc, step),
-                )?
-            }
             _ => bail!("{path} is no table"),
         }
     }

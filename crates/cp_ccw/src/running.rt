@@ -1,24 +1,20 @@
 //! The run of a guest's program that was given real addresses.
-ghost use Rattle.std.specs.Prelude.{◌≡◌, ℕ, ◌%◌, ◌<◌, ◌^◌, IfOk, IfErr};
-ghost use Rattle.cp_dat.specs.Lent.{KeepsRest, is_lent_page, lent_keys};
+ghost use Rattle.std.specs.Prelude.{◌≡◌, IfOk, IfErr};
+ghost use Rattle.cp_dat.specs.Lent.{KeepsRest, lent_keys};
 ghost use Rattle.s370_walk.specs.Hardware.{Memory};
-ghost use Rattle.s370_walk.specs.Walk.{live};
-ghost use Rattle.s370_channel.specs.Guest.{guest_text, guest_written};
+ghost use Rattle.s370_channel.specs.Guest.{guest_text};
 ghost use Rattle.s370_channel.specs.declared.running.ChannelError.TheVariants as errors;
 ghost use Rattle.channel_laws.specs.Copy.{guest_of, IsPlace};
-ghost use Rattle.cp_needs.specs.Needs.{IsFixed, IsHeld};
 ghost use Rattle.cp_real.specs.Shown.{KeepsReal};
 ghost use Rattle.cp_ccw.specs.Translated.{IsTranslatedFor};
-ghost use Rattle.cp_ccw.specs.Runs.{dat_of, lent_memory, IsGuestsRun, IsRunOf};
+ghost use Rattle.cp_ccw.specs.Runs.{dat_of, IsGuestsRun};
 
-use crate::table::{Table, translate};
+use crate::table::Table;
 use cp_dat::Dat;
-use cp_graph::CopyError;
 use cp_real::Real;
 use s370_channel::{ChannelError, Limits, run};
 use s370_store::Storage;
 use s370_walk::{Device, Ending};
-use std::alloc::Global;
 
 /// Links past the places stand for addresses at which the guest has no word.
 const PAST: u32 = 0x8000_0000;
@@ -95,33 +91,4 @@ pub(crate) fn run_lent<'a, D: Device>(
         area: &mut own,
     };
     run_translated(table, &mut real, limits, device)
-}
-
-/// Runs the program that stands at an address of a user's storage, where no input of it can change its words and the
-/// pages that it needs stand in frames: a copy of it with real addresses runs over the frames, and it ends as the
-/// program does whose words are read as they are reached. It stops for want of memory alone.
-pub fn run_fixed<D: Device>(
-    alloc: Global,
-    storage: &mut Dat<'_>,
-    start: u32,
-    limits: &Limits,
-    device: &mut D,
-) -> Result<Ending, ChannelError>
-    requires even { start % 8 ≡ 0 }
-    requires low { start < 2 ^ 24 }
-    requires fixed { IsFixed (lent_memory storage.old) start }
-    requires held { IsHeld (lent_memory storage.old) start (is_lent_page storage.old) }
-    ensures reaches { IfOk result
-        (λ ending. IsRunOf (live guest_written) D.machine limits.now start storage.old device.old ending
-        storage.new device.new) }
-    ensures memory { IfErr result (λ error. error ≡ errors.Memory) }
-    ensures keys { lent_keys storage.new ≡ lent_keys storage.old }
-    ensures rest { KeepsRest storage.old storage.new }
-{
-    match translate(alloc, storage, start) {
-        Ok(table) => run_lent(&table, storage, limits, device),
-        Err(CopyError::Memory) => Err(ChannelError::Memory),
-        // The program would need the page, and those that it needs stand in frames.
-        Err(CopyError::Absent(_)) => unreachable!(),
-    }
 }

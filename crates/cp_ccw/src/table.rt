@@ -1,22 +1,15 @@
 //! A guest's channel program with real addresses.
-ghost use Rattle.std.specs.Prelude.{◌≡◌, ℕ, ◌%◌, ◌<◌, ◌^◌, length, IfOk, IfErr, Option, None, Some};
-ghost use Rattle.cp_dat.specs.Lent.{lent_bytes, lent_keys, is_lent_page};
-ghost use Rattle.s370_walk.specs.Hardware.{memory_of};
-ghost use Rattle.s370_channel.specs.Guest.{guest_text};
+ghost use Rattle.std.specs.Prelude.{◌≡◌, length};
 ghost use Rattle.channel_laws.specs.Mapped.{real_place};
-ghost use Rattle.channel_laws.specs.Copy.{guest_of, IsPlace};
-ghost use Rattle.cp_graph.specs.Closure.{IfAbsent, IsServed};
-ghost use Rattle.s370_store.specs.Access.{IsAway};
 ghost use Rattle.cp_real.specs.Layout.{real_in};
 ghost use Rattle.cp_ccw.specs.Moved.{AreReal, AreRealNodes};
-ghost use Rattle.cp_ccw.specs.Translated.{table_written, IsTranslatedFor};
+ghost use Rattle.cp_ccw.specs.Translated.{table_written};
 
 use channel_laws::Place;
 use cp_dat::Dat;
-use cp_graph::{Copied, CopyError, Node, copy};
+use cp_graph::Node;
 use s370_store::{Page, Storage};
 use s370_walk::{Position, Word, WordForm};
-use std::alloc::Global;
 
 /// A copied program whose lists have real addresses.
 #[derive(Drop)]
@@ -99,34 +92,4 @@ impl WordForm for Table {
             None => Ok(None),
         }
     }
-}
-
-/// Copies the program from an address on, and gives it the addresses of the frames in which its pages stand.
-///
-/// `start` is the guest's address of a doubleword. Each page that the program names stands in a frame; where one does
-/// not, it is told as [`CopyError::Absent`], and the program needs it.
-pub fn translate(alloc: Global, dat: &Dat, start: u32) -> Result<Table, CopyError>
-    requires even { start % 8 ≡ 0 }
-    requires low { start < 2 ^ 24 }
-    ensures translated { IfOk result
-        (λ t. IsTranslatedFor dat.now t.places.items t.nodes.items
-        (memory_of (lent_bytes dat.now) (lent_keys dat.now))) }
-    ensures start { IfOk result (λ t. guest_of t.places.items t.start ≡ start) }
-    ensures place { IfOk result
-        (λ t. IsPlace t.places.items (guest_text (memory_of (lent_bytes dat.now) (lent_keys dat.now))) t.start) }
-    ensures away { IfErr result
-        (IfAbsent (λ page. IsAway (length (lent_bytes dat.now)) (is_lent_page dat.now) page
-        × IsServed (memory_of (lent_bytes dat.now) (lent_keys dat.now)) start page)) }
-{
-    let Copied {
-        start,
-        places,
-        mut nodes,
-    } = copy(alloc, dat, start)?;
-    nodes_to_real(dat, &mut nodes);
-    Ok(Table {
-        start,
-        places,
-        nodes,
-    })
 }

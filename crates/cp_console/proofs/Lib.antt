@@ -5,3 +5,5 @@ pub mod FileNumbers
 pub mod Spelled
 pub mod DeviceGrammars
 pub mod FileTexts
+pub mod Joined
+pub mod Cuts

@@ -28,7 +28,8 @@ impl ConsoleLine {
 
     /// Its characters.
     pub fn as_slice(&self) -> &[u8]
-        ensures { result.now ≡ characters_of self.now }
+        ensures characters { result.now ≡ characters_of self.now }
+        ensures short { length result.now ≤ 144 }
     {
         let length = usize::from(self.length).min(MOST_CHARACTERS);
         &self.characters[..length]

@@ -27,5 +27,6 @@ pub mod output;
 pub mod printing;
 mod reading;
 pub mod responses;
+mod texts;
 
 pub use operands::StoredBytes;

@@ -1,28 +1,39 @@
 //! What a console has printed.
-ghost use Rattle.std.specs.Prelude.{◌≡◌, ◌+◌, ◌<◌, ◌≤◌, ◌==◌, ◌++◌, [], ◌∷◌, length, OnOk, OnErr, slice_get};
+ghost use Rattle.std.specs.Prelude.{◌≡◌, ◌+◌, ◌<◌, ◌≤◌, ◌==◌, ◌++◌, [], ◌∷◌, length, OnOk, OnErr, slice_get, slice_index_or, slice_range};
 ghost use Rattle.std.specs.Option.{option_map};
 ghost use Rattle.cp_console.specs.Responses.{text_of};
 
+use crate::console_line::MOST_CHARACTERS;
 use crate::responses::Response;
+use crate::texts::add_text;
 use std::alloc::{AllocError, Global};
 use std::marker::Model;
 
-/// The lines that a console has printed, the oldest first, and room for more.
+/// The lines that a console has printed, the oldest first, and room for more. A line takes its characters and eight
+/// bytes.
 ///
 /// A machine that stops says so and may take no memory for it: the room for that line is made before the machine runs.
 #[derive(Drop)]
 pub struct ConsoleOutput {
-    lines: Vec<Response>,
+    /// The characters of all lines, one line behind the other.
+    text: Vec<u8>,
+    /// Where each line ends among them.
+    ends: Vec<usize>,
+    /// For how many lines of [`MOST_CHARACTERS`] both have capacity.
+    room: usize,
 }
 
 impl Model for ConsoleOutput {
-    ghost use Rattle.std.specs.Prelude.{◌-◌, map, vec_len, vec_capacity};
-    ghost use Rattle.cp_console.specs.Responses.{text_of};
-    ghost use Rattle.cp_console.specs.Output.{Printed};
+    ghost use Rattle.std.specs.Prelude.{◌+◌, ◌*◌, ◌≤◌, length, vec_len, vec_capacity};
+    ghost use Rattle.cp_console.specs.Output.{Printed, IsCut, lines_from};
 
     ghost Value = { Printed };
 
-    ghost view = { λ o. record { lines = map text_of o.lines.items; room = vec_capacity o.lines - vec_len o.lines } };
+    ghost view = { λ o. record { lines = lines_from 0 o.text.items o.ends.items; room = o.room } };
+
+    ghost invariant = { λ o. IsCut 0 o.ends.items (length o.text.items)
+        × (vec_len o.text + o.room * 144 ≤ vec_capacity o.text)
+        × (vec_len o.ends + o.room ≤ vec_capacity o.ends) };
 }
 
 impl ConsoleOutput {
@@ -31,7 +42,9 @@ impl ConsoleOutput {
         ensures { result.lines ≡ [] }
     {
         ConsoleOutput {
-            lines: Vec::new(alloc),
+            text: Vec::new(alloc),
+            ends: Vec::new(alloc),
+            room: 0,
         }
     }
 
@@ -42,10 +55,16 @@ impl ConsoleOutput {
         ensures room { self.old.room ≤ self.new.room }
         ensures err { OnErr result (self.old.room < lines) }
     {
-        if self.lines.capacity() - self.lines.len() >= lines {
+        if self.room >= lines {
             return Ok(());
         }
-        self.lines.reserve(lines)
+        let Some(characters) = lines.checked_mul(MOST_CHARACTERS) else {
+            return Err(AllocError);
+        };
+        self.text.reserve(characters)?;
+        self.ends.reserve(lines)?;
+        self.room = lines;
+        Ok(())
     }
 
     /// Prints a line where there is room. This takes no memory.
@@ -54,14 +73,16 @@ impl ConsoleOutput {
         ensures lines { self.new.lines ≡ self.old.lines ++ text_of response.now ∷ [] }
         ensures room { self.new.room + 1 ≡ self.old.room }
     {
-        self.lines.push_reserved(*response);
+        add_text(&mut self.text, response);
+        self.ends.push_reserved(self.text.len());
+        self.room -= 1;
     }
 
     /// How many lines were printed.
     pub fn len(&self) -> usize
         ensures { result ≡ length self.now.lines }
     {
-        self.lines.len()
+        self.ends.len()
     }
 
     /// Whether nothing was printed.
@@ -69,14 +90,42 @@ impl ConsoleOutput {
         ensures { result ≡ (length self.now.lines == 0) }
     {
         // All its fields: what is added to them is seen here.
-        let ConsoleOutput { lines } = self;
-        lines.is_empty()
+        let ConsoleOutput {
+            text: _,
+            ends,
+            room: _,
+        } = self;
+        ends.is_empty()
     }
 
-    /// A line that was printed, as the response that it says.
-    pub fn get(&self, line: usize) -> Option<Response>
-        ensures { option_map text_of result ≡ slice_get self.now.lines line }
+    /// The text of a line that was printed.
+    pub fn get(&self, line: usize) -> Option<&[u8]>
+        ensures { option_map (λ text. text.now) result ≡ slice_get self.now.lines line }
     {
-        self.lines.get(line).copied()
+        let Some(end) = self.ends.get(line) else {
+            return None;
+        };
+        let start = start_of(&self.ends, line);
+        Some(part_of(&self.text, start, *end))
     }
+}
+
+/// The bytes of a text from a place on to another.
+fn part_of(text: &[u8], start: usize, end: usize) -> &[u8]
+    requires start { start ≤ end }
+    requires end { end ≤ length text.now }
+    ensures { result.now ≡ slice_range text.now start end }
+{
+    &text[start..end]
+}
+
+/// Where a line starts: where the one before it ends.
+fn start_of(ends: &[usize], line: usize) -> usize
+    requires { line < length ends.now }
+    ensures { result ≡ slice_index_or (0 ∷ ends.now) line 0 }
+{
+    if line == 0 {
+        return 0;
+    }
+    ends[line - 1]
 }

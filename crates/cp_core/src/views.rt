@@ -3,7 +3,6 @@
 ghost use Rattle.std.specs.Prelude.{◌≡◌, ◌<◌, ◌↔◌, IfSome, IsSome, length, slice_get};
 ghost use Rattle.std.specs.List.{find};
 ghost use Rattle.std.specs.Option.{option_map};
-ghost use Rattle.cp_console.specs.Responses.{text_of};
 ghost use Rattle.cp_channels.specs.Disks.{is_disk_at};
 ghost use Rattle.cp_volumes.specs.Seen.{seen_disk};
 ghost use Rattle.cp_core.specs.UserMachines.{seat_with, user_with};
@@ -11,7 +10,6 @@ ghost use Rattle.cp_core.specs.System.{deliveries_at, machine_at, user_at};
 
 use crate::system::System;
 use crate::user_machine::UserMachine;
-use cp_console::responses::Response;
 use cp_devices::{Delivery, SeenDevices};
 use cp_panel::Mode;
 use cp_users::UserNo;
@@ -136,10 +134,10 @@ impl System {
         }
     }
 
-    /// A line that the console has printed, as the response that it says; `None` past the last line too. The line that
-    /// is not finished and those that wait are in [`System::spool`]'s console.
-    pub fn console_output(&self, user: UserNo, line: usize) -> Option<Response>
-        ensures { option_map text_of result ≡ slice_get (machine_at self.now user).output line }
+    /// The text of a line that the console has printed; `None` past the last line too. The line that is not finished
+    /// and those that wait are in [`System::spool`]'s console.
+    pub fn console_output(&self, user: UserNo, line: usize) -> Option<&[u8]>
+        ensures { option_map (λ text. text.now) result ≡ slice_get (machine_at self.now user).output line }
     {
         match self.user(user) {
             Some(user) => user.machine.console_output(line),

@@ -15,15 +15,12 @@ use Rattle.cp_minidisk.specs.Extent.{ExtentValue, IsWithin, relocated_argument}
 use Rattle.cp_minidisk.specs.Placed.{placed, holding, IsOnDisk, IsOwn}
 use Rattle.cp_minidisk.specs.Kept.{Keeps}
 use Rattle.cp_minidisk.specs.Minidisk.{HasExtent, slice, before, behind}
-use Rattle.cp_minidisk.specs.Seeks.{Fits}
-use Rattle.cp_minidisk.specs.Laws.{extent_behind}
 use Rattle.cp_minidisk.specs.Part.{Part, with_disk, part_machine, unit_of, Serves, disk_of, part_of, with_relocated, relocating}
 use Rattle.cp_minidisk.proofs.Placing.{started_placed, answer_placed, finished_placed, status_placed}
-use Rattle.cp_minidisk.proofs.Seeking.{room, seek_finished, seek_ends, short_finished, short_ends, started_on_disk, finished_on_disk}
-use Rattle.cp_minidisk.proofs.SeekStarts.{started_size, finished_size}
-use Rattle.cp_minidisk.proofs.Slicing.{in_parts}
-use Rattle.cp_minidisk.proofs.Serving.{before_size, slice_size}
-use Rattle.cp_minidisk.proofs.Leaving as leaving
+use Rattle.cp_minidisk.proofs.Seeking.{extent_behind, room, seek_finished, seek_ends, short_finished, short_ends, started_on_disk, finished_on_disk}
+use Rattle.cp_minidisk.proofs.Sizes.{started_size, finished_size}
+use Rattle.cp_minidisk.proofs.Slicing.{Fits, before_size, in_parts, slice_size}
+use Rattle.cp_minidisk.proofs.Slicing as slicing
 use Rattle.cp_minidisk.proofs.Modes.{disk_own}
 
 -- ---- A command that ends, with the argument of a seek relocated
@@ -107,13 +104,13 @@ module _ (e : ExtentValue) (below above : List Cylinder) (d : Disk) (starts : le
   part_there =
       let place : length below + d.cylinder - e.start ≡ d.cylinder = omega (arith, starts) in
       let home : length below + d.home - e.start ≡ d.home = omega (arith, starts) in
-      rw (leaving.part e below above d starts fits, place, home, leaving.same_before e below above d starts fits, leaving.same_behind e below above d starts fits) refl
+      rw (slicing.part e below above d starts fits, place, home, slicing.same_before e below above d starts fits, slicing.same_behind e below above d starts fits) refl
 
   serves_there : IsOwn e.writable d → Serves (placed below above d) e
   serves_there own =
       record {
         inside = omega (arith, room below above d.cylinders, starts, fits.1);
-        within = leaving.is_within e below above d starts fits;
+        within = slicing.is_within e below above d starts fits;
         home = omega (arith, starts, own.home);
         mode = own.mode;
       }

@@ -15,7 +15,7 @@ use Rattle.cp_minidisk.specs.Projected.{IsPartOf, seen, on_device}
 use Rattle.cp_minidisk.proofs.Along.{reach_keeps}
 use Rattle.cp_minidisk.proofs.Modes.{disk_mode}
 use Rattle.cp_minidisk.proofs.ReadOnly.{disk_read_only}
-use Rattle.cp_minidisk.proofs.SeekStarts.{started_size, finished_size}
+use Rattle.cp_minidisk.proofs.Sizes.{started_size, finished_size}
 use Rattle.cp_minidisk.proofs.Walked.{reaches_seen}
 
 pub follows : IsPartOf (λ p. p.disk) part_machine disk_machine

@@ -13,10 +13,13 @@ use Rattle.ckd_volume.specs.End.{Ended, stands}
 use Rattle.ckd_volume.specs.Unit.{Disk, under, aimed, is_ipl, ending, after, put, finished, is_seeking, disk_machine, moved, seek_of, seek_status}
 use Rattle.cp_minidisk.specs.Extent.{ExtentValue, shifted, relocated_argument, no_argument}
 use Rattle.cp_minidisk.specs.Placed.{placed, IsOnDisk, holding}
-use Rattle.cp_minidisk.specs.Laws.{extent_behind}
 use Rattle.cp_minidisk.proofs.Placing.{aimed_inside}
 
-pub halves : (n : ℕ) → 256 * (n / 256) + n % 256 ≡ n
+-- the extent of a minidisk that has these cylinders before it
+abbrev pub extent_behind : List Cylinder → Disk → ExtentValue
+extent_behind before d = record { start = length before; count = length d.cylinders; writable = d.front.writable }
+
+halves : (n : ℕ) → 256 * (n / 256) + n % 256 ≡ n
 halves n = omega arith
 
 choose_map : (c : Bool) (start cylinder head : ℕ) → ◌≡◌ {A = Option Seek} (if c then Some (record { cylinder = start + cylinder; head = head }) else None)
@@ -125,9 +128,3 @@ finished_by d false e on = let there : IsOnDisk (after d (ending d)) = after_on_
 
 pub finished_on_disk : (d : Disk) → IsOnDisk d → IsOnDisk (disk_machine.finished d)
 finished_on_disk d on = finished_by d (is_seeking d.front.job) refl on
-
-pub gave_on_disk : (d : Disk) → IsOnDisk d → IsOnDisk (disk_machine.gave d)
-gave_on_disk d on = record { cylinder = on.cylinder; home = on.home }
-
-pub took_on_disk : (byte : ℕ) (d : Disk) → IsOnDisk d → IsOnDisk (disk_machine.took d byte)
-took_on_disk byte d on = record { cylinder = on.cylinder; home = on.home }

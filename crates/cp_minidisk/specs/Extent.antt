@@ -24,10 +24,6 @@ relocated e s = if nat_lt s.cylinder e.count then Some (shifted e.start s) else 
 abbrev pub IsWithin : ExtentValue → ℕ → Type 0
 IsWithin e cylinder = (e.start ≤ cylinder) × (cylinder < e.start + e.count)
 
--- The bytes by which a seek names a track: two of zero, cylinder and head.
-abbrev pub argument_of : Seek → List ℕ
-argument_of s = 0 ∷ 0 ∷ s.cylinder / 256 ∷ s.cylinder % 256 ∷ s.head / 256 ∷ s.head % 256 ∷ []
-
 -- what no disk accepts as the argument of a seek
 abbrev pub no_argument : List ℕ
 no_argument = 0xFF ∷ 0xFF ∷ 0 ∷ 0 ∷ 0 ∷ 0 ∷ []

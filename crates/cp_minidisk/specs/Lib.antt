@@ -2,8 +2,6 @@ pub mod Extent
 pub mod Placed
 pub mod Minidisk
 pub mod Kept
-pub mod Seeks
-pub mod Laws
 pub mod Part
 pub mod Projected
 pub mod PartLaws

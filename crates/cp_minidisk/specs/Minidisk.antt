@@ -1,12 +1,11 @@
 -- What a minidisk has of its own, beside the cylinders that stand on its volume.
 use Rattle.std.specs.Prelude.{ℕ, ◌+◌, ◌-◌, ◌≤◌, List, take, drop, length}
 use Rattle.ckd_volume.specs.declared.parts.Sense.{Sense}
-use Rattle.ckd_volume.specs.declared.control.Seek.{Seek}
 use Rattle.ckd_volume.specs.declared.unit.Arm.{Arm}
 use Rattle.ckd_volume.specs.Begin.{sense_of}
 use Rattle.ckd_volume.specs.Front.{Cylinder}
 use Rattle.ckd_volume.specs.Volume.{VolumeFormat, slice_of}
-use Rattle.ckd_volume.specs.Unit.{Disk, idle, volume_of}
+use Rattle.ckd_volume.specs.Unit.{Disk, idle}
 use Rattle.cp_minidisk.specs.Extent.{ExtentValue}
 
 pub record MinidiskValue : Type 0 where
@@ -45,25 +44,6 @@ minidisk_new e = record { extent = e; cylinder = 0; head = 0; sense = sense_of 0
 -- a system reset: there is no sense, and the arm stays
 abbrev pub minidisk_reset : MinidiskValue → MinidiskValue
 minidisk_reset m = record m { sense = sense_of 0 0 }
-
--- The volume's unit with what the minidisk has of its own but the place of its arm: that is where a program before
--- left it.
-abbrev pub mounted_arm : MinidiskValue → Disk → Arm
-mounted_arm m d =
-    record {
-      cylinder = d.cylinder;
-      head = d.front.head;
-      home = m.extent.start;
-      writable = m.extent.writable;
-      sense = m.sense;
-    }
-
-abbrev pub mounted : MinidiskValue → Disk → Disk
-mounted m d = idle (volume_of d) (mounted_arm m d)
-
--- where its arm stands on the volume
-abbrev pub place_of : MinidiskValue → Seek
-place_of m = record { cylinder = m.extent.start + m.cylinder; head = m.head }
 
 -- what the minidisk has of its own when its program has ended on the volume's unit
 abbrev pub dismounted : ExtentValue → Disk → MinidiskValue

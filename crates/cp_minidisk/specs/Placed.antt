@@ -3,7 +3,6 @@ use Rattle.std.specs.Prelude.{ℕ, ◌+◌, ◌<◌, ◌≡◌, Bool, true, fals
 use Rattle.ckd_volume.specs.declared.parts.Job.{Job}
 use Rattle.ckd_volume.specs.declared.parts.Job.TheVariants as jobs
 use Rattle.ckd_volume.specs.Front.{Cylinder}
-use Rattle.ckd_volume.specs.Begin.{starting}
 use Rattle.ckd_volume.specs.Unit.{Disk, keeps}
 
 -- The unit of a volume that has these cylinders before those of the minidisk, and those behind them: arm and home are
@@ -31,10 +30,6 @@ pub record IsOwn (writable : Bool) (d : Disk) : Type 0 where
 -- a unit that has taken these bytes
 abbrev pub holding : Disk → List ℕ → Disk
 holding d bytes = keeps d (record (d.front) { bytes = bytes })
-
--- The unit as each program finds it: what an earlier program left of place, file mask, index points and rights is gone.
-abbrev pub before_program : Disk → Disk
-before_program d = keeps d (starting d.front true)
 
 -- whether a command writes at its end
 abbrev pub is_writing : Job → Bool

@@ -1,11 +1,8 @@
-//! Extents of a volume, the seeks of a minidisk, and its cylinders as a volume of their own.
-ghost use Rattle.std.specs.Prelude.{◌≡◌, ◌≤◌, ◌<◌, ◌+◌, Bool, true, length, nat_le, IfOk, IfSome, IsSome, ◌↔◌};
-ghost use Rattle.ckd_volume.specs.Volume.{put_back};
-ghost use Rattle.cp_minidisk.specs.Extent.{IsExtent, IsWithin, relocated, relocated_argument, argument_of};
-ghost use Rattle.cp_minidisk.specs.Minidisk.{HasExtent, slice};
+//! Extents of a volume, and the seeks of a minidisk.
+ghost use Rattle.std.specs.Prelude.{◌≡◌, ◌≤◌, ◌<◌, ◌+◌, Bool, true, length, nat_le, IfSome, IsSome, ◌↔◌};
+ghost use Rattle.cp_minidisk.specs.Extent.{IsExtent, IsWithin, relocated, relocated_argument};
 
 use ckd_volume::{MOST_CYLINDERS, Seek, Volume};
-use std::alloc::{AllocError, Global};
 use std::marker::Model;
 
 /// The extent of a minidisk: so many cylinders of a volume, from one of them on, and whether they may be written.
@@ -14,7 +11,7 @@ use std::marker::Model;
 /// let extent = Extent::new(100, 5, true)?; // cylinders 100 to 104
 /// let place = extent.relocate(Seek { cylinder: 4, head: 18 })?; // cylinder 104, head 18
 /// ```
-#[derive(Clone, Copy, Debug, PartialEq, Eq)]
+#[derive(Clone, Copy)]
 pub struct Extent {
     start: u16,
     count: u16,
@@ -115,43 +112,4 @@ impl Extent {
             None => [0xFF, 0xFF, 0, 0, 0, 0],
         }
     }
-
-    /// The minidisk as a volume of its own: its cylinders, numbered from 0, with what stands on them. Err only where
-    /// memory is lacking.
-    pub fn slice(self, alloc: Global, volume: &Volume) -> Result<Volume, AllocError>
-        requires { HasExtent volume.now.cylinders self }
-        ensures { IfOk result (λ part. part ≡ slice volume.now self) }
-    {
-        volume.slice(alloc, usize::from(self.start), usize::from(self.count))
-    }
-
-    /// Puts the cylinders of a minidisk back onto its volume, whose other cylinders stay. It takes no memory.
-    pub fn put_back(self, volume: &mut Volume, part: Volume)
-        requires inside { HasExtent volume.old.cylinders self }
-        requires whole { length part.cylinders ≡ self.count }
-        requires writable { self.writable ≡ true }
-        ensures { volume.new
-            ≡ record {
-              volser = volume.old.volser;
-              cylinders = put_back volume.old.cylinders self.start part.cylinders;
-            } }
-    {
-        volume.put_back(usize::from(self.start), part);
-    }
-}
-
-/// The argument of a seek to this track: two bytes of zero, the cylinder and the head.
-pub(crate) fn argument(seek: Seek) -> [u8; 6]
-    requires cylinder { seek.cylinder < 65536 }
-    requires head { seek.head < 65536 }
-    ensures { result ≡ argument_of seek }
-{
-    [
-        0,
-        0,
-        (seek.cylinder / 256) as u8,
-        (seek.cylinder % 256) as u8,
-        (seek.head / 256) as u8,
-        (seek.head % 256) as u8,
-    ]
 }

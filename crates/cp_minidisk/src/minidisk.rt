@@ -1,14 +1,14 @@
 //! What a minidisk has of its own.
-ghost use Rattle.std.specs.Prelude.{◌≡◌, ◌≤◌, ◌<◌, ◌+◌, length};
-ghost use Rattle.cp_minidisk.specs.Extent.{IsWithin, argument_of};
-ghost use Rattle.cp_minidisk.specs.Minidisk.{HasExtent, minidisk_new, minidisk_reset, mounted, place_of, dismounted};
+ghost use Rattle.std.specs.Prelude.{◌≡◌, ◌<◌};
+ghost use Rattle.cp_minidisk.specs.Extent.{IsWithin};
+ghost use Rattle.cp_minidisk.specs.Minidisk.{minidisk_new, minidisk_reset, dismounted};
 
-use crate::extent::{Extent, argument};
-use ckd_volume::{Arm, Seek, Sense, Unit};
+use crate::extent::Extent;
+use ckd_volume::{Sense, Unit};
 use std::marker::Model;
 
 /// A minidisk but for its cylinders, which stand on a volume: its extent, where its arm stands, and its sense.
-#[derive(Clone, Copy, PartialEq, Eq)]
+#[derive(Clone, Copy)]
 pub struct Minidisk {
     extent: Extent,
     cylinder: usize,
@@ -100,36 +100,8 @@ impl Minidisk {
         *self = Minidisk::new(self.extent);
     }
 
-    /// The argument of the seek that moves the arm of the volume's unit to where the minidisk's stands.
-    pub fn arm_argument(&self) -> [u8; 6]
-        ensures { result ≡ argument_of (place_of self.now) }
-    {
-        argument(Seek {
-            cylinder: usize::from(self.extent.start()) + self.cylinder,
-            head: self.head,
-        })
-    }
-
-    /// Gives the volume's unit what the minidisk has of its own but the place of its arm: the cylinder to which Read
-    /// IPL goes, whether it may be written, and its sense. The arm stays where the program before left it, until the
-    /// seek with [`Minidisk::arm_argument`].
-    pub fn mount(&self, unit: &mut Unit)
-        requires { HasExtent unit.old.cylinders self.now.extent }
-        ensures { unit.new ≡ mounted self.now unit.old }
-    {
-        let arm = unit.arm();
-        let _cylinders = self.extent.count();
-        unit.set_arm(Arm {
-            cylinder: arm.cylinder,
-            head: arm.head,
-            home: usize::from(self.extent.start()),
-            writable: self.extent.is_writable(),
-            sense: self.sense,
-        });
-    }
-
-    /// Takes arm and sense back from the volume's unit, when its program has ended there.
-    pub fn dismount(&mut self, unit: &Unit)
+    /// Takes arm and sense back from the unit of its volume, when its program has ended there.
+    pub(crate) fn dismount(&mut self, unit: &Unit)
         requires { IsWithin self.old.extent unit.now.cylinder }
         ensures { self.new ≡ dismounted self.old.extent unit.now }
     {

@@ -1,8 +1,7 @@
 //! Which pages a channel program needs.
 //!
-//! Given a storage and the address of a command word, [`missing`] tells the first page that is not present of those
-//! with a byte of a word that the program can reach, of the list of its area, or of the area, and none where all of
-//! them are. A program whose inputs could change one of its own words may come to words that nobody could see before.
+//! They are those with a byte of a word that the program can reach, of the list of its area, or of the area. A program
+//! whose inputs could change one of its own words may come to words that nobody could see before.
 //! Its one theorem ([`fixed_programs_need_their_pages`]): where no area that an input may fill has a byte of a word or
 //! a list, whatever the device answers, the program walks by the words with which it began, and needs no page but
 //! those. So [`look`] tells a page of the program that is not present, or that there is such an area, or the words of the
@@ -30,4 +29,3 @@ mod words;
 pub use kept::{Found, Fullword, look, stands};
 pub use laws::fixed_programs_need_their_pages;
 pub use running::run_held;
-pub use words::missing;

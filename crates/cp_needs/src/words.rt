@@ -106,24 +106,3 @@ pub(crate) fn words_of<S: Storage>(
     }
     Ok(Ok(words))
 }
-
-/// A page that the program from an address on needs and that is not present, or None where all of them are: breadth
-/// first from there, of each word its own page first and then those of its area upwards. An error is memory.
-pub fn missing<S: Storage>(
-    alloc: Global,
-    storage: &S,
-    start: u32,
-) -> Result<Option<Page>, AllocError>
-    requires even { start % 8 ≡ 0 }
-    ensures away { IfOk result
-        (λ found. IfSome found (λ page. IsAway (length (S.bytes storage.now)) (S.present storage.now) page.0)) }
-    ensures needed { IfOk result (λ found. IfSome found
-        (λ page. IsProgramPage (memory_of (S.bytes storage.now) (S.keys storage.now)) start page.0)) }
-    ensures held { IfOk result (λ found. IfNone found
-        (IsHeld (memory_of (S.bytes storage.now) (S.keys storage.now)) start (S.present storage.now))) }
-{
-    match words_of(alloc, storage, start)? {
-        Ok(_) => Ok(None),
-        Err(page) => Ok(Some(page)),
-    }
-}

@@ -1,11 +1,9 @@
 //! A machine but for its storage.
 ghost use Rattle.std.specs.Prelude.{◌≡◌, ◌≤◌, [], List, ℕ, length, replicate, slice_get};
 ghost use Rattle.std.specs.Option.{option_map};
-ghost use Rattle.cp_console.specs.Responses.{text_of};
 ghost use Rattle.cp_panel.specs.Machine.{cleared, machine_of, reset_cpu, switched_off, unused};
 
 use cp_console::output::ConsoleOutput;
-use cp_console::responses::Response;
 use s370_intr::Pending;
 use s370_psw::Psw;
 use s370_rows::Cpu;
@@ -156,9 +154,9 @@ impl Machine {
         self.output.len()
     }
 
-    /// A line that the console has printed, as the response that it says.
-    pub fn console_output(&self, line: usize) -> Option<Response>
-        ensures { option_map text_of result ≡ slice_get self.now.output line }
+    /// The text of a line that the console has printed.
+    pub fn console_output(&self, line: usize) -> Option<&[u8]>
+        ensures { option_map (λ text. text.now) result ≡ slice_get self.now.output line }
     {
         self.output.get(line)
     }

@@ -11,8 +11,7 @@ use Rattle.cp_minidisk.specs.Minidisk.{HasExtent, slice, before, behind}
 use Rattle.ckd_volume.specs.Unit.{volume_of}
 use Rattle.cp_minidisk.specs.Minidisk.{MinidiskValue}
 use Rattle.cp_minidisk.specs.Part.{Part, extent_of, minidisk_of, part_on, unit_of}
-use Rattle.cp_minidisk.proofs.Serving.{before_size, slice_size}
-use Rattle.cp_minidisk.proofs.Slicing.{in_parts}
+use Rattle.cp_minidisk.proofs.Slicing.{before_size, in_parts, slice_size}
 use Rattle.cp_volumes.specs.Running.{KeepsVolume}
 use Rattle.cp_volumes.specs.Shared.{AreApart, IsConfined, IsSeated, LeavesBe, SharedMinidisk, Stand, no_volume, stand_of, volume_at}
 

@@ -1,14 +1,12 @@
 //! What a session needs of the machines that its script speaks to.
 ghost use Rattle.std.specs.Prelude.{◌≡◌, ◌<◌, ◌≤◌, ◌⊎◌, Bool, true, false, Err, IfOk, OnErr, OnOk, length, slice_get};
 ghost use Rattle.std.specs.Option.{option_map};
-ghost use Rattle.cp_console.specs.Responses.{text_of};
 ghost use Rattle.cp_script.specs.Script.{IsOfDevice, IsOfUser, said};
 ghost use Rattle.cp_script.specs.Users.{devices_of, has_device};
 ghost use Rattle.cp_users.specs.Users.{name_of};
 ghost use Rattle.sessions.specs.Installed.{Installation as Goings, machine_at, names_of, subchannels_at, user_at};
 ghost use Rattle.sessions.specs.Schedule.{IsEvent, ready_in};
 
-use cp_console::responses::Response;
 use cp_devices::{FileNote, Reply, SeenDevices};
 use cp_panel::Mode;
 use cp_script::ScriptEvent;
@@ -79,9 +77,9 @@ pub trait Installation {
         ensures { result ≡ length (machine_at ((goes).seen self.now) user).output };
 
     /// A line that a user's console has printed, `None` past the last.
-    fn console_output(&self, user: UserNo, line: usize) -> Option<Response>
+    fn console_output(&self, user: UserNo, line: usize) -> Option<&[u8]>
         requires { user < length ((goes).seen self.now).users }
-        ensures { option_map text_of result ≡ slice_get (machine_at ((goes).seen self.now) user).output line };
+        ensures { option_map (λ text. text.now) result ≡ slice_get (machine_at ((goes).seen self.now) user).output line };
 
     /// How many files have got a number.
     fn files(&self) -> usize

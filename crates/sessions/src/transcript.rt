@@ -34,7 +34,7 @@ pub(crate) fn print_reply<I: Installation>(
 {
     let mut text = Vec::new(alloc);
     print_said(alloc, &mut text, installation, user, reply.said)?;
-    print_written(alloc, &mut text, installation, user, reply)?;
+    print_written(&mut text, installation, user, reply)?;
     print_delivered(&mut text, installation, reply.delivered)?;
     print_end(
         alloc,
@@ -114,7 +114,6 @@ fn print_queue<I: Installation>(
 
 /// Adds what a program has written at the console of this user while it was served.
 fn print_written<I: Installation>(
-    alloc: Global,
     out: &mut Vec<u8>,
     installation: &I,
     user: UserNo,
@@ -126,7 +125,7 @@ fn print_written<I: Installation>(
         reply.now.ended)) }
 {
     match reply.ended {
-        Ended::Served(_) => print_last(alloc, out, installation, user, reply.lines),
+        Ended::Served(_) => print_last(out, installation, user, reply.lines),
         Ended::Ran(_) | Ended::Done | Ended::FramesOut => Ok(()),
     }
 }
@@ -134,7 +133,6 @@ fn print_written<I: Installation>(
 /// Adds the last so many lines that the console of this user has printed.
 #[tactic(auto, using(crate::proofs::Written::one_more, crate::proofs::Written::no_more))]
 fn print_last<I: Installation>(
-    alloc: Global,
     out: &mut Vec<u8>,
     installation: &I,
     user: UserNo,
@@ -146,11 +144,10 @@ fn print_last<I: Installation>(
 {
     let printed = installation.printed(user);
     for index in printed.saturating_sub(count)..printed {
-        let Some(response) = installation.console_output(user, index) else {
+        let Some(line) = installation.console_output(user, index) else {
             unreachable!();
         };
-        let line = printing::reply(alloc, &response)?;
-        print_line(out, installation.name(user), &line)?;
+        print_line(out, installation.name(user), line)?;
     }
     Ok(())
 }

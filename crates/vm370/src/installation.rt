@@ -7,7 +7,6 @@ ghost use Rattle.cp_script.specs.Script.{IsOfDevice, IsOfUser, said};
 ghost use Rattle.sessions.specs.Schedule.{IsEvent};
 ghost use Rattle.vm370.specs.Goes.{HasCards, HasHappened, IsSpent, as_said, known_users, seen_in, system_goes};
 
-use cp_console::responses::Response;
 use cp_core::{CpError, Event, System};
 use cp_devices::{FileNote, Reply, SeenDevices};
 use cp_directory::{Minidisk, User, UserDevices};
@@ -118,7 +117,7 @@ impl Installation for SharedMachines {
         }
     }
 
-    fn console_output(&self, user: UserNo, line: usize) -> Option<Response> {
+    fn console_output(&self, user: UserNo, line: usize) -> Option<&[u8]> {
         self.system.console_output(user, line)
     }
 

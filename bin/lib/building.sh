@@ -1,0 +1,341 @@
+# How a program of the repository is built: proved, or on the word --unproved without any proof. Sourced by bin/lib/program.sh.
+
+# the crates that a program stands on, lowest first and the program last
+crates_of() {
+    awk -v wanted="$1" '
+        { sub(/#.*/, "") }
+        /:/ {
+            split($0, halves, ":")
+            split(halves[1], words, " ")
+            listed[words[1]] = 1
+            below[words[1]] = halves[2]
+        }
+        function visit(crate,   count, names, i) {
+            if (seen[crate]++ || !listed[crate]) return
+            count = split(below[crate], names, " ")
+            for (i = 1; i <= count; i++) visit(names[i])
+            print crate
+        }
+        END { visit(wanted) }
+    ' "$root/crates.txt"
+}
+
+# the kit that rt belongs to, or nothing where there is none
+kit() {
+    rt=$(command -v rt) || return 0
+    identity=$(dirname -- "$(dirname -- "$(readlink -f -- "$rt")")")/KIT-ID
+    if [ -r "$identity" ]; then
+        cat -- "$identity"
+    else
+        rt version
+    fi
+}
+
+# the lines of crates.txt for these folders of crates
+listed() {
+    awk -v wanted=" $1 " '
+        { sub(/#.*/, ""); split($0, halves, ":"); split(halves[1], words, " ") }
+        words[1] != "" && index(wanted, " crates/" words[1] " ")
+    ' crates.txt
+}
+
+# one number for the names and the contents of all that a program is made of
+sources() {
+    (
+        unset CDPATH
+        cd -- "$root"
+        set --
+        for crate in $(crates_of "$program_crate"); do
+            set -- "$@" "crates/$crate"
+        done
+        {
+            listed "$*"
+            find "$@" \( -name out -o -name data -o -name must-fail -o -name planted \) -prune -o \
+                -type f \( -name '*.rt' -o -name '*.antt' \) -exec cksum {} +
+        } | LC_ALL=C sort | cksum
+    )
+}
+
+# whether the program was built of these sources by this kit; without a kit, whether of these sources
+is_built() {
+    [ -x "$program" ] && [ -r "$mark" ] || return 1
+    {
+        IFS= read -r built_sources
+        IFS= read -r built_kit
+    } < "$mark" || return 1
+    [ "$built_sources" = "$now_sources" ] || return 1
+    [ -z "$now_kit" ] || [ "$built_kit" = "$now_kit" ]
+}
+
+# ensure_built CRATE: $program is then the program of that crate, built of what the sources are now, and proved unless --unproved
+# was given
+ensure_built() {
+    program_crate=$1
+    folder=$root/crates/$program_crate
+    now_sources=$(sources)
+    now_kit=$(kit)
+    if [ -n "${option_unproved-}" ]; then
+        ensure_compiled
+    else
+        program=$folder/out/$program_crate
+        mark=$folder/out/built
+        is_built || build
+    fi
+}
+
+# --- with proofs ---
+
+# Proves each crate that the program stands on, side by side those that do not need each other, and then builds and runs the program
+# on what lies beside its sources. What is proved is kept: a build that was broken off goes on from there. Two builds at once wait for
+# each other in rt, crate by crate; each has logs of its own.
+build() {
+    need_kit
+    mkdir -p -- "$folder/out" 2> /dev/null && logs=$(mktemp -d -- "$folder/out/build.XXXXXX" 2> /dev/null) ||
+        fail "$not_writable" "the program is not built, and $folder/out cannot be written"
+    # logs of builds that failed or were broken off
+    find "$folder/out" -name 'build.??????' -mtime +6 -exec rm -rf -- {} +
+    # shellcheck disable=SC2046
+    set -- $(crates_of "$program_crate")
+    crates=" $* "
+    count=$#
+    began=$(date +%s)
+    progress=$folder/out/building.$$
+    places=$(places)
+    tell_prospects
+    say "the logs are in $logs"
+    prove_all
+    tell_progress "building $program_crate, $count of $count"
+    (unset CDPATH && cd -- "$folder" && run_once) > "$logs/$program_crate.log" 2>&1 < /dev/null || refuse_build "$program_crate"
+    # of what the sources were when it began: an edit that was made meanwhile is seen the next time
+    printf '%s\n%s\n' "$now_sources" "$now_kit" > "$mark.$$"
+    mv -f -- "$mark.$$" "$mark"
+    [ "$never_proved" -eq 0 ] || echo "$(minutes_gone) $never_proved" > "$folder/out/took"
+    rm -rf -- "$logs" "$progress"
+}
+
+need_kit() {
+    [ -n "$now_kit" ] || fail "$no_kit" "the program is not built, and the Rattle kit is not there: no rt in PATH"
+}
+
+# how many crates are proved side by side: one for each processor, and for each 2 GiB of memory that is free
+places() {
+    most=$(nproc 2> /dev/null) || most=1
+    room=$(awk '/^MemAvailable:/ { print int($2 / 2097152) }' /proc/meminfo 2> /dev/null) || room=$most
+    [ "$room" -ge "$most" ] || most=$room
+    [ "$most" -ge 1 ] || most=1
+    echo "$most"
+}
+
+# proves each crate but the program's, once those below it are proved; the end of each comes through a pipe
+prove_all() {
+    mkfifo -- "$logs/ended"
+    exec 3<> "$logs/ended"
+    trap 'stop_build 129' HUP
+    trap 'stop_build 130' INT
+    trap 'stop_build 143' TERM
+    begun=' ' proved=' ' running=0 number=0
+    while :; do
+        for crate in $(ready); do
+            [ "$running" -ge "$places" ] || begin "$crate"
+        done
+        [ "$running" -gt 0 ] || break
+        read -r crate ended <&3
+        running=$((running - 1))
+        [ "$ended" -eq 0 ] || refuse_build "$crate"
+        proved="$proved$crate "
+    done
+    trap - HUP INT TERM
+    exec 3>&-
+}
+
+# the crates below the program that are not begun and stand on proved ones alone
+ready() {
+    awk -v crates="$crates" -v begun="$begun$program_crate " -v proved="$proved" '
+        { sub(/#.*/, "") }
+        split($0, halves, ":") == 2 {
+            split(halves[1], words, " ")
+            crate = words[1]
+            if (!index(crates, " " crate " ") || index(begun, " " crate " ")) next
+            count = split(halves[2], names, " ")
+            for (i = 1; i <= count; i++)
+                if (index(crates, " " names[i] " ") && !index(proved, " " names[i] " ")) next
+            print crate
+        }
+    ' "$root/crates.txt"
+}
+
+# begin CRATE: it is proved beside the others, in a group of its own that stop_build can end
+begin() {
+    number=$((number + 1))
+    running=$((running + 1))
+    begun="$begun$1 "
+    tell_progress "proving $1, $number of $count"
+    apart=$(command -v setsid) || apart=
+    (
+        unset CDPATH
+        ended=0
+        cd -- "$root/crates/$1" &&
+            $apart sh -c 'echo $$ > "$1" && exec rt lib' sh "$logs/$1.pid" > "$logs/$1.log" 2>&1 < /dev/null 3>&- || ended=$?
+        rm -f -- "$logs/$1.pid"
+        echo "$1 $ended" >&3
+    ) &
+}
+
+# refuse_build CRATE: it was refused
+refuse_build() {
+    [ "$running" -eq 0 ] || say "$1 was refused; what is under way is waited for, since it is kept"
+    wait
+    rm -f -- "$progress"
+    cat -- "$logs/$1.log" >&2
+    fail "$not_built" "$1 was refused, and $program_crate is not built; the log is $logs/$1.log"
+}
+
+# stop_build STATUS: ends what is under way
+stop_build() {
+    for pid in "$logs"/*.pid; do
+        [ ! -r "$pid" ] || kill -- "-$(cat -- "$pid")" 2> /dev/null || kill "$(cat -- "$pid")" 2> /dev/null || true
+    done
+    rm -f -- "$progress"
+    say "broken off; what is proved is kept, and the next start goes on from there"
+    exit "$1"
+}
+
+# how many minutes the build has taken so far
+minutes_gone() {
+    echo $((($(date +%s) - began) / 60))
+}
+
+# lines_of CRATE..: of their code and proofs
+lines_of() {
+    for crate in "$@"; do
+        find "$root/crates/$crate" \( -name out -o -name data \) -prune -o -type f \( -name '*.rt' -o -name '*.antt' \) -exec cat {} +
+    done | wc -l | tr -d ' '
+}
+
+# what is to be done, how long that may take, and which other build is under way
+tell_prospects() {
+    unproved=' '
+    for crate in $crates; do
+        [ -e "$root/crates/$crate/out/rlib" ] || [ "$crate" = "$program_crate" ] || unproved="$unproved$crate "
+    done
+    # shellcheck disable=SC2086
+    set -- $unproved
+    never_proved=$#
+    lines=$(lines_of "$@")
+    say "proving and building $program_crate: $count crates, of which $# were never proved here, up to $places side by side"
+    if [ -r "$folder/out/took" ] && read -r minutes before < "$folder/out/took"; then
+        say "the last time it took $minutes minutes, for $before crates that were never proved before"
+    elif [ "$never_proved" -gt 0 ]; then
+        # a processor of 2.5 GHz proves some 800 lines a minute, and not all of them have work at the end
+        least=$((1 + lines / (600 * places)))
+        say "by the host that takes $least to $((2 * least)) minutes"
+    else
+        say "after an edit that takes mostly less than a minute, and many minutes where much stands on what was edited"
+    fi
+    for other in "$root"/crates/*/out/building.*; do
+        [ -r "$other" ] || continue
+        if kill -0 "${other##*.}" 2> /dev/null; then
+            say "another build is under way: $(cat -- "$other"); what both need is proved once"
+        else
+            rm -f -- "$other"
+        fi
+    done
+}
+
+# tells a step, here and to other builds: how long it has taken, and how long the rest takes if it goes on so
+tell_progress() {
+    gone=$(minutes_gone)
+    told=$1
+    [ "$gone" -eq 0 ] || told="$told, after $gone minutes$(tell_left)"
+    say "$told"
+    echo "$program_crate is $1, after $gone minutes" > "$progress"
+}
+
+# the minutes that are left, by the lines that were proved so far
+tell_left() {
+    done=
+    for crate in $unproved; do
+        case $proved in
+        *" $crate "*) done="$done $crate" ;;
+        esac
+    done
+    # shellcheck disable=SC2086
+    lines_done=$(lines_of $done)
+    [ "$lines_done" -eq 0 ] || echo "; by what is proved so far about $(((lines - lines_done) * gone / lines_done + 1)) are left"
+}
+
+# builds the program of the current folder, by a run on the words that lie beside its sources; files that they name are in data
+run_once() {
+    set --
+    if [ -f args ]; then
+        while IFS= read -r word || [ -n "$word" ]; do
+            [ ! -e "data/$word" ] || word=data/$word
+            set -- "$@" "$word"
+        done < args
+    fi
+    rt run -- "$@"
+}
+
+# --- without proof ---
+
+# Compiles the program of the sources as they are, which then stops at what a proof would exclude: nothing is proved. It lies in a
+# folder of its own, under a name that has the number of its sources, and has no mark: no command takes it for a proved one.
+ensure_compiled() {
+    compiled=$root/out/unproved
+    program=$compiled/$program_crate-$(printf '%s\n' "$now_sources" "$now_kit" | cksum | tr ' ' -)
+    [ -x "$program" ] || compile
+    say "not proved; slow"
+}
+
+# rt try keeps no program: this copies the one that it has made while it runs, held at the opening of a pipe.
+compile() {
+    need_kit
+    mkdir -p -- "$compiled" 2> /dev/null && room=$(mktemp -d -- "$compiled/making.XXXXXX" 2> /dev/null) ||
+        fail "$not_writable" "the program is not built, and $compiled cannot be written"
+    say "compiling $program_crate without proof: about two minutes"
+    held=$room/held
+    mkfifo -- "$held"
+    trying=
+    trap 'stop_compiling 129' HUP
+    trap 'stop_compiling 130' INT
+    trap 'stop_compiling 143' TERM
+    try_held > "$room/log" 2>&1 < /dev/null &
+    trying=$!
+    # waits until the program opens the pipe, or rt has ended
+    exec 5> "$held"
+    made=$(find "$room" -type f -name program -perm -100)
+    [ -z "$made" ] || cp -- "$made" "$room/copied"
+    kill "$trying" 2> /dev/null || true
+    wait "$trying" || true
+    exec 5>&-
+    trap - HUP INT TERM
+    [ -x "$room/copied" ] || {
+        cat -- "$room/log" >&2
+        fail "$not_built" "$program_crate was refused, and is not compiled; the log is $room/log"
+    }
+    rm -f -- "$compiled/$program_crate"-*
+    mv -f -- "$room/copied" "$program"
+    rm -rf -- "$room"
+}
+
+# runs the program by rt try on words that make it open the pipe, and lets go of who waits at the pipe
+try_held() {
+    case $program_crate in
+    bare370_cli) set -- 8K "$held" ;;
+    volume_cli) set -- mkvol "$room/image" "$held" ;;
+    *) set -- "$held" "$held" ;;
+    esac
+    rt_running=
+    trap 'kill "$rt_running" 2> /dev/null' TERM
+    (unset CDPATH && cd -- "$folder" && TMPDIR=$room exec rt try --steps 1 --seconds 600 -- "$@") &
+    rt_running=$!
+    wait "$rt_running" || true
+    : <> "$held"
+}
+
+# stop_compiling STATUS: ends what is under way
+stop_compiling() {
+    [ -z "$trying" ] || kill "$trying" 2> /dev/null || true
+    rm -rf -- "$room"
+    exit "$1"
+}
