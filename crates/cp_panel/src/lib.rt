@@ -1,8 +1,8 @@
 //! The machine with its operator's panel, but for its storage: what both a bare machine and a user of the control
 //! program have, written once.
 //!
-//! Its one theorem: what a [`Machine`] does when it is let run ([`Machine::run`]), to what a line asks
-//! of it ([`Machine::answer`]), and at a tick of its timer ([`Machine::tick`]) is what `specs/` defines (docs/MACHINE.md,
+//! Its one theorem: what a [`Machine`] does when it is let run ([`Machine::run`]), when a line asks something of it alone
+//! ([`Machine::answer`]) and at a tick of its timer ([`Machine::tick`]) is what `specs/` defines (docs/MACHINE.md,
 //! docs/COMMANDS.md), over any storage that can bring its absent pages; and it brings only pages that these need. Where
 //! there is no room for one, a run stands after the units that it tells, and a line or a tick has done nothing.
 //!
