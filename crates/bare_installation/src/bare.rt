@@ -5,7 +5,7 @@ ghost use Rattle.s370_store.specs.Plain.{plain_bytes, plain_keys};
 ghost use Rattle.s370_channel.specs.Reading.{as_reached};
 ghost use Rattle.cp_panel.specs.Machine.{unused};
 ghost use Rattle.cp_panel.specs.Ready.{is_ready};
-ghost use Rattle.cp_panel.specs.Run.{run};
+ghost use Rattle.cp_panel.specs.Run.{notice_of, run};
 ghost use Rattle.cp_panel.specs.Tick.{ticked};
 ghost use Rattle.s370_subchannels.specs.declared.subchannel.Subchannel.{Subchannel};
 ghost use Rattle.cp_devices.specs.Devices.{AreAttached, can_attach, devices_new, no_places, places_of};
@@ -229,6 +229,7 @@ impl Bare {
               reason = result.ran.reason;
               notice = result.notice;
             } }
+        ensures notice { result.notice ≡ notice_of result.ran.reason }
         ensures devices { self.new.equipped.devices ≡ self.old.equipped.devices }
         ensures disks { self.new.equipped.disks ≡ self.old.equipped.disks }
         ensures files { self.new.files ≡ self.old.files }

@@ -89,7 +89,7 @@ impl Bare {
         ensures line { IfOk result
             (λ told. IsLine (W.known world.now) typed.now self.old.equipped told self.new.equipped) }
         ensures files { self.new.files ≡ self.old.files }
-        ensures memory { OnErr result (MayTakeMemory (requested typed.now self.old.equipped) typed.now self.old.equipped) }
+        ensures memory { OnErr result (MayTakeMemory (requested typed.now self.old.equipped)) }
     {
         let told = self.devices.line(
             alloc,

@@ -14,7 +14,8 @@ use Rattle.cp_frames.specs.Paging.{IsPinned, IsRefused}
 use Rattle.cp_dat.specs.Supplied.{GivesBack, HasSuch, IsBetweenUnits, IsPagedFor, unpinned}
 use Rattle.cp_dat.specs.declared.dat.Dat.{Dat}
 use Rattle.cp_panel.specs.Machine.{Machine}
-use Rattle.cp_panel.specs.Panel.{line_needs, switches}
+use Rattle.cp_devices.specs.Requests.{switches}
+use Rattle.cp_devices.specs.Lines.{requested}
 use Rattle.cp_devices.specs.Equipped.{Equipped}
 use Rattle.cp_core.specs.Wants.{LineWants}
 use Rattle.cp_core.proofs.Switches.{switch_wants_none}
@@ -87,9 +88,9 @@ short_of user page pages needs old between new rest paged all is refused =
 -- ---- a line
 
 -- a line is refused a page only where there is no room: one that switches the machine needs none
-pub line_short : (typed : List ℕ) (e : Equipped) (user page : ℕ) (old between new : FrameSupply) → IsBetweenUnits old → (switches typed e.machine ≡ false → (pages : List ℕ) × IsPagedFor user pages old between × AllNeeded (LineWants typed e) pages) → LineWants typed e page → new ≡ unpinned between → IsRefused between user page → IsShort new user (LineWants typed e) page
+pub line_short : (typed : List ℕ) (e : Equipped) (user page : ℕ) (old between new : FrameSupply) → IsBetweenUnits old → (switches (requested typed e) ≡ false → (pages : List ℕ) × IsPagedFor user pages old between × AllNeeded (LineWants typed e) pages) → LineWants typed e page → new ≡ unpinned between → IsRefused between user page → IsShort new user (LineWants typed e) page
 line_short typed e user page old between new rest paged need is refused =
-    either (switches typed e.machine) _ (λ on. absurd (switch_wants_none typed e page on need)) (λ off. (let s = paged off in short_of user page s.0 (LineWants typed e) old between new rest s.1 s.2 is refused))
+    either (switches (requested typed e)) _ (λ on. absurd (switch_wants_none typed e page on need)) (λ off. (let s = paged off in short_of user page s.0 (LineWants typed e) old between new rest s.1 s.2 is refused))
 
 -- pages that were given back have left, also when the pins are taken away
 pub given_for : (user : ℕ) (old between new : FrameSupply) → IsGivenBack user old between → new ≡ unpinned between → IsGivenBack user old new

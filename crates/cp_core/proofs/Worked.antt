@@ -18,7 +18,7 @@ use Rattle.cp_dat.specs.Letting.{between_again, came_on, let_go_came}
 use Rattle.cp_dat.specs.Supplied.{GivesBack, HasNoRoom, HasSuch, IsBetweenUnits, IsBroughtInUnits, IsPagedFor, Supplied, SuppliedUnits, TakesPins, unpinned}
 use Rattle.cp_panel.specs.declared.line.LineError.{LineError}
 use Rattle.cp_panel.specs.declared.line.LineError.TheVariants as errors
-use Rattle.cp_panel.specs.Panel.{line_needs, switches}
+use Rattle.cp_devices.specs.Requests.{needs_of, switches}
 use Rattle.cp_channels.specs.Channels.{Brings, LacksRoom, NoRoom}
 use Rattle.cp_devices.specs.declared.line.Told.{Told}
 use Rattle.cp_devices.specs.Equipped.{Equipped}
@@ -123,16 +123,16 @@ same_where (Err error) old between new rest taken not = taken.supply ∙ ap unpi
 
 -- a line promises it of the storage that is lent to it, once the pins are taken away
 pub plainly_lent : (typed : List ℕ) (before : Equipped) (old between new : Dat) (r : Result Told LineError) → IsBetweenUnits (lent_pool old).supply → TakesPins between new
-    → (r ≡ Err errors.FramesOut → IsLacking (Touches (line_needs typed before.machine)) (length before.machine.core.processor.bytes) (λ page. IsRefused (lent_pool between).supply (user_of between) page))
-    → (switches typed before.machine ≡ true → OnOk r (GivesBack old between)) → (switches typed before.machine ≡ true → OnErr r (Supplied old [] between))
-    → (switches typed before.machine ≡ false → (pages : List ℕ) × Supplied old pages between × AllNeeded (Touches (line_needs typed before.machine)) pages)
+    → (r ≡ Err errors.FramesOut → IsLacking (Touches (needs_of (requested typed before))) (length before.machine.core.processor.bytes) (λ page. IsRefused (lent_pool between).supply (user_of between) page))
+    → (switches (requested typed before) ≡ true → OnOk r (GivesBack old between)) → (switches (requested typed before) ≡ true → OnErr r (Supplied old [] between))
+    → (switches (requested typed before) ≡ false → (pages : List ℕ) × Supplied old pages between × AllNeeded (Touches (needs_of (requested typed before))) pages)
     → IsLineLent typed before old new r
 plainly_lent typed before old between new r rest taken frames cleared not_cleared supply =
     let needs : ℕ → Type 0 = LineWants typed before in
-    let kept : KeepsFrames old between = either (switches typed before.machine) _ (λ on. kept_where r old between (cleared on) (not_cleared on)) (λ off. (supply off).1.kept) in
-    let owners = either (switches typed before.machine) _ (λ on. owners_where r old between (cleared on) (not_cleared on)) (λ off. (supply off).1.paged.same_frames) in
-    let pins = either (switches typed before.machine) _ (λ on. pins_where r old between (cleared on) (not_cleared on)) (λ off. (supply off).1.paged.same_marks) in
-    let paged : switches typed before.machine ≡ false → (pages : List ℕ) × IsPagedFor (user_of old) pages (lent_pool old).supply (lent_pool between).supply × AllNeeded needs pages =
+    let kept : KeepsFrames old between = either (switches (requested typed before)) _ (λ on. kept_where r old between (cleared on) (not_cleared on)) (λ off. (supply off).1.kept) in
+    let owners = either (switches (requested typed before)) _ (λ on. owners_where r old between (cleared on) (not_cleared on)) (λ off. (supply off).1.paged.same_frames) in
+    let pins = either (switches (requested typed before)) _ (λ on. pins_where r old between (cleared on) (not_cleared on)) (λ off. (supply off).1.paged.same_marks) in
+    let paged : switches (requested typed before) ≡ false → (pages : List ℕ) × IsPagedFor (user_of old) pages (lent_pool old).supply (lent_pool between).supply × AllNeeded needs pages =
     λ off. (let s = supply off in (s.0, s.1.paged, all_wanted typed before s.0 s.2)) in
     record {
       kept = keeps_frames_on old between new kept taken.kept;

@@ -8,7 +8,7 @@ use Rattle.s370_intr.specs.Laws.{begun}
 use Rattle.cp_frames.specs.Layout.{FrameSupply, cleared_of, is_there}
 use Rattle.cp_dat.specs.Supplied.{HasSuch, IsBetweenUnits, IsBroughtInUnits}
 use Rattle.cp_panel.specs.Machine.{Machine}
-use Rattle.cp_panel.specs.Panel.{switches}
+use Rattle.cp_devices.specs.Requests.{switches}
 use Rattle.cp_panel.specs.Tick.{TickNeeds}
 use Rattle.cp_core.specs.Events.{user_of}
 use Rattle.cp_core.specs.System.{SystemView, machine_at, user_at}
@@ -51,7 +51,7 @@ pub record IsGivenBack (user : ℕ) (old new : FrameSupply) : Type 0 where
 -- whether an event switches a machine on or off, which gives back all the user's pages
 abbrev pub gives_back : SystemView → Event → Bool
 gives_back old (Run user asked) = false
-gives_back old (Line user typed) = switches typed.now (machine_at old user)
+gives_back old (Line user typed) = switches (requested typed.now (user_at old user))
 gives_back old (Tick user) = false
 gives_back old (Deck user cards) = false
 gives_back old (Serve user device) = false

@@ -6,10 +6,10 @@ use Rattle.cp_dat.specs.Lent.{KeepsFrames, lent_pool, user_of}
 use Rattle.cp_dat.specs.Supplied.{IsBetweenUnits, SuppliedUnits}
 use Rattle.cp_panel.specs.declared.line.LineError.{LineError}
 use Rattle.cp_panel.specs.declared.line.LineError.TheVariants as errors
-use Rattle.cp_panel.specs.Panel.{switches}
 use Rattle.cp_devices.specs.declared.line.Told.{Told}
 use Rattle.cp_devices.specs.Equipped.{Equipped}
 use Rattle.cp_devices.specs.Lines.{requested}
+use Rattle.cp_devices.specs.Requests.{switches}
 use Rattle.cp_core.specs.Supply.{IsGivenBack, IsShort, LineBrings}
 use Rattle.cp_devices.specs.Comes.{is_ipl}
 use Rattle.cp_core.specs.Wants.{LineWants}
@@ -19,7 +19,7 @@ use Rattle.cp_core.specs.Wants.{LineWants}
 pub record IsLineLent (typed : List ℕ) (before : Equipped) (old new : Dat) (r : Result Told LineError) : Type 0 where
   pub kept : KeepsFrames old new
   pub frames : r ≡ Err errors.FramesOut → IsLacking (LineWants typed before) (length before.machine.core.processor.bytes) (IsShort (lent_pool new).supply (user_of old) (LineWants typed before))
-  pub cleared : switches typed before.machine ≡ true → OnOk r (IsGivenBack (user_of old) (lent_pool old).supply (lent_pool new).supply)
-  pub not_cleared : switches typed before.machine ≡ true → OnErr r ((lent_pool new).supply ≡ (lent_pool old).supply)
-  pub supply : switches typed before.machine ≡ false → (units : List (List ℕ)) × SuppliedUnits old units new × LineBrings (is_ipl (requested typed before)) (LineWants typed before) units
+  pub cleared : switches (requested typed before) ≡ true → OnOk r (IsGivenBack (user_of old) (lent_pool old).supply (lent_pool new).supply)
+  pub not_cleared : switches (requested typed before) ≡ true → OnErr r ((lent_pool new).supply ≡ (lent_pool old).supply)
+  pub supply : switches (requested typed before) ≡ false → (units : List (List ℕ)) × SuppliedUnits old units new × LineBrings (is_ipl (requested typed before)) (LineWants typed before) units
   pub between : IsBetweenUnits (lent_pool new).supply

@@ -2,10 +2,10 @@
 use Rattle.std.specs.Prelude.{◌⊎◌, ℕ, List, Option, Some, None}
 use Rattle.s370_store.specs.Access.{Touches}
 use Rattle.cp_hold.specs.Holding.{HoldNeeds}
-use Rattle.cp_panel.specs.Panel.{line_needs}
 use Rattle.cp_devices.specs.Equipped.{Equipped}
 use Rattle.cp_devices.specs.Comes.{asks_to_load}
 use Rattle.cp_devices.specs.Lines.{IplNeeds, requested}
+use Rattle.cp_devices.specs.Requests.{needs_of}
 use Rattle.cp_devices.specs.Serve.{ServeNeeds}
 
 -- a serve needs the pages that the program of the device touches, which was started on it: each with a byte of a word that it
@@ -22,4 +22,4 @@ LoadWants None e page = ⊥
 -- a line needs the pages of the bytes that it shows or changes, and those of the loading for which it asks
 abbrev pub LineWants : List ℕ → Equipped → ℕ → Type 0
 LineWants typed e page =
-    Touches (line_needs typed e.machine) page ⊎ LoadWants (asks_to_load (requested typed e)) e page
+    Touches (needs_of (requested typed e)) page ⊎ LoadWants (asks_to_load (requested typed e)) e page

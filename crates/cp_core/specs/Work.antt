@@ -12,12 +12,12 @@ use Rattle.cp_frames.specs.Layout.{FrameSupply}
 use Rattle.cp_dat.specs.Supplied.{HasNoRoom, IsBroughtInUnits}
 use Rattle.cp_panel.specs.declared.line.LineError.{LineError}
 use Rattle.cp_panel.specs.declared.line.LineError.TheVariants as errors
-use Rattle.cp_panel.specs.Panel.{switches}
 use Rattle.cp_panel.specs.Run.{TellsRun, notice_of}
 use Rattle.cp_panel.specs.Tick.{TickNeeds, ticked}
 use Rattle.cp_devices.specs.declared.line.Told.{Told}
 use Rattle.cp_devices.specs.Equipped.{Equipped}
 use Rattle.cp_devices.specs.Lines.{IsWholeLine, requested}
+use Rattle.cp_devices.specs.Requests.{switches}
 use Rattle.cp_devices.specs.Serve.{IsServedAt}
 use Rattle.cp_devices.specs.World.{World}
 use Rattle.cp_core.specs.Supply.{IsGivenBack, IsShort, LineBrings}
@@ -61,8 +61,8 @@ LineGivesBack user before (Err error) after = after ≡ before
 -- every other line brings pages that it needs
 pub record HasTyped (world : World) (user : ℕ) (typed : List ℕ) (old : Equipped) (before : FrameSupply) (result : Result Told LineError) (new : Equipped) (after : FrameSupply) : Type 0 where
   pub leaves : LineLeaves world user typed old result new after
-  pub given_back : switches typed old.machine ≡ true → LineGivesBack user before result after
-  pub brought : switches typed old.machine ≡ false → (units : List (List ℕ)) × IsBroughtInUnits user units before after × LineBrings (is_ipl (requested typed old)) (LineWants typed old) units
+  pub given_back : switches (requested typed old) ≡ true → LineGivesBack user before result after
+  pub brought : switches (requested typed old) ≡ false → (units : List (List ℕ)) × IsBroughtInUnits user units before after × LineBrings (is_ipl (requested typed old)) (LineWants typed old) units
 
 -- ---- a serve
 

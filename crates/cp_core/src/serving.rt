@@ -145,7 +145,7 @@ fn type_line<W: World>(
         OnErr result (after ≡ before) }
     ensures memory { let before = equipped machine.old (devices_on devices.old queues.old) (disks_on channels.old) (lent_bytes storage.old)
         (lent_keys storage.old) in
-        result ≡ Err errors.Memory → MayTakeMemory (requested typed.now before) typed.now before }
+        result ≡ Err errors.Memory → MayTakeMemory (requested typed.now before) }
     ensures lent { let before = equipped machine.old (devices_on devices.old queues.old) (disks_on channels.old) (lent_bytes storage.old)
         (lent_keys storage.old) in
         IsLineLent typed.now before storage.old storage.new result }

@@ -11,12 +11,13 @@ use Rattle.cp_console.specs.declared.device_commands.DeviceCommand.{DeviceComman
 use Rattle.cp_console.specs.declared.device_commands.DeviceCommand.TheVariants as commands
 use Rattle.cp_console.specs.declared.responses.Response.{Response}
 use Rattle.cp_console.specs.declared.responses.Response.TheVariants as responses
+use Rattle.cp_panel.specs.declared.line.PanelLine.{PanelLine}
 use Rattle.cp_panel.specs.Panel.{line}
 use Rattle.cp_devices.specs.declared.line.Told.{Told}
 use Rattle.cp_devices.specs.declared.line.Told.TheVariants.{Silent, Said, Files, Sent, Loads, Closed}
 use Rattle.cp_devices.specs.declared.places.Kind.{Kind}
 use Rattle.cp_devices.specs.declared.request.Request.{Request}
-use Rattle.cp_devices.specs.declared.request.Request.TheVariants.{LogsOn, LogsOff, Resets, Types, Asks, Elsewhere}
+use Rattle.cp_devices.specs.declared.request.Request.TheVariants.{LogsOn, LogsOff, Resets, Types, Asks, Alone}
 use Rattle.cp_devices.specs.Devices.{DevicesValue, part_at}
 use Rattle.cp_devices.specs.Equipped.{Equipped}
 use Rattle.cp_devices.specs.Lines.{IsAnswered, IsFollowed, IsIpl, IsLine, IsObeyed, IsWholeLine, MayTakeMemory, Outcome, SendsTo, SendsWhere, answered_alone, close_answered, closed_where, files_told, loads_from, logged_off, logged_on, outcome, purge_answered, requested, said, spool_answered, spooled_to, target_of, typed_at, typed_where, was_reset}
@@ -53,11 +54,11 @@ said_unsent : (r : Option Response) → is_sent (said r) ≡ false
 said_unsent None = refl
 said_unsent (Some response) = refl
 
-alone_mild : (typed : List ℕ) (e : Equipped) → IsMild false false e (answered_alone typed e)
-alone_mild typed e = record {
-  no_load = said_none (line typed e.machine).reply;
-  sent = said_sent (line typed e.machine).reply e (answered_alone typed e).equipped;
-  unsent = λ none. said_unsent (line typed e.machine).reply;
+alone_mild : (asked : PanelLine) (e : Equipped) → IsMild false false e (answered_alone asked e)
+alone_mild asked e = record {
+  no_load = said_none (line asked e.machine).reply;
+  sent = said_sent (line asked e.machine).reply e (answered_alone asked e).equipped;
+  unsent = λ none. said_unsent (line asked e.machine).reply;
   punched = λ none. refl;
   printed = λ none. refl;
 }
@@ -155,7 +156,7 @@ sends LogsOn = false
 sends LogsOff = false
 sends Resets = false
 sends Types = false
-sends Elsewhere = false
+sends (Alone asked) = false
 
 obeyed_mild : (w : World) (command : DeviceCommand) (old : Equipped) (told : Told) (new : Equipped) → is_ipl (Asks command) ≡ false → IsObeyed w command old told new → IsMild (command_closes command) (command_sends command) old (outcome new told)
 obeyed_mild w (commands.Ipl device) old told new not h = cc
@@ -173,7 +174,7 @@ mild LogsOff w typed old told new not h = from true false old new told _ h (logo
 mild Resets w typed old told new not h = from false false old new told _ h (reset_mild old)
 mild Types w typed old told new not h = from false false old new told _ h (typed_mild old.devices.places.console (cleaned typed) old)
 mild (Asks command) w typed old told new not h = obeyed_mild w command old told new not h
-mild Elsewhere w typed old told new not h = from false false old new told _ h (alone_mild typed old)
+mild (Alone asked) w typed old told new not h = from false false old new told _ h (alone_mild asked old)
 
 true_or_false : (b : Bool) → (b ≡ true) ⊎ (b ≡ false)
 true_or_false true = inl refl
@@ -192,7 +193,7 @@ ipl_same LogsOn w typed old told new is h = cc
 ipl_same LogsOff w typed old told new is h = cc
 ipl_same Resets w typed old told new is h = cc
 ipl_same Types w typed old told new is h = cc
-ipl_same Elsewhere w typed old told new is h = cc
+ipl_same (Alone asked) w typed old told new is h = cc
 
 -- a line that asks for no IPL is answered at once
 pub whole_plain : (w : World) (typed : List ℕ) (old : Equipped) (told : Told) (new : Equipped) → is_ipl (requested typed old) ≡ false → IsWholeLine w typed old told new → IsLine w typed old told new
@@ -222,7 +223,7 @@ ipl_asked LogsOn w typed old told new is h = cc
 ipl_asked LogsOff w typed old told new is h = cc
 ipl_asked Resets w typed old told new is h = cc
 ipl_asked Types w typed old told new is h = cc
-ipl_asked Elsewhere w typed old told new is h = cc
+ipl_asked (Alone asked) w typed old told new is h = cc
 
 -- a line that tells of a loading asks for an IPL from that device, and has changed nothing
 pub record AsksToLoad (typed : List ℕ) (old : Equipped) (new : Equipped) (device : ℕ) : Type 0 where
@@ -258,42 +259,42 @@ not_closed : (old new : Equipped) → new.devices.punched ≡ old.devices.punche
 not_closed old new p q h = none_closed old.devices.punched new.devices.punched old.devices.printed new.devices.printed p q h
 
 -- such a line may take memory
-closing_may : (q : Request) (typed : List ℕ) (e : Equipped) → closes q ≡ true → MayTakeMemory q typed e
-closing_may LogsOff typed e is = tt
-closing_may (Asks (commands.Close device)) typed e is = tt
-closing_may (Asks (commands.Ipl device)) typed e is = cc
-closing_may (Asks commands.QueryFiles) typed e is = cc
-closing_may (Asks commands.QueryUsers) typed e is = cc
-closing_may (Asks (commands.Spool device name)) typed e is = cc
-closing_may (Asks (commands.Purge file)) typed e is = cc
-closing_may (Asks (commands.Message name text)) typed e is = cc
-closing_may LogsOn typed e is = cc
-closing_may Resets typed e is = cc
-closing_may Types typed e is = cc
-closing_may Elsewhere typed e is = cc
+closing_may : (q : Request) → closes q ≡ true → MayTakeMemory q
+closing_may LogsOff is = tt
+closing_may (Asks (commands.Close device)) is = tt
+closing_may (Asks (commands.Ipl device)) is = cc
+closing_may (Asks commands.QueryFiles) is = cc
+closing_may (Asks commands.QueryUsers) is = cc
+closing_may (Asks (commands.Spool device name)) is = cc
+closing_may (Asks (commands.Purge file)) is = cc
+closing_may (Asks (commands.Message name text)) is = cc
+closing_may LogsOn is = cc
+closing_may Resets is = cc
+closing_may Types is = cc
+closing_may (Alone asked) is = cc
 
-sending_may : (q : Request) (typed : List ℕ) (e : Equipped) → sends q ≡ true → MayTakeMemory q typed e
-sending_may (Asks (commands.Message name text)) typed e is = tt
-sending_may (Asks (commands.Close device)) typed e is = cc
-sending_may (Asks (commands.Ipl device)) typed e is = cc
-sending_may (Asks commands.QueryFiles) typed e is = cc
-sending_may (Asks commands.QueryUsers) typed e is = cc
-sending_may (Asks (commands.Spool device name)) typed e is = cc
-sending_may (Asks (commands.Purge file)) typed e is = cc
-sending_may LogsOn typed e is = cc
-sending_may LogsOff typed e is = cc
-sending_may Resets typed e is = cc
-sending_may Types typed e is = cc
-sending_may Elsewhere typed e is = cc
+sending_may : (q : Request) → sends q ≡ true → MayTakeMemory q
+sending_may (Asks (commands.Message name text)) is = tt
+sending_may (Asks (commands.Close device)) is = cc
+sending_may (Asks (commands.Ipl device)) is = cc
+sending_may (Asks commands.QueryFiles) is = cc
+sending_may (Asks commands.QueryUsers) is = cc
+sending_may (Asks (commands.Spool device name)) is = cc
+sending_may (Asks (commands.Purge file)) is = cc
+sending_may LogsOn is = cc
+sending_may LogsOff is = cc
+sending_may Resets is = cc
+sending_may Types is = cc
+sending_may (Alone asked) is = cc
 
 not_both : {b : Bool} → b ≡ false → b ≡ true → ⊥
 not_both off on = cc
 
-may_mild : (q : Request) (typed : List ℕ) (old : Equipped) (told : Told) (new : Equipped) → IsMild (closes q) (sends q) old (outcome new told) → NeedsMemory (length old.devices.punched) (length old.devices.printed) told new → MayTakeMemory q typed old
+may_mild : (q : Request) (typed : List ℕ) (old : Equipped) (told : Told) (new : Equipped) → IsMild (closes q) (sends q) old (outcome new told) → NeedsMemory (length old.devices.punched) (length old.devices.printed) told new → MayTakeMemory q
 may_mild q typed old told new mild h = elim (true_or_false (closes q)) [
-  | inl closing ↦ closing_may q typed old closing
+  | inl closing ↦ closing_may q closing
   | inr none ↦ elim (true_or_false (sends q)) [
-    | inl sending ↦ sending_may q typed old sending
+    | inl sending ↦ sending_may q sending
     | inr silent ↦ absurd (elim h [
       | inl sent ↦ not_both (mild.unsent silent) sent
       | inr closed ↦ not_closed old new (mild.punched none) (mild.printed none) closed

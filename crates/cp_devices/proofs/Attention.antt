@@ -9,14 +9,8 @@ use Rattle.s370_walk.specs.declared.parts.Ending.{Ending}
 use Rattle.s370_channel.specs.declared.words.Caw.{Caw}
 use Rattle.s370_channel.specs.Reading.{Reading}
 use Rattle.cp_channels.specs.Disks.{DiskAt, is_disk_at, reset_disk}
-use Rattle.cp_console.specs.Asked.{Asked, Stop, Command as ToControlProgram, Plain, asked_of}
-use Rattle.cp_console.specs.Commands.{command_of}
 use Rattle.cp_console.specs.Lines.{cleaned}
 use Rattle.cp_console.specs.Responses.{text_of, is_panel}
-use Rattle.cp_console.specs.declared.commands.Command.{Command}
-use Rattle.cp_console.specs.declared.commands.Command.TheVariants.{Nothing, Logon, Logoff, Begin, SystemReset, External, Display, Store, Device}
-use Rattle.cp_console.specs.declared.commands.CommandError.{CommandError}
-use Rattle.cp_console.specs.declared.commands.CommandError.TheVariants.{Memory, Unknown, Operand}
 use Rattle.cp_console.specs.declared.device_commands.DeviceCommand.{DeviceCommand}
 use Rattle.cp_console.specs.declared.device_commands.DeviceCommand.TheVariants as commands
 use Rattle.cp_console.specs.declared.responses.Response.{Response}
@@ -29,7 +23,9 @@ use Rattle.cp_panel.specs.DisplayStore.{changed, displayed, stored}
 use Rattle.cp_panel.specs.declared.machine.Mode.{Mode}
 use Rattle.cp_panel.specs.declared.machine.Mode.TheVariants.{Off, Stopped, Running}
 use Rattle.cp_panel.specs.Machine.{Machine, printed, reset}
-use Rattle.cp_panel.specs.Panel.{answered, commanded, line, line_in, off_line, on_line}
+use Rattle.cp_panel.specs.declared.line.PanelLine.{PanelLine}
+use Rattle.cp_panel.specs.declared.line.PanelLine.TheVariants.{Nothing, Says, Stop, Begin, External, Display, Store}
+use Rattle.cp_panel.specs.Panel.{answered, line}
 use Rattle.cp_panel.specs.Run.{halted, run, run_in}
 use Rattle.cp_panel.specs.Tick.{ticked_in}
 use Rattle.cp_devices.specs.declared.line.Told.{Told}
@@ -38,14 +34,13 @@ use Rattle.cp_devices.specs.declared.places.Kind.{Kind}
 use Rattle.cp_devices.specs.declared.places.Kind.TheVariants as kinds
 use Rattle.cp_devices.specs.declared.places.Places.{Places}
 use Rattle.cp_devices.specs.declared.request.Request.{Request}
-use Rattle.cp_devices.specs.declared.request.Request.TheVariants.{LogsOn, LogsOff, Resets, Types, Asks, Elsewhere}
+use Rattle.cp_devices.specs.declared.request.Request.TheVariants.{LogsOn, LogsOff, Resets, Types, Asks, Alone}
 use Rattle.cp_devices.specs.Attention.{AttentionAgrees, AttentionAgreesAtFirst, AttentionGoesOnAgreeing, waits_at}
 use Rattle.cp_devices.specs.Devices.{DevicesValue, is_there, kind_at, part_at, part_or_disk}
 use Rattle.cp_devices.specs.Equipped.{Equipped}
 use Rattle.cp_devices.specs.Life.{Event, Units, Serve, Line, Tick, Deck, Message, Leaves}
 use Rattle.cp_devices.specs.Lines.{IsAnswered, IsFollowed, IsObeyed, IsWholeLine, LoadsDisk, LoadsKind, LoadsReader, LoadsUnit, Outcome, close_answered, closed_where, loads_from, logged_off, logged_on, outcome, requested, spool_answered, spooled_to, target_of, typed_at, typed_where, was_reset, with_closed}
 use Rattle.cp_devices.specs.Loading.{is_good, left_by}
-use Rattle.cp_devices.specs.Requests.{asked_request, command_request, off_request, request_in}
 use Rattle.cp_devices.specs.Serve.{IsServedAt, RunsConsole, Serves, program_over}
 use Rattle.cp_devices.specs.Spooling.{is_punch, output_of}
 use Rattle.cp_devices.specs.World.{World}
@@ -179,53 +174,15 @@ answered_same false m text = refl
 says_same : (reply : Response) (m : Machine) → (answered reply m).machine.core.subchannels ≡ m.core.subchannels
 says_same reply m = answered_same (is_panel reply) m (text_of reply)
 
--- no request but the last
-abbrev IsElsewhere : Request → Type 0
-IsElsewhere LogsOn = ⊥
-IsElsewhere LogsOff = ⊥
-IsElsewhere Resets = ⊥
-IsElsewhere Types = ⊥
-IsElsewhere (Asks command) = ⊥
-IsElsewhere Elsewhere = Unit {0}
-
-command_same : (r : Result Command CommandError) (m : Machine) → IsElsewhere (command_request r) → (commanded r m).machine.core.subchannels ≡ m.core.subchannels
-command_same (Ok Nothing) m e = refl
-command_same (Ok Logon) m e = refl
-command_same (Ok Logoff) m e = absurd e
-command_same (Ok (Begin address)) m e = refl
-command_same (Ok SystemReset) m e = absurd e
-command_same (Ok External) m e = refl
-command_same (Ok (Display place)) m e = says_same (displayed place m.core.processor) m
-command_same (Ok (Store change)) m e =
+line_same : (asked : PanelLine) (m : Machine) → (line asked m).machine.core.subchannels ≡ m.core.subchannels
+line_same Nothing m = refl
+line_same (Says response) m = refl
+line_same Stop m = refl
+line_same (Begin address) m = refl
+line_same External m = refl
+line_same (Display place) m = says_same (displayed place m.core.processor) m
+line_same (Store change) m =
     says_same (stored change m.core.processor) (record m { core = record m.core { processor = changed change m.core.processor } })
-command_same (Ok (Device command)) m e = absurd e
-command_same (Err Memory) m e = refl
-command_same (Err Unknown) m e = refl
-command_same (Err (Operand place)) m e = refl
-
-off_same : (r : Result Command CommandError) (m : Machine) → IsElsewhere (off_request r) → (off_line r m).machine.core.subchannels ≡ m.core.subchannels
-off_same (Ok Nothing) m e = refl
-off_same (Ok Logon) m e = absurd e
-off_same (Ok Logoff) m e = refl
-off_same (Ok (Begin address)) m e = refl
-off_same (Ok SystemReset) m e = refl
-off_same (Ok External) m e = refl
-off_same (Ok (Display place)) m e = refl
-off_same (Ok (Store change)) m e = refl
-off_same (Ok (Device command)) m e = refl
-off_same (Err fault) m e = refl
-
-asked_same : (mode : Mode) (has : Bool) (asked : Asked) (m : Machine) → IsElsewhere (asked_request mode has asked) → (on_line mode asked m).machine.core.subchannels ≡ m.core.subchannels
-asked_same mode has Stop m e = refl
-asked_same mode has (ToControlProgram text) m e = command_same (command_of text) m e
-asked_same Running has (Plain text) m e = refl
-asked_same Stopped has (Plain text) m e = command_same (command_of text) m e
-asked_same Off has (Plain text) m e = refl
-
-line_same : (mode : Mode) (has : Bool) (text : List ℕ) (m : Machine) → IsElsewhere (request_in mode has text) → (line_in mode text m).machine.core.subchannels ≡ m.core.subchannels
-line_same Off has text m e = off_same (command_of text) m e
-line_same Stopped has text m e = asked_same Stopped has (asked_of text) m e
-line_same Running has text m e = asked_same Running has (asked_of text) m e
 
 -- ---- a line for the console
 
@@ -319,18 +276,15 @@ obeys w (commands.Message name text) old told new o h = subst AttentionAgrees (s
 
 -- ---- a line
 
-elsewhere : (r : Request) → r ≡ Elsewhere → IsElsewhere r
-elsewhere r e = subst IsElsewhere (sym e) tt
-
-answers : (r : Request) (w : World) (typed : List ℕ) (old : Equipped) (told : Told) (new : Equipped) → requested typed old ≡ r → IsAnswered r w typed old told new → AttentionAgrees old → AttentionAgrees new
-answers LogsOn w typed old told new is a h = left_alone old new told (logged_on old) a (afresh old (logged_on old).equipped refl refl refl)
-answers LogsOff w typed old told new is a h = left_alone old new told (logged_off old) a (afresh old (logged_off old).equipped refl refl refl)
-answers Resets w typed old told new is a h = left_alone old new told (was_reset old) a (afresh old (was_reset old).equipped refl refl refl)
-answers Types w typed old told new is a h =
+answers : (r : Request) (w : World) (typed : List ℕ) (old : Equipped) (told : Told) (new : Equipped) → IsAnswered r w typed old told new → AttentionAgrees old → AttentionAgrees new
+answers LogsOn w typed old told new a h = left_alone old new told (logged_on old) a (afresh old (logged_on old).equipped refl refl refl)
+answers LogsOff w typed old told new a h = left_alone old new told (logged_off old) a (afresh old (logged_off old).equipped refl refl refl)
+answers Resets w typed old told new a h = left_alone old new told (was_reset old) a (afresh old (was_reset old).equipped refl refl refl)
+answers Types w typed old told new a h =
     left_alone old new told (typed_at old.devices.places.console (cleaned typed) old) a (types old.devices.places.console (cleaned typed) old refl h)
-answers (Asks command) w typed old told new is a h = obeys w command old told new a h
-answers Elsewhere w typed old told new is a h =
-    left_alone old new told _ a (same old (record old { machine = (line typed old.machine).machine }) refl refl (line_same old.machine.mode (is_some old.devices.places.console) (cleaned typed) old.machine (elsewhere (requested typed old) is)) h)
+answers (Asks command) w typed old told new a h = obeys w command old told new a h
+answers (Alone asked) w typed old told new a h =
+    left_alone old new told _ a (same old (record old { machine = (line asked old.machine).machine }) refl refl (line_same asked old.machine) h)
 
 follows : (first : Told) (old : Equipped) (told : Told) (new : Equipped) → IsFollowed (loads_from first) first old told new → AttentionAgrees old → AttentionAgrees new
 follows (Loads device) old told new f h = loaded (kind_at old.devices old.disks device) device old told new f h
@@ -342,7 +296,7 @@ follows Closed old told new f h = left_alone old new told _ f h
 
 typed_agrees : (w : World) (typed : List ℕ) (old : Equipped) (told : Told) (new : Equipped) → IsWholeLine w typed old told new → AttentionAgrees old → AttentionAgrees new
 typed_agrees w typed old told new l h =
-    follows l.first l.next told new l.followed (answers (requested typed old) w typed old l.first l.next refl l.line h)
+    follows l.first l.next told new l.followed (answers (requested typed old) w typed old l.first l.next l.line h)
 
 -- ---- events
 

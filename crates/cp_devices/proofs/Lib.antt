@@ -1,6 +1,5 @@
 mod Attached
 pub mod Requested
-pub mod Switched
 pub mod Printed
 pub mod Copies
 pub mod Marks

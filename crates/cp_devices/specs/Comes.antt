@@ -5,7 +5,7 @@ use Rattle.cp_console.specs.declared.device_commands.DeviceCommand.TheVariants a
 use Rattle.cp_devices.specs.declared.line.Told.{Told}
 use Rattle.cp_devices.specs.declared.line.Told.TheVariants.{Silent, Said, Files, Sent, Loads, Closed}
 use Rattle.cp_devices.specs.declared.request.Request.{Request}
-use Rattle.cp_devices.specs.declared.request.Request.TheVariants.{LogsOn, LogsOff, Resets, Types, Asks, Elsewhere}
+use Rattle.cp_devices.specs.declared.request.Request.TheVariants.{LogsOn, LogsOff, Resets, Types, Asks, Alone}
 use Rattle.cp_devices.specs.Equipped.{Equipped}
 use Rattle.cp_devices.specs.Lines.{MayTakeMemory, requested}
 
@@ -27,7 +27,7 @@ asks_to_load LogsOn = None
 asks_to_load LogsOff = None
 asks_to_load Resets = None
 asks_to_load Types = None
-asks_to_load Elsewhere = None
+asks_to_load (Alone asked) = None
 
 -- whether it asks for that
 abbrev pub is_ipl : Request → Bool
@@ -50,7 +50,7 @@ closes (Asks command) = command_closes command
 closes LogsOn = false
 closes Resets = false
 closes Types = false
-closes Elsewhere = false
+closes (Alone asked) = false
 
 -- such a line, or an IPL, is cut short where memory is refused meanwhile
 abbrev pub is_cut : Request → Bool
@@ -77,4 +77,4 @@ NeedsMemory punched printed told e = (is_sent told ≡ true) ⊎ HasClosed punch
 
 -- the lines that may take memory: those of a machine with devices, and an IPL, which makes room for a notice
 abbrev pub LineMay : List ℕ → Equipped → Type 0
-LineMay typed e = MayTakeMemory (requested typed e) typed e ⊎ (is_ipl (requested typed e) ≡ true)
+LineMay typed e = MayTakeMemory (requested typed e) ⊎ (is_ipl (requested typed e) ≡ true)

@@ -16,13 +16,14 @@ use Rattle.unit_record.specs.Console.{has_room, with_typed}
 use Rattle.unit_record.specs.Reader.{DeckValue, queued_at, reader_machine}
 use Rattle.ckd_volume.specs.Unit.{Disk, disk_machine, rested}
 use Rattle.cp_panel.specs.Machine.{cleared, printed, reset, switched_off}
+use Rattle.cp_panel.specs.declared.line.PanelLine.{PanelLine}
 use Rattle.cp_panel.specs.Panel.{line, line_room}
 use Rattle.cp_devices.specs.declared.line.Told.{Told}
 use Rattle.cp_devices.specs.declared.line.Told.TheVariants.{Silent, Said, Files, Sent, Loads, Closed}
 use Rattle.cp_devices.specs.declared.places.Kind.{Kind}
 use Rattle.cp_devices.specs.declared.places.Kind.TheVariants as kinds
 use Rattle.cp_devices.specs.declared.request.Request.{Request}
-use Rattle.cp_devices.specs.declared.request.Request.TheVariants.{LogsOn, LogsOff, Resets, Types, Asks, Elsewhere}
+use Rattle.cp_devices.specs.declared.request.Request.TheVariants.{LogsOn, LogsOff, Resets, Types, Asks, Alone}
 use Rattle.cp_channels.specs.Channels.{DiskLoads, LoadNeeds}
 use Rattle.cp_channels.specs.Disks.{DiskAt, cleared_disk, reset_disk}
 use Rattle.cp_devices.specs.Devices.{DevicesValue, kind_at, part_at}
@@ -59,8 +60,8 @@ abbrev pub was_reset : Equipped → Outcome
 was_reset e =
     outcome (record { machine = printed (reset e.machine) (text_of responses.SystemReset); devices = devices_reset e.devices; disks = map reset_disk e.disks }) (Said responses.SystemReset)
 
-abbrev pub answered_alone : List ℕ → Equipped → Outcome
-answered_alone typed e = let a = line typed e.machine in outcome (record e { machine = a.machine }) (said a.reply)
+abbrev pub answered_alone : PanelLine → Equipped → Outcome
+answered_alone asked e = let a = line asked e.machine in outcome (record e { machine = a.machine }) (said a.reply)
 
 -- ---- a line for the console
 
@@ -208,9 +209,9 @@ IsAnswered LogsOff w typed old told new = outcome new told ≡ logged_off old
 IsAnswered Resets w typed old told new = outcome new told ≡ was_reset old
 IsAnswered Types w typed old told new = outcome new told ≡ typed_at old.devices.places.console (cleaned typed) old
 IsAnswered (Asks command) w typed old told new = IsObeyed w command old told new
-IsAnswered Elsewhere w typed old told new = outcome new told ≡ answered_alone typed old
+IsAnswered (Alone asked) w typed old told new = outcome new told ≡ answered_alone asked old
 
--- what of a line concerns the devices; it is cut and cleaned first
+-- what a line asks; it is cut and cleaned first
 abbrev pub requested : List ℕ → Equipped → Request
 requested typed e = request_in e.machine.mode (is_some e.devices.places.console) (cleaned typed)
 
@@ -253,10 +254,10 @@ CommandMayTakeMemory (commands.Purge file) = ⊥
 
 -- and so do the files that LOGOFF closes, the answer to a reset, a line that waits for the console, and what a machine alone
 -- makes room for
-abbrev pub MayTakeMemory : Request → List ℕ → Equipped → Type 0
-MayTakeMemory LogsOn typed e = ⊥
-MayTakeMemory LogsOff typed e = Unit {0}
-MayTakeMemory Resets typed e = Unit {0}
-MayTakeMemory Types typed e = Unit {0}
-MayTakeMemory (Asks command) typed e = CommandMayTakeMemory command
-MayTakeMemory Elsewhere typed e = 0 < line_room typed e.machine
+abbrev pub MayTakeMemory : Request → Type 0
+MayTakeMemory LogsOn = ⊥
+MayTakeMemory LogsOff = Unit {0}
+MayTakeMemory Resets = Unit {0}
+MayTakeMemory Types = Unit {0}
+MayTakeMemory (Asks command) = CommandMayTakeMemory command
+MayTakeMemory (Alone asked) = 0 < line_room asked

@@ -3,10 +3,10 @@ ghost use Rattle.std.specs.Prelude.{◌≡◌, ◌<◌, ◌≤◌, ℕ, List, []
 ghost use Rattle.s370_store.specs.Access.{Touches};
 ghost use Rattle.cp_channels.specs.Disks.{DiskAt};
 ghost use Rattle.s370_intr.specs.Run.{AllNeeded, IsLacking};
-ghost use Rattle.cp_panel.specs.Panel.{line_needs, switches};
 ghost use Rattle.cp_spool.specs.Queues.{UserFiles};
 ghost use Rattle.cp_devices.specs.Equipped.{equipped};
 ghost use Rattle.cp_devices.specs.Lent.{KeepsBeside, devices_on, devices_with};
+ghost use Rattle.cp_devices.specs.Requests.{needs_of, switches};
 ghost use Rattle.cp_devices.specs.Lines.{IsLine, MayTakeMemory, loads_from, logged_off, outcome, said, requested, typed_at, was_reset};
 
 use crate::devices::Devices;
@@ -90,23 +90,23 @@ impl Devices {
             OnErr result (after ≡ before) }
         ensures memory { let before = equipped machine.old (devices_on self.old queues.old) (D.disks disks.old) (S.Storage.bytes storage.old)
             (S.Storage.keys storage.old) in
-            result ≡ Err LineError.Memory → MayTakeMemory (requested typed.now before) typed.now before }
+            result ≡ Err LineError.Memory → MayTakeMemory (requested typed.now before) }
         ensures frames { let before = equipped machine.old (devices_on self.old queues.old) (D.disks disks.old) (S.Storage.bytes storage.old)
             (S.Storage.keys storage.old) in
             result ≡ Err LineError.FramesOut
-            → IsLacking (Touches (line_needs typed.now before.machine)) (length (S.Storage.bytes storage.old))
+            → IsLacking (Touches (needs_of (requested typed.now before))) (length (S.Storage.bytes storage.old))
             (S.IsShort storage.new) }
         ensures cleared { let before = equipped machine.old (devices_on self.old queues.old) (D.disks disks.old) (S.Storage.bytes storage.old)
             (S.Storage.keys storage.old) in
-            switches typed.now before.machine ≡ true → OnOk result (S.Cleared storage.old storage.new) }
+            switches (requested typed.now before) ≡ true → OnOk result (S.Cleared storage.old storage.new) }
         ensures not_cleared { let before = equipped machine.old (devices_on self.old queues.old) (D.disks disks.old)
             (S.Storage.bytes storage.old) (S.Storage.keys storage.old) in
-            switches typed.now before.machine ≡ true → OnErr result (S.Brought storage.old [] storage.new) }
+            switches (requested typed.now before) ≡ true → OnErr result (S.Brought storage.old [] storage.new) }
         ensures supply { let before = equipped machine.old (devices_on self.old queues.old) (D.disks disks.old) (S.Storage.bytes storage.old)
             (S.Storage.keys storage.old) in
-            switches typed.now before.machine ≡ false
+            switches (requested typed.now before) ≡ false
             → ((pages : List ℕ) × S.Brought storage.old pages storage.new
-            × AllNeeded (Touches (line_needs typed.now before.machine)) pages) }
+            × AllNeeded (Touches (needs_of (requested typed.now before))) pages) }
         ensures others { D.KeepsOthers disks.old disks.new }
         ensures beside { KeepsBeside self.old queues.old self.new queues.new }
         ensures size { length (S.Storage.bytes storage.new) ≡ length (S.Storage.bytes storage.old) }
@@ -124,7 +124,7 @@ impl Devices {
             Request::Resets => self.reset_machine(machine, disks),
             Request::Types => self.type_line(machine, text.as_slice()),
             Request::Asks(command) => self.obey(alloc, queues, world, &command),
-            Request::Elsewhere => match machine.line(storage, typed) {
+            Request::Alone(asked) => match machine.answer(storage, asked) {
                 Ok(response) => Ok(Told::of(response)),
                 Err(error) => Err(error),
             },

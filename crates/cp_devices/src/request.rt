@@ -1,15 +1,16 @@
-//! What of a line concerns the devices of a machine.
+//! What a line asks of a machine with devices.
 ghost use Rattle.std.specs.Prelude.{◌≡◌};
 ghost use Rattle.cp_console.specs.Asked.{asked_of};
 ghost use Rattle.cp_console.specs.Commands.{command_of};
 ghost use Rattle.cp_devices.specs.Requests.{asked_request, command_request, off_request, plain_request, request_in};
 
-use cp_console::commands::{Command, read_command};
+use cp_console::commands::{Command, CommandError, read_command};
 use cp_console::device_commands::DeviceCommand;
 use cp_console::lines::{Asked, asked_of};
-use cp_panel::Mode;
+use cp_console::responses::Response;
+use cp_panel::{Mode, PanelLine};
 
-/// What of a line concerns the devices of a machine.
+/// What a line asks of a machine with devices.
 #[derive(PartialEq, Eq, Drop)]
 pub enum Request<'a> {
     /// LOGON switches the machine on.
@@ -22,12 +23,11 @@ pub enum Request<'a> {
     Types,
     /// A command that concerns devices, their files or other users.
     Asks(DeviceCommand<'a>),
-    /// Nothing: the machine alone answers.
-    Elsewhere,
+    /// What the machine alone answers.
+    Alone(PanelLine),
 }
 
-/// What of a line that was cut and cleaned concerns the devices of a machine in this mode, with a console or without
-/// one.
+/// What a line that was cut and cleaned asks of a machine in this mode, with a console or without one.
 pub(crate) fn request_of(mode: Mode, has_console: bool, text: &[u8]) -> Request<'_>
     ensures { result ≡ request_in mode has_console text.now }
 {
@@ -42,7 +42,7 @@ fn on_request(mode: Mode, has_console: bool, text: &[u8]) -> Request<'_>
     ensures { result ≡ asked_request mode has_console (asked_of text.now) }
 {
     match asked_of(text) {
-        Asked::Stop => Request::Elsewhere,
+        Asked::Stop => Request::Alone(PanelLine::Stop),
         Asked::Command(text) => command_request(text),
         Asked::Plain(text) => plain_request(mode, has_console, text),
     }
@@ -57,11 +57,11 @@ fn plain_request(mode: Mode, has_console: bool, text: &[u8]) -> Request<'_>
             if has_console {
                 Request::Types
             } else {
-                Request::Elsewhere
+                Request::Alone(PanelLine::Says(Response::NoConsole))
             }
         }
         Mode::Stopped => command_request(text),
-        Mode::Off => Request::Elsewhere,
+        Mode::Off => Request::Alone(PanelLine::Nothing),
     }
 }
 
@@ -71,7 +71,7 @@ fn off_request(text: &[u8]) -> Request<'_>
 {
     match read_command(text) {
         Ok(Command::Logon) => Request::LogsOn,
-        _ => Request::Elsewhere,
+        _ => Request::Alone(PanelLine::Says(Response::NotLoggedOn)),
     }
 }
 
@@ -80,9 +80,20 @@ fn command_request(text: &[u8]) -> Request<'_>
     ensures { result ≡ command_request (command_of text.now) }
 {
     match read_command(text) {
+        Ok(Command::Nothing) => Request::Alone(PanelLine::Nothing),
+        Ok(Command::Logon) => Request::Alone(PanelLine::Says(Response::AlreadyLoggedOn)),
         Ok(Command::Logoff) => Request::LogsOff,
+        Ok(Command::Begin(address)) => Request::Alone(PanelLine::Begin(address)),
         Ok(Command::SystemReset) => Request::Resets,
+        Ok(Command::External) => Request::Alone(PanelLine::External),
+        Ok(Command::Display(place)) => Request::Alone(PanelLine::Display(place)),
+        Ok(Command::Store(change)) => Request::Alone(PanelLine::Store(change)),
         Ok(Command::Device(command)) => Request::Asks(command),
-        _ => Request::Elsewhere,
+        Err(CommandError::Unknown) => Request::Alone(PanelLine::Says(Response::UnknownCommand)),
+        Err(CommandError::Operand(place)) => {
+            Request::Alone(PanelLine::Says(Response::BadOperand(place)))
+        }
+        // No command takes memory to be read.
+        Err(CommandError::Memory) => Request::Alone(PanelLine::Nothing),
     }
 }

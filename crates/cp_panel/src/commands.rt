@@ -3,11 +3,11 @@ ghost use Rattle.std.specs.Prelude.{◌≡◌, ◌<◌, ℕ, List, None, Some, I
 ghost use Rattle.s370_rows.specs.State.{state_of};
 ghost use Rattle.s370_store.specs.Access.{Touches};
 ghost use Rattle.s370_intr.specs.Run.{AllNeeded, IsLacking};
-ghost use Rattle.cp_console.specs.Responses.{is_panel};
+ghost use Rattle.cp_console.specs.Responses.{is_panel, text_of};
 ghost use Rattle.cp_panel.specs.DisplayStore.{changed, displayed, shown, stored, touched};
-ghost use Rattle.cp_panel.specs.Machine.{machine_of};
-ghost use Rattle.cp_panel.specs.Panel.{obeyed};
-ghost use Rattle.cp_console.specs.declared.commands.Command.TheVariants as commands;
+ghost use Rattle.cp_panel.specs.Machine.{machine_of, printed, reset};
+ghost use Rattle.cp_panel.specs.Panel.{line};
+ghost use Rattle.cp_panel.specs.declared.line.PanelLine.TheVariants as lines;
 ghost use Rattle.cp_console.specs.declared.responses.Response.TheVariants.{SystemReset};
 
 use crate::display_store::{change, display};
@@ -24,7 +24,7 @@ impl Machine {
     /// BEGIN: the machine runs, and the room for the notice of its stop is made.
     pub(crate) fn begin(&mut self, address: Option<Addr24>) -> Result<(), AllocError>
         ensures ok { (bytes keys : List ℕ)
-            → OnOk result (obeyed (commands.Begin address) (machine_of self.old bytes keys)
+            → OnOk result (line (lines.Begin address) (machine_of self.old bytes keys)
             ≡ record { machine = machine_of self.new bytes keys; reply = None }) }
         ensures err { (bytes keys : List ℕ)
             → OnErr result (machine_of self.new bytes keys ≡ machine_of self.old bytes keys) }
@@ -42,8 +42,8 @@ impl Machine {
     /// SYSTEM RESET: general registers, storage, keys and what was printed stay.
     pub fn system_reset(&mut self) -> Result<(), AllocError>
         ensures ok { (bytes keys : List ℕ)
-            → OnOk result (obeyed commands.SystemReset (machine_of self.old bytes keys)
-            ≡ record { machine = machine_of self.new bytes keys; reply = Some SystemReset }) }
+            → OnOk result (machine_of self.new bytes keys
+            ≡ printed (reset (machine_of self.old bytes keys)) (text_of SystemReset)) }
         ensures err { (bytes keys : List ℕ)
             → OnErr result (machine_of self.new bytes keys ≡ machine_of self.old bytes keys) }
         ensures memory { OnErr result (self.old.room < 1) }
@@ -58,7 +58,7 @@ impl Machine {
     /// EXTERNAL: the interrupt key is pressed.
     pub(crate) fn external(&mut self)
         ensures { (bytes keys : List ℕ)
-            → obeyed commands.External (machine_of self.old bytes keys)
+            → line lines.External (machine_of self.old bytes keys)
             ≡ record { machine = machine_of self.new bytes keys; reply = None } }
     {
         self.pending.key = true;
@@ -72,7 +72,7 @@ impl Machine {
     ) -> Result<Option<Response>, LineError>
         ensures ok { let before = machine_of self.old (S.Storage.bytes storage.old) (S.Storage.keys storage.old) in
             let after = machine_of self.new (S.Storage.bytes storage.new) (S.Storage.keys storage.new) in
-            IfOk result (λ reply. obeyed (commands.Display place) before ≡ record { machine = after; reply = reply }) }
+            IfOk result (λ reply. line (lines.Display place) before ≡ record { machine = after; reply = reply }) }
         ensures err { let before = machine_of self.old (S.Storage.bytes storage.old) (S.Storage.keys storage.old) in
             let after = machine_of self.new (S.Storage.bytes storage.new) (S.Storage.keys storage.new) in
             OnErr result (after ≡ before) }
@@ -104,7 +104,7 @@ impl Machine {
     ) -> Result<Option<Response>, LineError>
         ensures ok { let before = machine_of self.old (S.Storage.bytes storage.old) (S.Storage.keys storage.old) in
             let after = machine_of self.new (S.Storage.bytes storage.new) (S.Storage.keys storage.new) in
-            IfOk result (λ reply. obeyed (commands.Store change) before ≡ record { machine = after; reply = reply }) }
+            IfOk result (λ reply. line (lines.Store change) before ≡ record { machine = after; reply = reply }) }
         ensures err { let before = machine_of self.old (S.Storage.bytes storage.old) (S.Storage.keys storage.old) in
             let after = machine_of self.new (S.Storage.bytes storage.new) (S.Storage.keys storage.new) in
             OnErr result (after ≡ before) }

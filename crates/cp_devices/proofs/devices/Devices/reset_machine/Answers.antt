@@ -1,7 +1,6 @@
-use Rattle.std.proofs.Common.{List, map, sym, ap}
+use Rattle.std.proofs.Common.{List, map, ap}
 use Rattle.cp_console.specs.declared.responses.Response.TheVariants.{SystemReset}
 use Rattle.cp_panel.specs.Machine.{Machine}
-use Rattle.cp_panel.specs.Panel.{Answer}
 use Rattle.cp_channels.specs.Disks.{DiskAt, reset_disk}
 use Rattle.cp_devices.specs.declared.line.Told.TheVariants.{Said}
 use Rattle.cp_devices.specs.Lines.{outcome}
@@ -18,4 +17,4 @@ pub returns-in-Err-clause-err : goal.returns-in-Err-clause-err
 returns-in-Err-clause-err g c = λ files bytes keys. ap (λ (m : Machine). with (devices_with c.args.self.now files) (g.D.Disks.disks c.args.disks.now) m) (c.in-Err.ensures.err bytes keys)
 
 pub returns-clause-ok : goal.returns-clause-ok
-returns-clause-ok g c = λ files bytes keys. rw (c.reset.ensures, c.reset_disks.ensures.reset) (ap (λ (a : Answer). outcome (with (devices_reset (devices_with c.args.self.now files)) (map reset_disk (g.D.Disks.disks c.args.disks.now)) a.machine) (Said SystemReset)) (sym (c.in-Ok.ensures.ok bytes keys)))
+returns-clause-ok g c = λ files bytes keys. rw (c.reset.ensures, c.reset_disks.ensures.reset) (ap (λ (m : Machine). outcome (with (devices_reset (devices_with c.args.self.now files)) (map reset_disk (g.D.Disks.disks c.args.disks.now)) m) (Said SystemReset)) (c.in-Ok.ensures.ok bytes keys))

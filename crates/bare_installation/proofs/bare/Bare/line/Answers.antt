@@ -1,0 +1,52 @@
+use Rattle.std.proofs.Common.{◌≡◌, ◌∙◌, ◌++◌, ℕ, Err, List, Ok, OnErr, Option, Result, ap, length, subst}
+use Rattle.s370_channel.specs.Reading.{as_reached}
+use Rattle.cp_devices.specs.declared.files.FileNote.{FileNote}
+use Rattle.cp_devices.specs.declared.reply.Delivered.{Delivered}
+use Rattle.cp_devices.specs.Comes.{NeedsMemory}
+use Rattle.cp_devices.specs.Coming.{comes_by_line, coming_of}
+use Rattle.cp_devices.specs.Life.{Lives}
+use Rattle.cp_devices.specs.Lines.{IsWholeLine}
+use Rattle.cp_devices.specs.Notes.{closed_since, next_file}
+use Rattle.cp_devices.specs.Replies.{delivered_by, said_to_line}
+use Rattle.cp_devices.specs.World.{World}
+use Rattle.cp_devices.proofs.Answered.{follow_may}
+use Rattle.bare_installation.proofs.bare.Bare.line.Goals as goal
+
+on_err : {T E : Type 0} (X : Type 0) (result : Result T E) → X → OnErr result X
+on_err X (Ok told) x = tt
+on_err X (Err error) x = x
+
+pub returns-in_err-delivered-clause-memory : goal.returns-in_err-delivered-clause-memory
+returns-in_err-delivered-clause-memory c =
+    let old = c.args.self.now.equipped in
+    let middle = c.answer_whole.new.self.equipped in
+    let told = c.in_ok-told.told in
+    let needs : NeedsMemory (length old.devices.punched) (length old.devices.printed) told middle =
+    subst (λ (n : ℕ). NeedsMemory (length old.devices.punched) n told middle) c.printed_files-printer_files.ensures
+    (subst (λ (n : ℕ). NeedsMemory n c.printed_files-printer_files.result told middle) c.punched-punch_files.ensures c.in_err-delivered.ensures.memory) in
+    on_err _ c.from_residual-in_err-delivered.result (follow_may _ c.args.typed.now old told middle c.in_ok-told.ensures.line needs)
+
+pub returns-clause-typed : goal.returns-clause-typed
+returns-clause-typed c =
+    let old = c.args.self.now in
+    let middle = c.answer_whole.new.self in
+    let told = c.in_ok-told.told in
+    let delivered = c.in_ok-delivered.delivered in
+    let punched = c.punched-punch_files.result in
+    let printed = c.printed_files-printer_files.result in
+    let f = c.in_ok-delivered.ensures in
+    let files : middle.files ≡ old.files = c.in_ok-told.ensures.files in
+    record {
+      tells = record {
+        told = told;
+        answered = middle.equipped;
+        line = subst (λ (w : World). IsWholeLine w c.args.typed.now old.equipped told middle.equipped) c.world-world.ensures c.in_ok-told.ensures.line;
+        said = c.said_to_line.ensures ∙ ap (λ (n : ℕ). said_to_line n told) c.next_file-number.ensures.value;
+        delivered = f.delivered ∙ ap (λ (xs : List FileNote). delivered_by 1 (next_file xs) punched told middle.equipped) files
+            ∙ ap (λ (n : ℕ). delivered_by 1 (next_file old.files) n told middle.equipped) c.punched-punch_files.ensures;
+      };
+      come = subst (λ (n : ℕ). Lives as_reached (coming_of (comes_by_line 0 n middle.equipped) delivered) middle.equipped c.follow.new.self.equipped) c.punched-punch_files.ensures f.come;
+      files = f.files ∙ ap (λ (xs : List FileNote). xs ++ closed_since 0 punched printed middle.equipped) files
+          ∙ ap (λ (n : ℕ). old.files ++ closed_since 0 n printed middle.equipped) c.punched-punch_files.ensures
+          ∙ ap (λ (n : ℕ). old.files ++ closed_since 0 (length old.equipped.devices.punched) n middle.equipped) c.printed_files-printer_files.ensures;
+    }
