@@ -12,4 +12,5 @@ pub mod Sessions
 pub mod Joined
 pub mod UsersKnown
 pub mod Changes
+pub mod SameLines
 pub mod Told

@@ -4,4 +4,5 @@ pub mod Transcript
 pub mod Files
 pub mod Session
 pub mod News
+pub mod Alike
 pub mod Follow

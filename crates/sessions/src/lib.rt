@@ -11,6 +11,7 @@
 #![tactic(auto)]
 
 mod acts;
+mod alike;
 mod answers;
 pub mod faults;
 pub mod files;
@@ -23,6 +24,7 @@ pub mod session;
 mod starts;
 pub mod transcript;
 
+pub use alike::transcripts_agree;
 pub use faults::{PlayError, SessionError};
 pub use follow::{Follower, Part, parts_are_a_session};
 pub use installation::{Installation, Refused};

@@ -1,5 +1,5 @@
 -- Users and devices of a directory, as scripts know them.
-use Rattle.std.proofs.Common.{◌≡◌, ℕ, zero, suc, Bool, true, false, List, [], ◌∷◌, refl, ap, sym, ◌∙◌, subst, length, map}
+use Rattle.std.proofs.Common.{◌≡◌, ◌<◌, ℕ, arith, get_or, zero, suc, Bool, true, false, List, [], ◌∷◌, refl, ap, sym, ◌∙◌, subst, length, map}
 use Rattle.std.specs.Prelude.{slice_get, slice_index_or}
 use Rattle.cp_core.specs.Histories.{IsHistory as IsSystemHistory}
 use Rattle.cp_core.specs.Local.{Step as SystemStep}
@@ -75,3 +75,9 @@ histories first last (step ∷ steps) h =
     let one : SystemStep = record { event = h.0.event; reply = step.reply; seen = step.left } in
     let more = histories step.left last steps h.1 in
     (one ∷ more.0, together step steps one more.0 (step_of first step h.0.event h.0.named) more.1, (h.0.step, more.2))
+
+-- scripts know the addresses of his devices
+pub known_devices : (directory : List DirectoryUser) (user : ℕ) (one : DirectoryUser) → user < length directory → one ≡ get_or directory user one → addresses_of one ≡ devices_of (known_users directory) user
+known_devices [] user one h is = absurd (omega (arith, h))
+known_devices (u ∷ us) zero one h is = ap addresses_of is
+known_devices (u ∷ us) (suc user) one h is = known_devices us user one (omega (arith, h)) is

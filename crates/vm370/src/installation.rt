@@ -1,9 +1,13 @@
 //! The system as sessions know it.
-ghost use Rattle.std.specs.Prelude.{◌≡◌, ◌++◌, ◌<◌, ◌⊎◌, Err, IfOk, OnErr, OnOk, false, length, map, true};
+ghost use Rattle.std.specs.Prelude.{◌≡◌, ◌++◌, ◌<◌, ◌≤◌, ◌⊎◌, Err, IfOk, OnErr, OnOk, false, length, map, slice_get, true};
 ghost use Rattle.std.specs.Option.{option_to_list};
 ghost use Rattle.cp_directory.specs.Devices.{places_of};
 ghost use Rattle.cp_directory.specs.Users.{addresses_of};
+ghost use Rattle.cp_core.specs.Stated.{states_device};
 ghost use Rattle.cp_script.specs.Script.{IsOfDevice, IsOfUser, said};
+ghost use Rattle.cp_script.specs.Users.{devices_of};
+ghost use Rattle.cp_users.specs.Users.{name_of};
+ghost use Rattle.sessions.specs.Installed.{names_of};
 ghost use Rattle.sessions.specs.Schedule.{IsEvent};
 ghost use Rattle.vm370.specs.Goes.{HasCards, HasHappened, IsSpent, as_said, known_users, seen_in, system_goes};
 
@@ -66,23 +70,19 @@ impl Installation for SharedMachines {
     ghost goes = { system_goes };
 
     fn users(&self) -> usize {
-        self.system.users()
+        users_of(&self.system)
     }
 
     fn name(&self, user: UserNo) -> &[u8] {
-        name_of(self.system.directory().users(), user)
+        name_in(&self.system, user)
     }
 
     fn addresses(&self, alloc: Global, user: UserNo) -> Result<Vec<u16>, AllocError> {
-        let user = self.place(user);
-        addresses_of(alloc, &self.system.directory().users()[user.index()])
+        addresses_in(alloc, &self.system, self.place(user))
     }
 
     fn has_device(&self, user: UserNo, address: u16) -> bool {
-        match self.system.directory().users().get(user.index()) {
-            Some(user) => user.has_device(DevAddr::new(address)),
-            None => false,
-        }
+        states_device(&self.system, user, DevAddr::new(address))
     }
 
     fn mode(&self, user: UserNo) -> Mode {
@@ -135,6 +135,41 @@ impl Installation for SharedMachines {
         };
         ask(&mut self.system, event, &cards)
     }
+}
+
+/// How many users a system has.
+fn users_of(system: &System) -> usize
+    ensures value { result ≡ length (known_users system.now.directory) }
+    ensures machines { result ≡ length system.now.users }
+    ensures few { result ≤ 64 }
+{
+    system.users()
+}
+
+/// The name of a user, empty where there is none.
+fn name_in(system: &System, user: UserNo) -> &[u8]
+    ensures { result.now ≡ name_of (names_of (seen_in system.now)) user }
+{
+    name_of(system.directory().users(), user)
+}
+
+/// Whether the directory gives a user a device of this address.
+fn states_device(system: &System, user: UserNo, device: DevAddr) -> bool
+    ensures { result ≡ states_device device (slice_get system.now.directory user) }
+{
+    match system.directory().users().get(user.index()) {
+        Some(user) => user.has_device(device),
+        None => false,
+    }
+}
+
+/// The addresses of the devices of a user of the directory.
+fn addresses_in(alloc: Global, system: &System, user: UserNo) -> Result<Vec<u16>, AllocError>
+    requires { user < length system.now.directory }
+    ensures { IfOk result (λ list. list.items ≡ devices_of (known_users system.now.directory) user) }
+{
+    let list = addresses_of(alloc, &system.directory().users()[user.index()])?;
+    Ok(list)
 }
 
 /// The addresses of the devices of a user.

@@ -1,0 +1,49 @@
+-- The same events have the same lines.
+use Rattle.std.proofs.Common.{◌≡◌, ℕ, List, [], ◌∷◌, ◌++◌, refl, ap, ◌∙◌}
+use Rattle.cp_devices.specs.declared.reply.Reply.{Reply}
+use Rattle.cp_script.specs.Script.{Said}
+use Rattle.unit_record.specs.Reader.{DeckValue}
+use Rattle.sessions.specs.Alike.{AreAlike, IsAlike, TranscriptsAgree}
+use Rattle.sessions.specs.Installed.{Installation, Step, machine_at, user_at}
+use Rattle.sessions.specs.Schedule.{Entry, Answered, Dealt, Passed, Idle, user_said}
+use Rattle.sessions.specs.Transcript.{ended, entry_lines, reply_lines, step_lines, transcript}
+use Rattle.sessions.specs.declared.schedule.Detail.{Detail}
+use Rattle.sessions.specs.declared.schedule.Detail.TheVariants.{Whole}
+
+same_step : {V W : Type 0} (i : Installation V) (j : Installation W) (detail : Detail) (names : List (List ℕ)) (one : Step V) (other : Step W) → IsAlike i j one other → step_lines i detail names one ≡ step_lines j detail names other
+same_step i j detail names one other h =
+    let user = user_said other.said in
+    let seen = i.seen one.left in
+    ap (λ (s : Said). reply_lines detail names (user_said s) s (user_at seen (user_said s)).devices.reader.decks (machine_at seen (user_said s)).output one.reply) h.said
+    ∙ (ap (λ (d : List DeckValue). reply_lines detail names user other.said d (machine_at seen user).output one.reply) h.decks
+    ∙ (ap (λ (o : List (List ℕ)). reply_lines detail names user other.said (user_at (j.seen other.left) user).devices.reader.decks o one.reply) h.output
+    ∙ ap (λ (r : Reply). reply_lines detail names user other.said (user_at (j.seen other.left) user).devices.reader.decks (machine_at (j.seen other.left) user).output r) h.reply))
+
+joined : (a b c d : List ℕ) → a ≡ b → c ≡ d → a ++ c ≡ b ++ d
+joined a b c d e f = ap (λ (x : List ℕ). x ++ c) e ∙ ap (λ (x : List ℕ). b ++ x) f
+
+pub agree : {V W : Type 0} (i : Installation V) (j : Installation W) → TranscriptsAgree i j
+agree i j detail names [] [] h = refl
+agree i j detail names [] (other ∷ others) h = absurd h
+agree i j detail names (Answered one ∷ ones) [] h = absurd h
+agree i j detail names (Dealt one ∷ ones) [] h = absurd h
+agree i j detail names (Passed ∷ ones) [] h = absurd h
+agree i j detail names (Idle ∷ ones) [] h = absurd h
+agree i j detail names (Answered one ∷ ones) (Answered other ∷ others) h =
+    joined _ _ _ _ (ap ended (same_step i j Whole names one other h.0)) (agree i j detail names ones others h.1)
+agree i j detail names (Answered one ∷ ones) (Dealt other ∷ others) h = absurd h
+agree i j detail names (Answered one ∷ ones) (Passed ∷ others) h = absurd h
+agree i j detail names (Answered one ∷ ones) (Idle ∷ others) h = absurd h
+agree i j detail names (Dealt one ∷ ones) (Answered other ∷ others) h = absurd h
+agree i j detail names (Dealt one ∷ ones) (Dealt other ∷ others) h =
+    joined _ _ _ _ (ap ended (same_step i j detail names one other h.0)) (agree i j detail names ones others h.1)
+agree i j detail names (Dealt one ∷ ones) (Passed ∷ others) h = absurd h
+agree i j detail names (Dealt one ∷ ones) (Idle ∷ others) h = absurd h
+agree i j detail names (Passed ∷ ones) (Answered other ∷ others) h = absurd h
+agree i j detail names (Passed ∷ ones) (Dealt other ∷ others) h = absurd h
+agree i j detail names (Passed ∷ ones) (Passed ∷ others) h = agree i j detail names ones others h
+agree i j detail names (Passed ∷ ones) (Idle ∷ others) h = absurd h
+agree i j detail names (Idle ∷ ones) (Answered other ∷ others) h = absurd h
+agree i j detail names (Idle ∷ ones) (Dealt other ∷ others) h = absurd h
+agree i j detail names (Idle ∷ ones) (Passed ∷ others) h = absurd h
+agree i j detail names (Idle ∷ ones) (Idle ∷ others) h = joined _ _ _ _ refl (agree i j detail names ones others h)
