@@ -18,7 +18,7 @@ use Rattle.cp_devices.specs.Life.{Event as Local, Units, Serve as Serves, Line a
 use Rattle.bare_installation.specs.declared.happening.Happening.{Happening}
 use Rattle.bare_installation.specs.declared.happening.Happening.TheVariants as happenings
 use Rattle.bare_installation.specs.Bare.{Bare, IsTyped, world_of}
-use Rattle.bare_installation.specs.Life.{AttentionAgreesThroughout, EachIsLife, IsDone, IsAnswer, IsGiven, IsRun, IsService, IsTicked, Step, coming, happens, own}
+use Rattle.bare_installation.specs.Life.{AttentionAgreesThroughout, EachIsLife, IsDone, IsAnswer, IsGiven, IsRun, IsService, IsTicked, coming, happens, own}
 use Rattle.cp_devices.proofs.Attention.{goes_on_agreeing}
 
 -- events and then more events

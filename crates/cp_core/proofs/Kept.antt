@@ -2,7 +2,6 @@
 use Rattle.std.proofs.Common.{◌≡◌, ◌∙◌, ap, sym, subst, ℕ, zero, suc, ◌*◌, ◌≤◌, Bool, true, false, List, [], ◌∷◌, get_or, length, length-append, replicate, refl, Option, arith, inl, inr}
 use Rattle.std.specs.Prelude.{is_some}
 use Rattle.std.specs.List.{concat}
-use Rattle.s370_store.specs.Access.{Touches}
 use Rattle.std.proofs.lemmas.List.{length-map, length-replicate}
 use Rattle.std.proofs.lemmas.List.Elements.{All-get_or}
 use Rattle.s370_intr.specs.Units.{Core}
@@ -13,7 +12,6 @@ use Rattle.cp_dat.specs.Lent.{lent_pool, user_of}
 use Rattle.cp_frames.specs.Paging.{IsPinned, IsRefused}
 use Rattle.cp_dat.specs.Supplied.{GivesBack, HasSuch, IsBetweenUnits, IsPagedFor, unpinned}
 use Rattle.cp_dat.specs.declared.dat.Dat.{Dat}
-use Rattle.cp_panel.specs.Machine.{Machine}
 use Rattle.cp_devices.specs.Requests.{switches}
 use Rattle.cp_devices.specs.Lines.{requested}
 use Rattle.cp_devices.specs.Equipped.{Equipped}

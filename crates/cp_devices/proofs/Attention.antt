@@ -1,7 +1,7 @@
 -- Attention agrees with the lines that wait, event by event.
-use Rattle.std.proofs.Common.{◌≡◌, ℕ, ◌+◌, Bool, true, false, List, [], ◌∷◌, ◌++◌, length, Option, Some, None, Result, Ok, Err, refl, sym, ap, subst, ◌∙◌, arith, eq-eqb, length-append, ne_eqb}
+use Rattle.std.proofs.Common.{◌≡◌, ℕ, ◌+◌, Bool, true, false, List, [], ◌∷◌, ◌++◌, length, Option, Some, None, refl, sym, ap, subst, ◌∙◌, arith, eq-eqb, length-append, ne_eqb}
 use Rattle.std.proofs.lemmas.Bool.{lt-ltb}
-use Rattle.std.specs.Prelude.{if◌then◌else◌, ◌==◌, ◌&&◌, is_some, map, nat_lt, slice_get}
+use Rattle.std.specs.Prelude.{if◌then◌else◌, ◌==◌, ◌&&◌, map, nat_lt, slice_get}
 use Rattle.std.specs.List.{position}
 use Rattle.unit_record.specs.Console.{ConsoleState, console_reset, has_room, typed_byte, wants_attention, with_typed, without_lines}
 use Rattle.unit_record.specs.declared.output.Target.{Target}
