@@ -17,6 +17,7 @@ read_run_words() {
     check_number --frames "${option_frames-64}" 0 4096
     check_number --slots "${option_slots-256}" 0 65536
     script=
+    [ -z "${option_terminals-}" ] || [ -n "${option_follow-}" ] || wrong_use '--terminals is for --follow'
     if [ -n "${option_follow-}" ]; then
         need_paths DIRECTORY '[..]'
         number=2
@@ -37,13 +38,21 @@ read_bare_words() {
     more=$1
     shift
     read_words "save $more" "$@"
-    need_paths STORAGE SCRIPT '[..]'
+    script=
+    [ -z "${option_terminals-}" ] || [ -n "${option_follow-}" ] || wrong_use '--terminals is for --follow'
+    if [ -n "${option_follow-}" ]; then
+        need_paths STORAGE '[..]'
+        number=2
+    else
+        need_paths STORAGE SCRIPT '[..]'
+        script=$path2
+        number=3
+    fi
     check_storage "$path1"
-    [ "$count" -le 18 ] || wrong_use "a machine has at most 16 volumes, and these are $((count - 2))"
+    [ "$count" -le $((15 + number)) ] || wrong_use "a machine has at most 16 volumes, and these are $((count - number + 1))"
     check_texts "$@"
-    script=$path2
-    check_readable "$script"
-    check_volumes 3
+    [ -n "${option_follow-}" ] || check_readable "$script"
+    check_volumes "$number"
 }
 
 # whether the volumes, the words from this one on, can be read, and written too where they are saved: check_volumes NUMBER
