@@ -1,0 +1,108 @@
+"""The volumes of an installation. While a session goes on they stay as they were when it began; its end replaces them, and a crash
+in the midst of that is made good by the next start."""
+import contextlib
+import os
+import shutil
+
+from people import FILE_FAILED, Failure, write_whole
+from recording import SAVED, read_whole, sum_of_file, sync_folder, without_passwords
+
+DIRECTORY = "directory"
+
+
+class Keeping:
+    """Where the images of a session come to when it ends: a folder beside the recording, until they are in their places."""
+
+    def __init__(self, record, directory, volumes):
+        self.record = record
+        self.directory = directory
+        self.volumes = volumes
+        self.folder = record + ".ending"
+
+    def paths(self):
+        return [os.path.join(self.folder, f"volume-{place}") for place in range(1, len(self.volumes) + 1)]
+
+    def begin(self):
+        """The paths by which the program reads the volumes, and will save others."""
+        shutil.rmtree(self.folder, ignore_errors=True)
+        os.makedirs(self.folder, 0o700)
+        for path, volume in zip(self.paths(), self.volumes):
+            os.symlink(os.path.realpath(volume), path)
+        return self.paths()
+
+    def make_room(self):
+        """What the program saves from now on comes into the folder, and not to the volumes themselves."""
+        for path in self.paths():
+            os.unlink(path)
+            with open(path, "xb"):
+                pass
+        write_whole(os.path.join(self.folder, DIRECTORY), without_passwords(read_whole(self.directory)), is_settled=True)
+
+    def saved_mark(self):
+        """The line of the recording that tells that all is saved, once it is on the disk."""
+        for path in self.paths():
+            sync_file(path)
+        sync_folder(os.path.join(self.folder, DIRECTORY))
+        return SAVED + b" ".join(sum_of_file(it).encode() for it in self.paths())
+
+    def set_aside(self, recording):
+        """Puts the saved images in the places of the volumes, and gives the folder to which the recording goes with these as they
+        were, and with the directory. What of this was done before a crash stays."""
+        self.check(recording.last)
+        aside = f"{self.record}.{recording.name()}"
+        os.makedirs(aside, 0o700, exist_ok=True)
+        for path, volume in zip(self.paths(), self.volumes):
+            keep(volume, os.path.join(aside, os.path.basename(path)))
+            put(path, volume)
+        copy_whole(os.path.join(self.folder, DIRECTORY), os.path.join(aside, DIRECTORY))
+        os.replace(self.record, os.path.join(aside, "recording"))
+        sync_folder(self.record)
+        shutil.rmtree(self.folder, ignore_errors=True)
+        return aside
+
+    def check(self, mark):
+        """Whether the images are those that were saved."""
+        found = [sum_of_file(it).encode() if os.path.exists(it) else b"" for it in self.paths()]
+        if mark.removeprefix(SAVED).split() != found:
+            raise Failure(FILE_FAILED, f"{self.folder} lacks images that were saved at the end of {self.record}")
+
+
+def keep(volume, aside):
+    """Has an image under another name too, where that is not there yet."""
+    if os.path.exists(aside):
+        return
+    try:
+        os.link(os.path.realpath(volume), aside)
+    except OSError:
+        # another file system, or one without links
+        copy_whole(volume, aside)
+
+
+def put(path, volume):
+    """Puts a file in the place of a volume, for the same people."""
+    place = os.path.realpath(volume)
+    mode = os.stat(place).st_mode
+    copy_whole(path, place)
+    os.chmod(place, mode & 0o7777)
+
+
+def copy_whole(path, to):
+    """A copy that is there whole or not at all, also after the host has crashed."""
+    beside = f"{to}.new-{os.getpid()}"
+    try:
+        shutil.copyfile(path, beside)
+        sync_file(beside)
+        os.replace(beside, to)
+    except BaseException:
+        with contextlib.suppress(FileNotFoundError):
+            os.unlink(beside)
+        raise
+    sync_folder(to)
+
+
+def sync_file(path):
+    file = os.open(path, os.O_RDONLY)
+    try:
+        os.fsync(file)
+    finally:
+        os.close(file)
