@@ -36,7 +36,7 @@ class Base(NamedTuple):
         files = [("DIRECTORY", self.directory, sum_of(without_passwords(read_whole(self.directory))))]
         files += [("VOLUME", it, sum_of_file(it)) for it in self.volumes]
         told = [f"* {kind} {known} {os.path.abspath(path)}" for kind, path, known in files]
-        texts = [f"* PROGRAM {self.program}", f"* SIZES {self.sizes}", *told]
+        texts = [f"* PROGRAM {self.program}", told[0], f"* SIZES {self.sizes}", *told[1:]]
         return [TITLE, *(it.encode(errors="surrogateescape") for it in texts)]
 
 
@@ -84,7 +84,7 @@ def differing(found, wanted):
     """What the first lines of a recording tell otherwise than what it is to go on with, in words, or None."""
     if len(found) != len(wanted):
         return "it has another number of volumes"
-    names = ["", "another version of the program", "other numbers of --frames and --slots", "another directory"]
+    names = ["another kind", "another version of the program", "another directory", "other numbers of --frames and --slots"]
     names += [f"another volume {it}" for it in range(1, len(wanted) - 3)]
     for name, one, other in zip(names, found, wanted):
         if known_part(one) != known_part(other):
@@ -147,7 +147,7 @@ class Recording:
             return
         self.begun = time.strftime(f"{BEGUN.decode()}{TIME}\n", time.gmtime()).encode()
         self.put(b"".join(it + b"\n" for it in wanted) + self.begun)
-        os.fsync(self.file.fileno())
+        os.fdatasync(self.file.fileno())
         sync_folder(self.path)
 
     def name(self):
@@ -196,7 +196,7 @@ class Recording:
     def settle(self):
         """What was added is on the disk now."""
         self.put(self.turns_line())
-        os.fsync(self.file.fileno())
+        os.fdatasync(self.file.fileno())
 
     def mark(self, line):
         """Adds a comment line, and has it on the disk."""
