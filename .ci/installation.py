@@ -523,3 +523,80 @@ def try_files(check, site, prints):
 
 def names_in(folder):
     return sorted(os.listdir(folder)) if os.path.exists(folder) else []
+
+
+def image_of(serial, version):
+    """A volume of one cylinder without a record."""
+    whole = b"CKD%d" % version + serial.ljust(6).encode() + b"\0\1" + b"".join(bytes([0, 0, 0, 0, head, 0]) for head in range(19))
+    return whole + (bytes(4) if version == 2 else b"")
+
+
+def try_ending(check, site):
+    """What becomes of volumes: a suspension saves none, an end saves all, and so does a start after a crash in an end's midst."""
+    old = [image_of(it, 1) for it in ("V1", "V2")]
+    volumes = [f"{site.folder}/{it}" for it in ("one", "two")]
+    site.paths += volumes
+
+    def has(images):
+        return [read(it) for it in volumes] == images
+
+    def is_kept(folder):
+        return [read(f"{site.folder}/{folder}/volume-{it}") for it in (1, 2)] == old
+
+    for path, data in zip(volumes, old):
+        write(path, data)
+    os.chmod(volumes[0], 0o640)
+    site.online()
+    run(logged_on(site, "ALICE", "WONDER"))
+    check("a suspension saves nothing", site.stop() == 0 and has(old), *site.told)
+    site.online()
+    site.kill()
+    check("and neither does a kill", has(old))
+    site.online()
+    site.operate("end now")
+    status = site.ended()
+    new = [read(it) for it in volumes]
+    first = kept_of(site)
+    holds = status == 0 and new != old and old[0] not in new and old[1] not in new and is_kept(first)
+    check("an end saves all, and keeps what was there", holds, f"status {status}", *site.told)
+    check("for the same people", os.stat(volumes[0]).st_mode & 0o777 == 0o640)
+    check("and the recording goes with it", "directory" in names_in(f"{site.folder}/{first}") and not os.path.exists(site.record))
+    # a crash between the two volumes, and one before any was saved
+    os.replace(f"{site.folder}/{first}/recording", site.record)
+    os.makedirs(f"{site.record}.ending")
+    for place, data in enumerate(new, 1):
+        write(f"{site.record}.ending/volume-{place}", data)
+    write(f"{site.record}.ending/directory", read(f"{site.folder}/{first}/directory"))
+    write(volumes[1], old[1])
+    site.online()
+    check("a start finishes saving", has(new) and is_kept(first) and "the session has ended" in site.since_start(), *site.told)
+    run(logged_on(site, "ALICE", "WONDER"))
+    site.kill()
+    for path, data in zip(volumes, old):
+        write(path, data)
+    with open(site.record, "rb") as file:
+        whole = file.read()
+    base = read(f"{site.folder}/{first}/recording").split(b"* BEGUN")[0]
+    write(site.record, base + b"* BEGUN" + whole.split(b"* BEGUN")[1] + b"* END\n")
+    site.online()
+    done = [it for it in names_in(site.folder) if it.startswith("recording.2")]
+    check("and an end that was begun", has(new) and len(done) == 2 and is_kept(done[1]), *site.told, *done)
+    check("then it is online again", site.stop() == 0)
+
+
+async def logged_on(site, name, password):
+    """Logs on, and leaves."""
+    one = await person(f"{site.folder}/socket")
+    answer = await one.logon(name, password)
+    one.go()
+    return answer
+
+
+def read(path):
+    with open(path, "rb") as file:
+        return file.read()
+
+
+def write(path, data):
+    with open(path, "wb") as file:
+        file.write(data)

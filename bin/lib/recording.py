@@ -202,6 +202,7 @@ class Recording:
         """Adds a comment line, and has it on the disk."""
         self.put(self.turns_line() + line + b"\n")
         self.settle()
+        self.last = line + b"\n"
 
     def close(self):
         self.file.close()
