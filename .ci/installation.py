@@ -140,6 +140,12 @@ class Person:
         self.writer.transport.abort()
 
 
+async def until_so(holds):
+    until = time.monotonic() + PATIENCE
+    while not holds() and time.monotonic() < until:
+        await asyncio.sleep(0.05)
+
+
 async def person(where):
     return await Person(where).come()
 
@@ -157,8 +163,7 @@ def replayed(program, directory, record, volumes=()):
     return done, shown
 
 
-def run(coroutine):
-    return asyncio.run(coroutine)
+run = asyncio.run
 
 
 # --- a stand-in for the program, which does a few commands ---
@@ -192,7 +197,7 @@ class StandIn:
                 del lines[: int(count)]
             elif word == "AUTO":
                 self.auto(int(rest))
-            elif word not in ("", "TICK") and not word.startswith("*"):
+            elif word not in ("", "TICK", "RUN", "SERVE") and not word.startswith("*"):
                 return None
         self.told += self.closed
         for name, it in self.users.items():
@@ -269,6 +274,124 @@ def stand_in(words):
             os.replace(f"{path}.new", path)
             if os.environ.get("PEOPLE_SAVES") == "slowly":
                 time.sleep(5)
+
+
+# --- tables of what needs no program ---
+
+TYPED = {
+    "the four ends of lines": (b"A\rB\nC\r\nD\r\0E", ["A", "B", "C", "D"], b""),
+    "two ends": (b"A\n\nB\r\r", ["A", "", "B", ""], b""),
+    "what is no printable character": (b"A\tB\x00\x1b\xc3\xa9C\n", ["A B    C"], b""),
+    "130 characters": (b"X" * 131 + b"\n" + b"Y" * 130 + b"\n", ["X" * 130, "Y" * 130], b""),
+    "what is rubbed out": (b"AB\x08C\x7f\x7f\x7f\x7fD\n\x08E\n", ["D", "E"], b""),
+    "what is rubbed out by telnet": (b"AB\xff\xf7C\n" + b"AB\xff\xf8C\n", ["AC", "C"], b""),
+    "a break and an interrupt": (b"A\xff\xf3B\xff\xf4\n", ["#CP", "#CP", ""], b""),
+    "options, all declined": (b"\xff\xfb\x1f\xff\xfd\x03\xff\xfd\x01\xff\xfc\x01\xff\xfe\x01A\n", ["A"], b"\xff\xfe\x1f\xff\xfc\x03"),
+    "what is told of an option": (b"A\xff\xfa\x18\x00\nX\xff\xff\xf0Y\xff\xf0B\n", ["AB"], b""),
+    "a byte 255": (b"A\xff\xffB\n", ["A B"], b""),
+}
+BEGINS = b"* GATHJUMLI RECORDING 1\n* BEGUN 2026-11-26 12:00:00 UTC\n"
+ENTRIES = {
+    "whole lines": (b"AUTO 3\nLINE A LOGON\n", [b"AUTO 3\n", b"LINE A LOGON\n"]),
+    "a line that is cut": (b"AUTO 3\nLINE A LOG", [b"AUTO 3\n"]),
+    "a deck": (b"DECK A 2\nAUTO 1\n* X\nTICK A\n", [b"DECK A 2\nAUTO 1\n* X\n", b"TICK A\n"]),
+    "a deck that is cut": (b"TICK A\nDECK A 2\nX\n", [b"TICK A\n"]),
+    "a card that is cut": (b"TICK A\nDECK A 2\nX\nY", [b"TICK A\n"]),
+    "comments": (b"* 2026-11-26 12:00:01 UTC\nTICK A\n", [b"TICK A\n"]),
+}
+
+
+def try_tables(check, folder):
+    from telnet import Typing
+
+    for what, (given, wanted, replies) in TYPED.items():
+        for size in (1, 3, len(given)):
+            typing = Typing()
+            pieces = [given[at : at + size] for at in range(0, len(given), size)]
+            found = [line.decode() for it in pieces for line in typing.feed(it)]
+            check(f"{what}, {size} bytes at once", (found, bytes(typing.replies)) == (wanted, replies), found, bytes(typing.replies))
+    try_guesses(check)
+    try_recordings(check, folder)
+    try_pace(check)
+
+
+def try_guesses(check):
+    """Each wrong guess of a name makes the next one wait longer, whatever the name is, and it is forgotten."""
+    from logon import Guesses, LONGEST_WAIT, PLACES, Passwords
+
+    guesses = Guesses()
+    waits = []
+    for count in range(8):
+        waits.append(guesses.wait("A", 100))
+        guesses.was_wrong("A", 100)
+    check("guesses wait longer and longer", waits == [0, 0.25, 0.5, 1, 2, 4, 4, 4], *map(str, waits))
+    check("and are forgotten", guesses.wait("A", 1000) == 0 < guesses.wait("A", 140))
+    for place in range(100000):
+        guesses.was_wrong(f"N{place}", 100)
+    check("names take no memory", len(guesses.places) <= PLACES)
+    check("nobody is locked out", max(guesses.wait(f"M{it}", 100) for it in range(1000)) <= LONGEST_WAIT)
+    passwords = Passwords({"A": "SECRET", "B": "OTHER"})
+    cases = {("A", "SECRET"): True, ("A", "OTHER"): False, ("B", "OTHER"): True, ("C", "SECRET"): False, ("", ""): False}
+    for (name, password), wanted in cases.items():
+        check(f"{name} {password}", passwords.are_right(name, password) == wanted)
+    kept = repr(vars(passwords))
+    check("no password is kept", "SECRET" not in kept and "OTHER" not in kept)
+
+
+def try_recordings(check, folder):
+    """What of a recording is whole, what is none, and what another one is of."""
+    from people import Failure
+    from recording import Recording, differing, without_passwords
+
+    path = f"{folder}/some"
+    for what, (text, wanted) in ENTRIES.items():
+        write(path, BEGINS + text)
+        recording = Recording(path)
+        found = list(recording.entries())
+        recording.close()
+        whole = b"".join(wanted)
+        check(f"{what} of a recording", found == wanted and read(path).endswith(whole) and len(read(path)) >= len(BEGINS + whole), *found)
+    for text in (b"LINE A LOGON\n", b"x", b"* GATHJUMLI RECORDING 2\n", b"* GATHJUMLI RECORDING 1 \n"):
+        write(path, text)
+        try:
+            Recording(path).close()
+            check(f"{text} is no recording", False)
+        except Failure:
+            check(f"{text} is no recording, and stays", read(path) == text)
+    for text in (b"", b"* GATHJUMLI", b"* GATHJUMLI RECORDING 1\n* PROGRAM 1\n"):
+        write(path, text)
+        Recording(path).close()
+        check(f"{text} was never begun", read(path) == b"")
+    one = [b"* T", b"* PROGRAM 1", b"* DIRECTORY a /x", b"* SIZES 1 2", b"* VOLUME b /y"]
+    check("paths may differ", differing(one, [*one[:2], b"* DIRECTORY a /z", *one[3:]]) is None)
+    told = [differing(one, [*one[:place], b"* VOLUME c d", *one[place + 1 :]]) for place in range(1, 5)]
+    names = ["version of the program", "directory", "numbers of --frames and --slots", "volume 1"]
+    check("what differs is told", all(name in it for name, it in zip(names, told)), *told)
+    hidden = without_passwords(b"* A\nUSER A SECRET 64K\n CONSOLE 009  3215\n")
+    check("passwords are no part of it", hidden == b"USER A X 64K\nCONSOLE 009 3215\n", hidden)
+
+
+def try_pace(check):
+    """A part takes about the same time, however long a turn is."""
+    from engine import FEW_TURNS, Pace, STUCK_TURNS
+    from following import Came
+
+    for seconds_a_turn in (1e-7, 1e-6, 1e-3, 0.02):
+        pace = Pace(0.01)
+        for _ in range(30):
+            turns = pace.turns
+            pace.took(turns, turns * seconds_a_turn, Came([], [], [], False))
+        took = turns * seconds_a_turn
+        check(f"a turn of {seconds_a_turn} s", took <= max(0.011, seconds_a_turn) and (took >= 0.005 or turns == 100000), f"{turns}")
+    pace.turns = 1000
+    pace.took(1000, 0.001, Came([], [], [], True))
+    check("few turns where all wait", not pace.is_busy and pace.turns <= FEW_TURNS)
+    pace.wake()
+    done = 0
+    while pace.is_busy and done < 10 * STUCK_TURNS:
+        done += pace.turns
+        pace.took(pace.turns, 0.001, Came(["= A 0 FRAMES"] * pace.turns, [], [], False))
+    check("who lack frames wait too", not pace.is_busy and done >= STUCK_TURNS, f"{done}")
 
 
 # --- what is tried in seconds, over the stand-in or the program itself ---
@@ -490,8 +613,7 @@ def try_files(check, site, prints):
         put("bytes.deck", bytes(range(160)))
         put("half.deck", bytes(79))
         put("empty", b"")
-        while len(names_in(f"{folder}/done") + names_in(f"{folder}/refused")) < 8:
-            await asyncio.sleep(0.1)
+        await until_so(lambda: len(names_in(f"{folder}/done") + names_in(f"{folder}/refused")) == 8)
         bob.type("#CP QUERY FILES", "#CP DISPLAY G1")
         while not (await bob.line()).startswith("GPR 1 = "):
             pass
@@ -600,3 +722,17 @@ def read(path):
 def write(path, data):
     with open(path, "wb") as file:
         file.write(data)
+
+
+def try_all(check, repository, folder, is_stand_in):
+    """All that is tried in seconds."""
+    command = f"{repository}/bin/installation"
+    program = f"{repository}/crates/vm370_cli/out/vm370_cli"
+    prints = (["PRINT HELLO"], "") if is_stand_in else (PRINTS, "CLOSE 00E")
+    try_logging_on(check, make_site(command, f"{folder}/logging on"))
+    try_recovery(check, make_site(command, f"{folder}/recovery"), program)
+    try_computing(check, make_site(command, f"{folder}/computing"))
+    shown = try_files(check, make_site(command, f"{folder}/files"), prints)
+    if not is_stand_in:
+        check("decks come to the reader", [it for it in shown if it.endswith("CARDS 2")] != [], *shown)
+    try_ending(check, make_site(command, f"{folder}/ending"))
