@@ -230,8 +230,8 @@ class StandIn:
         elif words == ["DISPLAY", "G1"]:
             self.say(name, f"GPR 1 = {user['G1']:08X}")
         elif words[:1] == ["MSG"] and words[1] in self.users:
-            self.say(words[1], f"MSG FROM {name}: {text.split(words[1] + ' ')[1]}")
             self.say(name, "SENT")
+            self.say(words[1], f"MSG FROM {name}: {text.split(words[1] + ' ')[1]}")
         elif words[:1] == ["PRINT"]:
             self.files.append([f"== PRT {len(self.files) + 1:04} {name}", f"09 {' '.join(words[1:])}"])
             self.closed += [f"> {self.files[-1][0]}", f"> |{self.files[-1][1]}"]
