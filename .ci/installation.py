@@ -320,16 +320,17 @@ def try_guesses(check):
     from logon import Guesses, LONGEST_WAIT, PLACES, Passwords
 
     guesses = Guesses()
-    waits = []
-    for count in range(8):
-        waits.append(guesses.wait("A", 100))
-        guesses.was_wrong("A", 100)
+    waits = [guesses.begin("A", 100) for _ in range(8)]
     check("guesses wait longer and longer", waits == [0, 0.25, 0.5, 1, 2, 4, 4, 4], *map(str, waits))
-    check("and are forgotten", guesses.wait("A", 1000) == 0 < guesses.wait("A", 140))
+    check("and are forgotten", guesses.count("A", 140) > 0 == guesses.count("A", 1000))
+    for _ in range(3):
+        wait = guesses.begin("B", 100)
+        guesses.was_right("B", 100)
+    check("a right one does not count", wait == 0)
     for place in range(100000):
-        guesses.was_wrong(f"N{place}", 100)
+        guesses.begin(f"N{place}", 100)
     check("names take no memory", len(guesses.places) <= PLACES)
-    check("nobody is locked out", max(guesses.wait(f"M{it}", 100) for it in range(1000)) <= LONGEST_WAIT)
+    check("nobody is locked out", max(guesses.begin(f"M{it}", 100) for it in range(1000)) <= LONGEST_WAIT)
     passwords = Passwords({"A": "SECRET", "B": "OTHER"})
     cases = {("A", "SECRET"): True, ("A", "OTHER"): False, ("B", "OTHER"): True, ("C", "SECRET"): False, ("", ""): False}
     for (name, password), wanted in cases.items():

@@ -132,13 +132,12 @@ class Desk:
             if words is None:
                 return None
             name, password = words
-            # whoever guesses many at once waits as long with each
-            await asyncio.sleep(self.guesses.wait(name, time.monotonic()))
+            await asyncio.sleep(self.guesses.begin(name, time.monotonic()))
             if terminal.writer.is_closing():
                 return None
             if self.passwords.are_right(name, password):
+                self.guesses.was_right(name, time.monotonic())
                 return self.engine.users[name]
-            self.guesses.was_wrong(name, time.monotonic())
             await asyncio.sleep(pause)
             terminal.say(REFUSED_LOGON)
         self.tell(f"{len(TRY_PAUSES)} wrong passwords: closed")
