@@ -3,6 +3,7 @@ import asyncio
 import contextlib
 import os
 import re
+import resource
 import select
 import signal
 import socket
@@ -27,15 +28,17 @@ class Site:
         self.process = None
         self.told = []
 
-    def start(self, *more):
+    def start(self, *more, most_bytes=None):
+        """Starts it; most_bytes: how long a file may become, as on a disk that is full."""
+        before = most_bytes and (lambda: resource.setrlimit(resource.RLIMIT_FSIZE, (most_bytes, most_bytes)))
         streams = {"stdin": subprocess.PIPE, "stdout": subprocess.PIPE, "stderr": subprocess.STDOUT}
         words = [self.command, *self.words, *more, *self.paths]
-        self.process = subprocess.Popen(words, start_new_session=True, text=True, bufsize=1, **streams)
+        self.process = subprocess.Popen(words, start_new_session=True, text=True, bufsize=1, preexec_fn=before, **streams)
         self.told.append("")
         return self
 
-    def online(self, *more):
-        self.start(*more)
+    def online(self, *more, most_bytes=None):
+        self.start(*more, most_bytes=most_bytes)
         if not self.await_told("online at"):
             raise AssertionError("\n".join(self.told))
         return self
@@ -311,6 +314,7 @@ def try_tables(check, folder):
             found = [line.decode() for it in pieces for line in typing.feed(it)]
             check(f"{what}, {size} bytes at once", (found, bytes(typing.replies)) == (wanted, replies), found, bytes(typing.replies))
     try_guesses(check)
+    try_terminal(check)
     try_recordings(check, folder)
     try_pace(check)
 
@@ -337,6 +341,40 @@ def try_guesses(check):
         check(f"{name} {password}", passwords.are_right(name, password) == wanted)
     kept = repr(vars(passwords))
     check("no password is kept", "SECRET" not in kept and "OTHER" not in kept)
+
+
+class Unread:
+    """A connection of which nobody reads."""
+
+    def __init__(self):
+        self.transport = self
+        self.size, self.is_gone = 0, False
+
+    def write(self, data):
+        self.size += len(data)
+
+    def get_write_buffer_size(self):
+        return self.size
+
+    def get_extra_info(self, _):
+        return socket.socket()
+
+    def is_closing(self):
+        return self.is_gone
+
+    def abort(self):
+        self.is_gone = True
+
+
+def try_terminal(check):
+    """One who does not read is closed, and takes no more memory then."""
+    from terminals import MOST_UNREAD, Terminal
+
+    told, writer = [], Unread()
+    terminal = Terminal(None, writer, told.append)
+    for _ in range(10000):
+        terminal.say("X" * 130)
+    check("one who does not read is closed", writer.is_gone and writer.size <= MOST_UNREAD + 200 and len(told) == 1, *told)
 
 
 def try_recordings(check, folder):
@@ -510,7 +548,27 @@ def try_recovery(check, site, program):
     done, shown = replayed(program, site.paths[0], site.record)
     wanted = [it for count in range(1, 7) for it in ("STORED", f"GPR 1 = {count:08X}")]
     check("the recording is a script that shows the same", shown.get("ALICE") == ["LOGON OK", *wanted], done.stderr, *shown)
+    fill_disk(check, site, program)
     refuse_other(check, site)
+
+
+def fill_disk(check, site, program):
+    """Where the disk is full it ends, and nothing was shown that is not in the recording."""
+
+    async def type_on():
+        alice = await person(f"{site.folder}/socket")
+        await alice.logon("ALICE", "WONDER")
+        alice.type(*(f"STORE G1 {it:08X}" for it in range(1000)))
+        return await alice.rest()
+
+    site.online(most_bytes=os.path.getsize(site.record) + 2000)
+    lines = run(type_on())
+    check("it ends where the disk is full", site.ended() == 3, *site.told)
+    count = lines.count("STORED")
+    site.online()
+    check("and goes on when it is not", site.stop() == 0, *site.told)
+    _, shown = replayed(program, site.paths[0], site.record)
+    check("with all that was shown", 0 < count <= shown["ALICE"].count("STORED"), f"{count}")
 
 
 def refuse_other(check, site):
@@ -558,8 +616,10 @@ def try_computing(check, site):
         alice.go()
         bob.go()
 
-    site.online()
+    site.online("--ticks", "20")
     run(tried())
+    recording = read(site.record)
+    check("who runs has ticks", b"\nTICK ALICE\n" in recording and b"TICK BOB" not in recording)
     site.operate("status")
     check("the operator is told", site.await_told("2 on, 0 about to log on") and "all wait" in site.since_start(), *site.told)
     site.operate("message GOOD NIGHT")
@@ -614,7 +674,8 @@ def try_files(check, site, prints):
         put("bytes.deck", bytes(range(160)))
         put("half.deck", bytes(79))
         put("empty", b"")
-        await until_so(lambda: len(names_in(f"{folder}/done") + names_in(f"{folder}/refused")) == 8)
+        put("many.deck", bytes(80) * 100)
+        await until_so(lambda: len(names_in(f"{folder}/done") + names_in(f"{folder}/refused")) == 9)
         bob.type("#CP QUERY FILES", "#CP DISPLAY G1")
         while not (await bob.line()).startswith("GPR 1 = "):
             pass
@@ -627,7 +688,7 @@ def try_files(check, site, prints):
     shown = run(tried())
     name = f"{site.folder}/prints/{site.session()}/PRT0001-ALICE.txt"
     check("a printout is there when it is closed", os.path.exists(name) and open(name).read() == "HELLO\n", *names_in(site.folder))
-    check("decks are read in", names_in(f"{folder}/done") == ["bytes.deck", "text"], *names_in(f"{folder}/done"))
+    check("decks are read in", names_in(f"{folder}/done") == ["bytes.deck", "many.deck", "text"], *names_in(f"{folder}/done"))
     refused = names_in(f"{folder}/refused")
     told = [open(f"{folder}/refused/{it}").read() for it in refused if it.endswith(".reason")]
     wanted = ["it has no card\n", "a deck has cards of 80 bytes, and this one has 79 bytes\n", "card 1 is longer than 80\n"]
@@ -735,5 +796,6 @@ def try_all(check, repository, folder, is_stand_in):
     try_computing(check, make_site(command, f"{folder}/computing"))
     shown = try_files(check, make_site(command, f"{folder}/files"), prints)
     if not is_stand_in:
-        check("decks come to the reader", [it for it in shown if it.endswith("CARDS 2")] != [], *shown)
+        wanted = ["FROM OPER CARDS 2", "FROM OPER CARDS 100", "FROM SYSTEM CARDS 2"]
+        check("decks come to the reader", [it[10:] for it in shown if it.startswith("FILE ")] == wanted, *shown)
     try_ending(check, make_site(command, f"{folder}/ending"))

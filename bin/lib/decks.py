@@ -35,17 +35,18 @@ class Sender:
         self.name = name
         self.punch = punch
 
-    def script(self, data, receiver):
-        return "".join(f"{it}\n" for it in sent(cards_of(data), self.name, self.punch, receiver)).encode()
+    def scripts(self, data, receiver):
+        return list(sent(cards_of(data), self.name, self.punch, receiver))
 
 
 class Folders:
     """A folder for each user; what is put into it is read in as a deck for him, and goes to `done` or `refused`. A file whose
     name ends with .deck has 80 bytes a card, any other is text, a line a card."""
 
-    def __init__(self, folder, engine, sender, tell):
+    def __init__(self, folder, engine, readers, sender, tell):
         self.folder = folder
         self.engine = engine
+        self.readers = readers
         self.sender = sender
         self.tell = tell
         self.seen = {}
@@ -77,10 +78,12 @@ class Folders:
         mark = DECK_READ + b"%s %d %d %d\n" % (user.encode(), *state)
         reason = ""
         if mark not in self.engine.recording.decks:
-            reason, script = self.judged(path, user, state)
-            if not reason:
+            reason, scripts = self.judged(path, user, state)
+            for script in scripts[:-1]:
+                await self.engine.give(Part(script))
+            if scripts:
                 self.engine.recording.decks.add(mark)
-                await self.engine.give(Part(script + mark, is_kept=True))
+                await self.engine.give(Part(scripts[-1] + mark, is_kept=True))
         folder = os.path.join(os.path.dirname(path), "refused" if reason else "done")
         os.makedirs(folder, exist_ok=True)
         moved = os.path.join(folder, os.path.basename(path))
@@ -90,23 +93,25 @@ class Folders:
         self.tell(f"deck {os.path.basename(path)} for {user}: {reason or 'read in'}")
 
     def judged(self, path, user, state):
-        """Why the file is refused, or else the lines that give it to the user."""
+        """Why the file is refused, or else the scripts that give it to the user."""
+        if user not in self.readers:
+            return f"{user} has no reader", []
         if state[1] > MOST_BYTES:
-            return f"more than {MOST_BYTES} bytes", b""
+            return f"more than {MOST_BYTES} bytes", []
         try:
             data = read_file(path)
         except OSError as it:
-            return it.strerror, b""
+            return it.strerror, []
         if not data:
-            return "it has no card", b""
+            return "it has no card", []
         if not path.endswith(".deck"):
             wrong = wrong_text(data.replace(b"\r\n", b"\n"))
-            return wrong, b"" if wrong else text_deck(data, user)
+            return wrong, [] if wrong else [text_deck(data, user)]
         if len(data) % CARD:
-            return f"a deck has cards of {CARD} bytes, and this one has {len(data)} bytes", b""
+            return f"a deck has cards of {CARD} bytes, and this one has {len(data)} bytes", []
         if not self.sender:
-            return "nobody punches decks of any bytes: --sender USER", b""
-        return "", self.sender.script(data, user)
+            return "nobody punches decks of any bytes: --sender USER", []
+        return "", self.sender.scripts(data, user)
 
 
 def state_of(path):

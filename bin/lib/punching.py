@@ -49,8 +49,15 @@ def cards_of(data):
 
 
 def sent(cards, sender, punch, receiver):
-    """The lines that have the machine of a user send a deck to another's reader, and leave nothing at it."""
+    """The lines that have the machine of a user send a deck to another's reader, in pieces that take a moment each. Its machine is
+    on for that alone."""
     # what it had begun to punch when the host crashed goes to the operator, and not into this deck
     before = ["#CP", "LOGON", f"SPOOL {punch} TO SYSTEM", f"CLOSE {punch}", "SYSTEM RESET", f"SPOOL {punch} TO {receiver}"]
-    for line in [*before, *all_punched(cards, punch), f"CLOSE {punch}", "LOGOFF"]:
-        yield script_line(line, sender, punch)
+    yield script_of(before, sender, punch)
+    for at in range(0, len(cards), BATCH):
+        yield script_of(punched(cards[at : at + BATCH], punch), sender, punch)
+    yield script_of([f"CLOSE {punch}", "LOGOFF"], sender, punch)
+
+
+def script_of(lines, sender, punch):
+    return "".join(f"{script_line(it, sender, punch)}\n" for it in lines).encode()
