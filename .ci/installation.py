@@ -747,10 +747,11 @@ def try_ending(check, site):
     check("and the recording goes with it", "directory" in names_in(f"{site.folder}/{first}") and not os.path.exists(site.record))
     # a crash between the two volumes, and one before any was saved
     os.replace(f"{site.folder}/{first}/recording", site.record)
-    os.makedirs(f"{site.record}.ending")
+    folder = re.search(r"^\* SAVED (\S+)", read(site.record).decode(), re.M)[1]
+    os.makedirs(f"{site.folder}/{folder}")
     for place, data in enumerate(new, 1):
-        write(f"{site.record}.ending/volume-{place}", data)
-    write(f"{site.record}.ending/directory", read(f"{site.folder}/{first}/directory"))
+        write(f"{site.folder}/{folder}/volume-{place}", data)
+    write(f"{site.folder}/{folder}/directory", read(f"{site.folder}/{first}/directory"))
     write(volumes[1], old[1])
     site.online()
     check("a start finishes saving", has(new) and is_kept(first) and "the session has ended" in site.since_start(), *site.told)

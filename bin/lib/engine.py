@@ -191,6 +191,8 @@ class Engine:
 
     def replay(self, tell):
         """Brings the program to where the recording ends; how far it is is told each second, from 0 to 1."""
+        # it has read the volumes when it has answered
+        self.checked(self.program.do, b"")
         begun = told = time.monotonic()
         done, sent = 0, collections.deque()
         for entry in self.recording.entries():

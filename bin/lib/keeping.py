@@ -1,34 +1,44 @@
 """The volumes of an installation. While a session goes on they stay as they were when it began; its end replaces them, and a crash
 in the midst of that is made good by the next start."""
 import contextlib
+import glob
 import os
 import shutil
+import tempfile
 
 from people import FILE_FAILED, Failure, write_whole
 from recording import SAVED, read_whole, sum_of_file, sync_folder, without_passwords
 
 DIRECTORY = "directory"
+ENDING = ".ending-"
 
 
 class Keeping:
-    """Where the images of a session come to when it ends: a folder beside the recording, until they are in their places."""
+    """Where the images of a session come to when it ends: a folder beside the recording, until they are in their places. Each start
+    has another one, since a program whose command was killed may still write to its own."""
 
     def __init__(self, record, directory, volumes):
         self.record = record
         self.directory = directory
         self.volumes = volumes
-        self.folder = record + ".ending"
+        self.folder = ""
 
     def paths(self):
         return [os.path.join(self.folder, f"volume-{place}") for place in range(1, len(self.volumes) + 1)]
 
     def begin(self):
         """The paths by which the program reads the volumes, and will save others."""
-        shutil.rmtree(self.folder, ignore_errors=True)
-        os.makedirs(self.folder, 0o700)
+        self.forget()
+        where, name = os.path.split(os.path.abspath(self.record))
+        self.folder = tempfile.mkdtemp(prefix=f"{name}{ENDING}", dir=where)
         for path, volume in zip(self.paths(), self.volumes):
             os.symlink(os.path.realpath(volume), path)
         return self.paths()
+
+    def forget(self):
+        """Removes the folders of this start and of those before it."""
+        for it in glob.glob(glob.escape(os.path.abspath(self.record) + ENDING) + "*"):
+            shutil.rmtree(it, ignore_errors=True)
 
     def make_room(self):
         """What the program saves from now on comes into the folder, and not to the volumes themselves."""
@@ -39,17 +49,18 @@ class Keeping:
         write_whole(os.path.join(self.folder, DIRECTORY), without_passwords(read_whole(self.directory)), is_settled=True)
 
     def saved_mark(self):
-        """The line of the recording that tells that all is saved, once it is on the disk."""
+        """The line of the recording that tells that all is saved, once it is on the disk: in which folder, and the sums."""
         for path in self.paths():
             sync_file(path)
         sync_folder(os.path.join(self.folder, DIRECTORY))
-        return SAVED + b" ".join(sum_of_file(it).encode() for it in self.paths())
+        words = [os.path.basename(self.folder), *map(sum_of_file, self.paths())]
+        return SAVED + " ".join(words).encode(errors="surrogateescape")
 
     def set_aside(self, recording):
         """Puts the saved images in the places of the volumes, and gives the folder to which the recording goes with these as they
         were, and with the directory. What of this was done before a crash stays."""
-        self.check(recording.last)
-        aside = f"{self.record}.{recording.name()}"
+        self.find(recording.last)
+        aside = recording.aside()
         os.makedirs(aside, 0o700, exist_ok=True)
         for path, volume in zip(self.paths(), self.volumes):
             keep(volume, os.path.join(aside, os.path.basename(path)))
@@ -57,13 +68,14 @@ class Keeping:
         copy_whole(os.path.join(self.folder, DIRECTORY), os.path.join(aside, DIRECTORY))
         os.replace(self.record, os.path.join(aside, "recording"))
         sync_folder(self.record)
-        shutil.rmtree(self.folder, ignore_errors=True)
+        self.forget()
         return aside
 
-    def check(self, mark):
-        """Whether the images are those that were saved."""
-        found = [sum_of_file(it).encode() if os.path.exists(it) else b"" for it in self.paths()]
-        if mark.removeprefix(SAVED).split() != found:
+    def find(self, mark):
+        """Finds the images that were saved, as the recording tells."""
+        words = mark.removeprefix(SAVED).decode(errors="surrogateescape").rstrip("\n").rsplit(" ", len(self.volumes))
+        self.folder = os.path.join(os.path.dirname(os.path.abspath(self.record)), words[0])
+        if words[1:] != [sum_of_file(it) if os.path.exists(it) else "" for it in self.paths()]:
             raise Failure(FILE_FAILED, f"{self.folder} lacks images that were saved at the end of {self.record}")
 
 

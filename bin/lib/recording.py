@@ -145,7 +145,11 @@ class Recording:
             if differs := differing(self.base, wanted):
                 raise Failure(REFUSED, f"{self.path}: {differs}")
             return
-        self.begun = time.strftime(f"{BEGUN.decode()}{TIME}\n", time.gmtime()).encode()
+        self.begun = begun_now()
+        while os.path.exists(self.aside()):
+            # another session was begun in this second
+            time.sleep(0.1)
+            self.begun = begun_now()
         self.put(b"".join(it + b"\n" for it in wanted) + self.begun)
         os.fdatasync(self.file.fileno())
         sync_folder(self.path)
@@ -153,6 +157,10 @@ class Recording:
     def name(self):
         """What this session is called among those of the same files: the time when it was begun."""
         return self.begun.removeprefix(BEGUN).decode()[:19].translate({ord(" "): "-", ord(":"): None})
+
+    def aside(self):
+        """The folder to which it goes when the session ends."""
+        return f"{self.path}.{self.name()}"
 
     def entries(self):
         """What was done until now, entry by entry."""
@@ -206,6 +214,10 @@ class Recording:
 
     def close(self):
         self.file.close()
+
+
+def begun_now():
+    return time.strftime(f"{BEGUN.decode()}{TIME}\n", time.gmtime()).encode()
 
 
 def weight_of(entry):
