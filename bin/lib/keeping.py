@@ -1,5 +1,5 @@
-"""The volumes of an installation. While a session goes on they stay as they were when it began; its end replaces them, and a crash
-in the midst of that is made good by the next start."""
+"""The volumes of an installation. While a session goes on they stay as they were when it began; its end replaces them, and a
+crash in the midst of that is made good by the next start."""
 import contextlib
 import glob
 import os
@@ -14,8 +14,8 @@ ENDING = ".ending-"
 
 
 class Keeping:
-    """Where the images of a session come to when it ends: a folder beside the recording, until they are in their places. Each start
-    has another one, since a program whose command was killed may still write to its own."""
+    """Where the images of a session come to when it ends: a folder beside the recording, until they are in their places. Each
+    start has another one, since a program whose command was killed may still write to its own."""
 
     def __init__(self, record, directory, volumes):
         self.record = record
@@ -93,16 +93,18 @@ def keep(volume, aside):
 def put(path, volume):
     """Puts a file in the place of a volume, for the same people."""
     place = os.path.realpath(volume)
-    mode = os.stat(place).st_mode
-    copy_whole(path, place)
-    os.chmod(place, mode & 0o7777)
+    copy_whole(path, place, os.stat(place))
 
 
-def copy_whole(path, to):
-    """A copy that is there whole or not at all, also after the host has crashed."""
+def copy_whole(path, to, owned=None):
+    """A copy that is there whole or not at all, also after the host has crashed; whose it is, is told by a file's state."""
     beside = f"{to}.new-{os.getpid()}"
     try:
         shutil.copyfile(path, beside)
+        if owned:
+            os.chmod(beside, owned.st_mode & 0o7777)
+            with contextlib.suppress(PermissionError):
+                os.chown(beside, owned.st_uid, owned.st_gid)
         sync_file(beside)
         os.replace(beside, to)
     except BaseException:

@@ -29,8 +29,8 @@ class Passwords:
 
 
 class Guesses:
-    """How many guesses were made lately that were not right, by the names. Names share a number of places, so that no flood of them takes
-    memory, and one that is no user's is like any other; which names share one nobody outside can know."""
+    """How many guesses were made lately that were not right, by the names. Names share a number of places, so that no flood of
+    them takes memory, and one that is no user's is like any other; which names share one nobody outside can know."""
 
     def __init__(self):
         self.key = os.urandom(16)
@@ -44,8 +44,8 @@ class Guesses:
         return max(0.0, count - (now - when) / SECONDS_TO_FORGET_A_GUESS)
 
     def begin(self, name, now):
-        """Notes a guess of this name, and gives how many seconds it waits before it is judged, be it right or wrong. It counts from
-        now on, so that who makes many at once waits with each."""
+        """Notes a guess of this name, and gives how many seconds it waits before it is judged, be it right or wrong. It counts
+        from now on, so that who makes many at once waits with each."""
         count = self.count(name, now)
         self.places[self.place_of(name)] = (min(MOST_GUESSES, count + 1), now)
         return min(LONGEST_WAIT, FIRST_WAIT * 2 ** (count - 1)) if count > 0.5 else 0

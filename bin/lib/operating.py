@@ -12,7 +12,8 @@ users          who is on
 frames         where pages stand; this takes as long as such a start
 message TEXT   a line for each terminal
 suspend        ends this command; the next start goes on from here
-end            ends the session where nobody is on: volumes are saved, and the recording is set aside; end now ends it all the same"""
+end            where nobody is on, ends the session: volumes are saved, and the recording is set aside
+end now        likewise, whoever is on"""
 
 
 class Journal:

@@ -15,7 +15,8 @@ h1{font-size:28px;margin:0}h2{margin:1.6em 0 .4em}.note{color:#666;font-size:13p
 padding:12px 18px;font:13px/1.45 'Courier New',monospace;white-space:pre-wrap;max-height:520px;overflow:auto}
 .typed{color:#23408e;font-weight:bold}.other{color:#8a3b12}.guest{color:#1d6b3a}
 summary{color:#777;cursor:pointer;font-style:italic}
-.paper{font:13px/18px 'Courier New',monospace;white-space:pre;padding:0 44px;border:1px solid #cfd8cc;overflow:auto;min-height:144px;
+.paper{font:13px/18px 'Courier New',monospace;white-space:pre;padding:0 44px;min-height:144px;border:1px solid #cfd8cc;
+overflow:auto;
 background:radial-gradient(circle at 15px 9px,#cfcfc4 4px,#0000 5px) 0 0/44px 18px repeat-y,
 radial-gradient(circle at calc(100% - 15px) 9px,#cfcfc4 4px,#0000 5px) 100% 0/100% 18px repeat-y,
 repeating-linear-gradient(#fff 0 36px,#dff0dd 36px 72px)}
@@ -168,6 +169,7 @@ def card(text):
         x = 14 + column * 8
         if character != " ":
             parts.append(f'<text x="{x}" y="12" font-size="9" font-family="monospace">{html.escape(character)}</text>')
-        parts += [f'<rect x="{x + 1}" y="{17 + it * 9}" width="4" height="7" fill="#3b3120"/>' for it in PUNCHES.get(character, ())]
+        for hole in PUNCHES.get(character, ()):
+            parts.append(f'<rect x="{x + 1}" y="{17 + hole * 9}" width="4" height="7" fill="#3b3120"/>')
     edge = '<path d="M14 .5H667.5V129.5H.5V16Z" fill="#f3e6c0" stroke="#cdbb87"/>'
     return f'<svg class="card" width="668" height="130">{edge}{"".join(parts)}</svg>'

@@ -49,8 +49,8 @@ def cards_of(data):
 
 
 def sent(cards, sender, punch, receiver):
-    """The lines that have the machine of a user send a deck to another's reader, in pieces that take a moment each. Its machine is
-    on for that alone."""
+    """The lines that have the machine of a user send a deck to another's reader, in pieces that take a moment each. It is on for
+    that alone."""
     # what it had begun to punch when the host crashed goes to the operator, and not into this deck
     before = ["#CP", "LOGON", f"SPOOL {punch} TO SYSTEM", f"CLOSE {punch}", "SYSTEM RESET", f"SPOOL {punch} TO {receiver}"]
     yield script_of(before, sender, punch)
