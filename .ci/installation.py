@@ -144,6 +144,7 @@ class Person:
 
 
 async def until_so(holds):
+    """Waits until something holds, with patience."""
     until = time.monotonic() + PATIENCE
     while not holds() and time.monotonic() < until:
         await asyncio.sleep(0.05)
@@ -176,7 +177,8 @@ class StandIn:
     """Takes parts of a script as the program does, for users who type LOGON, LOGOFF, #CP, BEGIN, STORE G1, DISPLAY G1, MSG and
     PRINT, which no program has: it prints a file."""
 
-    def __init__(self, directory):
+    def __init__(self, directory, has_slices):
+        self.has_slices = has_slices
         with open(directory) as file:
             self.users = {it.split()[1]: {"mode": "OFF", "G1": 0} for it in file if it.startswith("USER ")}
         self.files = []
@@ -208,9 +210,11 @@ class StandIn:
         return self.told + ["> IDLE"] * self.is_idle
 
     def auto(self, turns):
-        running = [it for it in self.users.values() if it["mode"] == "RUNS"]
+        running = [name for name, it in self.users.items() if it["mode"] == "RUNS"]
         for it in running:
-            it["G1"] += turns
+            self.users[it]["G1"] += turns
+        if self.has_slices:
+            self.told += [f"= {it} {100 * turns} COUNT" for it in running]
         self.is_idle = not running
 
     def line(self, name, user, text):
@@ -256,7 +260,7 @@ def became(before, now):
 def stand_in(words):
     """Plays the program: part by part with --follow, else a whole script."""
     paths = words[words.index("--") + 1 :]
-    program = StandIn(paths[0])
+    program = StandIn(paths[0], "--terminals" not in words)
     if "--follow" not in words:
         with open(paths[1], "rb") as file:
             told = program.part(file.read())
@@ -710,6 +714,24 @@ def try_files(check, site, prints):
     return shown
 
 
+def try_report(check, repository, site, looks):
+    """A page of a recording, without outside parts."""
+    out = f"{site.folder}/page.html"
+    words = [f"{repository}/bin/report", "--looks", str(looks), site.record, out]
+    done = subprocess.run(words, capture_output=True, text=True)
+    page = read(out).decode() if os.path.exists(out) else ""
+    wanted = [">LOGON</span>", ">LOGON OK</span>", "HELLO", 'class="card"', 'class="paper"', "units</title>"]
+    lacking = [it for it in wanted if it not in page]
+    check("a page of a recording", done.returncode == 0 and not lacking, done.stderr, *lacking)
+    outside = re.findall(r"(?:src|href)=|url\(|https?:|<script|<link|@import", page)
+    check("has no outside parts", not outside, *outside)
+    os.rename(site.paths[0], f"{site.folder}/moved")
+    done = subprocess.run(words, capture_output=True, text=True)
+    check("a directory that is gone", done.returncode == 1 and "the directory is not there as it was" in done.stderr, done.stderr)
+    done = subprocess.run([*words, "--directory", f"{site.folder}/moved"], capture_output=True, text=True)
+    check("or was moved", done.returncode == 0, done.stderr)
+
+
 def names_in(folder):
     return sorted(os.listdir(folder)) if os.path.exists(folder) else []
 
@@ -800,7 +822,9 @@ def try_all(check, repository, folder, is_stand_in):
     try_logging_on(check, make_site(command, f"{folder}/logging on"))
     try_recovery(check, make_site(command, f"{folder}/recovery"), program)
     try_computing(check, make_site(command, f"{folder}/computing"))
-    shown = try_files(check, make_site(command, f"{folder}/files"), prints)
+    site = make_site(command, f"{folder}/files")
+    shown = try_files(check, site, prints)
+    try_report(check, repository, site, 0)
     if not is_stand_in:
         wanted = ["FROM OPER CARDS 2", "FROM OPER CARDS 100", "FROM SYSTEM CARDS 2"]
         check("decks come to the reader", [it[10:] for it in shown if it.startswith("FILE ")] == wanted, *shown)

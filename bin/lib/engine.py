@@ -95,6 +95,22 @@ class Pace:
         self.stuck = 0
 
 
+class Progress:
+    """How far something is of which the whole is known, told each second."""
+
+    def __init__(self, whole, tell):
+        self.whole = max(1, whole)
+        self.tell = tell
+        self.done = 0
+        self.told = time.monotonic()
+
+    def add(self, amount):
+        self.done += amount
+        if time.monotonic() - self.told >= 1:
+            self.told = time.monotonic()
+            self.tell(self.done / self.whole)
+
+
 class Engine:
     """Gives the program parts: what waits, then some turns while somebody is ready. What comes of a part is shown when the
     recording has it. One thread alone touches the program, the recording and the printouts."""
@@ -112,7 +128,6 @@ class Engine:
         self.parts = 0
         # of the program, since the session was begun: about what a restart takes
         self.seconds = 0.0
-        self.ran_until = time.monotonic()
 
     async def give(self, part):
         """Has a part done; ends when what came of it is shown."""
@@ -193,8 +208,8 @@ class Engine:
         """Brings the program to where the recording ends; how far it is is told each second, from 0 to 1."""
         # it has read the volumes when it has answered
         self.checked(self.program.do, b"")
-        begun = told = time.monotonic()
-        done, sent = 0, collections.deque()
+        begun = time.monotonic()
+        progress, sent = Progress(self.recording.weight, tell), collections.deque()
         for entry in self.recording.entries():
             if self.is_stopping:
                 return
@@ -202,15 +217,9 @@ class Engine:
             self.program.send(part.lines)
             sent.append((part, weight_of(entry)))
             if len(sent) >= AHEAD:
-                done += self.take_first(sent)
-            if time.monotonic() - told >= 1:
-                told = time.monotonic()
-                tell(done / max(1, self.recording.weight))
+                progress.add(self.take_first(sent))
         while sent and not self.is_stopping:
-            done += self.take_first(sent)
-            if time.monotonic() - told >= 1:
-                told = time.monotonic()
-                tell(done / max(1, self.recording.weight))
+            progress.add(self.take_first(sent))
         self.seconds = time.monotonic() - begun
 
     def take_first(self, sent):
