@@ -39,10 +39,12 @@ class Terminal:
         self.prepare(writer.get_extra_info("socket"))
 
     def prepare(self, connection):
-        connection.setsockopt(socket.SOL_SOCKET, socket.SO_SNDBUF, SEND_BUFFER)
-        if connection.family != socket.AF_UNIX:
-            # one that is gone without a word is found out some time
-            connection.setsockopt(socket.SOL_SOCKET, socket.SO_KEEPALIVE, 1)
+        # one that is gone already cannot be asked for anything
+        with contextlib.suppress(OSError):
+            connection.setsockopt(socket.SOL_SOCKET, socket.SO_SNDBUF, SEND_BUFFER)
+            if connection.family != socket.AF_UNIX:
+                # one that goes without a word is found out some time
+                connection.setsockopt(socket.SOL_SOCKET, socket.SO_KEEPALIVE, 1)
 
     async def next_line(self):
         """The next line that is typed, or None where the connection has ended."""
