@@ -231,8 +231,8 @@ class StandIn:
             self.say(name, "LOGOFF OK")
         elif words[:1] == ["BEGIN"]:
             user["mode"] = "RUNS"
-        elif words[:2] == ["STORE", "G1"]:
-            user["G1"] = int(words[2], 16)
+        elif words[:1] == ["STORE"]:
+            user.update({words[1]: int(words[2], 16)})
             self.say(name, "STORED")
         elif words == ["DISPLAY", "G1"]:
             self.say(name, f"GPR 1 = {user['G1']:08X}")
