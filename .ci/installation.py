@@ -174,8 +174,8 @@ run = asyncio.run
 
 
 class StandIn:
-    """Takes parts of a script as the program does, for users who type LOGON, LOGOFF, #CP, BEGIN, STORE G1, DISPLAY G1, MSG and
-    PRINT, which no program has: it prints a file."""
+    """Takes parts of a script as the program does, for users who type LOGON, LOGOFF, #CP, BEGIN, STORE, DISPLAY of a register,
+    MSG and PRINT, which no program has: it prints a file."""
 
     def __init__(self, directory, has_slices):
         self.has_slices = has_slices
@@ -234,8 +234,8 @@ class StandIn:
         elif words[:1] == ["STORE"]:
             user.update({words[1]: int(words[2], 16)})
             self.say(name, "STORED")
-        elif words == ["DISPLAY", "G1"]:
-            self.say(name, f"GPR 1 = {user['G1']:08X}")
+        elif words[:1] == ["DISPLAY"]:
+            self.say(name, f"GPR {words[1][1:]} = {user.get(words[1], 0):08X}")
         elif words[:1] == ["MSG"] and words[1] in self.users:
             self.say(name, "SENT")
             self.say(words[1], f"MSG FROM {name}: {text.split(words[1] + ' ')[1]}")
