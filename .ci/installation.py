@@ -599,6 +599,29 @@ def refuse_other(check, site):
     check("a changed password is no other directory", site.stop() == 0, *site.told)
 
 
+def try_silence(check, site):
+    """An operator who does not read keeps nobody waiting."""
+
+    async def come_and_go():
+        for _ in range(2):
+            people = [await person(f"{site.folder}/socket") for _ in range(20)]
+            for it in people:
+                it.type("LOGON ALICE WONDER")
+            for it in people:
+                await it.until("LOGON OK", "RECONNECTED")
+                it.go()
+
+    site.online()
+    for _ in range(300):
+        site.operate("help")
+    begun = time.monotonic()
+    run(come_and_go())
+    check("people are served meanwhile", time.monotonic() - begun < 20)
+    site.process.send_signal(signal.SIGTERM)
+    check("and it can be ended", site.process.wait(20) == 0)
+    site.process.communicate()
+
+
 def try_computing(check, site):
     """A guest that computes is dealt turns while others type; where all wait no time is taken."""
 
@@ -821,6 +844,7 @@ def try_all(check, repository, folder, is_stand_in):
     prints = (["PRINT HELLO"], "") if is_stand_in else (PRINTS, "CLOSE 00E")
     try_logging_on(check, make_site(command, f"{folder}/logging on"))
     try_recovery(check, make_site(command, f"{folder}/recovery"), program)
+    try_silence(check, make_site(command, f"{folder}/silence"))
     try_computing(check, make_site(command, f"{folder}/computing"))
     site = make_site(command, f"{folder}/files")
     shown = try_files(check, site, prints)

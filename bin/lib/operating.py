@@ -1,4 +1,6 @@
 """What the operator types at the installation's own terminal, and what he is told."""
+import contextlib
+import os
 import queue
 import subprocess
 import sys
@@ -36,11 +38,11 @@ class Journal:
 
     def write(self):
         while (text := self.lines.get()) is not None:
-            try:
-                print(f"{time.strftime('%H:%M:%S')} {text}", flush=True)
-            except OSError:
-                # nobody is there any more
-                pass
+            data = f"{time.strftime('%H:%M:%S')} {text}\n".encode(errors="surrogateescape")
+            # not by sys.stdout, whose lock would be kept where nobody reads; and perhaps nobody is there any more
+            with contextlib.suppress(OSError):
+                while data:
+                    data = data[os.write(1, data) :]
 
     def close(self):
         try:
