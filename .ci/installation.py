@@ -1,5 +1,6 @@
 """People at an installation, as programs: what .ci/test-people and .ci/try-installation share."""
 import asyncio
+import atexit
 import contextlib
 import os
 import re
@@ -35,6 +36,8 @@ class Site:
         words = [self.command, *self.words, *more, *self.paths]
         self.process = subprocess.Popen(words, start_new_session=True, text=True, bufsize=1, preexec_fn=before, **streams)
         self.told.append("")
+        # whatever ends this, it does not stay
+        atexit.register(self.process.kill)
         return self
 
     def online(self, *more, most_bytes=None):
