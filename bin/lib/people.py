@@ -178,8 +178,9 @@ def read_input(path):
     return sys.stdin.buffer.read() if path in (None, "-") else read_file(path)
 
 
-def write_whole(path, data):
-    """Writes a file that is there whole or not at all; what is no plain file is written to as it is."""
+def write_whole(path, data, is_settled=False):
+    """Writes a file that is there whole or not at all, and where that is asked for also after the host has crashed; what is no
+    plain file is written to as it is."""
     if os.path.exists(path) and not os.path.isfile(path):
         with open(path, "wb") as file:
             file.write(data)
@@ -189,6 +190,9 @@ def write_whole(path, data):
     try:
         with os.fdopen(handle, "wb") as file:
             file.write(data)
+            if is_settled:
+                file.flush()
+                os.fsync(file.fileno())
         mask = os.umask(0)
         os.umask(mask)
         os.chmod(beside, 0o666 & ~mask)

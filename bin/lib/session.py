@@ -46,7 +46,8 @@ class Following:
     def go_on(self, session, part):
         try:
             self.stand_at(session.script())
-            return self.follower.do(part)
+            came = self.follower.do(part)
+            return came.events, came.headings()
         except ScriptRefused:
             raise
         except BaseException:

@@ -1,0 +1,858 @@
+"""People at an installation, as programs: what .ci/test-people and .ci/try-installation share."""
+import asyncio
+import atexit
+import contextlib
+import os
+import re
+import resource
+import select
+import signal
+import socket
+import subprocess
+import sys
+import time
+
+TELLS = re.compile("([0-9:]{8}) (.*)")
+# how long anything that has to come may take
+PATIENCE = 60
+
+
+class Site:
+    """An installation that can be started, ended and killed; what its operator was told."""
+
+    def __init__(self, command, folder, directory, *words):
+        self.command = command
+        self.folder = folder
+        self.record = f"{folder}/recording"
+        self.words = ["--record", self.record, "--listen", f"{folder}/socket", *words]
+        self.paths = [directory]
+        self.process = None
+        self.told = []
+
+    def start(self, *more, most_bytes=None):
+        """Starts it; most_bytes: how long a file may become, as on a disk that is full."""
+        before = most_bytes and (lambda: resource.setrlimit(resource.RLIMIT_FSIZE, (most_bytes, most_bytes)))
+        streams = {"stdin": subprocess.PIPE, "stdout": subprocess.PIPE, "stderr": subprocess.STDOUT}
+        words = [self.command, *self.words, *more, *self.paths]
+        self.process = subprocess.Popen(words, start_new_session=True, text=True, bufsize=1, preexec_fn=before, **streams)
+        self.told.append("")
+        # whatever ends this, it does not stay
+        atexit.register(self.process.kill)
+        return self
+
+    def online(self, *more, most_bytes=None):
+        self.start(*more, most_bytes=most_bytes)
+        if not self.await_told("online at"):
+            raise AssertionError("\n".join(self.told))
+        return self
+
+    def await_told(self, text, seconds=PATIENCE):
+        """Waits until the operator is told a text since the last start; whether that came."""
+        until = time.monotonic() + seconds
+        output = self.process.stdout
+        while text not in self.since_start():
+            if not select.select([output], [], [], max(0, until - time.monotonic()))[0]:
+                return False
+            if not (data := os.read(output.fileno(), 65536)):
+                return text in self.since_start()
+            self.told.append(data.decode(errors="replace"))
+        return True
+
+    def since_start(self):
+        last = max(place for place, it in enumerate(self.told) if not it)
+        return "".join(self.told[last:])
+
+    def operate(self, line):
+        self.process.stdin.write(f"{line}\n")
+        self.process.stdin.flush()
+
+    def ended(self):
+        """Waits until it has ended; its status."""
+        self.told.append(self.process.communicate(timeout=PATIENCE)[0] or "-")
+        return self.process.returncode
+
+    def stop(self):
+        self.process.send_signal(signal.SIGTERM)
+        return self.ended()
+
+    def program(self):
+        """The id of the program that it runs, or None."""
+        found = subprocess.run(["pgrep", "-P", str(self.process.pid)], capture_output=True, text=True).stdout.split()
+        return int(found[0]) if found else None
+
+    def kill(self, is_all=False):
+        """Kills it as a host does that fails, and with it the program."""
+        child = self.program() if is_all else None
+        self.process.kill()
+        if child:
+            with contextlib.suppress(ProcessLookupError):
+                os.kill(child, signal.SIGKILL)
+        self.process.communicate()
+
+    def session(self):
+        """The name of the session that is under way."""
+        with open(self.record) as file:
+            begun = re.search(r"^\* BEGUN (\S+) (\S+) UTC$", file.read(), re.M)
+        return f"{begun[1]}-{begun[2].replace(':', '')}"
+
+
+class Person:
+    """Somebody at a terminal, by a socket or an address."""
+
+    def __init__(self, where):
+        self.where = where
+        self.lines = []
+
+    async def come(self):
+        if isinstance(self.where, tuple):
+            self.reader, self.writer = await asyncio.open_connection(*self.where)
+        else:
+            self.reader, self.writer = await asyncio.open_unix_connection(self.where)
+        return self
+
+    async def line(self):
+        """The next line that is shown, or None at the end."""
+        data = await asyncio.wait_for(self.reader.readline(), PATIENCE)
+        if not data:
+            return None
+        self.lines.append(data.decode("latin-1").rstrip("\r\n"))
+        return self.lines[-1]
+
+    async def until(self, *texts):
+        """The next line that is one of these; all that came until then are kept."""
+        while (line := await self.line()) not in texts:
+            if line is None:
+                raise ConnectionError(f"ended before {texts}: {self.lines[-5:]}")
+        return line
+
+    def type(self, *lines):
+        self.writer.write("".join(f"{it}\r\n" for it in lines).encode("latin-1"))
+
+    async def logon(self, name, password):
+        """Logs on; what is answered."""
+        self.type(f"LOGON {name} {password}")
+        await self.until("GATHJUMLI ONLINE")
+        return await self.line()
+
+    async def rest(self):
+        """All lines until the connection ends."""
+        with contextlib.suppress(ConnectionError):
+            while await self.line() is not None:
+                pass
+        return self.lines
+
+    def go(self):
+        """Goes without a word."""
+        self.writer.transport.abort()
+
+
+async def until_so(holds):
+    """Waits until something holds, with patience."""
+    until = time.monotonic() + PATIENCE
+    while not holds() and time.monotonic() < until:
+        await asyncio.sleep(0.05)
+
+
+async def person(where):
+    return await Person(where).come()
+
+
+def replayed(program, directory, record, volumes=()):
+    """What the program itself makes of a recording: what each user was shown, and all of it."""
+    with open(record) as file:
+        frames, slots = re.search(r"^\* SIZES (\d+) (\d+)$", file.read(), re.M).groups()
+    done = subprocess.run([program, "--frames", frames, "--slots", slots, "--", directory, record, *volumes], capture_output=True)
+    shown = {}
+    for line in done.stdout.decode("latin-1").split("\n== ")[0].splitlines():
+        name, colon, text = line.partition(": ")
+        if colon and not line.startswith("= "):
+            shown.setdefault(name, []).append(text)
+    return done, shown
+
+
+run = asyncio.run
+
+
+# --- a stand-in for the program, which does a few commands ---
+
+
+class StandIn:
+    """Takes parts of a script as the program does, for users who type LOGON, LOGOFF, #CP, BEGIN, STORE, DISPLAY of a register,
+    MSG and PRINT, which no program has: it prints a file."""
+
+    def __init__(self, directory, has_slices):
+        self.has_slices = has_slices
+        with open(directory) as file:
+            self.users = {it.split()[1]: {"mode": "OFF", "G1": 0} for it in file if it.startswith("USER ")}
+        self.files = []
+        self.told = []
+
+    def say(self, name, text):
+        self.told.append(f"{name}: {text}")
+
+    def part(self, script):
+        """What is told of a part, with or without the lines of slices."""
+        before = {name: it["mode"] for name, it in self.users.items()}
+        self.told, self.closed, self.is_idle = [], [], False
+        lines = script.decode("latin-1").split("\n")[:-1]
+        while lines:
+            word, _, rest = lines.pop(0).partition(" ")
+            if word == "LINE":
+                name, _, text = rest.partition(" ")
+                self.line(name, self.users[name], text)
+            elif word == "DECK":
+                name, count = rest.split()
+                del lines[: int(count)]
+            elif word == "AUTO":
+                self.auto(int(rest))
+            elif word not in ("", "TICK", "RUN", "SERVE") and not word.startswith("*"):
+                return None
+        self.told += self.closed
+        for name, it in self.users.items():
+            self.told += [f"> {state} {name}" for state in became(before[name], it["mode"])]
+        return self.told + ["> IDLE"] * self.is_idle
+
+    def auto(self, turns):
+        running = [name for name, it in self.users.items() if it["mode"] == "RUNS"]
+        for it in running:
+            self.users[it]["G1"] += turns
+        if self.has_slices:
+            self.told += [f"= {it} {100 * turns} COUNT" for it in running]
+        self.is_idle = not running
+
+    def line(self, name, user, text):
+        words = text.split()
+        if text == "#CP":
+            user["mode"] = "ON" if user["mode"] == "RUNS" else user["mode"]
+            return
+        words = words[1:] if words[:1] == ["#CP"] else words
+        if user["mode"] == "OFF":
+            user["mode"] = "ON" if words == ["LOGON"] else "OFF"
+            self.say(name, "LOGON OK" if words == ["LOGON"] else "NOT LOGGED ON")
+        elif words == ["LOGOFF"]:
+            user.update({"mode": "OFF", "G1": 0})
+            self.say(name, "LOGOFF OK")
+        elif words[:1] == ["BEGIN"]:
+            user["mode"] = "RUNS"
+        elif words[:1] == ["STORE"]:
+            user.update({words[1]: int(words[2], 16)})
+            self.say(name, "STORED")
+        elif words[:1] == ["DISPLAY"]:
+            self.say(name, f"GPR {words[1][1:]} = {user.get(words[1], 0):08X}")
+        elif words[:1] == ["MSG"] and words[1] in self.users:
+            self.say(name, "SENT")
+            self.say(words[1], f"MSG FROM {name}: {text.split(words[1] + ' ')[1]}")
+        elif words[:1] == ["PRINT"]:
+            self.files.append([f"== PRT {len(self.files) + 1:04} {name}", f"09 {' '.join(words[1:])}"])
+            self.closed += [f"> {self.files[-1][0]}", f"> |{self.files[-1][1]}"]
+        elif words:
+            self.say(name, "UNKNOWN COMMAND")
+
+    def last_lines(self):
+        return [line for file in self.files for line in file]
+
+
+def became(before, now):
+    """The states that are told of a user."""
+    told = ["STOPS"] if before == "RUNS" != now else []
+    told += ["ON"] if before == "OFF" != now else []
+    told += ["RUNS"] if now == "RUNS" != before else []
+    return told + (["OFF"] if now == "OFF" != before else [])
+
+
+def stand_in(words):
+    """Plays the program: part by part with --follow, else a whole script."""
+    paths = words[words.index("--") + 1 :]
+    program = StandIn(paths[0], "--terminals" not in words)
+    if "--follow" not in words:
+        with open(paths[1], "rb") as file:
+            told = program.part(file.read())
+        lines = [it for it in told if not it.startswith("> ")] + program.last_lines()
+        sys.stdout.write("".join(f"{it}\n" for it in lines))
+        return
+    while (size := sys.stdin.buffer.readline()) not in (b"", b"END\n"):
+        told = program.part(sys.stdin.buffer.read(int(size)))
+        told = ["> REFUSED 1"] if told is None else [*told, "> DONE"]
+        sys.stdout.write("".join(f"{it}\n" for it in told))
+        sys.stdout.flush()
+    sys.stdout.write("".join(f"{it}\n" for it in program.last_lines()))
+    sys.stdout.flush()
+    if size == b"END\n" and "--save" in words:
+        for path in paths[1:]:
+            with open(f"{path}.new", "x") as file:
+                file.write("SAVED\n")
+            os.replace(f"{path}.new", path)
+            if os.environ.get("PEOPLE_SAVES") == "slowly":
+                time.sleep(5)
+
+
+# --- tables of what needs no program ---
+
+TYPED = {
+    "the four ends of lines": (b"A\rB\nC\r\nD\r\0E", ["A", "B", "C", "D"], b""),
+    "two ends": (b"A\n\nB\r\r", ["A", "", "B", ""], b""),
+    "what is no printable character": (b"A\tB\x00\x1b\xc3\xa9C\n", ["A B    C"], b""),
+    "130 characters": (b"X" * 131 + b"\n" + b"Y" * 130 + b"\n", ["X" * 130, "Y" * 130], b""),
+    "what is rubbed out": (b"AB\x08C\x7f\x7f\x7f\x7fD\n\x08E\n", ["D", "E"], b""),
+    "what is rubbed out by telnet": (b"AB\xff\xf7C\n" + b"AB\xff\xf8C\n", ["AC", "C"], b""),
+    "a break and an interrupt": (b"A\xff\xf3B\xff\xf4\n", ["#CP", "#CP", ""], b""),
+    "options, all declined": (b"\xff\xfb\x1f\xff\xfd\x03\xff\xfd\x01\xff\xfc\x01\xff\xfe\x01A\n", ["A"],
+                              b"\xff\xfe\x1f\xff\xfc\x03"),  # fmt: skip
+    "what is told of an option": (b"A\xff\xfa\x18\x00\nX\xff\xff\xf0Y\xff\xf0B\n", ["AB"], b""),
+    "a byte 255": (b"A\xff\xffB\n", ["A B"], b""),
+}
+BEGINS = b"* GATHJUMLI RECORDING 1\n* BEGUN 2026-11-26 12:00:00 UTC\n"
+ENTRIES = {
+    "whole lines": (b"AUTO 3\nLINE A LOGON\n", [b"AUTO 3\n", b"LINE A LOGON\n"]),
+    "a line that is cut": (b"AUTO 3\nLINE A LOG", [b"AUTO 3\n"]),
+    "a deck": (b"DECK A 2\nAUTO 1\n* X\nTICK A\n", [b"DECK A 2\nAUTO 1\n* X\n", b"TICK A\n"]),
+    "a deck that is cut": (b"TICK A\nDECK A 2\nX\n", [b"TICK A\n"]),
+    "a card that is cut": (b"TICK A\nDECK A 2\nX\nY", [b"TICK A\n"]),
+    "comments": (b"* 2026-11-26 12:00:01 UTC\nTICK A\n", [b"TICK A\n"]),
+}
+
+
+def try_tables(check, folder):
+    from telnet import Typing
+
+    for what, (given, wanted, replies) in TYPED.items():
+        for size in (1, 3, len(given)):
+            typing = Typing()
+            pieces = [given[at : at + size] for at in range(0, len(given), size)]
+            found = [line.decode() for it in pieces for line in typing.feed(it)]
+            told = (found, bytes(typing.replies))
+            check(f"{what}, {size} bytes at once", told == (wanted, replies), *told)
+    try_guesses(check)
+    try_terminal(check)
+    try_recordings(check, folder)
+    try_pace(check)
+
+
+def try_guesses(check):
+    """Each wrong guess of a name makes the next one wait longer, whatever the name is, and it is forgotten."""
+    from logon import Guesses, LONGEST_WAIT, PLACES, Passwords
+
+    guesses = Guesses()
+    waits = [guesses.begin("A", 100) for _ in range(8)]
+    check("guesses wait longer and longer", waits == [0, 0.25, 0.5, 1, 2, 4, 4, 4], *map(str, waits))
+    check("and are forgotten", guesses.count("A", 140) > 0 == guesses.count("A", 1000))
+    for _ in range(3):
+        wait = guesses.begin("B", 100)
+        guesses.was_right("B", 100)
+    check("a right one does not count", wait == 0)
+    for place in range(100000):
+        guesses.begin(f"N{place}", 100)
+    check("names take no memory", len(guesses.places) <= PLACES)
+    check("nobody is locked out", max(guesses.begin(f"M{it}", 100) for it in range(1000)) <= LONGEST_WAIT)
+    passwords = Passwords({"A": "SECRET", "B": "OTHER"})
+    cases = {("A", "SECRET"): True, ("A", "OTHER"): False, ("B", "OTHER"): True, ("C", "SECRET"): False, ("", ""): False}
+    for (name, password), wanted in cases.items():
+        check(f"{name} {password}", passwords.are_right(name, password) == wanted)
+    kept = repr(vars(passwords))
+    check("no password is kept", "SECRET" not in kept and "OTHER" not in kept)
+
+
+class Unread:
+    """A connection of which nobody reads."""
+
+    def __init__(self):
+        self.transport = self
+        self.size, self.is_gone = 0, False
+
+    def write(self, data):
+        self.size += len(data)
+
+    def get_write_buffer_size(self):
+        return self.size
+
+    def get_extra_info(self, _):
+        return socket.socket()
+
+    def is_closing(self):
+        return self.is_gone
+
+    def abort(self):
+        self.is_gone = True
+
+
+def try_terminal(check):
+    """One who does not read is closed, and takes no more memory then."""
+    from terminals import MOST_UNREAD, Terminal
+
+    told, writer = [], Unread()
+    terminal = Terminal(None, writer, told.append)
+    for _ in range(10000):
+        terminal.say("X" * 130)
+    check("one who does not read is closed", writer.is_gone and writer.size <= MOST_UNREAD + 200 and len(told) == 1, *told)
+
+
+def try_recordings(check, folder):
+    """What of a recording is whole, what is none, and what another one is of."""
+    from people import Failure
+    from recording import Recording, differing, without_passwords
+
+    path = f"{folder}/some"
+    for what, (text, wanted) in ENTRIES.items():
+        write(path, BEGINS + text)
+        recording = Recording(path)
+        found = list(recording.entries())
+        recording.close()
+        whole = b"".join(wanted)
+        check(f"{what} of a recording", found == wanted and read(path) in (BEGINS + text, BEGINS + whole), *found)
+    for text in (b"LINE A LOGON\n", b"x", b"* GATHJUMLI RECORDING 2\n", b"* GATHJUMLI RECORDING 1 \n"):
+        write(path, text)
+        try:
+            Recording(path).close()
+            check(f"{text} is no recording", False)
+        except Failure:
+            check(f"{text} is no recording, and stays", read(path) == text)
+    for text in (b"", b"* GATHJUMLI", b"* GATHJUMLI RECORDING 1\n* PROGRAM 1\n"):
+        write(path, text)
+        Recording(path).close()
+        check(f"{text} was never begun", read(path) == b"")
+    one = [b"* T", b"* PROGRAM 1", b"* DIRECTORY a /x", b"* SIZES 1 2", b"* VOLUME b /y"]
+    check("paths may differ", differing(one, [*one[:2], b"* DIRECTORY a /z", *one[3:]]) is None)
+    told = [differing(one, [*one[:place], b"* VOLUME c d", *one[place + 1 :]]) for place in range(1, 5)]
+    names = ["version of the program", "directory", "numbers of --frames and --slots", "volume 1"]
+    check("what differs is told", all(name in it for name, it in zip(names, told)), *told)
+    hidden = without_passwords(b"* A\nUSER A SECRET 64K\n CONSOLE 009  3215\n")
+    check("passwords are no part of it", hidden == b"USER A X 64K\nCONSOLE 009 3215\n", hidden)
+
+
+def try_pace(check):
+    """A part takes about the same time, however long a turn is."""
+    from engine import FEW_TURNS, Pace, STUCK_TURNS
+    from following import Came
+
+    for seconds_a_turn in (1e-7, 1e-6, 1e-3, 0.02):
+        pace = Pace(0.01)
+        for _ in range(30):
+            turns = pace.turns
+            pace.took(turns, turns * seconds_a_turn, Came([], [], [], False))
+        took = turns * seconds_a_turn
+        holds = took <= max(0.011, seconds_a_turn) and (took >= 0.005 or turns == 100000)
+        check(f"a turn of {seconds_a_turn} s", holds, f"{turns}")
+    pace.turns = 1000
+    pace.took(1000, 0.001, Came([], [], [], True))
+    check("few turns where all wait", not pace.is_busy and pace.turns <= FEW_TURNS)
+    pace.wake()
+    done = 0
+    while pace.is_busy and done < 10 * STUCK_TURNS:
+        done += pace.turns
+        pace.took(pace.turns, 0.001, Came(["= A 0 FRAMES"] * pace.turns, [], [], False))
+    check("who lack frames wait too", not pace.is_busy and done >= STUCK_TURNS, f"{done}")
+
+
+# --- what is tried in seconds, over the stand-in or the program itself ---
+
+DIRECTORY = "".join(
+    f"USER {name} {password} 64K\nCONSOLE 009 3215\nSPOOL 00C READER\nSPOOL 00D PUNCH\nSPOOL 00E PRINTER\n"
+    for name, password in (("ALICE", "WONDER"), ("BOB", "BUILDER"), ("OPER", "SECRET"))
+)
+
+
+def make_site(command, folder, *words):
+    os.makedirs(folder)
+    with open(f"{folder}/directory", "w") as file:
+        file.write(DIRECTORY)
+    return Site(command, folder, f"{folder}/directory", *words)
+
+
+def try_logging_on(check, site):
+    """Logging on, refusals, another terminal, leaving and coming back."""
+
+    async def tried():
+        where = f"{site.folder}/socket"
+        for given in ("LOGON ALICE BUILDER", "LOGON NOBODY WONDER", "LOGON OPER SECRET", "HELLO", "LOGON ALICE WONDER X"):
+            stranger = await person(where)
+            begun = time.monotonic()
+            stranger.type(given)
+            answers = [await stranger.line(), await stranger.line()]
+            took = time.monotonic() - begun
+            holds = answers == ["GATHJUMLI ONLINE", "LOGON REFUSED"] and took >= 0.5
+            check(f"{given} is refused", holds, f"{took:.2f} s", *answers)
+            stranger.go()
+        alice = await person(where)
+        check("a name and a password", await alice.logon("alice", "wonder") == "LOGON OK", *alice.lines)
+        alice.type("STORE G1 0000002A", "DISPLAY G1", "", "MSG BOB HELLO")
+        await alice.until("UNKNOWN COMMAND", "USER NOT LOGGED ON", "SENT")
+        shown = ["LOGON OK", "STORED", "GPR 1 = 0000002A"]
+        check("a terminal shows what comes of its lines", alice.lines[1:4] == shown, *alice.lines)
+        other = await person(where)
+        check("another terminal", await other.logon("ALICE", "WONDER") == "RECONNECTED", *other.lines)
+        await other.until(alice.lines[-1])
+        seen = [it for it in other.lines if it in shown]
+        check("is shown what was typed and answered", seen == shown and "STORE G1 0000002A" in other.lines, *other.lines)
+        check("and the first one is told", (await alice.rest())[-1] == "ANOTHER TERMINAL TAKES OVER", *alice.lines)
+        other.go()
+        bob = await person(where)
+        await bob.logon("BOB", "BUILDER")
+        bob.type("MSG ALICE ARE YOU THERE")
+        await bob.until("SENT")
+        back = await person(where)
+        await back.logon("ALICE", "WONDER")
+        await back.until("MSG FROM BOB: ARE YOU THERE")
+        check("who comes back is shown what came meanwhile", True)
+        back.type("LOGOFF")
+        check("LOGOFF closes", (await back.rest())[-1] == "LOGOFF OK", *back.lines)
+        again = await person(where)
+        check("and the machine was off", await again.logon("ALICE", "WONDER") == "LOGON OK", *again.lines)
+        again.type("DISPLAY G1")
+        await again.until("GPR 1 = 00000000")
+        check("with fresh registers", True)
+        again.type("LOGOFF")
+        bob.type("LOGOFF")
+        await asyncio.gather(again.rest(), bob.rest())
+
+    site.online("--sender", "OPER")
+    run(tried())
+    site.operate("end")
+    status = site.ended()
+    check("an end where nobody is on", status == 0 and "the session has ended" in site.since_start(), *site.told)
+    written = "".join(read_all(site.folder))
+    secrets = [it for it in ("WONDER", "BUILDER", "SECRET") if it in written]
+    check("no password is recorded", not secrets, *secrets)
+    check("the recording is for its owner alone", os.stat(f"{site.folder}/{kept_of(site)}/recording").st_mode & 0o777 == 0o600)
+
+
+def kept_of(site):
+    """The folder of the session that was ended."""
+    return max(it for it in os.listdir(site.folder) if it.startswith("recording.2"))
+
+
+def read_all(folder):
+    """What the files of a folder have, but for its directory."""
+    for path, _, names in os.walk(folder):
+        for name in names:
+            if not (path == folder and name == "directory") and name != "socket":
+                with open(f"{path}/{name}", errors="replace") as file:
+                    yield file.read()
+
+
+def try_recovery(check, site, program):
+    """Kills, a torn end, and one who goes on with what he was shown."""
+
+    async def on_and_count(rounds):
+        alice = await person(f"{site.folder}/socket")
+        first = await alice.logon("ALICE", "WONDER")
+        for count in rounds:
+            alice.type(f"STORE G1 {count:08X}", "DISPLAY G1")
+            await alice.until(f"GPR 1 = {count:08X}")
+        alice.go()
+        return first, alice.lines
+
+    site.online()
+    first, _ = run(on_and_count(range(1, 4)))
+    site.kill()
+    with open(site.record, "ab") as file:
+        file.write(b"LINE ALICE DISPL")
+    site.online()
+    again, lines = run(on_and_count(range(4, 6)))
+    holds = first == "LOGON OK" and again == "RECONNECTED" and "GPR 1 = 00000003" in lines
+    check("a start goes on where a kill was, and cuts a torn end", holds, *lines)
+    site.kill(is_all=True)
+    site.online()
+    other = subprocess.run([site.command, *site.words, *site.paths], capture_output=True, text=True, stdin=subprocess.DEVNULL)
+    check("a second one is refused", other.returncode == 1 and "another installation goes on" in other.stderr, other.stderr)
+    run(on_and_count(range(6, 7)))
+    check("a suspension ends well", site.stop() == 0, *site.told)
+    done, shown = replayed(program, site.paths[0], site.record)
+    wanted = [it for count in range(1, 7) for it in ("STORED", f"GPR 1 = {count:08X}")]
+    check("the recording is a script that shows the same", shown.get("ALICE") == ["LOGON OK", *wanted], done.stderr, *shown)
+    fill_disk(check, site, program)
+    refuse_other(check, site)
+
+
+def fill_disk(check, site, program):
+    """Where the disk is full it ends, and nothing was shown that is not in the recording."""
+
+    async def type_on():
+        alice = await person(f"{site.folder}/socket")
+        await alice.logon("ALICE", "WONDER")
+        alice.type(*(f"STORE G1 {it:08X}" for it in range(1000)))
+        return await alice.rest()
+
+    site.online(most_bytes=os.path.getsize(site.record) + 2000)
+    lines = run(type_on())
+    check("it ends where the disk is full", site.ended() == 3, *site.told)
+    count = lines.count("STORED")
+    site.online()
+    check("and goes on when it is not", site.stop() == 0, *site.told)
+    _, shown = replayed(program, site.paths[0], site.record)
+    check("with all that was shown", 0 < count <= shown["ALICE"].count("STORED"), f"{count}")
+
+
+def refuse_other(check, site):
+    """A recording is of one directory, whatever its passwords, and of one number of frames."""
+    with open(site.paths[0]) as file:
+        before = file.read()
+    cases = {
+        "other numbers of --frames": (before, ["--frames", "99"]),
+        "another directory": (before + "USER MORE PW 64K\n", []),
+    }
+    for told, (directory, more) in cases.items():
+        with open(site.paths[0], "w") as file:
+            file.write(directory)
+        words = [site.command, *site.words, *site.paths, *more]
+        done = subprocess.run(words, capture_output=True, text=True, stdin=subprocess.DEVNULL)
+        check(f"{told} is told", done.returncode == 1 and told in done.stderr, done.stderr)
+    with open(site.paths[0], "w") as file:
+        file.write(before.replace("WONDER", "LOOKING"))
+    site.online()
+    check("a changed password is no other directory", site.stop() == 0, *site.told)
+
+
+def try_silence(check, site):
+    """An operator who does not read keeps nobody waiting."""
+
+    async def come_and_go():
+        for _ in range(2):
+            people = [await person(f"{site.folder}/socket") for _ in range(20)]
+            for it in people:
+                it.type("LOGON ALICE WONDER")
+            for it in people:
+                await it.until("LOGON OK", "RECONNECTED")
+                it.go()
+
+    site.online()
+    for _ in range(300):
+        site.operate("help")
+    begun = time.monotonic()
+    run(come_and_go())
+    check("people are served meanwhile", time.monotonic() - begun < 20)
+    site.process.send_signal(signal.SIGTERM)
+    check("and it can be ended", site.process.wait(20) == 0)
+    site.process.communicate()
+
+
+def try_computing(check, site):
+    """A guest that computes is dealt turns while others type; where all wait no time is taken."""
+
+    async def tried():
+        alice, bob = await person(f"{site.folder}/socket"), await person(f"{site.folder}/socket")
+        await alice.logon("ALICE", "WONDER")
+        await bob.logon("BOB", "BUILDER")
+        # adds one to register 1 for ever
+        alice.type("STORE G1 00000000", "STORE 100 4111000147F00100", "BEGIN 100")
+        await asyncio.sleep(0.5)
+        bob.type("MSG ALICE HOW FAR")
+        await bob.until("SENT")
+        await alice.until("MSG FROM BOB: HOW FAR")
+        alice.type("#CP", "DISPLAY G1")
+        while not (await alice.line()).startswith("GPR 1 = "):
+            pass
+        check("turns are dealt to who computes", int(alice.lines[-1].split()[-1], 16) > 0, *alice.lines)
+        await asyncio.sleep(0.5)
+        before = processor_ticks(site)
+        await asyncio.sleep(1.5)
+        took = processor_ticks(site) - before
+        check("no processor time where all wait", took <= 1, f"{took} ticks of the host")
+        alice.go()
+        bob.go()
+
+    site.online("--ticks", "20")
+    run(tried())
+    recording = read(site.record)
+    check("who runs has ticks", b"\nTICK ALICE\n" in recording and b"TICK BOB" not in recording)
+    site.operate("status")
+    check("the operator is told", site.await_told("2 on, 0 about to log on") and "all wait" in site.since_start(), *site.told)
+    site.operate("message GOOD NIGHT")
+    site.operate("end")
+    check("no end while somebody is on", site.await_told("still on: ALICE BOB"), *site.told)
+    site.operate("end now")
+    check("unless it is asked for", site.ended() == 0, *site.told)
+
+
+def processor_ticks(site):
+    """The processor time that the command and its program took until now, in ticks of the host."""
+    total = 0
+    for process in (site.process.pid, site.program()):
+        with open(f"/proc/{process}/stat") as file:
+            fields = file.read().rpartition(")")[2].split()
+        total += int(fields[11]) + int(fields[12])
+    return total
+
+
+def memory_of(process):
+    """The most memory that a process had, in kilobytes."""
+    with open(f"/proc/{process}/status") as file:
+        return int(re.search(r"VmHWM:\s+(\d+)", file.read())[1])
+
+
+# a guest that prints a line: SIO, TIO until that is done, and a disabled wait
+PRINTS = ("STORE 48 00000800", "STORE 800 0900084020000005", "STORE 840 C8C5D3D3D6", "STORE 200 0002000000000000",
+          "STORE 100 9C00000E9D00000E4770010482000200", "BEGIN 100")  # fmt: skip
+
+
+def try_files(check, site, prints):
+    """Decks from folders, and printouts when they are closed; prints: what is typed to have HELLO printed, and what closes."""
+    folder = f"{site.folder}/decks/BOB"
+
+    def put(name, data):
+        os.makedirs(folder, exist_ok=True)
+        with open(f"{folder}/{name}", "wb") as file:
+            file.write(data)
+
+    async def tried():
+        alice, bob = await person(f"{site.folder}/socket"), await person(f"{site.folder}/socket")
+        await alice.logon("ALICE", "WONDER")
+        await bob.logon("BOB", "BUILDER")
+        bob.type("STORE 100 4111000147F00100", "BEGIN 100")
+        alice.type(*prints[0])
+        if prints[1]:
+            await alice.until("STOPPED DISABLED WAIT")
+            alice.type(prints[1])
+            await alice.until("FILE 0001 CLOSED")
+        put("text", b"FIRST CARD\r\nSECOND\n")
+        put("long", b"X" * 81)
+        put("bytes.deck", bytes(range(160)))
+        put("half.deck", bytes(79))
+        put("empty", b"")
+        put("many.deck", bytes(80) * 100)
+        await until_so(lambda: len(names_in(f"{folder}/done") + names_in(f"{folder}/refused")) == 9)
+        bob.type("#CP QUERY FILES", "#CP DISPLAY G1")
+        while not (await bob.line()).startswith("GPR 1 = "):
+            pass
+        check("his machine runs on", int(bob.lines[-1].split()[-1], 16) > 0, *bob.lines)
+        alice.go()
+        bob.go()
+        return bob.lines
+
+    site.online("--decks", f"{site.folder}/decks", "--printouts", f"{site.folder}/prints", "--sender", "OPER")
+    shown = run(tried())
+    name = f"{site.folder}/prints/{site.session()}/PRT0001-ALICE.txt"
+    holds = os.path.exists(name) and read(name) == b"HELLO\n"
+    check("a printout is there when it is closed", holds, *names_in(site.folder))
+    check("decks are read in", names_in(f"{folder}/done") == ["bytes.deck", "many.deck", "text"], *names_in(f"{folder}/done"))
+    refused = names_in(f"{folder}/refused")
+    told = [open(f"{folder}/refused/{it}").read() for it in refused if it.endswith(".reason")]
+    wanted = ["it has no card\n", "a deck has cards of 80 bytes, and this one has 79 bytes\n", "card 1 is longer than 80\n"]
+    check("or refused with a reason", told == wanted and len(refused) == 6, *refused, *told)
+    site.kill()
+    os.unlink(name)
+    os.replace(f"{folder}/done/text", f"{folder}/text")
+    site.online("--decks", f"{site.folder}/decks", "--printouts", f"{site.folder}/prints", "--sender", "OPER")
+    check("a deck that was read in before a crash is only moved", site.await_told("deck text for BOB: read in"), *site.told)
+    check("and a printout that lacks is made again", os.path.exists(name))
+    check("they are suspended", site.stop() == 0)
+    with open(site.record, "rb") as file:
+        check("one deck was given once", file.read().count(b"DECK BOB 2\nFIRST CARD\nSECOND\n") == 1)
+    return shown
+
+
+def try_report(check, repository, site, looks):
+    """A page of a recording, without outside parts."""
+    out = f"{site.folder}/page.html"
+    words = [f"{repository}/bin/report", "--looks", str(looks), site.record, out]
+    done = subprocess.run(words, capture_output=True, text=True)
+    page = read(out).decode() if os.path.exists(out) else ""
+    wanted = [">LOGON</span>", ">LOGON OK</span>", "HELLO", 'class="card"', 'class="paper"', "units</title>"]
+    lacking = [it for it in wanted if it not in page]
+    check("a page of a recording", done.returncode == 0 and not lacking, done.stderr, *lacking)
+    outside = re.findall(r"(?:src|href)=|url\(|https?:|<script|<link|@import", page)
+    check("has no outside parts", not outside, *outside)
+    os.rename(site.paths[0], f"{site.folder}/moved")
+    done = subprocess.run(words, capture_output=True, text=True)
+    check("a directory that is gone", done.returncode == 1 and "the directory is not there as it was" in done.stderr, done.stderr)
+    done = subprocess.run([*words, "--directory", f"{site.folder}/moved"], capture_output=True, text=True)
+    check("or was moved", done.returncode == 0, done.stderr)
+
+
+def names_in(folder):
+    return sorted(os.listdir(folder)) if os.path.exists(folder) else []
+
+
+def image_of(serial, version):
+    """A volume of one cylinder without a record."""
+    whole = b"CKD%d" % version + serial.ljust(6).encode() + b"\0\1" + b"".join(bytes([0, 0, 0, 0, head, 0]) for head in range(19))
+    return whole + (bytes(4) if version == 2 else b"")
+
+
+def try_ending(check, site):
+    """What becomes of volumes: a suspension saves none, an end saves all, and so does a start after a crash in an end's midst."""
+    old = [image_of(it, 1) for it in ("V1", "V2")]
+    volumes = [f"{site.folder}/{it}" for it in ("one", "two")]
+    site.paths += volumes
+
+    def has(images):
+        return [read(it) for it in volumes] == images
+
+    def is_kept(folder):
+        return [read(f"{site.folder}/{folder}/volume-{it}") for it in (1, 2)] == old
+
+    for path, data in zip(volumes, old):
+        write(path, data)
+    os.chmod(volumes[0], 0o640)
+    site.online()
+    run(logged_on(site, "ALICE", "WONDER"))
+    check("a suspension saves nothing", site.stop() == 0 and has(old), *site.told)
+    site.online()
+    site.kill()
+    check("and neither does a kill", has(old))
+    site.online()
+    site.operate("end now")
+    status = site.ended()
+    new = [read(it) for it in volumes]
+    first = kept_of(site)
+    holds = status == 0 and new != old and old[0] not in new and old[1] not in new and is_kept(first)
+    check("an end saves all, and keeps what was there", holds, f"status {status}", *site.told)
+    check("for the same people", os.stat(volumes[0]).st_mode & 0o777 == 0o640)
+    check("and the recording goes with it", "directory" in names_in(f"{site.folder}/{first}") and not os.path.exists(site.record))
+    # a crash between the two volumes, and one before any was saved
+    os.replace(f"{site.folder}/{first}/recording", site.record)
+    folder = re.search(r"^\* SAVED (\S+)", read(site.record).decode(), re.M)[1]
+    os.makedirs(f"{site.folder}/{folder}")
+    for place, data in enumerate(new, 1):
+        write(f"{site.folder}/{folder}/volume-{place}", data)
+    write(f"{site.folder}/{folder}/directory", read(f"{site.folder}/{first}/directory"))
+    write(volumes[1], old[1])
+    site.online()
+    check("a start finishes saving", has(new) and is_kept(first) and "the session has ended" in site.since_start(), *site.told)
+    run(logged_on(site, "ALICE", "WONDER"))
+    site.kill()
+    for path, data in zip(volumes, old):
+        write(path, data)
+    with open(site.record, "rb") as file:
+        whole = file.read()
+    base = read(f"{site.folder}/{first}/recording").split(b"* BEGUN")[0]
+    write(site.record, base + b"* BEGUN" + whole.split(b"* BEGUN")[1] + b"* END\n")
+    site.online()
+    done = [it for it in names_in(site.folder) if it.startswith("recording.2")]
+    check("and an end that was begun", has(new) and len(done) == 2 and is_kept(done[1]), *site.told, *done)
+    check("then it is online again", site.stop() == 0)
+
+
+async def logged_on(site, name, password):
+    """Logs on, and leaves."""
+    one = await person(f"{site.folder}/socket")
+    answer = await one.logon(name, password)
+    one.go()
+    return answer
+
+
+def read(path):
+    with open(path, "rb") as file:
+        return file.read()
+
+
+def write(path, data):
+    with open(path, "wb") as file:
+        file.write(data)
+
+
+def try_all(check, repository, folder, is_stand_in):
+    """All that is tried in seconds."""
+    command = f"{repository}/bin/installation"
+    program = f"{repository}/crates/vm370_cli/out/vm370_cli"
+    prints = (["PRINT HELLO"], "") if is_stand_in else (PRINTS, "CLOSE 00E")
+    try_logging_on(check, make_site(command, f"{folder}/logging on"))
+    try_recovery(check, make_site(command, f"{folder}/recovery"), program)
+    try_silence(check, make_site(command, f"{folder}/silence"))
+    try_computing(check, make_site(command, f"{folder}/computing"))
+    site = make_site(command, f"{folder}/files")
+    shown = try_files(check, site, prints)
+    try_report(check, repository, site, 0)
+    if not is_stand_in:
+        wanted = ["FROM OPER CARDS 2", "FROM OPER CARDS 100", "FROM SYSTEM CARDS 2"]
+        check("decks come to the reader", [it[10:] for it in shown if it.startswith("FILE ")] == wanted, *shown)
+    try_ending(check, make_site(command, f"{folder}/ending"))

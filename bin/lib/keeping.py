@@ -1,0 +1,122 @@
+"""The volumes of an installation. While a session goes on they stay as they were when it began; its end replaces them, and a
+crash in the midst of that is made good by the next start."""
+import contextlib
+import glob
+import os
+import shutil
+import tempfile
+
+from people import FILE_FAILED, Failure, write_whole
+from recording import SAVED, read_whole, sum_of_file, sync_folder, without_passwords
+
+DIRECTORY = "directory"
+ENDING = ".ending-"
+
+
+class Keeping:
+    """Where the images of a session come to when it ends: a folder beside the recording, until they are in their places. Each
+    start has another one, since a program whose command was killed may still write to its own."""
+
+    def __init__(self, record, directory, volumes):
+        self.record = record
+        self.directory = directory
+        self.volumes = volumes
+        self.folder = ""
+
+    def paths(self):
+        return [os.path.join(self.folder, f"volume-{place}") for place in range(1, len(self.volumes) + 1)]
+
+    def begin(self):
+        """The paths by which the program reads the volumes, and will save others."""
+        self.forget()
+        where, name = os.path.split(os.path.abspath(self.record))
+        self.folder = tempfile.mkdtemp(prefix=f"{name}{ENDING}", dir=where)
+        for path, volume in zip(self.paths(), self.volumes):
+            os.symlink(os.path.realpath(volume), path)
+        return self.paths()
+
+    def forget(self):
+        """Removes the folders of this start and of those before it."""
+        for it in glob.glob(glob.escape(os.path.abspath(self.record) + ENDING) + "*"):
+            shutil.rmtree(it, ignore_errors=True)
+
+    def make_room(self):
+        """What the program saves from now on comes into the folder, and not to the volumes themselves."""
+        for path in self.paths():
+            os.unlink(path)
+            with open(path, "xb"):
+                pass
+        write_whole(os.path.join(self.folder, DIRECTORY), without_passwords(read_whole(self.directory)), is_settled=True)
+
+    def saved_mark(self):
+        """The line of the recording that tells that all is saved, once it is on the disk: in which folder, and the sums."""
+        for path in self.paths():
+            sync_file(path)
+        sync_folder(os.path.join(self.folder, DIRECTORY))
+        words = [os.path.basename(self.folder), *map(sum_of_file, self.paths())]
+        return SAVED + " ".join(words).encode(errors="surrogateescape")
+
+    def set_aside(self, recording):
+        """Puts the saved images in the places of the volumes, and gives the folder to which the recording goes with these as they
+        were, and with the directory. What of this was done before a crash stays."""
+        self.find(recording.last)
+        aside = recording.aside()
+        os.makedirs(aside, 0o700, exist_ok=True)
+        for path, volume in zip(self.paths(), self.volumes):
+            keep(volume, os.path.join(aside, os.path.basename(path)))
+            put(path, volume)
+        copy_whole(os.path.join(self.folder, DIRECTORY), os.path.join(aside, DIRECTORY))
+        os.replace(self.record, os.path.join(aside, "recording"))
+        sync_folder(self.record)
+        self.forget()
+        return aside
+
+    def find(self, mark):
+        """Finds the images that were saved, as the recording tells."""
+        words = mark.removeprefix(SAVED).decode(errors="surrogateescape").rstrip("\n").rsplit(" ", len(self.volumes))
+        self.folder = os.path.join(os.path.dirname(os.path.abspath(self.record)), words[0])
+        if words[1:] != [sum_of_file(it) if os.path.exists(it) else "" for it in self.paths()]:
+            raise Failure(FILE_FAILED, f"{self.folder} lacks images that were saved at the end of {self.record}")
+
+
+def keep(volume, aside):
+    """Has an image under another name too, where that is not there yet."""
+    if os.path.exists(aside):
+        return
+    try:
+        os.link(os.path.realpath(volume), aside)
+    except OSError:
+        # another file system, or one without links
+        copy_whole(volume, aside)
+
+
+def put(path, volume):
+    """Puts a file in the place of a volume, for the same people."""
+    place = os.path.realpath(volume)
+    copy_whole(path, place, os.stat(place))
+
+
+def copy_whole(path, to, owned=None):
+    """A copy that is there whole or not at all, also after the host has crashed; whose it is, is told by a file's state."""
+    beside = f"{to}.new-{os.getpid()}"
+    try:
+        shutil.copyfile(path, beside)
+        if owned:
+            os.chmod(beside, owned.st_mode & 0o7777)
+            with contextlib.suppress(PermissionError):
+                os.chown(beside, owned.st_uid, owned.st_gid)
+        sync_file(beside)
+        os.replace(beside, to)
+    except BaseException:
+        with contextlib.suppress(FileNotFoundError):
+            os.unlink(beside)
+        raise
+    sync_folder(to)
+
+
+def sync_file(path):
+    file = os.open(path, os.O_RDONLY)
+    try:
+        os.fsync(file)
+    finally:
+        os.close(file)

@@ -1,0 +1,122 @@
+"""What a recording tells of each user: his console, his cards, his files, and what his machine did at which moment."""
+import collections
+import re
+
+from recording import TYPED
+
+# lines of a console that are kept, the last ones
+MOST_LINES = 3000
+MOST_DECKS = 20
+# moments of a typed line; a unit is one
+LINE_MOMENTS = 20
+# stretches that a line of time has
+STRETCHES = 480
+RAN = re.compile("= ([A-Z0-9]+) ([0-9]+) ([A-Z]+)")
+SERVED = re.compile("= ([A-Z0-9]+) SERVED ([0-9A-F]{3})")
+LACKED = re.compile("= ([A-Z0-9]+) FRAMES")
+KINDS = ("units", "serves", "lines", "lacks")
+
+
+class Time:
+    """How much of each kind there was in each stretch of time. Stretches are joined in pairs as it goes on, so that it takes no
+    more memory the longer it is."""
+
+    def __init__(self):
+        self.width = 1
+        self.now = 0
+        self.lanes = collections.defaultdict(lambda: {it: collections.Counter() for it in KINDS})
+        self.clock = []
+
+    def add(self, user, kind, amount):
+        self.lanes[user][kind][self.now // self.width] += amount
+
+    def pass_by(self, moments):
+        self.now += moments
+        while self.now // self.width >= 2 * STRETCHES:
+            self.width *= 2
+            for lane in self.lanes.values():
+                for kind, counts in lane.items():
+                    lane[kind] = halved(counts)
+
+    def stamp(self, text):
+        """Notes a time of the day."""
+        if not self.clock or self.now - self.clock[-1][0] >= self.width:
+            self.clock.append((self.now, text))
+        if len(self.clock) > 4 * STRETCHES:
+            del self.clock[1::2]
+
+
+def halved(counts):
+    found = collections.Counter()
+    for place, amount in counts.items():
+        found[place // 2] += amount
+    return found
+
+
+class Life:
+    """What a user's console shows, each line with its kind, and the decks that the operator gave him."""
+
+    def __init__(self):
+        self.console = collections.deque(maxlen=MOST_LINES)
+        self.lines = 0
+        self.decks = collections.deque(maxlen=MOST_DECKS)
+
+    def print(self, kind, text):
+        self.lines += 1
+        self.console.append((kind, text))
+
+
+class Story:
+    """What a recording tells, entry by entry."""
+
+    def __init__(self, users):
+        self.lives = {it: Life() for it in users}
+        self.time = Time()
+        self.files = []
+
+    def take(self, program, entry):
+        """Has a program do an entry."""
+        if entry.startswith(b"*"):
+            self.read_comment(entry.decode(errors="replace"))
+            return
+        typed = self.read_entry(entry)
+        came = program.do(entry)
+        self.files += came.files
+        for event in came.events:
+            self.read_event(event, typed)
+
+    def read_comment(self, text):
+        found = re.fullmatch(r"\* (?:BEGUN )?(\d{4}-\d\d-\d\d \d\d:\d\d:\d\d) UTC\n", text)
+        if found:
+            self.time.stamp(found[1])
+
+    def read_entry(self, entry):
+        """Notes what is typed and given; who typed it, or None."""
+        if typed := TYPED.fullmatch(entry):
+            name = typed[1].decode()
+            self.lives[name].print("typed", typed[2].decode("latin-1"))
+            self.time.add(name, "lines", 1)
+            self.time.pass_by(LINE_MOMENTS)
+            return name
+        if entry.startswith(b"DECK "):
+            head, *cards = entry.decode("latin-1").split("\n")[:-1]
+            self.lives[head.split(" ")[1]].decks.append(cards)
+        return None
+
+    def read_event(self, event, typed):
+        name, colon, text = event.partition(": ")
+        if colon and name in self.lives:
+            self.lives[name].print(kind_of(text, name == typed), text)
+        elif ran := RAN.fullmatch(event):
+            self.time.add(ran[1], "units", int(ran[2]))
+            if ran[3] == "FRAMES":
+                self.time.add(ran[1], "lacks", 1)
+            self.time.pass_by(int(ran[2]))
+        elif served := SERVED.fullmatch(event):
+            self.time.add(served[1], "serves", 1)
+        elif lacked := LACKED.fullmatch(event):
+            self.time.add(lacked[1], "lacks", 1)
+
+
+def kind_of(text, is_reply):
+    return "other" if text.startswith("MSG FROM ") else "reply" if is_reply else "guest"

@@ -1,0 +1,110 @@
+"""Files for the operator as pages and cards: what bin/printouts makes of a transcript."""
+import os
+import re
+
+from people import Failure, REFUSED, write_whole
+
+HEADING = re.compile("== (PRT|PUN) ([0-9]+) ([A-Z][A-Z0-9]{0,7})")
+CARD = 80
+PAGE_LENGTH = 66
+# how far the paper moves behind what is printed: lines, or the next page
+SPACES = {0x01: 0, 0x09: 1, 0x11: 2, 0x19: 3, 0x0B: 1, 0x13: 2, 0x1B: 3}
+SKIPS = {0x89, 0x8B}
+
+
+class Paper:
+    """Pages of lines, each line the texts that were printed over each other."""
+
+    def __init__(self, length):
+        self.length = length
+        self.pages = [{}]
+        self.line = 0
+
+    def print(self, text):
+        self.pages[-1].setdefault(self.line, []).append(text)
+
+    def space(self, lines):
+        self.line += lines
+        while self.line >= self.length:
+            self.line -= self.length
+            self.pages.append({})
+
+    def skip(self):
+        """To the first line of the next page; paper that stands there and is blank stays."""
+        if self.line or self.pages[-1]:
+            self.pages.append({})
+            self.line = 0
+
+    def text(self):
+        pages = self.pages if len(self.pages) == 1 or self.pages[-1] else self.pages[:-1]
+        return "\f".join("".join(f"{struck(page.get(it, []))}\n" for it in range(max(page, default=-1) + 1)) for page in pages)
+
+
+def struck(texts):
+    """Texts that were printed over each other as one, or with carriage returns where two characters meet."""
+    texts = [it.rstrip(" ") for it in texts if it.rstrip(" ")]
+    merged = ""
+    for column in range(max(map(len, texts), default=0)):
+        met = {it[column : column + 1] for it in texts} - {"", " "}
+        if len(met) > 1:
+            return "\r".join(texts)
+        merged += met.pop() if met else " "
+    return merged
+
+
+def printed(lines, length):
+    """The pages of a printer's entries."""
+    paper = Paper(length)
+    for line in lines:
+        code = int(line[:2], 16) if re.match("[0-9A-F]{2}( |$)", line) else None
+        if code not in SPACES and code not in SKIPS:
+            raise Failure(REFUSED, f"no entry of a printer begins with {line[:3]!r}")
+        if code & 3 == 1:
+            paper.print(line[3:])
+        if code in SKIPS:
+            paper.skip()
+        else:
+            paper.space(SPACES[code])
+    return paper.text()
+
+
+def files_of(lines):
+    """Each file's kind, number and user, and its lines."""
+    found = []
+    for line in lines:
+        heading = HEADING.fullmatch(line)
+        if heading and len(line) < CARD:
+            found.append((heading.groups(), []))
+        elif found:
+            found[-1][1].append(line)
+        else:
+            raise Failure(REFUSED, f"{line!r} begins no file")
+    return found
+
+
+def page_text(kind, entries, length):
+    """A file's entries as they are printed on pages, or a line a card."""
+    return printed(entries, length) if kind == "PRT" else "".join(f"{it}\n" for it in entries)
+
+
+class Printouts:
+    """A folder that has each file for the operator once, whole; without a folder they are told alone."""
+
+    def __init__(self, folder, tell):
+        self.folder = folder
+        self.tell = tell
+        if folder:
+            os.makedirs(folder, exist_ok=True)
+
+    def put(self, files):
+        """Puts in files, each with its heading and entries, where they are not there yet."""
+        for heading, entries in files:
+            kind, number, user = HEADING.fullmatch(heading).groups()
+            name = f"{kind}{number}-{user}.txt"
+            if not self.folder:
+                self.tell(f"closed: {name}")
+                continue
+            path = os.path.join(self.folder, name)
+            if not os.path.exists(path):
+                write_whole(path, page_text(kind, entries, PAGE_LENGTH).encode(errors="surrogateescape"), is_settled=True)
+                self.tell(f"closed: {path}")
