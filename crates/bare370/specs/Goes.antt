@@ -17,8 +17,8 @@ pub record Alone : Type 0 where
   pub addresses : List ℕ
 
 -- its one user has the number 0
-abbrev pub user : ℕ
-user = 0
+abbrev pub own : ℕ
+own = 0
 
 abbrev pub seen_in : Alone → Installed
 seen_in a = record {
@@ -29,11 +29,11 @@ seen_in a = record {
 
 -- an event as a script names it
 abbrev pub as_said : Happening → Said
-as_said (happenings.Run units) = Run user units
-as_said (happenings.Line typed) = Line user typed.now
-as_said (happenings.Serve device) = Serve user device
-as_said happenings.Tick = Tick user
-as_said (happenings.Deck cards) = Deck user cards.now
+as_said (happenings.Run units) = Run own units
+as_said (happenings.Line typed) = Line own typed.now
+as_said (happenings.Serve device) = Serve own device
+as_said happenings.Tick = Tick own
+as_said (happenings.Deck cards) = Deck own cards.now
 
 -- the event that was said happened to the machine, and was answered so
 pub record HasHappened (old : Alone) (said : Said) (reply : Reply) (new : Alone) : Type 0 where
