@@ -611,7 +611,7 @@ def try_silence(check, site):
             for it in people:
                 it.type("LOGON ALICE WONDER")
             for it in people:
-                await it.until("LOGON OK", "RECONNECTED")
+                await it.until("LOGON OK", "RECONNECTED", "ANOTHER TERMINAL TAKES OVER")
                 it.go()
 
     site.online()

@@ -128,6 +128,8 @@ class Engine:
         self.parts = 0
         # of the program, since the session was begun: about what a restart takes
         self.seconds = 0.0
+        # what the last part took the disk
+        self.settling = 0.0
 
     async def give(self, part):
         """Has a part done; ends when what came of it is shown."""
@@ -145,11 +147,15 @@ class Engine:
             if self.waiting:
                 await self.do_waiting()
             if self.pace.is_busy and not self.is_stopping:
-                turns = self.pace.turns
-                came, seconds = await self.do(Part(b"AUTO %d\n" % turns, turns=turns))
-                self.pace.took(turns, seconds, came)
+                await self.deal()
         for _, done in self.waiting:
             done.cancel()
+
+    async def deal(self):
+        """Deals some turns. What it takes to show what guests print is time too, but not what the disk takes."""
+        turns, begun = self.pace.turns, time.monotonic()
+        came = await self.do(Part(b"AUTO %d\n" % turns, turns=turns))
+        self.pace.took(turns, time.monotonic() - begun - self.settling, came)
 
     async def do_waiting(self):
         """All that waits is one part, so that many people wait for the disk once."""
@@ -163,17 +169,17 @@ class Engine:
                 done.set_result(None)
 
     async def do(self, part):
-        came, seconds = await asyncio.get_running_loop().run_in_executor(self.thread, self.step, part)
+        came = await asyncio.get_running_loop().run_in_executor(self.thread, self.step, part)
         self.parts += 1
         self.take(part, came)
-        return came, seconds
+        return came
 
     def step(self, part):
-        """Does a part, and has it on the disk where something of it is shown; how many seconds it took the program."""
+        """Does a part, and has it on the disk where something of it is shown."""
         begun = time.monotonic()
         came = self.checked(self.program.do, part.lines)
-        seconds = time.monotonic() - begun
-        self.seconds += seconds
+        done = time.monotonic()
+        self.seconds += done - begun
         if part.turns:
             self.recording.add_turns(part.turns)
         else:
@@ -181,7 +187,8 @@ class Engine:
         if part.is_kept or came.files or any(not it.startswith("= ") for it in came.events):
             self.recording.settle()
         self.printouts.put(came.files)
-        return came, seconds
+        self.settling = time.monotonic() - done
+        return came
 
     def checked(self, ask, *given):
         try:
