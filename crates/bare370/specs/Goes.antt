@@ -1,6 +1,7 @@
 -- How a machine of its own goes on, as sessions see it.
-use Rattle.std.specs.Prelude.{◌≡◌, ℕ, false, List, [], ◌∷◌, map}
+use Rattle.std.specs.Prelude.{◌≡◌, ℕ, false, List, [], ◌∷◌, map, Some}
 use Rattle.s370_subchannels.specs.declared.subchannel.Subchannel.{Subchannel}
+use Rattle.cp_devices.specs.declared.places.Places.{Places}
 use Rattle.cp_devices.specs.declared.reply.Reply.{Reply}
 use Rattle.cp_script.specs.Script.{Said, Run, Line, Tick, Serve, Deck}
 use Rattle.cp_script.specs.declared.event.ScriptEvent.{ScriptEvent}
@@ -50,6 +51,10 @@ pub record MayLack (old : Alone) (said : Said) (new : Alone) : Type 0 where
 
 abbrev pub machine_goes : Installation Alone
 machine_goes = record { seen = seen_in; Happens = HasHappened; Lacks = MayLack; is_spent = λ a. false }
+
+-- console, reader, punch and printer are at 009, 00C, 00D and 00E
+abbrev pub usual_places : Places
+usual_places = record { console = Some 9; reader = Some 12; punch = Some 13; printer = Some 14 }
 
 -- the addresses of these devices
 abbrev pub addresses_of : List Subchannel → List ℕ

@@ -1,11 +1,12 @@
 //! A machine of its own as sessions know it.
-ghost use Rattle.std.specs.Prelude.{◌≡◌, ◌<◌, ◌≤◌, ◌==◌, IfErr, IfOk, IfSome, length};
+ghost use Rattle.std.specs.Prelude.{◌≡◌, ◌<◌, ◌≤◌, ◌==◌, [], IfErr, IfOk, IfSome, length};
 ghost use Rattle.std.specs.List.{list_any};
 ghost use Rattle.s370_store.specs.Plain.{plain_bytes};
+ghost use Rattle.cp_devices.specs.Devices.{devices_new};
 ghost use Rattle.cp_script.specs.Script.{Deck, said, user_of_event};
 ghost use Rattle.bare_installation.specs.Life.{IsApplied, MayLackMemory};
 ghost use Rattle.bare_installation.specs.declared.happening.Happening.{Happening};
-ghost use Rattle.bare370.specs.Goes.{IsWhole, addresses_of, as_said, machine_goes};
+ghost use Rattle.bare370.specs.Goes.{IsWhole, addresses_of, as_said, machine_goes, usual_places};
 
 use bare_installation::{BARE, Bare, Happening};
 use ckd_volume::{Arm, Sense, Unit, Volume};
@@ -215,6 +216,10 @@ pub fn machine_of(
 ) -> Result<OneMachine, AttachError>
     requires least { 4 ≤ blocks }
     requires most { blocks ≤ 2048 }
+    ensures devices { IfOk result (λ one. one.machine.equipped.devices ≡ devices_new usual_places) }
+    ensures files { IfOk result (λ one. one.machine.files ≡ []) }
+    ensures addresses { IfOk result
+        (λ one. one.addresses ≡ addresses_of one.machine.equipped.machine.core.subchannels) }
 {
     let places = Places {
         console: Some(DevAddr::new(CONSOLE)),
