@@ -100,8 +100,11 @@ fn news<I: Installation + Drop>(
     modes: &[Mode],
 ) -> Result<Vec<u8>, AllocError> {
     let mut told = follower.closed_since(alloc, closed)?;
-    let changes = follower.changes_since(alloc, modes)?;
-    told.extend_from_slice(&changes)?;
+    // An installation has as many users as before; of others nothing could be told.
+    if modes.len() == follower.installation().users() {
+        let changes = follower.changes_since(alloc, modes)?;
+        told.extend_from_slice(&changes)?;
+    }
     if detail == Detail::Terminals && follower.is_idle() {
         told.extend_from_slice(b"> IDLE\n")?;
     }

@@ -3,6 +3,7 @@ use crate::disks::disks_of;
 use crate::view::{SideError, View};
 use bare_installation::Bare;
 use ckd_volume::Volume;
+use cp_console::responses::Response;
 use cp_core::{Event, Sizes, System};
 use cp_devices::{Delivered, Delivery, Ended, Places, Reply, Told};
 use cp_directory::{User, UserDevices, read_directory};
@@ -197,7 +198,9 @@ impl SideBySide {
             return Ok(());
         }
         self.bare_mut(user)?.tick();
-        let wanted = reply(Ended::Done, Told::Silent, 0);
+        // The prover finds what a reply may hold only where a function names it.
+        let silence: Option<Response> = None;
+        let wanted = reply(Ended::Done, Told::of(silence), 0);
         same(answered == wanted, View::Answer)
     }
 
@@ -211,7 +214,9 @@ impl SideBySide {
         let before = bare.printed();
         let done = bare.serve(device)?;
         let lines = bare.printed().saturating_sub(before);
-        let wanted = reply(Ended::Served(done), Told::Silent, lines);
+        // The prover finds what a reply may hold only where a function names it.
+        let silence: Option<Response> = None;
+        let wanted = reply(Ended::Served(done), Told::of(silence), lines);
         same(answered == wanted, View::Answer)?;
         Ok(done)
     }
