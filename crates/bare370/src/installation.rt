@@ -171,10 +171,17 @@ fn give(alloc: Global, machine: &mut Bare, cards: &[Card]) -> Result<Reply, Refu
     ensures err { IfErr result (λ error. (error ≡ Refused.Memory) × (event : Happening) × (as_said event ≡ Deck 0 cards.now)
         × MayLackMemory machine.old event) }
 {
-    match machine.apply(alloc, Happening::Deck(cards)) {
+    match machine.apply(alloc, deck(cards)) {
         Ok(reply) => Ok(reply),
         Err(_) => Err(Refused::Memory),
     }
+}
+
+/// That the operator gives these cards.
+fn deck<'a>(cards: &'a [Card]) -> Happening<'a>
+    ensures { as_said result ≡ Deck 0 cards.now }
+{
+    Happening::Deck(cards)
 }
 
 /// Lets an event happen that a script says with all that it has.
