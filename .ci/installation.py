@@ -47,7 +47,7 @@ class Site:
         return self
 
     def await_told(self, text, seconds=PATIENCE):
-        """Waits until the operator is told a text since the last start; whether that came."""
+        """Waits until the operator is told a text since the last start; whether that came. Told progress makes it patient."""
         until = time.monotonic() + seconds
         output = self.process.stdout
         while text not in self.since_start():
@@ -56,6 +56,9 @@ class Site:
             if not (data := os.read(output.fileno(), 65536)):
                 return text in self.since_start()
             self.told.append(data.decode(errors="replace"))
+            if "% done" in self.told[-1]:
+                # it goes on from a recording, and tells that it comes on
+                until = time.monotonic() + seconds
         return True
 
     def since_start(self):
