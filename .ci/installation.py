@@ -10,6 +10,7 @@ import signal
 import socket
 import subprocess
 import sys
+import tempfile
 import time
 
 TELLS = re.compile("([0-9:]{8}) (.*)")
@@ -164,12 +165,18 @@ def replayed(program, directory, record, volumes=()):
     """What the program itself makes of a recording: what each user was shown, and all of it."""
     with open(record) as file:
         frames, slots = re.search(r"^\* SIZES (\d+) (\d+)$", file.read(), re.M).groups()
-    done = subprocess.run([program, "--frames", frames, "--slots", slots, "--", directory, record, *volumes], capture_output=True)
-    shown = {}
-    for line in done.stdout.decode("latin-1").split("\n== ")[0].splitlines():
-        name, colon, text = line.partition(": ")
-        if colon and not line.startswith("= "):
-            shown.setdefault(name, []).append(text)
+    words = [program, "--frames", frames, "--slots", slots, "--", directory, record, *volumes]
+    shown, is_over = {}, False
+    # line by line: of minutes of computing there are millions that say how turns ended
+    with tempfile.TemporaryFile() as errors, subprocess.Popen(words, stdout=subprocess.PIPE, stderr=errors) as run_again:
+        for line in run_again.stdout:
+            is_over = is_over or line.startswith(b"== ")
+            name, colon, text = line.removesuffix(b"\n").decode("latin-1").partition(": ")
+            if colon and not is_over and not line.startswith(b"= "):
+                shown.setdefault(name, []).append(text)
+        status = run_again.wait()
+        errors.seek(0)
+        done = subprocess.CompletedProcess(words, status, stderr=errors.read())
     return done, shown
 
 
