@@ -1,0 +1,113 @@
+//! The disks of users: parts of volumes for bare machines, and whether a minidisk and a part are the same.
+
+use crate::machines::same;
+use crate::view::{SideError, View};
+use ckd_track::Track;
+use ckd_volume::{Arm, Cylinder, HEADS, Sense, Unit, Volume};
+use cp_channels::AttachedDisk;
+use cp_core::SeenDisk;
+use cp_directory::{DiskExtent, User};
+use std::alloc::Global;
+
+/// The arm of a disk as a machine finds it.
+fn first_track(extent: &DiskExtent) -> Arm {
+    Arm {
+        cylinder: 0,
+        head: 0,
+        home: 0,
+        writable: !extent.mode().is_read_only(),
+        sense: Sense {
+            first: 0,
+            second: 0,
+        },
+    }
+}
+
+/// A volume of its own with the cylinders of an extent.
+fn part_of(alloc: Global, extent: &DiskExtent, volumes: &[Volume]) -> Result<Volume, SideError> {
+    let serial = extent.volser().padded();
+    let Some(volume) = volumes.iter().find(|volume| volume.volser() == serial) else {
+        return Err(SideError::NotBooted);
+    };
+    let (start, count) = (usize::from(extent.start()), usize::from(extent.count()));
+    if volume.count() < start + count {
+        return Err(SideError::NotBooted);
+    }
+    Ok(volume.slice(alloc, start, count)?)
+}
+
+/// The disks of a user's bare machine: each has the cylinders of one of his minidisks.
+pub(crate) fn disks_of(
+    alloc: Global,
+    user: &User,
+    volumes: &[Volume],
+) -> Result<Vec<AttachedDisk>, SideError> {
+    let mut disks = Vec::new(alloc);
+    for minidisk in user.minidisks() {
+        let part = part_of(alloc, &minidisk.extent, volumes)?;
+        let unit = Unit::new(alloc, part, first_track(&minidisk.extent))?;
+        disks.push(AttachedDisk::new(minidisk.address, unit))?;
+    }
+    Ok(disks)
+}
+
+/// Whether two tracks have the same home address and the same records.
+fn is_same_track(one: &Track, other: &Track) -> bool {
+    if one.home() != other.home() || one.len() != other.len() {
+        return false;
+    }
+    for i in 0..one.len() {
+        if i >= other.len() {
+            return false;
+        }
+        let (one, other) = (one.record(i), other.record(i));
+        if one.id != other.id || one.key != other.key || one.content != other.content {
+            return false;
+        }
+    }
+    true
+}
+
+/// Whether two cylinders have the same tracks.
+fn is_same_cylinder(one: &Cylinder, other: &Cylinder) -> bool {
+    for head in 0..HEADS {
+        if !is_same_track(one.track(head), other.track(head)) {
+            return false;
+        }
+    }
+    true
+}
+
+/// Whether a volume has from a cylinder on those of another volume.
+fn has_part(volume: &Volume, start: usize, part: &Volume) -> bool {
+    for number in 0..part.count() {
+        let place = start.saturating_add(number);
+        if place >= volume.count() {
+            return false;
+        }
+        if !is_same_cylinder(volume.cylinder(place), part.cylinder(number)) {
+            return false;
+        }
+    }
+    true
+}
+
+/// Whether a minidisk has the tracks of the disk of a bare machine.
+fn has_tracks(seen: &SeenDisk<'_>, part: &Volume) -> bool {
+    let extent = seen.extent();
+    match seen.volume() {
+        Some(volume) => {
+            usize::from(extent.count()) == part.count()
+                && has_part(volume, usize::from(extent.start()), part)
+        }
+        None => false,
+    }
+}
+
+/// Compares a minidisk with the disk of a bare machine: arm and sense, and each track.
+pub(crate) fn compare_disk(seen: &SeenDisk<'_>, unit: &Unit) -> Result<(), SideError> {
+    let is_same_arm = seen.arm() == unit.arm();
+    let is_same_content = has_tracks(seen, unit.volume());
+    same(is_same_arm, View::Arm)?;
+    same(is_same_content, View::Tracks)
+}

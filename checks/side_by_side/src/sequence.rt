@@ -1,0 +1,40 @@
+//! A fixed sequence of numbers that look as if they were drawn.
+
+/// A linear congruential generator, with the factor and the increment of Knuth's MMIX.
+#[derive(Drop)]
+pub struct Sequence {
+    state: u64,
+}
+
+impl Sequence {
+    /// The sequence that begins with this number.
+    pub fn new(seed: u64) -> Sequence {
+        Sequence { state: seed }
+    }
+
+    /// The next number, of 31 bits.
+    pub fn next_number(&mut self) -> u32 {
+        self.state = self
+            .state
+            .wrapping_mul(6_364_136_223_846_793_005)
+            .wrapping_add(1_442_695_040_888_963_407);
+        (self.state >> 33) as u32
+    }
+
+    /// The next number below this one.
+    pub fn below(&mut self, limit: u32) -> u32 {
+        self.next_number() % limit
+    }
+
+    /// The next of these numbers, of which there is at least one.
+    pub fn one_of(&mut self, numbers: &[u32]) -> u32 {
+        let place = self.next_number() as usize % numbers.len().max(1);
+        numbers.get(place).copied().unwrap_or(0)
+    }
+
+    /// The next of these texts, of which there is at least one.
+    pub fn pick(&mut self, texts: &[&'static str]) -> &'static str {
+        let place = self.next_number() as usize % texts.len().max(1);
+        texts.get(place).copied().unwrap_or("")
+    }
+}

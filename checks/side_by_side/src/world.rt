@@ -1,0 +1,44 @@
+//! The world of one user beside the bare machines of all.
+
+use cp_devices::World;
+use cp_directory::User;
+use cp_users::{UserNo, name_of, user_of};
+
+/// The users of the directory, and whose bare machines are on.
+#[derive(Clone, Copy)]
+pub(crate) struct Others<'a> {
+    /// The users of the directory.
+    pub(crate) users: &'a [User],
+    /// The user whose machine it is.
+    pub(crate) own: UserNo,
+    /// Of each user, whether his bare machine is on.
+    pub(crate) on: &'a [bool],
+}
+
+impl<'a> World for Others<'a> {
+    ghost use Rattle.cp_core.specs.System.{world_among};
+
+    ghost known = { λ o. world_among o.users.now o.own o.on.now };
+
+    fn user_of(&self, name: &[u8]) -> Option<u8> {
+        match user_of(self.users, name) {
+            Some(user) => Some(user.number()),
+            None => None,
+        }
+    }
+
+    fn own_name(&self) -> &[u8] {
+        name_of(self.users, self.own)
+    }
+
+    fn is_on(&self, user: u8) -> bool {
+        match self.on.get(usize::from(user)) {
+            Some(on) => *on,
+            None => false,
+        }
+    }
+
+    fn users_on(&self) -> u64 {
+        self.on.iter().filter(|on| **on).count() as u64
+    }
+}
