@@ -87,7 +87,7 @@ ensure_built() {
 
 # Proves each crate that the program stands on, side by side those that do not need each other, and then builds and runs the program
 # on what lies beside its sources. What is proved is kept: a build that was broken off goes on from there. Two builds at once wait for
-# each other in rt, crate by crate; each has logs of its own.
+# each other, crate by crate; each has logs of its own.
 build() {
     need_kit
     mkdir -p -- "$folder/out" 2> /dev/null && logs=$(mktemp -d -- "$folder/out/build.XXXXXX" 2> /dev/null) ||
@@ -164,7 +164,8 @@ ready() {
     ' "$root/crates.txt"
 }
 
-# begin CRATE: it is proved beside the others, in a group of its own that stop_build can end
+# begin CRATE: it is proved beside the others, in a group of its own that stop_build can end. Whoever else works in its folder is waited
+# for.
 begin() {
     number=$((number + 1))
     running=$((running + 1))
@@ -174,11 +175,30 @@ begin() {
     (
         unset CDPATH
         ended=0
-        cd -- "$root/crates/$1" &&
-            $apart sh -c 'echo $$ > "$1" && exec rt lib' sh "$logs/$1.pid" > "$logs/$1.log" 2>&1 < /dev/null 3>&- || ended=$?
+        lay_out "$1" && cd -- "$checkout/crates/$1" &&
+            $apart sh -c 'echo $$ > "$1" && exec flock "$2" rt lib' sh "$logs/$1.pid" "$root/crates/$1" > "$logs/$1.log" 2>&1 \
+                < /dev/null 3>&- || ended=$?
         rm -f -- "$logs/$1.pid"
         echo "$1 $ended" >&3
     ) &
+}
+
+# lay_out CRATE: a checkout of its own, of copies. One rt at a time works in a crate and in those below it, and what many stand on would
+# keep them from being proved side by side. What is built stays where it is.
+lay_out() {
+    checkout=$logs/$1.checkout
+    mkdir -p -- "$checkout/crates"
+    cp -- "$root/crates.txt" "$checkout/"
+    for name in $(crates_of "$1"); do
+        mkdir -p -- "$checkout/crates/$name" "$root/crates/$name/out"
+        ln -s -- "$root/crates/$name/out" "$checkout/crates/$name/out"
+        for part in "$root/crates/$name"/*; do
+            case ${part##*/} in
+            out | data | must-fail | planted) ;;
+            *) cp -R -- "$part" "$checkout/crates/$name/" ;;
+            esac
+        done
+    done
 }
 
 # refuse_build CRATE: it was refused

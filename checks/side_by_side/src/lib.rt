@@ -6,10 +6,17 @@
 //! it but safety; what it compares is what the public calls of `cp_core` and `bare_installation` show.
 //!
 //! ```
-//! let mut machines = SideBySide::boot(alloc, b"USER A PW 8K", sizes)?;
-//! machines.line(alloc, user, b"LOGON")?;
-//! machines.run(user, 1)?;
-//! machines.compare(user)?;
+//! use cp_core::Sizes;
+//! use cp_users::UserNo;
+//! use side_by_side::SideBySide;
+//!
+//! let sizes = Sizes::new(16, 0).ok_or("too many frames")?;
+//! let mut machines = SideBySide::boot(alloc, b"USER A PW 8K\n", sizes)?;
+//! let a = UserNo::new(0);
+//! machines.line(alloc, a, b"LOGON")?;
+//! machines.line(alloc, a, b"BEGIN 100")?;
+//! assert_eq!(rt; machines.run(a, 1)?.units, 1);
+//! machines.compare(a)?;
 //! ```
 
 mod compare;

@@ -4,13 +4,21 @@
 //! A table is a text of which each line is a step, but for empty lines and those that begin with `#`, which tell its
 //! form. A line that does not agree is told by its number, with what came of it; at the end it is told how many agree.
 //!
-//! ```text
-//! let table = table(&rt)?;
-//! // "add 2 3 = 5"
-//! compare(&rt, "sums", &table, " =", |step| match words_of(alloc, step)?.as_slice() {
-//!     ["add", one, other] => Ok(format!(in alloc; "{}", decimal(one)?.wrapping_add(decimal(other)?))?),
-//!     _ => bail!("no such step"),
-//! })
+//! ```
+//! use anyhow::{Result, bail};
+//! use step_table::{decimal, tally, words_of};
+//!
+//! let table = "# sums\nadd 2 3 = 5\nadd 2 2 = 5\n";
+//! let agreement = tally(&rt, table, |step| -> Result<Option<String>> {
+//!     match words_of(alloc, step)?.as_slice() {
+//!         ["add", one, other, "=", sum] => {
+//!             let told = decimal(one)?.wrapping_add(decimal(other)?);
+//!             if told == decimal(sum)? { Ok(None) } else { Ok(Some(format!(in alloc; "{told}")?)) }
+//!         }
+//!         _ => bail!("no such step"),
+//!     }
+//! })?;
+//! assert_eq!(rt; (agreement.agreed, agreement.steps), (1, 2));
 //! ```
 
 mod numbers;

@@ -7,11 +7,17 @@
 //! of many users is.
 //!
 //! ```
-//! let mut machine = Bare::new(alloc, storage, places, disks)?;
-//! machine.line(alloc, b"LOGON")?;
-//! machine.line(alloc, b"IPL 00C")?;
-//! let told = machine.units(100);
-//! let served = machine.serve(DevAddr::new(0x00E))?;
+//! use bare_installation::Bare;
+//! use cp_console::responses::Response;
+//! use cp_devices::Told;
+//! use s370_store::PlainStorage;
+//!
+//! let mut machine = Bare::without_devices(alloc, PlainStorage::new(alloc, 4)?)?;
+//! assert_eq!(rt; machine.line(alloc, b"LOGON")?.said, Told::Said(Response::LogonOk));
+//! machine.line(alloc, b"STORE 100 47F00100")?; // a branch to itself
+//! machine.line(alloc, b"BEGIN 100")?;
+//! assert_eq!(rt; machine.units(100).ran.units, 100);
+//! assert_eq!(rt; machine.psw().address().get(), 0x100);
 //! ```
 #![tactic(auto)]
 

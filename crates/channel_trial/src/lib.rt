@@ -4,6 +4,22 @@
 //! just the pages that it needs, whatever room there is for them elsewhere. Its one theorem, besides those of each
 //! storage: pages that were not touched have the bytes that they had; and what a program left on trial, of a device that
 //! stays as it is, is what its walk will leave.
+//!
+//! ```
+//! use channel_trial::{Tried, TrialStorage};
+//! use s370_channel::Caw;
+//! use s370_num::StorageKey;
+//! use unit_record::Printer;
+//!
+//! let mut bytes = vec![in alloc; 0u8; 0x3000]?;
+//! bytes[0x800..0x808].copy_from_slice(&[0x09, 0, 0x20, 0, 0, 0, 0, 5]); // write five bytes from 2000
+//! let keys = vec![in alloc; StorageKey::ZERO; 6]?;
+//! let mut copy = TrialStorage::new(alloc, bytes, keys, 3)?;
+//! let printer = Printer::new(alloc);
+//! printer.try_on(&mut copy, Caw::from_word(0x800).ok_or("no address")?)?;
+//! assert_eq!(rt; copy.touched(), [true, false, true].as_slice());
+//! assert!(rt; printer.entries().is_empty());
+//! ```
 #![tactic(auto)]
 
 mod tried;

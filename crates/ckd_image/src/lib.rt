@@ -6,8 +6,15 @@
 //! is written is read back as the same volume.
 //!
 //! ```
+//! use ckd_image::{read_image, write_image};
+//! use ckd_volume::Volume;
+//! use s370_num::host::Bytes;
+//!
+//! let volume = Volume::blank(alloc, *b"WORK01", 2)?;
+//! let mut file = Vec::new(alloc);
 //! write_image(alloc, &volume, &mut file)?;
-//! let volume = read_image(alloc, &mut other)?;
+//! let read = read_image(alloc, &mut Bytes::new(&file))?;
+//! assert_eq!(rt; (read.volser(), read.count()), (*b"WORK01", 2));
 //! ```
 //!
 //! Reading goes from the whole to its parts: [`header`], and in [`reader`] the tracks, the records of each, and the

@@ -5,9 +5,13 @@
 //! holds ([`Track::push`]); and no call takes memory after [`Track::blank`], which allots the track whole.
 //!
 //! ```
+//! use ckd_track::{Track, TrackFull};
+//!
 //! let mut track = Track::blank(alloc, [0, 0, 0, 0, 0])?;
 //! track.push([0, 0, 0, 0, 1], &[], b"data")?;
-//! let record = track.record(0);
+//! assert_eq!(rt; track.record(0).content, b"data".as_slice());
+//! assert_eq!(rt; track.push([0, 0, 0, 0, 2], &[0; 256], &[]), Err(TrackFull));
+//! assert_eq!(rt; track.len(), 1);
 //! ```
 #![tactic(auto)]
 

@@ -10,10 +10,18 @@
 //! `specs/`, with the commands in the same order.
 //!
 //! ```
-//! let mut volume = Volume::blank(alloc, *b"SYSRES", 404)?;
-//! if let Some(track) = volume.track_mut(0, 0) { track.push([0, 0, 0, 0, 1], &[], b"data")?; }
+//! use ckd_volume::{Arm, Sense, Unit, Volume};
+//! use s370_walk::{Answer, Command, Device, Flags, Order};
+//!
+//! let mut volume = Volume::blank(alloc, *b"SYSRES", 5)?;
+//! let track = volume.track_mut(0, 0).ok_or("no track")?;
+//! track.push([0, 0, 0, 0, 1], &[], b"data")?;
+//! let sense = Sense { first: 0, second: 0 };
+//! let arm = Arm { cylinder: 0, head: 0, home: 0, writable: true, sense };
 //! let mut unit = Unit::new(alloc, volume, arm)?;
-//! let answer = unit.command(order)?;
+//! let read_data = Order { command: Command { code: 0x06 }, first: true, flags: Flags::NONE };
+//! assert_eq!(rt; unit.command(read_data)?, Answer::Input(4));
+//! assert_eq!(rt; unit.give(), b'd');
 //! ```
 #![tactic(auto)]
 

@@ -4,6 +4,33 @@
 //! copied with real addresses ([`keep`]) and runs over shared frames, and comes to the end to which it comes over the
 //! guest's own storage: the same ending with the guest's addresses, the same device, the same storage byte for byte. Nothing of
 //! another user's is changed.
+//!
+//! ```
+//! use cp_ccw::{keep, reusable, run_kept};
+//! use cp_dat::Dat;
+//! use cp_frames::Frames;
+//! use cp_needs::{Found, look};
+//! use cp_users::UserNo;
+//! use s370_channel::{Caw, Limits, MOST_COMMANDS};
+//! use s370_num::StorageKey;
+//! use s370_store::{Page, store_doubleword};
+//! use unit_record::Printer;
+//!
+//! let mut frames = Frames::new(alloc, 16, 0, vec![in alloc; 3]?)?; // one user of three pages
+//! let mut keys = [StorageKey::ZERO; 6];
+//! let mut storage = Dat::new(&mut frames, &mut keys, UserNo::new(0));
+//! storage.bring(Page(0))?;
+//! store_doubleword(&mut storage, 0x800, 0x0900_0840_0000_0005); // write five bytes from 840
+//! let start = Caw::from_word(0x800).ok_or("no address")?;
+//! let Found::Fixed(words, _) = look(alloc, &storage, 0x800)? else { return Err("it is fixed")? };
+//! let kept = keep(alloc, &storage, start, words)?;
+//! let limits = Limits { key: start.key, commands: MOST_COMMANDS, prefix: 0 };
+//! let ending = run_kept(&kept, &mut storage, start, &limits, &mut Printer::new(alloc))?;
+//! assert_eq!(rt; ending.at, 0x800); // the guest's address
+//! assert!(rt; reusable(&kept, &storage, start));
+//! store_doubleword(&mut storage, 0x800, 0x0900_0840_0000_0004);
+//! assert!(rt; !reusable(&kept, &storage, start));
+//! ```
 #![tactic(auto)]
 
 mod direct;

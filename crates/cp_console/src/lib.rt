@@ -8,12 +8,19 @@
 //! speaks to the control program ([`lines::asked_of`]). What a response says is one text
 //! ([`printing::reply`]).
 //!
-//! ```text
+//! ```
+//! use cp_console::commands::{Command, CommandError, Place, read_command};
+//! use cp_console::lines::{Asked, ConsoleText, asked_of};
+//! use cp_console::printing::reply;
+//! use cp_console::responses::Response;
+//! use s370_num::Addr24;
+//!
 //! let line = ConsoleText::new(b"#CP DISPLAY 20");
-//! let asked = asked_of(line.as_slice()); // Asked::Command(b"DISPLAY 20")
-//! let command = read_command(b"DISPLAY 20"); // Ok(Command::Display(Place::Storage(..)))
-//! let fault = read_command(b"DISPLAY X1"); // Err(CommandError::Operand(1))
-//! let text = reply(alloc, &Response::BadOperand(1))?; // b"BAD OPERAND 1"
+//! assert!(rt; asked_of(line.as_slice()) == Asked::Command(b"DISPLAY 20"));
+//! let place = Place::Storage(Addr24::wrapping(0x20));
+//! assert_eq!(rt; read_command(b"DISPLAY 20"), Ok(Command::Display(place)));
+//! assert_eq!(rt; read_command(b"DISPLAY G16"), Err(CommandError::Operand(1)));
+//! assert_eq!(rt; reply(alloc, &Response::BadOperand(1))?.as_slice(), b"BAD OPERAND 1".as_slice());
 //! ```
 #![tactic(auto)]
 

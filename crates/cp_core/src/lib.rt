@@ -11,9 +11,22 @@
 //! one event after another.
 //!
 //! ```
-//! let mut system = System::boot(alloc, directory, volumes, sizes)?;
-//! let reply = system.apply(Event::Line(user, b"LOGON"))?;
-//! let general = system.registers(user);
+//! use cp_console::responses::Response;
+//! use cp_core::{Event, Sizes, System};
+//! use cp_devices::Told;
+//! use cp_directory::read_directory;
+//! use cp_users::UserNo;
+//!
+//! let directory = read_directory(alloc, b"USER A PW 8K\nUSER B PW 8K\n")?;
+//! let sizes = Sizes::new(16, 0).ok_or("too many frames")?;
+//! let mut system = System::boot(alloc, directory, Vec::new(alloc), sizes)?;
+//! let (a, b) = (UserNo::new(0), UserNo::new(1));
+//! let reply = system.apply(Event::Line(a, b"LOGON"))?;
+//! assert_eq!(rt; reply.said, Told::Said(Response::LogonOk));
+//! system.apply(Event::Line(b, b"LOGON"))?;
+//! system.apply(Event::Line(a, b"STORE G1 0000002A"))?;
+//! let first = |user| system.registers(user).map(|general| general[1]);
+//! assert_eq!(rt; (first(a), first(b)), (Some(42), Some(0)));
 //! ```
 #![tactic(auto)]
 

@@ -8,9 +8,22 @@
 //! ([`a_page_comes_once_for_a_unit`]).
 //!
 //! ```
-//! let mut storage = Dat::new(&mut frames, keys, UserNo::new(0));
-//! let frame = storage.bring(Page(3))?;
+//! use cp_dat::Dat;
+//! use cp_frames::Frames;
+//! use cp_users::UserNo;
+//! use s370_num::{AccessKey, StorageKey};
+//! use s370_store::{Access, Fault, Page, Range, Storage, load_byte};
+//!
+//! let mut frames = Frames::new(alloc, 16, 0, vec![in alloc; 4]?)?; // one user of four pages
+//! let mut keys = [StorageKey::ZERO; 8];
+//! let mut storage = Dat::new(&mut frames, &mut keys, UserNo::new(0));
+//! let range = Range { start: 0x3000, count: 3 };
+//! let absent = storage.check(range, Access::Store, AccessKey::ZERO);
+//! assert_eq!(rt; absent, Err(Fault::Absent(Page(3))));
+//! storage.bring(Page(3))?;
+//! storage.check(range, Access::Store, AccessKey::ZERO)?;
 //! storage.store(0x3000, &[1, 2, 3]);
+//! assert_eq!(rt; load_byte(&storage, 0x3001), 2);
 //! ```
 #![tactic(auto)]
 

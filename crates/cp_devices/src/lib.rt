@@ -5,8 +5,20 @@
 //! name stays as it was. Where memory is refused all stay.
 //!
 //! ```
-//! let mut devices = Devices::new(alloc, places, user);
+//! use cp_devices::{Devices, Kind, Places};
+//! use cp_spool::Queues;
+//! use cp_users::UserNo;
+//! use s370_num::DevAddr;
+//! use unit_record::Target;
+//!
+//! let places = Places { printer: Some(DevAddr::new(0x00E)), ..Places::NONE };
+//! let mut devices = Devices::new(alloc, places, UserNo::new(0));
+//! assert!(rt; devices.part_at(0x00E) == Some(Kind::Printer));
+//! assert!(rt; devices.part_at(0x00D).is_none());
+//! let mut queues = Queues::new(alloc, 1)?;
 //! devices.log_off(alloc, &mut queues)?;
+//! assert_eq!(rt; queues.printed_count(UserNo::new(0)), 0); // nothing was printed
+//! assert_eq!(rt; devices.target(), Target::System);
 //! ```
 #![tactic(auto)]
 

@@ -6,14 +6,21 @@
 //! most 64, their names differ, and each has a storage that a user may have and at most 32 devices of
 //! different addresses. No two minidisks of a directory share a cylinder, unless both are read-only.
 //!
-//! ```text
+//! ```
+//! use cp_directory::{DirError, read_directory};
+//! use cp_users::{UserNo, user_of};
+//! use s370_num::DevAddr;
+//!
 //! let directory = read_directory(alloc, b"USER ALPHA SECRET 4M\nUSER B2 X 12K\n")?;
-//! let b2 = user_of(directory.users(), b"B2"); // Some(UserNo::new(1))
-//! let pages = directory.users()[1].storage().pages(); // 3
-//! let fault = read_directory(alloc, b"USER ALPHA SECRET 5M\n"); // Err(DirError::BadStorage(1))
+//! assert_eq!(rt; user_of(directory.users(), b"B2"), Some(UserNo::new(1)));
+//! assert_eq!(rt; directory.users()[1].storage().pages(), 3);
+//! let fault = read_directory(alloc, b"USER ALPHA SECRET 5M\n").err();
+//! assert_eq!(rt; fault, Some(DirError::BadStorage(1)));
 //! let directory = read_directory(alloc, b"USER A P 8K\nCONSOLE 009 3215\nMDISK 191 3330 5 10 VOL1 W\n")?;
-//! let console = directory.users()[0].devices().console; // Some(DevAddr::new(0x009))
-//! let extent = &directory.users()[0].minidisks()[0].extent; // cylinders 5 to 14 of VOL1
+//! let user = &directory.users()[0];
+//! assert_eq!(rt; user.devices().console, Some(DevAddr::new(0x009)));
+//! let extent = &user.minidisks()[0].extent; // cylinders 5 to 14 of VOL1
+//! assert_eq!(rt; (extent.start(), extent.count()), (5, 10));
 //! ```
 //!
 //! A line is judged in two steps. [`spelling`] and [`device_spelling`] read what its words state, whatever

@@ -8,12 +8,20 @@
 //! It is told who logs on and off, and which programs are started and ended. [`Policy::new`] and
 //! [`Policy::started`] take memory, and no other call.
 //!
-//! ```text
+//! ```
+//! use cp_dispatch::{Policy, Ready};
+//! use cp_users::UserNo;
+//!
+//! let (a, b) = (UserNo::new(0), UserNo::new(1));
 //! let mut policy = Policy::new(alloc, 64)?;
-//! policy.join(UserNo::new(0));
 //! let mut ready = Ready::nobody();
-//! ready.set(UserNo::new(0), true);
-//! let next = policy.slice(&ready); // Some(UserNo::new(0))
+//! for user in [a, b] {
+//!     policy.join(user);
+//!     ready.set(user, true);
+//! }
+//! assert_eq!(rt; policy.slice(&ready), Some(a));
+//! assert_eq!(rt; policy.slice(&ready), Some(b));
+//! assert_eq!(rt; policy.slice(&Ready::nobody()), None);
 //! ```
 #![tactic(auto)]
 

@@ -11,9 +11,18 @@
 //! that is wanted, the page longest in its frame among those not pinned is given up for it.
 //!
 //! ```
+//! use cp_frames::Frames;
+//! use cp_users::UserNo;
+//! use s370_store::Page;
+//!
+//! let (a, b) = (UserNo::new(0), UserNo::new(1));
+//! let sizes = vec![in alloc; 4, 4]?; // four pages each
 //! let mut frames = Frames::new(alloc, 64, 256, sizes)?;
-//! let frame = frames.bring(UserNo::new(0), Page(3))?;
-//! frames.store(UserNo::new(0), 0x3000, &[1, 2, 3]);
+//! let frame = frames.bring(a, Page(3))?;
+//! frames.store(a, 0x3000, &[1, 2, 3]);
+//! assert!(rt; frames.frame_of(a, Page(3)) == Some(frame));
+//! assert_eq!(rt; frames.byte(a, 0x3001), Some(2));
+//! assert_eq!(rt; frames.byte(b, 0x3001), Some(0)); // it stands nowhere
 //! ```
 #![tactic(auto)]
 

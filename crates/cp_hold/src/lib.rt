@@ -6,6 +6,24 @@
 //!
 //! Its one theorem ([`hold`]): what is told to be fixed stands in frames whole; pages are brought of a fixed program
 //! alone, and only those that it needs; and one that is refused has no room beside the program's own pages.
+//!
+//! ```
+//! use cp_dat::Dat;
+//! use cp_frames::Frames;
+//! use cp_hold::{Program, hold};
+//! use cp_users::UserNo;
+//! use s370_num::StorageKey;
+//! use s370_store::{Page, store_doubleword};
+//!
+//! let mut frames = Frames::new(alloc, 16, 0, vec![in alloc; 3]?)?; // one user of three pages
+//! let mut keys = [StorageKey::ZERO; 6];
+//! let mut storage = Dat::new(&mut frames, &mut keys, UserNo::new(0));
+//! storage.bring(Page(0))?;
+//! store_doubleword(&mut storage, 0x800, 0x0900_2000_0000_0005); // write five bytes of page 2
+//! let Program::Fixed(_, pages) = hold(alloc, &mut storage, 0x800)? else { return Err("it is fixed")? };
+//! assert_eq!(rt; pages.as_slice(), [Page(2)].as_slice());
+//! assert!(rt; storage.frame_of(Page(1)).is_none() && storage.frame_of(Page(2)).is_some());
+//! ```
 #![tactic(auto)]
 
 mod apart;

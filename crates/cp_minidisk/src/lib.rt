@@ -9,10 +9,21 @@
 //! cylinder of the volume changes ([`a_part_walks_as_its_disk`]).
 //!
 //! ```
-//! let minidisk = Minidisk::new(Extent::new(100, 5, true)?);
+//! use ckd_volume::{Arm, Sense, Unit, Volume};
+//! use cp_minidisk::{Extent, Minidisk};
+//! use s370_walk::{Command, Device, Flags, Order};
+//!
+//! let sense = Sense { first: 0, second: 0 };
+//! let arm = Arm { cylinder: 0, head: 0, home: 0, writable: true, sense };
+//! let unit = Unit::new(alloc, Volume::blank(alloc, *b"VOL1  ", 6)?, arm)?;
+//! let minidisk = Minidisk::new(Extent::new(3, 2, true).ok_or("no extent")?); // cylinders 3 and 4
 //! let mut mounted = minidisk.mount_on(unit);
-//! // the user's program, run for `mounted`
+//! let seek = Order { command: Command { code: 0x07 }, first: true, flags: Flags::NONE };
+//! mounted.command(seek)?;
+//! mounted.take_bytes(&[0, 0, 0, 1, 0, 0]);
+//! mounted.finish();
 //! let (unit, minidisk) = mounted.dismount();
+//! assert_eq!(rt; (minidisk.cylinder(), unit.arm().cylinder), (1, 4));
 //! ```
 #![tactic(auto)]
 

@@ -8,11 +8,20 @@
 //! program; and where it tells these, [`run_held`] never stops for want of a page.
 //!
 //! ```
-//! match look(alloc, &storage, start)? {
-//!     Found::Page(page) => return Err(ChannelError::Absent(page)),
-//!     Found::Fixed(..) => run_held(&mut storage, start, &limits, &mut device),
-//!     Found::Open => try_it(&mut storage, start, &limits, &mut device),
-//! }
+//! use cp_needs::{Found, look, run_held};
+//! use s370_channel::{Limits, MOST_COMMANDS};
+//! use s370_num::AccessKey;
+//! use s370_store::{Page, PlainStorage, store_doubleword};
+//! use unit_record::Printer;
+//!
+//! let mut storage = PlainStorage::new(alloc, 4)?;
+//! store_doubleword(&mut storage, 0x800, 0x0200_0800_0000_0050); // reads a card over its own word
+//! assert!(rt; matches!(&look(alloc, &storage, 0x800)?, Found::Open));
+//! store_doubleword(&mut storage, 0x800, 0x0900_1000_0000_0005); // writes five bytes of page 1
+//! let Found::Fixed(_, pages) = look(alloc, &storage, 0x800)? else { return Err("it is fixed")? };
+//! assert_eq!(rt; pages.as_slice(), [Page(1)].as_slice());
+//! let limits = Limits { key: AccessKey::ZERO, commands: MOST_COMMANDS, prefix: 0 };
+//! run_held(&mut storage, 0x800, &limits, &mut Printer::new(alloc))?;
 //! ```
 #![tactic(auto)]
 

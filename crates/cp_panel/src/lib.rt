@@ -7,10 +7,20 @@
 //! there is no room for one, a run stands after the units that it tells, and a line or a tick has done nothing.
 //!
 //! ```
+//! use cp_panel::{Machine, Mode, PanelLine};
+//! use s370_intr::RealCpu;
+//! use s370_num::Addr24;
+//! use s370_store::{PlainStorage, store_word};
+//! use s370_subchannels::Subchannels;
+//!
+//! let mut storage = PlainStorage::new(alloc, 4)?;
 //! let mut machine = Machine::new(alloc, Subchannels::new(alloc));
 //! machine.clear(&mut storage);
-//! machine.answer(&mut storage, PanelLine::Begin(Some(Addr24::new(0x100))))?;
-//! let ran = machine.run::<RealCpu, _>(&mut storage, 100);
+//! store_word(&mut storage, 0x100, 0x47F0_0100); // a branch to itself
+//! machine.answer(&mut storage, PanelLine::Begin(Some(Addr24::wrapping(0x100))))?;
+//! assert_eq!(rt; machine.run::<RealCpu, _>(&mut storage, 100).units, 100);
+//! machine.answer(&mut storage, PanelLine::Stop)?;
+//! assert!(rt; machine.mode() == Mode::Stopped);
 //! ```
 #![tactic(auto)]
 

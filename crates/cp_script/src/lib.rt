@@ -7,9 +7,16 @@
 //! is no matter of this crate. The cards of a deck are lines of the script, and are made when they are
 //! asked for ([`Cards::to_vec`]).
 //!
-//! ```text
+//! ```
+//! use cp_script::{ScriptError, ScriptEvent, ScriptUser, read_script};
+//! use cp_users::UserNo;
+//!
 //! let users = [ScriptUser { name: b"A", devices: &[0x191] }];
 //! let events = read_script(alloc, &users, b"RUN A 1\nSERVE A 191\n")?;
+//! assert!(rt; events[0] == ScriptEvent::Run(UserNo::new(0), 1));
+//! assert!(rt; events[1] == ScriptEvent::Serve(UserNo::new(0), 0x191));
+//! let refused = read_script(alloc, &users, b"RUN A 1\nSERVE A 192\n").err();
+//! assert_eq!(rt; refused, Some(ScriptError::Line(2)));
 //! ```
 #![tactic(auto)]
 

@@ -13,15 +13,25 @@
 //! queue as it is while a program runs, and says afterwards what it has read.
 //!
 //! ```
-//! let mut queues = Queues::new(alloc, 2)?;
+//! use cp_spool::{FedReader, Queues, Reader};
+//! use cp_users::UserNo;
+//! use s370_walk::{Answer, Command, Device, Flags, Order};
+//! use unit_record::{Entry, Record, Sender, Target};
+//!
 //! let (a, b) = (UserNo::new(0), UserNo::new(1));
+//! let mut queues = Queues::new(alloc, 2)?;
 //! queues.make_room(a)?;
-//! queues.close_punched(a, Target::User(1), entries);
+//! let card = Entry::new(0x01, Record::of(&[0xC1; 80]));
+//! queues.close_punched(a, Target::User(1), vec![in alloc; card]?);
 //! queues.deliver(a, 0, b, 1, Sender::User(0))?;
 //! let mut reader = FedReader::new(&queues, b, Reader::new());
-//! reader.command(order)?;
-//! let (reader, progress) = reader.into_parts();
+//! let read = Order { command: Command { code: 0x02 }, first: true, flags: Flags::NONE };
+//! assert_eq!(rt; reader.command(read)?, Answer::Input(80));
+//! assert_eq!(rt; reader.give(), 0xC1);
+//! reader.finish();
+//! let (_reader, progress) = reader.into_parts();
 //! queues.take_back(b, progress);
+//! assert_eq!(rt; queues.punched_count(a), 1); // the file stays with the punch
 //! ```
 #![tactic(auto)]
 

@@ -9,11 +9,16 @@
 //! of blanks ([`words::next_word`], [`words::words_of`]). A number is what all the digits of a word
 //! spell, or the word is none ([`numbers`]).
 //!
-//! ```text
-//! for line in numbered_lines(b"RUN ALPHA 12\n") {
-//!     let (verb, operands) = cut_word(line.text); // line 1: b"RUN", Some(b"ALPHA 12")
-//! }
-//! let units = decimal_of(7, b"12"); // Some(12)
+//! ```
+//! use cp_text::lines::numbered_lines;
+//! use cp_text::numbers::decimal_of;
+//! use cp_text::words::cut_word;
+//!
+//! let line = numbered_lines(b"RUN ALPHA 12\n").next().ok_or("no line")?;
+//! assert_eq!(rt; line.number, 1);
+//! assert_eq!(rt; cut_word(line.text), (b"RUN".as_slice(), Some(b"ALPHA 12".as_slice())));
+//! assert_eq!(rt; decimal_of(7, b"12"), Some(12));
+//! assert_eq!(rt; decimal_of(7, b"12K"), None);
 //! ```
 #![tactic(auto)]
 

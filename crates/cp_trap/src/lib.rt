@@ -10,7 +10,20 @@
 //! guest's own storage.
 //!
 //! ```
-//! let ran = run_units::<VirtualCpu, _>(&mut cpu, &mut pending, &mut devices, &mut dat, 100);
+//! use cp_trap::{Simulated, simulate};
+//! use s370_psw::{Ilc, ProgramCode, Psw};
+//! use s370_rows::{Cpu, Instruction};
+//! use s370_store::{PlainStorage, store_doubleword};
+//!
+//! let mut storage = PlainStorage::new(alloc, 4)?;
+//! store_doubleword(&mut storage, 0x200, 0x0003_0000_0000_0100); // problem state, waiting
+//! let lpsw = Instruction { opcode: 0x82, second_byte: 0, second_half: 0x0200, third_half: 0 };
+//! let mut cpu = Cpu { general: [0; 16], control: [0; 16], psw: Psw::from_word(0x1000) };
+//! assert!(rt; simulate(&mut cpu, &mut storage, lpsw, Ilc::TWO) == Simulated::Done);
+//! assert!(rt; cpu.psw.waits() && cpu.psw.is_problem());
+//! // and once more, in the problem state
+//! let refused = Simulated::Refused(ProgramCode::PrivilegedOperation);
+//! assert!(rt; simulate(&mut cpu, &mut storage, lpsw, Ilc::TWO) == refused);
 //! ```
 #![tactic(auto)]
 

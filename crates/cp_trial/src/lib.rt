@@ -6,6 +6,29 @@
 //!
 //! Its one theorem: a program that is refused for want of room touches a page for which there is none; what is brought
 //! are pages that the program touches; and what runs is the walk of the storage as it stood.
+//!
+//! ```
+//! use cp_dat::Dat;
+//! use cp_frames::Frames;
+//! use cp_trial::{run_tried, try_device};
+//! use cp_users::UserNo;
+//! use s370_channel::Caw;
+//! use s370_num::StorageKey;
+//! use s370_store::{Page, store_doubleword};
+//! use unit_record::Printer;
+//!
+//! let mut frames = Frames::new(alloc, 16, 0, vec![in alloc; 3]?)?; // one user of three pages
+//! let mut keys = [StorageKey::ZERO; 6];
+//! let mut storage = Dat::new(&mut frames, &mut keys, UserNo::new(0));
+//! storage.bring(Page(0))?;
+//! store_doubleword(&mut storage, 0x800, 0x0900_2000_0000_0005); // write five bytes of page 2
+//! let (start, mut printer) = (Caw::from_word(0x800).ok_or("no address")?, Printer::new(alloc));
+//! let tried = try_device(alloc, &storage, start, &printer)?;
+//! assert_eq!(rt; tried.touched(), [true, false, true].as_slice());
+//! assert!(rt; printer.entries().is_empty() && storage.frame_of(Page(2)).is_none());
+//! run_tried(alloc, &mut storage, start, &mut printer, &tried)?;
+//! assert!(rt; printer.entries().len() == 1 && storage.frame_of(Page(2)).is_some());
+//! ```
 #![tactic(auto)]
 
 mod open;

@@ -4,10 +4,13 @@
 //! contract a [`UserNo`] is that number itself. A name is that of the first user who has it
 //! ([`user_of`]), and a number leads back to the name ([`name_of`]).
 //!
-//! ```text
+//! ```
+//! use cp_users::{UserNo, name_of, user_of};
+//!
 //! let users = [b"ALPHA".as_slice(), b"OPER".as_slice()];
-//! let oper = user_of(&users, b"OPER"); // Some(UserNo::new(1))
-//! let name = name_of(&users, UserNo::new(0)); // b"ALPHA"
+//! assert_eq!(rt; user_of(&users, b"OPER"), Some(UserNo::new(1)));
+//! assert_eq!(rt; user_of(&users, b"BETA"), None);
+//! assert_eq!(rt; name_of(&users, UserNo::new(0)), b"ALPHA".as_slice());
 //! ```
 #![tactic(auto)]
 

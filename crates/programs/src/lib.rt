@@ -2,6 +2,14 @@
 //! failure.
 //!
 //! Each failure has its line and its exit status ([`fault_line`], [`outcome`]).
+//!
+//! ```
+//! use programs::{Failure, fault_line, outcome};
+//!
+//! assert_eq!(rt; fault_line(alloc, &Failure::Script(3))?.as_str(), "fault: script Line 3");
+//! assert_eq!(rt; outcome(&Err(Failure::Script(3))), 1);
+//! assert_eq!(rt; outcome(&Ok(())), 0);
+//! ```
 #![tactic(auto)]
 
 mod boot_faults;

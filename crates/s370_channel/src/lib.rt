@@ -7,10 +7,19 @@
 //! command stands in no storage.
 //!
 //! ```
-//! let Some(start) = check_start(&Guest, &storage, caw)? else { return Ok(None) };
+//! use s370_channel::{Csw, Guest, Limits, MOST_COMMANDS, check_start, run};
+//! use s370_store::{PlainStorage, Storage, store_doubleword};
+//! use unit_record::Printer;
+//!
+//! let mut storage = PlainStorage::new(alloc, 4)?;
+//! store_doubleword(&mut storage, 0x800, 0x0900_0840_0000_0005); // write five bytes from 840
+//! storage.store(0x840, &[0xC8, 0xC5, 0xD3, 0xD3, 0xD6]); // HELLO
+//! let mut printer = Printer::new(alloc);
+//! let start = check_start(&Guest, &storage, 0x800)?.ok_or("no program")?;
 //! let limits = Limits { key: start.key, commands: MOST_COMMANDS, prefix: 0 };
-//! let ending = run(&Guest, &mut storage, start.address.get(), &limits, &mut device)?;
-//! let csw = Csw::of_ending(start.key, ending);
+//! let ending = run(&Guest, &mut storage, start.address.get(), &limits, &mut printer)?;
+//! // the word ends at 808; channel end and device end, and no byte is left
+//! assert_eq!(rt; Csw::of_ending(start.key, ending).to_bytes(), [0, 0, 8, 8, 0x0C, 0, 0, 0]);
 //! ```
 #![tactic(auto)]
 

@@ -10,6 +10,20 @@
 //! ([`changed_bytes_were_tested`]), its block's key in storage matches the protection key ([`protection_holds`]), the
 //! problem state gives itself no rights ([`problem_state_holds`]), an instruction tests at most two ranges of at most
 //! 256 bytes ([`few_ranges_are_tested`]), and so it asks for at most eight pages ([`few_pages_are_asked_for`]).
+//!
+//! ```
+//! use s370_cpu::{Stop, step};
+//! use s370_psw::{Ilc, Psw};
+//! use s370_rows::Cpu;
+//! use s370_store::{PlainStorage, Storage};
+//!
+//! let mut cpu = Cpu { general: [0; 16], control: [0; 16], psw: Psw::from_word(0x1000) };
+//! let mut storage = PlainStorage::new(alloc, 4)?;
+//! storage.store(0x1000, &[0x41, 0x10, 0, 42, 0x0A, 7]); // LA 1,42 and SVC 7
+//! assert!(rt; step(&mut cpu, &mut storage) == Stop::Done);
+//! assert_eq!(rt; cpu.general[1], 42);
+//! assert!(rt; step(&mut cpu, &mut storage) == Stop::Svc(7, Ilc::ONE));
+//! ```
 #![tactic(auto)]
 
 mod conclude;

@@ -9,7 +9,21 @@
 //! ([`a_unit_needs_at_most_nine_pages`]).
 //!
 //! ```
-//! let ran = run_units::<RealCpu, _>(&mut cpu, &mut pending, &mut subchannels, &mut storage, 100);
+//! use s370_intr::{Pending, RealCpu, Reason, run_units};
+//! use s370_psw::Psw;
+//! use s370_rows::Cpu;
+//! use s370_store::{PlainStorage, load_doubleword, store_doubleword, store_halfword};
+//! use s370_subchannels::Subchannels;
+//!
+//! let mut cpu = Cpu { general: [0; 16], control: [0; 16], psw: Psw::from_word(0x1000) };
+//! let (mut pending, mut devices) = (Pending::NOTHING, Subchannels::new(alloc));
+//! let mut storage = PlainStorage::new(alloc, 4)?;
+//! store_halfword(&mut storage, 0x1000, 0x0A07); // SVC 7
+//! store_doubleword(&mut storage, 0x60, 0x0002_0000_0000_0000); // its new PSW waits
+//! let ran = run_units::<RealCpu, _>(&mut cpu, &mut pending, &mut devices, &mut storage, 100);
+//! assert!(rt; ran.reason == Reason::DisabledWait);
+//! assert_eq!(rt; ran.units, 1);
+//! assert_eq!(rt; load_doubleword(&storage, 0x20), 0x0000_0007_4000_1002); // the old PSW
 //! ```
 #![tactic(auto)]
 

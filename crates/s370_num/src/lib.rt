@@ -5,6 +5,16 @@
 //! What is written in EBCDIC is read back as it was. What passes through a file of the host is what was given:
 //! `write_all` appends all the bytes or a beginning of them, `read_all` gives all that is left, and each failure of the
 //! host is counted and told by its number.
+//!
+//! ```
+//! use s370_num::ebcdic::{ebcdic_of, printable};
+//! use s370_num::{Addr24, Word};
+//!
+//! assert_eq!(rt; Addr24::wrapping(0x100_0010).get(), 0x10); // an address has 24 bits
+//! assert_eq!(rt; Word::from_signed(-1).unsigned(), 0xFFFF_FFFF);
+//! assert_eq!(rt; ebcdic_of(b'A'), Some(0xC1));
+//! assert_eq!(rt; printable(0xC1), b'A');
+//! ```
 #![tactic(auto)]
 
 mod address;

@@ -4,6 +4,24 @@
 //! Its one theorem: [`step_quickly`] leaves what the unit of operation of `s370_cpu` leaves, and the processor then
 //! goes on with the next instruction; or nothing is changed, and whoever called it has `s370_cpu` do the unit. It may
 //! always say so: that an instruction is done here makes a way faster, and no other.
+//!
+//! ```
+//! use s370_num::{AccessKey, Addr24};
+//! use s370_psw::Psw;
+//! use s370_quick::{Held, step_quickly};
+//! use s370_rows::Cpu;
+//! use s370_store::{Access, PlainStorage, Storage};
+//!
+//! let mut cpu = Cpu { general: [0; 16], control: [0; 16], psw: Psw::from_word(0x1000) };
+//! let mut storage = PlainStorage::new(alloc, 4)?;
+//! storage.store(0x1000, &[0x41, 0x10, 0, 42]); // LA 1,42
+//! // a block into which may be stored may be fetched from, too
+//! let block = storage.find_block(0x1000, Access::Store, AccessKey::ZERO).ok_or("no block")?;
+//! let mut held = Held { fetched: block, stored: block };
+//! let next = step_quickly(&mut cpu, &mut storage, Addr24::wrapping(0x1000), block, &mut held);
+//! assert_eq!(rt; next, Some(Addr24::wrapping(0x1004)));
+//! assert_eq!(rt; cpu.general[1], 42);
+//! ```
 #![tactic(auto)]
 
 mod held;

@@ -7,6 +7,17 @@
 //! A row of the instruction table has three parts: what refuses it before any test, the ranges of storage that it tests
 //! in order, and what it then leaves or is refused by. `specs/Rows.antt` has that form, and judges every row by one
 //! definition; [`grant`] and [`grant_two`] give leave to access the ranges, [`copy_granted`] where one look is enough.
+//!
+//! ```
+//! use s370_num::ConditionCode;
+//! use s370_rows::{Arithmetic, compute};
+//!
+//! // ADD of 1 to the greatest number: the low bits of the sum, and an overflow, which sets code 3
+//! let sum = compute(Arithmetic::Add, ConditionCode::ZERO, 0x7FFF_FFFF, 1);
+//! assert_eq!(rt; sum.value, 0x8000_0000);
+//! assert!(rt; sum.overflows);
+//! assert_eq!(rt; sum.condition, ConditionCode::THREE);
+//! ```
 #![tactic(auto)]
 
 mod access;

@@ -9,6 +9,18 @@
 //! control program has bodies of its own, lent from the frames that its users share. What has to go on where a page is
 //! absent is written over [`Supply`], a storage that brings its absent pages, and over [`UnitSupply`] where that goes
 //! on for one unit of operation after another.
+//!
+//! ```
+//! use s370_num::AccessKey;
+//! use s370_store::{Access, Fault, PlainStorage, Range, Storage, load_byte, store_word};
+//!
+//! let mut storage = PlainStorage::new(alloc, 4)?; // four blocks are 8 KiB
+//! storage.check(Range { start: 0x1000, count: 4 }, Access::Store, AccessKey::ZERO)?;
+//! store_word(&mut storage, 0x1000, 0x1234_5678);
+//! assert_eq!(rt; load_byte(&storage, 0x1001), 0x34);
+//! let beyond = storage.check(Range { start: 0x1FFE, count: 4 }, Access::Fetch, AccessKey::ZERO);
+//! assert_eq!(rt; beyond, Err(Fault::Addressing));
+//! ```
 #![tactic(auto)]
 
 mod block;

@@ -7,6 +7,16 @@
 //!
 //! A device is what implements [`Device`]: `device.command(order)` begins a command, `device.give()` and
 //! `device.take(byte)` move its bytes, and `device.finish()` tells how it went.
+//!
+//! ```
+//! use s370_walk::{Answer, Command, Device, Flags, Order, UnitStatus};
+//! use unit_record::Reader;
+//!
+//! let mut reader = Reader::new(alloc);
+//! let read = Order { command: Command { code: 0x02 }, first: true, flags: Flags::NONE };
+//! // it has no deck
+//! assert_eq!(rt; reader.command(read)?, Answer::Refused(UnitStatus::UNIT_CHECK));
+//! ```
 #![tactic(auto)]
 
 mod bits;

@@ -8,6 +8,18 @@
 //! refused at its first line that the grammar does not have ([`cp_script::reads_grammar`] carries that law,
 //! [`cp_script::read_script`] keeps it). The lines that the transcript has for an event are those of that document, in its
 //! order.
+//!
+//! ```
+//! use bare370::machine_of;
+//! use s370_num::host::Bytes;
+//! use sessions::session::session;
+//!
+//! let mut machine = machine_of(alloc, 4, Vec::new(alloc))?;
+//! let mut transcript = Vec::new(alloc);
+//! let mut script = Bytes::new(b"LINE BARE LOGON\nLINE BARE DISPLAY G1\n");
+//! session(alloc, &mut machine, &mut script, &mut transcript)?;
+//! assert_eq!(rt; transcript.as_slice(), b"BARE: LOGON OK\nBARE: GPR 1 = 00000000\n".as_slice());
+//! ```
 #![tactic(auto)]
 
 mod acts;

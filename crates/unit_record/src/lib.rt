@@ -9,11 +9,16 @@
 //! `Device::command`, and nothing has happened then.
 //!
 //! ```
+//! use s370_walk::{Answer, Command, Device, Flags, Order};
+//! use unit_record::Punch;
+//!
 //! let mut punch = Punch::new(alloc);
-//! punch.command(order)?;
+//! let order = Order { command: Command { code: 0x01 }, first: true, flags: Flags::NONE };
+//! assert_eq!(rt; punch.command(order)?, Answer::Output(80));
 //! punch.take(0xC1);
 //! punch.finish();
-//! assert!(punch.close(Target::System)?);
+//! let card = punch.entries()[0].bytes();
+//! assert_eq!(rt; (card.len(), card[0], card[79]), (80, 0xC1, 0x40)); // an A, and blanks
 //! ```
 #![tactic(auto)]
 
