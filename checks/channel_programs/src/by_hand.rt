@@ -2,12 +2,12 @@
 use crate::case::{Case, Item, Place, case_of, item_of};
 use crate::device::Obedient;
 use anyhow::{Context, Result, bail};
-use cp_text::numbers::hexadecimal_of;
 use s370_channel::{Csw, Guest, Limits, MOST_COMMANDS, check_start, run, run_ipl};
 use s370_num::{AccessKey, StorageKey};
 use s370_store::{Access, Keyed, PlainStorage, Range, Storage};
 use std::alloc::Global;
 use step_table::{byte, tally};
+use text_words::numbers::hexadecimal_of;
 
 /// How many blocks of 2048 bytes a machine of the cases has.
 const BLOCKS: u32 = 8;

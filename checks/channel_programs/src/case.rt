@@ -1,5 +1,5 @@
 //! A line of the cases by hand: what a machine finds, and what a channel program leaves.
-use cp_text::numbers::hexadecimal_of;
+use text_words::numbers::hexadecimal_of;
 
 /// A line of the file, with its lists of items, which blanks separate.
 #[derive(Clone, Copy)]

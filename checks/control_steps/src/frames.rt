@@ -3,11 +3,11 @@ use crate::operands::{frame_of, key_of, user_of};
 use anyhow::{Result, bail};
 use cp_dat::Dat;
 use cp_frames::{FRAME_SIZE, FrameNo, Frames};
-use cp_users::UserNo;
 use s370_num::{AccessKey, StorageKey};
 use s370_store::{Access, Fault, FramesOut, Keyed, PAGE_SIZE, Page, Range, Storage, Supply};
 use std::alloc::{AllocError, Global};
 use step_table::{address, byte, compare, decimal, words_of};
+use user_names::UserNo;
 
 /// How many blocks of 2048 bytes have keys: a user has no more than 32 pages here.
 const BLOCKS: usize = 64;

@@ -1,10 +1,10 @@
 //! Numbers, addresses, words and characters.
 use crate::step::Step;
 use crate::telling::{digits, none, quoted};
-use cp_text::numbers::{decimal_of, hexadecimal_of};
 use s370_num::ebcdic::{ebcdic_of, printable};
 use s370_num::{Addr24, DevAddr, Word};
 use std::alloc::{AllocError, Global};
+use text_words::numbers::{decimal_of, hexadecimal_of};
 
 /// `decimal 9 "12"`: the number of at most so many digits.
 pub fn decimal(alloc: Global, step: &Step<'_>) -> Result<String, AllocError> {

@@ -1,9 +1,9 @@
 //! What the words of a step name.
 use anyhow::{Result, bail};
 use cp_frames::FrameNo;
-use cp_users::UserNo;
 use s370_num::AccessKey;
 use step_table::{byte, decimal};
+use user_names::UserNo;
 
 /// A user, or one whom nobody is.
 pub fn user_of(name: &str) -> Result<UserNo> {

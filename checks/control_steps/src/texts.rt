@@ -1,10 +1,10 @@
 //! Words, lines, and users by their names.
 use crate::step::Step;
 use crate::telling::{add, add_quoted, none, quoted};
-use cp_text::lines::numbered_lines;
-use cp_text::words::{cut_word, next_word, words_of};
-use cp_users::{MOST_USERS, Named, UserNo, name_of, user_of};
 use std::alloc::{AllocError, Global};
+use text_words::lines::numbered_lines;
+use text_words::words::{cut_word, next_word, words_of};
+use user_names::{MOST_USERS, Named, UserNo, name_of, user_of};
 
 /// `words "A  B"`: the words of a line.
 pub fn words(alloc: Global, step: &Step<'_>) -> Result<String, AllocError> {

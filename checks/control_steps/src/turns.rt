@@ -2,9 +2,9 @@
 use crate::step::Step;
 use crate::telling::add;
 use cp_dispatch::{Policy, Program, Ready};
-use cp_users::UserNo;
 use s370_num::DevAddr;
 use std::alloc::{AllocError, Global};
+use user_names::UserNo;
 
 /// `slices 111 -1 101`: the users 0, 1 and 2 who are dealt slices where those are ready whose digit is 1; a number
 /// behind `-` leaves. At the end the queue is told.

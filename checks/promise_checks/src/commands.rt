@@ -3,11 +3,11 @@ use crate::spelling::next_line;
 use anyhow::{Result, bail};
 use ckd_volume::Volume;
 use cp_core::Sizes;
-use cp_users::UserNo;
 use s370_num::DevAddr;
 use side_by_side::{Sequence, SideBySide, SideError, View};
 use std::alloc::{AllocError, Global};
 use unit_record::Card;
+use user_names::UserNo;
 
 /// How many scripts there are, and how many events each has.
 const SCRIPTS: u32 = 2000;

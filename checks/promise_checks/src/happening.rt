@@ -1,10 +1,10 @@
 //! What happens next to a user.
 use crate::guest::{READY, TEXTS, TYPED};
-use cp_users::UserNo;
 use s370_num::DevAddr;
 use side_by_side::Sequence;
 use std::alloc::{AllocError, Global};
 use unit_record::Card;
+use user_names::UserNo;
 
 /// How many users there are.
 pub const USERS: u8 = 16;

@@ -8,9 +8,9 @@
 use crate::program::{DATA, PIECES, TYPED};
 use anyhow::{Context, Result, bail};
 use cp_core::Sizes;
-use cp_users::UserNo;
 use side_by_side::{Sequence, SideBySide, SideError};
 use std::alloc::{AllocError, Global};
+use user_names::UserNo;
 
 /// How many users there are.
 const USERS: u8 = 64;

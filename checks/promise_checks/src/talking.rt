@@ -10,11 +10,11 @@ use crate::guest::READY;
 use crate::happening::{Happening, USERS, channel_of, next_happening, ready_line};
 use anyhow::{Context, Result, bail};
 use cp_core::Sizes;
-use cp_devices::{Delivery, is_logged_on};
-use cp_users::UserNo;
+use machine_devices::{Delivery, is_logged_on};
 use s370_num::DevAddr;
 use side_by_side::{Sequence, SideBySide, SideError};
 use std::alloc::{AllocError, Global};
+use user_names::UserNo;
 
 /// How many events there are.
 const EVENTS: u32 = 20_000;

@@ -3,8 +3,8 @@ use crate::devices::{compare_console_device, compare_printer, compare_punch, com
 use crate::disks::compare_disk;
 use crate::machines::{SideBySide, same};
 use crate::view::{SideError, View};
-use cp_users::UserNo;
 use s370_store::BLOCK_SIZE;
+use user_names::UserNo;
 
 impl SideBySide {
     /// Compares all views of a user, the bytes of storage and the whole console among them.

@@ -1,8 +1,8 @@
 //! Whether two devices are the same.
 use crate::machines::same;
 use crate::view::{SideError, View};
-use cp_devices::SeenDevices;
 use cp_spool::{SeenDeck, SpoolFile};
+use machine_devices::SeenDevices;
 use unit_record::{Console, Entry, Record};
 
 /// Whether two records have the same bytes.

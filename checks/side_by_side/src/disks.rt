@@ -4,9 +4,9 @@ use crate::machines::same;
 use crate::view::{SideError, View};
 use ckd_track::Track;
 use ckd_volume::{Arm, Cylinder, HEADS, Sense, Unit, Volume};
-use cp_channels::AttachedDisk;
 use cp_core::SeenDisk;
 use cp_directory::{DiskExtent, User};
+use machine_channels::AttachedDisk;
 use std::alloc::Global;
 
 /// The arm of a disk as a machine finds it.

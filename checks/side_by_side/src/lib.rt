@@ -7,7 +7,7 @@
 //!
 //! ```
 //! use cp_core::Sizes;
-//! use cp_users::UserNo;
+//! use user_names::UserNo;
 //! use side_by_side::SideBySide;
 //!
 //! let sizes = Sizes::new(16, 0).ok_or("too many frames")?;

@@ -6,12 +6,12 @@ use bare_installation::Bare;
 use cp_console::console_line::ConsoleLine;
 use cp_console::responses::Response;
 use cp_core::Event;
-use cp_devices::{Delivered, Delivery, Ended, Told, copy_of, is_logged_on};
 use cp_spool::SpoolFile;
-use cp_users::{MOST_USERS, UserNo};
+use machine_devices::{Delivered, Delivery, Ended, Told, copy_of, is_logged_on};
 use s370_num::DevAddr;
 use std::alloc::{AllocError, Global};
 use unit_record::{Card, Sender, Target};
+use user_names::{MOST_USERS, UserNo};
 
 /// How many lines a machine has printed, and how many files its punch and its printer have closed.
 #[derive(Clone, Copy)]

@@ -5,13 +5,13 @@ use bare_installation::Bare;
 use ckd_volume::Volume;
 use cp_console::responses::Response;
 use cp_core::{Event, Sizes, System};
-use cp_devices::{Delivered, Delivery, Ended, Places, Reply, Told};
 use cp_directory::{User, UserDevices, read_directory};
-use cp_users::UserNo;
+use machine_devices::{Delivered, Delivery, Ended, Places, Reply, Told};
 use s370_intr::{Ran, Reason};
 use s370_num::DevAddr;
 use s370_store::PlainStorage;
 use std::alloc::Global;
+use user_names::UserNo;
 
 /// A user's bare machine, and what came to it from others and from the operator.
 #[derive(Drop)]

@@ -2,8 +2,8 @@
 use crate::machines::{SideBySide, same};
 use crate::view::{SideError, View};
 use cp_core::{FRAME_SIZE, System};
-use cp_users::UserNo;
 use s370_store::Page;
+use user_names::UserNo;
 
 /// A page of zeros.
 const ZEROS: [u8; FRAME_SIZE] = [0; FRAME_SIZE];

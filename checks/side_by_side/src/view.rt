@@ -1,7 +1,7 @@
 //! What is seen of a machine, and why two machines are not the same.
 use cp_core::CpError;
-use cp_devices::AttachError;
 use cp_directory::DirError;
+use machine_devices::AttachError;
 use std::alloc::AllocError;
 use std::fmt;
 use thiserror::Error;

@@ -1,8 +1,8 @@
 //! The world of one user beside the bare machines of all.
 
-use cp_devices::World;
 use cp_directory::User;
-use cp_users::{UserNo, name_of, user_of};
+use machine_devices::World;
+use user_names::{UserNo, name_of, user_of};
 
 /// The users of the directory, and whose bare machines are on.
 #[derive(Clone, Copy)]

@@ -1,11 +1,11 @@
 -- How a machine of its own goes on, as sessions see it.
 use Rattle.std.specs.Prelude.{◌≡◌, ℕ, false, List, [], ◌∷◌, map, Some}
 use Rattle.s370_subchannels.specs.declared.subchannel.Subchannel.{Subchannel}
-use Rattle.cp_devices.specs.declared.places.Places.{Places}
-use Rattle.cp_devices.specs.declared.reply.Reply.{Reply}
-use Rattle.cp_script.specs.Script.{Said, Run, Line, Tick, Serve, Deck}
-use Rattle.cp_script.specs.declared.event.ScriptEvent.{ScriptEvent}
-use Rattle.cp_script.specs.declared.event.ScriptEvent.TheVariants as scripts
+use Rattle.machine_devices.specs.declared.places.Places.{Places}
+use Rattle.machine_devices.specs.declared.reply.Reply.{Reply}
+use Rattle.session_script.specs.Script.{Said, Run, Line, Tick, Serve, Deck}
+use Rattle.session_script.specs.declared.event.ScriptEvent.{ScriptEvent}
+use Rattle.session_script.specs.declared.event.ScriptEvent.TheVariants as scripts
 use Rattle.bare_installation.specs.Bare.{Bare, bare}
 use Rattle.bare_installation.specs.Life.{IsApplied, MayLackMemory}
 use Rattle.bare_installation.specs.declared.happening.Happening.{Happening}

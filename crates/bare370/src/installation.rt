@@ -2,26 +2,26 @@
 ghost use Rattle.std.specs.Prelude.{◌≡◌, ◌<◌, ◌≤◌, ◌==◌, [], IfErr, IfOk, IfSome, length};
 ghost use Rattle.std.specs.List.{list_any};
 ghost use Rattle.s370_store.specs.Plain.{plain_bytes};
-ghost use Rattle.cp_devices.specs.Devices.{devices_new};
-ghost use Rattle.cp_script.specs.Script.{Deck, said, user_of_event};
+ghost use Rattle.machine_devices.specs.Devices.{devices_new};
+ghost use Rattle.session_script.specs.Script.{Deck, said, user_of_event};
 ghost use Rattle.bare_installation.specs.Life.{IsApplied, MayLackMemory};
 ghost use Rattle.bare_installation.specs.declared.happening.Happening.{Happening};
 ghost use Rattle.bare370.specs.Goes.{IsWhole, addresses_of, as_said, machine_goes, usual_places};
 
 use bare_installation::{BARE, Bare, Happening};
 use ckd_volume::{Arm, Sense, Unit, Volume};
-use cp_channels::AttachedDisk;
-use cp_devices::{AttachError, FileNote, Places, Reply, SeenDevices};
-use cp_panel::Mode;
-use cp_script::ScriptEvent;
-use cp_users::UserNo;
+use machine_channels::AttachedDisk;
+use machine_devices::{AttachError, FileNote, Places, Reply, SeenDevices};
+use machine_panel::Mode;
 use s370_num::DevAddr;
 use s370_store::PlainStorage;
 use s370_subchannels::Subchannel;
+use session_script::ScriptEvent;
 use sessions::{Installation, Refused};
 use std::alloc::{AllocError, Global};
 use std::marker::Model;
 use unit_record::Card;
+use user_names::UserNo;
 
 /// The address of the console.
 pub const CONSOLE: u16 = 0x009;

@@ -8,7 +8,7 @@ ghost use Rattle.std.specs.Prelude.{◌≤◌};
 use crate::arguments::bare_arguments;
 use crate::follow_arguments::follow_arguments;
 use crate::installation::{OneMachine, machine_of};
-use cp_devices::AttachError;
+use machine_devices::AttachError;
 use programs::parts::Left;
 use programs::program::{asks_to_follow, follow_input, play, words, wrong_use};
 use programs::{Ended, Failure, finish, owned, read_volumes, save_volume};

@@ -5,21 +5,21 @@ use Rattle.unit_record.specs.declared.reader.Sender.TheVariants as senders
 use Rattle.unit_record.specs.Output.{FileValue}
 use Rattle.s370_channel.specs.Reading.{as_reached}
 use Rattle.cp_spool.specs.Queues.{cards_of}
-use Rattle.cp_panel.specs.Run.{MachineRun}
-use Rattle.cp_devices.specs.declared.reply.Delivered.{Delivered}
-use Rattle.cp_devices.specs.declared.reply.Delivery.{Delivery}
-use Rattle.cp_devices.specs.declared.reply.Delivery.TheVariants as deliveries
-use Rattle.cp_devices.specs.declared.reply.Ended.{Ended}
-use Rattle.cp_devices.specs.declared.reply.Ended.TheVariants.{Ran, Served, Done, FramesOut}
-use Rattle.cp_devices.specs.declared.reply.Reply.{Reply}
-use Rattle.cp_devices.specs.Coming.{comes_by_line, comes_from_operator, coming_of}
-use Rattle.cp_devices.specs.Equipped.{Equipped}
-use Rattle.cp_devices.specs.Life.{Event as Local, Units, Serve as Serves, Line as Types, Tick as Ticks, Deck as Gets, Leaves, Lives}
+use Rattle.machine_panel.specs.Run.{MachineRun}
+use Rattle.machine_devices.specs.declared.reply.Delivered.{Delivered}
+use Rattle.machine_devices.specs.declared.reply.Delivery.{Delivery}
+use Rattle.machine_devices.specs.declared.reply.Delivery.TheVariants as deliveries
+use Rattle.machine_devices.specs.declared.reply.Ended.{Ended}
+use Rattle.machine_devices.specs.declared.reply.Ended.TheVariants.{Ran, Served, Done, FramesOut}
+use Rattle.machine_devices.specs.declared.reply.Reply.{Reply}
+use Rattle.machine_devices.specs.Coming.{comes_by_line, comes_from_operator, coming_of}
+use Rattle.machine_devices.specs.Equipped.{Equipped}
+use Rattle.machine_devices.specs.Life.{Event as Local, Units, Serve as Serves, Line as Types, Tick as Ticks, Deck as Gets, Leaves, Lives}
 use Rattle.bare_installation.specs.declared.happening.Happening.{Happening}
 use Rattle.bare_installation.specs.declared.happening.Happening.TheVariants as happenings
 use Rattle.bare_installation.specs.Bare.{Bare, IsTyped, world_of}
 use Rattle.bare_installation.specs.Life.{AttentionAgreesThroughout, EachIsLife, IsDone, IsAnswer, IsGiven, IsRun, IsService, IsTicked, coming, happens, own}
-use Rattle.cp_devices.proofs.Attention.{goes_on_agreeing}
+use Rattle.machine_devices.proofs.Attention.{goes_on_agreeing}
 
 -- events and then more events
 lives_on : (es fs : List Local) (a b c : Equipped) → Lives as_reached es a b → Lives as_reached fs b c → Lives as_reached (es ++ fs) a c

@@ -16,13 +16,13 @@ use Rattle.unit_record.specs.Reader.{reader_machine}
 use Rattle.unit_record.specs.Punch.{punch_machine, punch_needs_memory}
 use Rattle.unit_record.specs.Printer.{printer_machine, printer_needs_memory}
 use Rattle.s370_subchannels.specs.Programs.{program_of}
-use Rattle.cp_channels.specs.Channels.{StopsDisk}
-use Rattle.cp_channels.specs.Disks.{DiskAt}
-use Rattle.cp_devices.specs.declared.places.Kind.{Kind}
-use Rattle.cp_devices.specs.declared.places.Kind.TheVariants as kinds
-use Rattle.cp_devices.specs.Devices.{kind_at}
-use Rattle.cp_devices.specs.Equipped.{Equipped, storage_in}
-use Rattle.cp_devices.specs.Stopped.{StopsAt, StopsKind, StopsProgram}
+use Rattle.machine_channels.specs.Channels.{StopsDisk}
+use Rattle.machine_channels.specs.Disks.{DiskAt}
+use Rattle.machine_devices.specs.declared.places.Kind.{Kind}
+use Rattle.machine_devices.specs.declared.places.Kind.TheVariants as kinds
+use Rattle.machine_devices.specs.Devices.{kind_at}
+use Rattle.machine_devices.specs.Equipped.{Equipped, storage_in}
+use Rattle.machine_devices.specs.Stopped.{StopsAt, StopsKind, StopsProgram}
 
 abbrev all_there : ℕ → Bool
 all_there page = true

@@ -3,15 +3,15 @@ use Rattle.std.specs.Prelude.{ℕ, ◌≡◌, Bool, List, [], ◌∷◌, ◌++�
 use Rattle.s370_channel.specs.Reading.{as_reached}
 use Rattle.unit_record.specs.declared.reader.Sender.TheVariants as senders
 use Rattle.unit_record.specs.Reader.{DeckValue}
-use Rattle.cp_devices.specs.declared.files.FileNote.{FileNote}
-use Rattle.cp_devices.specs.declared.reply.Reply.{Reply}
-use Rattle.cp_devices.specs.Coming.{coming_of, comes_by_line}
-use Rattle.cp_devices.specs.Equipped.{Equipped}
-use Rattle.cp_devices.specs.Life.{Lives}
-use Rattle.cp_devices.specs.Notes.{closed_by, deck_noted, next_file}
-use Rattle.cp_devices.specs.Replies.{IsLineTold}
-use Rattle.cp_devices.specs.Spooling.{with_deck_queued}
-use Rattle.cp_devices.specs.World.{World, is_logged_on}
+use Rattle.machine_devices.specs.declared.files.FileNote.{FileNote}
+use Rattle.machine_devices.specs.declared.reply.Reply.{Reply}
+use Rattle.machine_devices.specs.Coming.{coming_of, comes_by_line}
+use Rattle.machine_devices.specs.Equipped.{Equipped}
+use Rattle.machine_devices.specs.Life.{Lives}
+use Rattle.machine_devices.specs.Notes.{closed_by, deck_noted, next_file}
+use Rattle.machine_devices.specs.Replies.{IsLineTold}
+use Rattle.machine_devices.specs.Spooling.{with_deck_queued}
+use Rattle.machine_devices.specs.World.{World, is_logged_on}
 
 -- the machine with its devices, and what each file was so far: the first has number 1
 pub record Bare : Type 0 where

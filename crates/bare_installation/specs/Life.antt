@@ -2,22 +2,22 @@
 use Rattle.std.specs.Prelude.{ℕ, ◌≡◌, ◌<◌, ◌-◌, true, List, [], ◌∷◌, ◌++◌, length, None}
 use Rattle.s370_channel.specs.declared.running.ChannelError.TheVariants as errors
 use Rattle.s370_channel.specs.Reading.{as_reached}
-use Rattle.cp_panel.specs.Run.{notice_of, run}
-use Rattle.cp_panel.specs.Tick.{ticked}
-use Rattle.cp_devices.specs.Comes.{LineMay}
-use Rattle.cp_devices.specs.Attention.{AttentionAgrees}
-use Rattle.cp_devices.specs.Coming.{comes_by_line, comes_from_operator, coming_of}
-use Rattle.cp_devices.specs.declared.line.Told.TheVariants.{Silent}
-use Rattle.cp_devices.specs.declared.reply.Delivery.{Delivery}
-use Rattle.cp_devices.specs.declared.reply.Ended.{Ended}
-use Rattle.cp_devices.specs.declared.reply.Ended.TheVariants.{Ran, Served, Done}
-use Rattle.cp_devices.specs.declared.reply.Reply.{Reply}
-use Rattle.cp_devices.specs.Life.{Event as Local, Units, Serve as Serves, Line as Types, Tick as Ticks, Lives}
-use Rattle.cp_devices.specs.Lines.{said}
-use Rattle.cp_devices.specs.Notes.{next_file}
-use Rattle.cp_devices.specs.Replies.{given}
-use Rattle.cp_devices.specs.Serve.{IsServedAt}
-use Rattle.cp_devices.specs.Stopped.{StopsAt}
+use Rattle.machine_panel.specs.Run.{notice_of, run}
+use Rattle.machine_panel.specs.Tick.{ticked}
+use Rattle.machine_devices.specs.Comes.{LineMay}
+use Rattle.machine_devices.specs.Attention.{AttentionAgrees}
+use Rattle.machine_devices.specs.Coming.{comes_by_line, comes_from_operator, coming_of}
+use Rattle.machine_devices.specs.declared.line.Told.TheVariants.{Silent}
+use Rattle.machine_devices.specs.declared.reply.Delivery.{Delivery}
+use Rattle.machine_devices.specs.declared.reply.Ended.{Ended}
+use Rattle.machine_devices.specs.declared.reply.Ended.TheVariants.{Ran, Served, Done}
+use Rattle.machine_devices.specs.declared.reply.Reply.{Reply}
+use Rattle.machine_devices.specs.Life.{Event as Local, Units, Serve as Serves, Line as Types, Tick as Ticks, Lives}
+use Rattle.machine_devices.specs.Lines.{said}
+use Rattle.machine_devices.specs.Notes.{next_file}
+use Rattle.machine_devices.specs.Replies.{given}
+use Rattle.machine_devices.specs.Serve.{IsServedAt}
+use Rattle.machine_devices.specs.Stopped.{StopsAt}
 use Rattle.bare_installation.specs.declared.happening.Happening.{Happening}
 use Rattle.bare_installation.specs.declared.happening.Happening.TheVariants as happenings
 use Rattle.bare_installation.specs.Bare.{Bare, IsTyped, with_deck, world_of}

@@ -1,7 +1,7 @@
 //! What a machine knows that is alone.
 ghost use Rattle.std.specs.Prelude.{◌≡◌};
 
-use cp_devices::World;
+use machine_devices::World;
 
 /// The name of the only user.
 pub const BARE: &[u8] = b"BARE";

@@ -3,13 +3,13 @@
 ghost use Rattle.std.specs.Prelude.{◌≡◌, IfOk, OnOk};
 ghost use Rattle.s370_channel.specs.Reading.{as_reached};
 ghost use Rattle.cp_console.specs.ConsoleLine.{characters_of};
-ghost use Rattle.cp_devices.specs.Life.{Deck as Gets, Leaves, Message as Hears};
-ghost use Rattle.cp_devices.specs.Lines.{IsWholeLine};
+ghost use Rattle.machine_devices.specs.Life.{Deck as Gets, Leaves, Message as Hears};
+ghost use Rattle.machine_devices.specs.Lines.{IsWholeLine};
 
 use crate::bare::Bare;
 use cp_console::console_line::ConsoleLine;
 use cp_console::responses::Response;
-use cp_devices::{Told, World};
+use machine_devices::{Told, World};
 use std::alloc::{AllocError, Global};
 use unit_record::{Card, Sender};
 

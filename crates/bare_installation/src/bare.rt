@@ -3,30 +3,29 @@ ghost use Rattle.std.specs.Prelude.{Err, IsOk, None, false, map, ◌++◌, ◌�
 ghost use Rattle.std.specs.Option.{option_map};
 ghost use Rattle.s370_store.specs.Plain.{plain_bytes, plain_keys};
 ghost use Rattle.s370_channel.specs.Reading.{as_reached};
-ghost use Rattle.cp_panel.specs.Machine.{unused};
-ghost use Rattle.cp_panel.specs.Ready.{is_ready};
-ghost use Rattle.cp_panel.specs.Run.{notice_of, run};
-ghost use Rattle.cp_panel.specs.Tick.{ticked};
+ghost use Rattle.machine_panel.specs.Machine.{unused};
+ghost use Rattle.machine_panel.specs.Ready.{is_ready};
+ghost use Rattle.machine_panel.specs.Run.{notice_of, run};
+ghost use Rattle.machine_panel.specs.Tick.{ticked};
 ghost use Rattle.s370_subchannels.specs.declared.subchannel.Subchannel.{Subchannel};
-ghost use Rattle.cp_devices.specs.Devices.{AreAttached, can_attach, devices_new, no_places, places_of};
-ghost use Rattle.cp_devices.specs.declared.attaching.AttachError.TheVariants as errors;
-ghost use Rattle.cp_devices.specs.Lent.{devices_on};
-ghost use Rattle.cp_devices.specs.Notes.{next_file};
-ghost use Rattle.cp_devices.specs.Replies.{given};
-ghost use Rattle.cp_devices.specs.Serve.{IsServedAt};
+ghost use Rattle.machine_devices.specs.Devices.{AreAttached, can_attach, devices_new, no_places, places_of};
+ghost use Rattle.machine_devices.specs.declared.attaching.AttachError.TheVariants as errors;
+ghost use Rattle.machine_devices.specs.Lent.{devices_on};
+ghost use Rattle.machine_devices.specs.Notes.{next_file};
+ghost use Rattle.machine_devices.specs.Replies.{given};
+ghost use Rattle.machine_devices.specs.Serve.{IsServedAt};
 ghost use Rattle.bare_installation.specs.Bare.{with_deck};
 ghost use Rattle.bare_installation.specs.Life.{AttentionAgreesThroughout, EachIsLife, IsApplied, LacksMemory, MayLackMemory};
 
 use crate::happening::Happening;
-use cp_channels::{AttachedDisk, Own};
 use cp_console::responses::Response;
-use cp_devices::{
+use cp_spool::Queues;
+use machine_channels::{AttachedDisk, Own};
+use machine_devices::{
     AttachError, Delivered, Delivery, Devices, Ended, FileKind, FileNote, Places, Reply,
     SeenDevices, Told, copy_of,
 };
-use cp_panel::{Machine, MachineRan, Mode};
-use cp_spool::Queues;
-use cp_users::UserNo;
+use machine_panel::{Machine, MachineRan, Mode};
 use s370_channel::ChannelError;
 use s370_intr::{Pending, RealCpu};
 use s370_num::{DevAddr, StorageKey};
@@ -36,6 +35,7 @@ use s370_subchannels::{Subchannel, Subchannels};
 use std::alloc::{AllocError, Global};
 use std::marker::Model;
 use unit_record::{Card, Sender};
+use user_names::UserNo;
 
 /// One System/370 with its panel, its own storage and its devices. Its user is `BARE`.
 #[derive(Drop)]
@@ -51,9 +51,9 @@ pub struct Bare {
 impl Model for Bare {
     ghost use Rattle.std.specs.Prelude.{◌<◌, ◌≤◌, length};
     ghost use Rattle.s370_store.specs.Plain.{plain_bytes, plain_keys};
-    ghost use Rattle.cp_channels.specs.Own.{disks_of};
-    ghost use Rattle.cp_devices.specs.Equipped.{equipped};
-    ghost use Rattle.cp_devices.specs.Lent.{devices_on};
+    ghost use Rattle.machine_channels.specs.Own.{disks_of};
+    ghost use Rattle.machine_devices.specs.Equipped.{equipped};
+    ghost use Rattle.machine_devices.specs.Lent.{devices_on};
     ghost use Rattle.bare_installation.specs.Bare.{Bare as Whole};
 
     ghost Value = { Whole };
@@ -408,7 +408,7 @@ pub fn each_is_life()
 {}
 
 /// Whatever happens to a machine with its devices, attention goes on agreeing with the lines that wait
-/// ([`cp_devices::attention_agrees`]).
+/// ([`machine_devices::attention_agrees`]).
 pub fn attention_agrees_throughout()
     ensures { AttentionAgreesThroughout }
 {}

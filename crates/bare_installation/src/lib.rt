@@ -3,13 +3,13 @@
 //! Its one theorem: what [`Bare`] does when it is let run, when a line is typed, at a tick of its timer, when a device
 //! is served and when a deck is given ([`Bare::apply`]) is what `specs/` defines (docs/MACHINE.md, docs/COMMANDS.md);
 //! and whatever happens, the machine is what its own events leave, in order ([`each_is_life`]). Nobody else is there:
-//! its user is `BARE`, to whom messages and punched files go. What it answers is a [`Reply`](cp_devices::Reply), as that
+//! its user is `BARE`, to whom messages and punched files go. What it answers is a [`Reply`](machine_devices::Reply), as that
 //! of many users is.
 //!
 //! ```
 //! use bare_installation::Bare;
 //! use cp_console::responses::Response;
-//! use cp_devices::Told;
+//! use machine_devices::Told;
 //! use s370_store::PlainStorage;
 //!
 //! let mut machine = Bare::without_devices(alloc, PlainStorage::new(alloc, 4)?)?;

@@ -1,25 +1,25 @@
 //! A line that is typed, and what comes of it.
 ghost use Rattle.std.specs.Prelude.{◌++◌, ◌∷◌, [], ◌≡◌, ◌<◌, ◌-◌, ℕ, IfOk, OnErr, OnOk, length, slice_get};
 ghost use Rattle.s370_channel.specs.Reading.{as_reached};
-ghost use Rattle.cp_devices.specs.Comes.{HasClosed, LineMay, NeedsMemory};
-ghost use Rattle.cp_devices.specs.Coming.{comes_by_line, coming_of};
-ghost use Rattle.cp_devices.specs.Life.{Leaves, Lives};
-ghost use Rattle.cp_devices.specs.Lines.{IsIpl, IsLine, IsWholeLine, MayTakeMemory, requested};
-ghost use Rattle.cp_devices.specs.Notes.{closed_since, next_file};
-ghost use Rattle.cp_devices.specs.Replies.{delivered_by, delivery_to, punched, receiver_of};
+ghost use Rattle.machine_devices.specs.Comes.{HasClosed, LineMay, NeedsMemory};
+ghost use Rattle.machine_devices.specs.Coming.{comes_by_line, coming_of};
+ghost use Rattle.machine_devices.specs.Life.{Leaves, Lives};
+ghost use Rattle.machine_devices.specs.Lines.{IsIpl, IsLine, IsWholeLine, MayTakeMemory, requested};
+ghost use Rattle.machine_devices.specs.Notes.{closed_since, next_file};
+ghost use Rattle.machine_devices.specs.Replies.{delivered_by, delivery_to, punched, receiver_of};
 ghost use Rattle.bare_installation.specs.Bare.{IsTyped, alone, world_of};
 
 use crate::alone::Alone;
 use crate::bare::Bare;
 use cp_console::console_line::ConsoleLine;
-use cp_devices::{
+use machine_devices::{
     Delivered, Delivery, Ended, FileKind, FileNote, Reply, Told, World, is_logged_on, said_to_line,
 };
-use cp_panel::LineError;
-use cp_users::UserNo;
+use machine_panel::LineError;
 use s370_num::DevAddr;
 use std::alloc::{AllocError, Global};
 use unit_record::{Sender, Target};
+use user_names::UserNo;
 
 /// How many users its world has.
 const USERS: u8 = 1;

@@ -5,11 +5,11 @@ use Rattle.std.specs.Str.{bytes_eq}
 use Rattle.std.proofs.lemmas.Option.{option_and_then_some}
 use Rattle.std.proofs.lemmas.Slice.Eq.{bytes_eq-Decides}
 use Rattle.std.proofs.lemmas.Bool.Decides.{nat_tests}
-use Rattle.cp_text.specs.Lines.{and_then, lines_of, read_lines}
-use Rattle.cp_text.specs.Words.{word_of, after_word}
-use Rattle.cp_text.specs.Numbers.{decimal_of}
-use Rattle.cp_text.proofs.Spellings.{chosen, parts, word_whole, word_again, after_again}
-use Rattle.cp_text.proofs.Firsts.{first_fault_of}
+use Rattle.text_words.specs.Lines.{and_then, lines_of, read_lines}
+use Rattle.text_words.specs.Words.{word_of, after_word}
+use Rattle.text_words.specs.Numbers.{decimal_of}
+use Rattle.text_words.proofs.Spellings.{chosen, parts, word_whole, word_again, after_again}
+use Rattle.text_words.proofs.Firsts.{first_fault_of}
 use Rattle.ckd_track.specs.Track.{Record}
 use Rattle.ckd_volume.specs.Volume.{VolumeFormat, blank_cylinders}
 use Rattle.ckd_text.specs.Fields.{bytes_of, five_of, is_serial, padded, serial_of}

@@ -2,7 +2,7 @@
 use Rattle.std.specs.Prelude.{ℕ, ◌-◌, ◌==◌, ◌&&◌, ◌||◌, Bool, if◌then◌else◌, is_some, nat_le, List, [], ◌++◌, length, replicate, codes, Option, Some, None, Result, Ok, Err}
 use Rattle.std.specs.List.{list_all}
 use Rattle.std.specs.Str.{bytes_eq}
-use Rattle.cp_text.specs.Numbers.{digit_value, is_digit}
+use Rattle.text_words.specs.Numbers.{digit_value, is_digit}
 use Rattle.hex.specs.Hex.{decode_of, decode_sized}
 
 -- what a success gives

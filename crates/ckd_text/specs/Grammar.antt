@@ -1,8 +1,8 @@
 -- The grammar of volume texts, as a relation between lines and a volume (docs/FORMATS.md, "Volume texts").
 use Rattle.std.specs.Prelude.{◌≡◌, ℕ, ◌+◌, ◌≤◌, ◌⊎◌, true, List, [], ◌∷◌, ◌++◌, length, codes, Some, Ok, Err}
-use Rattle.cp_text.specs.Lines.{lines_of}
-use Rattle.cp_text.specs.Words.{NoBlank}
-use Rattle.cp_text.specs.Numbers.{decimal_of}
+use Rattle.text_words.specs.Lines.{lines_of}
+use Rattle.text_words.specs.Words.{NoBlank}
+use Rattle.text_words.specs.Numbers.{decimal_of}
 use Rattle.ckd_track.specs.Track.{Record}
 use Rattle.ckd_volume.specs.Volume.{VolumeFormat, blank_cylinders}
 use Rattle.ckd_text.specs.Fields.{bytes_of, five_of, is_serial, padded}

@@ -4,7 +4,7 @@ use Rattle.std.specs.Prelude.{ℕ, ◌+◌, ◌==◌, ◌&&◌, Bool, if◌then�
 use Rattle.std.specs.Fmt.{decimal}
 use Rattle.std.specs.Str.{bytes_eq}
 use Rattle.hex.specs.Hex.{encode_upper}
-use Rattle.cp_text.specs.Words.{word_of}
+use Rattle.text_words.specs.Words.{word_of}
 use Rattle.ckd_track.specs.Track.{Record, TrackFormat, cost, cost_of}
 use Rattle.ckd_volume.specs.Front.{Cylinder}
 use Rattle.ckd_volume.specs.Volume.{VolumeFormat, home_of}

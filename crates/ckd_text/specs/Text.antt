@@ -2,9 +2,9 @@
 use Rattle.std.specs.Prelude.{◌≡◌, ℕ, ◌&&◌, Bool, if◌then◌else◌, nat_le, nat_lt, List, [], ◌∷◌, length, slice_index_or, codes, Option, Some, None, Result, Ok, Err}
 use Rattle.std.specs.Option.{option_map, option_and_then}
 use Rattle.std.specs.Str.{bytes_eq}
-use Rattle.cp_text.specs.Lines.{and_then, lines_of, read_lines}
-use Rattle.cp_text.specs.Words.{word_of, after_word}
-use Rattle.cp_text.specs.Numbers.{decimal_of}
+use Rattle.text_words.specs.Lines.{and_then, lines_of, read_lines}
+use Rattle.text_words.specs.Words.{word_of, after_word}
+use Rattle.text_words.specs.Numbers.{decimal_of}
 use Rattle.ckd_track.specs.Track.{Record, TrackFormat, has_room, with_last}
 use Rattle.ckd_volume.specs.Front.{track_at}
 use Rattle.ckd_volume.specs.Volume.{VolumeFormat, blank_cylinders}

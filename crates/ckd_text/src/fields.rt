@@ -4,9 +4,9 @@ ghost use Rattle.std.specs.Option.{option_map};
 ghost use Rattle.std.specs.List.{list_all};
 ghost use Rattle.ckd_text.specs.Fields.{bytes_of, five_of, is_hexadecimal, is_letter_or_digit, is_serial, serial_of, spelled_of};
 
-use cp_text::numbers::{digit_value, is_digit};
 use hex::FromHexError;
 use std::alloc::{AllocError, Global};
+use text_words::numbers::{digit_value, is_digit};
 
 /// The serial number that a word spells: one to six letters and digits, with blanks behind them.
 pub fn serial_of(word: &[u8]) -> Option<[u8; 6]>

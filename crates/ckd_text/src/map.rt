@@ -6,8 +6,8 @@ ghost use Rattle.ckd_text.specs.Map as map;
 
 use ckd_track::Track;
 use ckd_volume::{Cylinder, Volume};
-use cp_text::words::cut_word;
 use std::alloc::{AllocError, Global};
+use text_words::words::cut_word;
 
 /// The map of a volume (docs/FORMATS.md, "Track maps"): a line that names it; each track that is not blank, with its
 /// records; and how many tracks are blank.

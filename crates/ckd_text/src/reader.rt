@@ -1,6 +1,6 @@
 //! The reader of volume texts: line by line.
 ghost use Rattle.std.specs.Prelude.{◌≡◌, ◌<◌, ◌≤◌, ◌+◌, IfOk, IfErr, OnOk, OnErr, Some, None, Ok, length};
-ghost use Rattle.cp_text.specs.Lines.{lines_of, read_lines};
+ghost use Rattle.text_words.specs.Lines.{lines_of, read_lines};
 ghost use Rattle.ckd_text.specs.Grammar.{ReadsGrammar};
 ghost use Rattle.ckd_text.specs.Stated.{record_in, stated};
 ghost use Rattle.ckd_text.specs.Text as said;
@@ -8,8 +8,8 @@ ghost use Rattle.ckd_text.specs.Text.{first_of, line_step, told, volume_of, with
 
 use crate::statement::{StatedRecord, Statement, read_header, read_statement};
 use ckd_volume::Volume;
-use cp_text::lines::cut_line;
 use std::alloc::Global;
+use text_words::lines::cut_line;
 use thiserror::Error;
 
 /// Why no volume is made of a text.

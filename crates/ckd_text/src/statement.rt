@@ -6,9 +6,9 @@ ghost use Rattle.ckd_text.specs.Text.{add_by, first_of, home_by, placed_of, reco
 
 use crate::fields::{bytes_of, five_of, serial_of};
 use ckd_volume::MOST_CYLINDERS;
-use cp_text::numbers::decimal_of;
-use cp_text::words::cut_word;
 use std::alloc::{AllocError, Global};
+use text_words::numbers::decimal_of;
+use text_words::words::cut_word;
 
 /// The most decimal digits of a number.
 const DIGITS: usize = 7;

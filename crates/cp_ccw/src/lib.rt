@@ -10,7 +10,7 @@
 //! use cp_dat::Dat;
 //! use cp_frames::Frames;
 //! use cp_needs::{Found, look};
-//! use cp_users::UserNo;
+//! use user_names::UserNo;
 //! use s370_channel::{Caw, Limits, MOST_COMMANDS};
 //! use s370_num::StorageKey;
 //! use s370_store::{Page, store_doubleword};

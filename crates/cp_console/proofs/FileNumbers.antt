@@ -2,7 +2,7 @@
 use Rattle.std.proofs.Common.{◌≡◌, ℕ, ◌+◌, ◌*◌, ◌-◌, ◌^◌, ◌<◌, ◌≤◌, Bool, true, false, cond, List, [], ◌∷◌, Some, None, nat_lt, refl, arith}
 use Rattle.std.proofs.lemmas.Bool.{lt-ltb, ltb-false, ltb-true}
 use Rattle.std.specs.Option.{option_and_then}
-use Rattle.cp_text.specs.Numbers.{is_digit, number_from}
+use Rattle.text_words.specs.Numbers.{is_digit, number_from}
 use Rattle.cp_console.specs.Operands.{in_64_bits}
 
 pub fits : (n : ℕ) → n < 2 ^ 64 → in_64_bits n ≡ Some n

@@ -2,7 +2,7 @@
 use Rattle.std.proofs.Common.{◌≡◌, ℕ, ◌+◌, ◌*◌, ◌^◌, Bool, true, false, cond, List, [], ◌∷◌, codes, Option, Some, None, refl}
 use Rattle.std.specs.Str.{bytes_eq}
 use Rattle.std.proofs.lemmas.Slice.Eq.{bytes_eq-Decides}
-use Rattle.cp_text.specs.Words.{words_of}
+use Rattle.text_words.specs.Words.{words_of}
 use Rattle.cp_console.specs.Operands.{address_of, contents_of, bytes_of}
 use Rattle.cp_console.specs.Reading.{operand_read, operand, ended}
 use Rattle.cp_console.specs.DeviceCommands.{device_command_named}

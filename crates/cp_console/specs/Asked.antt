@@ -1,7 +1,7 @@
 -- What a line asks for.
 use Rattle.std.specs.Prelude.{ℕ, if◌then◌else◌, List, [], ◌∷◌, codes}
 use Rattle.std.specs.Str.{bytes_eq}
-use Rattle.cp_text.specs.Words.{after_first_word, words_of}
+use Rattle.text_words.specs.Words.{after_first_word, words_of}
 use Rattle.cp_console.specs.declared.lines.Asked as typed
 use Rattle.cp_console.specs.declared.lines.Asked.TheVariants as lines
 

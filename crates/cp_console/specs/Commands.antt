@@ -2,7 +2,7 @@
 use Rattle.std.specs.Prelude.{ℕ, ◌+◌, ◌*◌, ◌^◌, ◌==◌, if◌then◌else◌, List, [], ◌∷◌, codes, Option, Some, None, Result, Ok, Err}
 use Rattle.std.specs.Option.{option_map}
 use Rattle.std.specs.Str.{bytes_eq}
-use Rattle.cp_text.specs.Words.{after_first_word, words_of}
+use Rattle.text_words.specs.Words.{after_first_word, words_of}
 use Rattle.cp_console.specs.Operands.{address_of, register_of, contents_of, bytes_of}
 use Rattle.cp_console.specs.Reading.{operand, ended, keyword}
 use Rattle.cp_console.specs.DeviceCommands.{device_command_named, message_text}

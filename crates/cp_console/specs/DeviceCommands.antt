@@ -1,7 +1,7 @@
 -- The commands that concern devices, their files and other users, by the words of their texts.
 use Rattle.std.specs.Prelude.{ℕ, if◌then◌else◌, List, [], ◌∷◌, codes, Some, Result, Ok, Err}
 use Rattle.std.specs.Str.{bytes_eq}
-use Rattle.cp_text.specs.Words.{after_first_word, unindented}
+use Rattle.text_words.specs.Words.{after_first_word, unindented}
 use Rattle.cp_console.specs.Operands.{device_of, file_of}
 use Rattle.cp_console.specs.Reading.{operand, ended, keyword}
 use Rattle.cp_console.specs.declared.commands.Command.{Command}

@@ -1,6 +1,6 @@
 -- What it is for words to spell a command, and to be no command.
 use Rattle.std.specs.Prelude.{◌≡◌, ℕ, ◌+◌, ◌*◌, ◌^◌, List, [], ◌∷◌, ◌++◌, length, codes, Option, Some, None, Result, Ok, Err}
-use Rattle.cp_text.specs.Words.{after_first_word, words_of}
+use Rattle.text_words.specs.Words.{after_first_word, words_of}
 use Rattle.cp_console.specs.Operands.{address_of, contents_of, bytes_of, device_of, file_of}
 use Rattle.cp_console.specs.DeviceCommands.{message_text}
 use Rattle.cp_console.specs.Commands.{command_of, place_of}

@@ -1,7 +1,7 @@
 -- The operands of commands, each a word.
 use Rattle.std.specs.Prelude.{ℕ, ◌+◌, ◌*◌, ◌-◌, ◌^◌, ◌==◌, ◌&&◌, if◌then◌else◌, nat_le, nat_lt, List, [], ◌∷◌, length, Option, Some, None}
 use Rattle.std.specs.Option.{option_map, option_and_then}
-use Rattle.cp_text.specs.Numbers.{digit_value, hexadecimal_of, is_digit, number_from}
+use Rattle.text_words.specs.Numbers.{digit_value, hexadecimal_of, is_digit, number_from}
 
 -- an address of storage is 1 to 6 hexadecimal digits
 abbrev pub address_of : List ℕ → Option ℕ

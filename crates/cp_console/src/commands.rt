@@ -3,13 +3,13 @@ ghost use Rattle.std.specs.Prelude.{◌≡◌};
 ghost use Rattle.cp_console.specs.Commands.{begin_of, change_of, command_named, command_of, display_of, external_of, logoff_of, logon_of, numbered_place, place_of, store_of, system_of};
 ghost use Rattle.cp_console.specs.DeviceCommands.{message_text};
 ghost use Rattle.cp_console.specs.Grammar.{ReadsGrammar};
-ghost use Rattle.cp_text.specs.Words.{words_of};
+ghost use Rattle.text_words.specs.Words.{words_of};
 
 use crate::device_commands::{DeviceCommand, read_device_named};
 use crate::operands::{StoredBytes, address_of, bytes_of, contents_of, register_of};
 use crate::reading::{ended, operand};
-use cp_text::words::next_word;
 use s370_num::{Addr24, Register, Word};
+use text_words::words::next_word;
 use thiserror::Error;
 
 /// What of a machine is displayed or changed.

@@ -1,14 +1,14 @@
 //! The commands that concern the devices of a machine, their files and other users.
 ghost use Rattle.std.specs.Prelude.{◌≡◌};
 ghost use Rattle.cp_console.specs.DeviceCommands.{close_of, device_command_named, ipl_of, message_of, message_text, purge_of, query_of, spool_of};
-ghost use Rattle.cp_text.specs.Words.{words_of};
+ghost use Rattle.text_words.specs.Words.{words_of};
 
 use crate::commands::{Command, CommandError};
 use crate::line_part::LinePart;
 use crate::operands::{device_of, file_of};
 use crate::reading::{ended, operand};
-use cp_text::words::unindented;
 use s370_num::DevAddr;
+use text_words::words::unindented;
 
 /// A command that no machine obeys by itself: it concerns devices, their files or other users.
 #[derive(Debug, PartialEq, Eq, Drop)]

@@ -3,9 +3,9 @@ ghost use Rattle.std.specs.Prelude.{◌≡◌, ◌≤◌, length, take};
 ghost use Rattle.cp_console.specs.Lines.{character_of, cleaned};
 ghost use Rattle.cp_console.specs.Asked.{asked, asked_of};
 
-use cp_text::words::next_word;
 use s370_num::ebcdic::is_printable;
 use std::marker::Model;
+use text_words::words::next_word;
 
 /// The most characters of a line that are taken.
 pub const LINE_LENGTH: usize = 130;

@@ -1,11 +1,11 @@
 //! The operands of commands: addresses, registers and the bytes that are stored.
 ghost use Rattle.std.specs.Prelude.{◌≡◌, ◌+◌, ◌*◌, ◌-◌, if◌then◌else◌, ◌<◌, ◌≤◌, ◌++◌, ◌∷◌, [], length, IfSome, IfNone, Option, Some, None};
-ghost use Rattle.cp_text.specs.Numbers.{is_digit};
+ghost use Rattle.text_words.specs.Numbers.{is_digit};
 ghost use Rattle.cp_console.specs.Operands.{address_of, byte_of, bytes_of, bytes_spelled, contents_of, device_of, file_of, in_64_bits, register_of};
 
-use cp_text::numbers::{digit_value, hexadecimal_of, is_digit};
 use s370_num::{Addr24, DevAddr, Register, Word};
 use std::marker::Model;
+use text_words::numbers::{digit_value, hexadecimal_of, is_digit};
 
 /// The bytes that a command stores: at most sixteen.
 #[derive(Clone, Copy, Debug, PartialEq, Eq)]

@@ -1,10 +1,10 @@
 //! How the words of a command are read, one after another.
 ghost use Rattle.std.specs.Prelude.{◌≡◌, [], ◌∷◌, IfOk, MatchResult};
 ghost use Rattle.cp_console.specs.Reading.{ended};
-ghost use Rattle.cp_text.specs.Words.{after_first_word, words_of};
+ghost use Rattle.text_words.specs.Words.{after_first_word, words_of};
 
 use crate::commands::{Command, CommandError};
-use cp_text::words::next_word;
+use text_words::words::next_word;
 
 /// The command, where no operand is left; a surplus one is told by its place.
 pub(crate) fn ended<'a>(

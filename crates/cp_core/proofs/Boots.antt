@@ -6,18 +6,18 @@ use Rattle.std.proofs.lemmas.List.{length-replicate}
 use Rattle.std.proofs.lemmas.Bool.Decides.{nat_tests}
 use Rattle.std.proofs.lemmas.List.Elements.{All-head, All-nil, All-tail}
 use Rattle.ckd_volume.specs.Volume.{VolumeFormat}
-use Rattle.cp_channels.specs.Disks.{DiskAt}
+use Rattle.machine_channels.specs.Disks.{DiskAt}
 use Rattle.cp_directory.specs.Users.{DirectoryUser}
 use Rattle.cp_frames.specs.declared.numbers.UserPage.{UserPage}
 use Rattle.cp_frames.specs.Layout.{FrameSupply}
 use Rattle.cp_dat.specs.Supplied.{IsBetweenUnits}
-use Rattle.cp_panel.specs.Machine.{Machine, machine_of, unused}
-use Rattle.cp_devices.specs.Devices.{DevicesValue, are_apart, can_attach, devices_new}
+use Rattle.machine_panel.specs.Machine.{Machine, machine_of, unused}
+use Rattle.machine_devices.specs.Devices.{DevicesValue, are_apart, can_attach, devices_new}
 use Rattle.cp_directory.specs.Grammar.{AreDifferent, HasLawfulDevices}
-use Rattle.cp_devices.specs.Equipped.{Equipped}
+use Rattle.machine_devices.specs.Equipped.{Equipped}
 use Rattle.cp_core.specs.UserMachines.{Fits, IsUnused, UserParts, user_with}
-use Rattle.cp_devices.specs.declared.attaching.AttachError.{AttachError}
-use Rattle.cp_devices.specs.declared.attaching.AttachError.TheVariants as attaching
+use Rattle.machine_devices.specs.declared.attaching.AttachError.{AttachError}
+use Rattle.machine_devices.specs.declared.attaching.AttachError.TheVariants as attaching
 use Rattle.cp_core.specs.declared.events.BootError.TheVariants as errors
 use Rattle.cp_core.specs.Boot.{AreNewUsers, IsNewUser, boot_error, free_supply, places_in}
 use Rattle.cp_core.specs.System.{SystemView, deliveries_of, stands_among, users_of}
@@ -28,7 +28,7 @@ use Rattle.cp_directory.specs.Users.{AreApart, addresses_of}
 use Rattle.cp_directory.specs.declared.minidisk.Minidisk.{Minidisk}
 use Rattle.std.specs.List.{find, position}
 use Rattle.cp_core.specs.Whole.{AreNew, AreSeated, IsNew, IsWhole, no_user}
-use Rattle.cp_devices.specs.declared.reply.Delivery.{Delivery}
+use Rattle.machine_devices.specs.declared.reply.Delivery.{Delivery}
 
 -- the devices of a lawful user can be attached
 low_all : (xs : List ℕ) → All (λ address. address ≤ 0x5FF) xs → list_all (λ (address : ℕ). nat_lt address 0x600) xs ≡ true

@@ -12,9 +12,9 @@ use Rattle.cp_dat.specs.Lent.{lent_pool, user_of}
 use Rattle.cp_frames.specs.Paging.{IsPinned, IsRefused}
 use Rattle.cp_dat.specs.Supplied.{GivesBack, HasSuch, IsBetweenUnits, IsPagedFor, unpinned}
 use Rattle.cp_dat.specs.declared.dat.Dat.{Dat}
-use Rattle.cp_devices.specs.Requests.{switches}
-use Rattle.cp_devices.specs.Lines.{requested}
-use Rattle.cp_devices.specs.Equipped.{Equipped}
+use Rattle.machine_devices.specs.Requests.{switches}
+use Rattle.machine_devices.specs.Lines.{requested}
+use Rattle.machine_devices.specs.Equipped.{Equipped}
 use Rattle.cp_core.specs.Wants.{LineWants}
 use Rattle.cp_core.proofs.Switches.{switch_wants_none}
 use Rattle.cp_core.specs.Supply.{IsGivenBack, IsShort}

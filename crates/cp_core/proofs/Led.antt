@@ -4,15 +4,15 @@ use Rattle.std.specs.Prelude.{if◌then◌else◌}
 use Rattle.std.proofs.lemmas.Grind.{common_steps}
 use Rattle.s370_channel.specs.Reading.{Reading, as_reached}
 use Rattle.unit_record.specs.Output.{FileValue}
-use Rattle.cp_devices.specs.Equipped.{Equipped}
-use Rattle.cp_devices.specs.Life.{Event as Local, Leaves, Lives}
+use Rattle.machine_devices.specs.Equipped.{Equipped}
+use Rattle.machine_devices.specs.Life.{Event as Local, Leaves, Lives}
 use Rattle.cp_core.specs.Come.{HasCome}
-use Rattle.cp_devices.specs.Coming.{comes_by_line}
+use Rattle.machine_devices.specs.Coming.{comes_by_line}
 use Rattle.cp_core.specs.Local.{Step, comes_to, coming}
 use Rattle.cp_core.specs.System.{SystemView, nobody, user_at}
-use Rattle.cp_devices.specs.declared.reply.Delivered.{Delivered}
-use Rattle.cp_devices.specs.declared.reply.Delivery.{Delivery}
-use Rattle.cp_devices.specs.declared.reply.Delivery.TheVariants as deliveries
+use Rattle.machine_devices.specs.declared.reply.Delivered.{Delivered}
+use Rattle.machine_devices.specs.declared.reply.Delivery.{Delivery}
+use Rattle.machine_devices.specs.declared.reply.Delivery.TheVariants as deliveries
 
 -- events and then more events
 pub lives_on : (reads : Reading) (es fs : List Local) (a b c : Equipped) → Lives reads es a b → Lives reads fs b c → Lives reads (es ++ fs) a c

@@ -6,19 +6,19 @@ use Rattle.std.proofs.lemmas.Bool.{cases_eq}
 use Rattle.std.proofs.lemmas.List.{get_or-set_other, get_or_default, length-replicate, length-set}
 use Rattle.cp_spool.specs.Queues.{KeepsOthers, QueuesValue, UserFiles, files_of, no_files, with_files}
 use Rattle.cp_spool.proofs.Others.{as_many}
-use Rattle.cp_devices.specs.Devices.{DevicesValue}
-use Rattle.cp_devices.specs.Lent.{DevicesParts, KeepsBeside, devices_on, devices_with}
+use Rattle.machine_devices.specs.Devices.{DevicesValue}
+use Rattle.machine_devices.specs.Lent.{DevicesParts, KeepsBeside, devices_on, devices_with}
 use Rattle.ckd_volume.specs.Volume.{VolumeFormat}
 use Rattle.cp_directory.specs.Users.{DirectoryUser}
 use Rattle.unit_record.specs.Output.{FileValue}
 use Rattle.unit_record.specs.declared.reader.Sender.TheVariants as senders
 use Rattle.cp_spool.specs.Queues.{cards_of}
-use Rattle.cp_panel.specs.Machine.{nothing_pending, reset_cpu}
-use Rattle.cp_devices.specs.Devices.{no_places}
-use Rattle.cp_devices.specs.Equipped.{Equipped}
-use Rattle.cp_devices.specs.Lent.{parts_new}
-use Rattle.cp_devices.specs.World.{is_logged_on}
-use Rattle.cp_devices.specs.Life.{Event as Local, Deck as Gets}
+use Rattle.machine_panel.specs.Machine.{nothing_pending, reset_cpu}
+use Rattle.machine_devices.specs.Devices.{no_places}
+use Rattle.machine_devices.specs.Equipped.{Equipped}
+use Rattle.machine_devices.specs.Lent.{parts_new}
+use Rattle.machine_devices.specs.World.{is_logged_on}
+use Rattle.machine_devices.specs.Life.{Event as Local, Deck as Gets}
 use Rattle.cp_core.specs.Parcels.{IsThere, IsThereIn, contents, contents_in}
 use Rattle.cp_core.specs.System.{SystemView, nobody, user_at, users_of}
 use Rattle.cp_core.specs.UserMachines.{SeatParts, UserParts, seat_on, seats_on, unowned, user_with}

@@ -16,42 +16,42 @@ use Rattle.cp_console.specs.declared.responses.Response.{Response}
 use Rattle.cp_frames.specs.Layout.{FrameSupply}
 use Rattle.cp_dat.specs.Lent.{set_own}
 use Rattle.cp_dat.specs.Supplied.{IsBetweenUnits, IsBroughtFor, IsBroughtInUnits}
-use Rattle.cp_panel.specs.declared.line.LineError.TheVariants as errors
-use Rattle.cp_panel.specs.declared.machine.Mode.{Mode}
-use Rattle.cp_panel.specs.declared.machine.Mode.TheVariants as modes
-use Rattle.cp_panel.specs.Machine.{Machine}
-use Rattle.cp_panel.specs.Run.{MachineRun, TellsRun, notice_of, run}
-use Rattle.cp_panel.specs.Tick.{ticked, ticked_in}
-use Rattle.cp_devices.specs.declared.line.Told.{Told}
-use Rattle.cp_devices.specs.declared.line.Told.TheVariants.{Silent}
-use Rattle.cp_devices.specs.declared.files.FileKind.TheVariants as kinds
-use Rattle.cp_devices.specs.Equipped.{Equipped}
-use Rattle.cp_devices.specs.Life.{Event as Local, Units, Serve as Serves, Line as Types, Tick as Ticks, Deck as Gets, Leaves, Lives}
-use Rattle.cp_devices.specs.Lines.{requested, said}
+use Rattle.machine_panel.specs.declared.line.LineError.TheVariants as errors
+use Rattle.machine_panel.specs.declared.machine.Mode.{Mode}
+use Rattle.machine_panel.specs.declared.machine.Mode.TheVariants as modes
+use Rattle.machine_panel.specs.Machine.{Machine}
+use Rattle.machine_panel.specs.Run.{MachineRun, TellsRun, notice_of, run}
+use Rattle.machine_panel.specs.Tick.{ticked, ticked_in}
+use Rattle.machine_devices.specs.declared.line.Told.{Told}
+use Rattle.machine_devices.specs.declared.line.Told.TheVariants.{Silent}
+use Rattle.machine_devices.specs.declared.files.FileKind.TheVariants as kinds
+use Rattle.machine_devices.specs.Equipped.{Equipped}
+use Rattle.machine_devices.specs.Life.{Event as Local, Units, Serve as Serves, Line as Types, Tick as Ticks, Deck as Gets, Leaves, Lives}
+use Rattle.machine_devices.specs.Lines.{requested, said}
 use Rattle.cp_spool.specs.Queues.{cards_of}
-use Rattle.cp_devices.specs.Comes.{NeedsMemory, closes, is_cut, is_ipl}
+use Rattle.machine_devices.specs.Comes.{NeedsMemory, closes, is_cut, is_ipl}
 use Rattle.cp_core.specs.Come.{HasCome}
-use Rattle.cp_devices.specs.Coming.{comes_by_line, comes_from_operator}
-use Rattle.cp_devices.specs.Notes.{closed_by, closed_since, next_file, note_where}
+use Rattle.machine_devices.specs.Coming.{comes_by_line, comes_from_operator}
+use Rattle.machine_devices.specs.Notes.{closed_by, closed_since, next_file, note_where}
 use Rattle.cp_core.specs.Histories.{IsStep}
 use Rattle.cp_core.specs.Local.{Step, coming, run_of, units_of}
 use Rattle.cp_core.specs.Memory.{IsCutShort}
-use Rattle.cp_devices.specs.declared.request.Request.{Request}
-use Rattle.cp_devices.specs.Replies.{silent}
+use Rattle.machine_devices.specs.declared.request.Request.{Request}
+use Rattle.machine_devices.specs.Replies.{silent}
 use Rattle.cp_core.specs.Supply.{IsGivenBack}
 use Rattle.cp_core.specs.System.{SystemView, machine_at, nobody, user_at, world_of}
-use Rattle.cp_devices.specs.Notes.{deck_noted}
-use Rattle.cp_devices.specs.Replies.{delivered_by, given, said_to_line}
+use Rattle.machine_devices.specs.Notes.{deck_noted}
+use Rattle.machine_devices.specs.Replies.{delivered_by, given, said_to_line}
 use Rattle.cp_core.specs.Told.{with_delivered}
 use Rattle.cp_core.specs.Work.{HasRun, HasServed, HasTicked, HasTyped}
-use Rattle.cp_devices.specs.declared.reply.Delivered.{Delivered}
-use Rattle.cp_devices.specs.declared.reply.Delivery.{Delivery}
-use Rattle.cp_devices.specs.declared.reply.Delivery.TheVariants as deliveries
-use Rattle.cp_devices.specs.declared.reply.Ended.TheVariants.{Ran, Served, Done, FramesOut}
+use Rattle.machine_devices.specs.declared.reply.Delivered.{Delivered}
+use Rattle.machine_devices.specs.declared.reply.Delivery.{Delivery}
+use Rattle.machine_devices.specs.declared.reply.Delivery.TheVariants as deliveries
+use Rattle.machine_devices.specs.declared.reply.Ended.TheVariants.{Ran, Served, Done, FramesOut}
 use Rattle.cp_core.specs.declared.events.Event.TheVariants.{Run, Line, Tick, Deck, Serve}
-use Rattle.cp_devices.specs.declared.reply.Reply.{Reply}
-use Rattle.cp_devices.specs.declared.files.FileNote.{FileNote}
-use Rattle.cp_devices.proofs.Answered.{follow_may, follow_same}
+use Rattle.machine_devices.specs.declared.reply.Reply.{Reply}
+use Rattle.machine_devices.specs.declared.files.FileNote.{FileNote}
+use Rattle.machine_devices.proofs.Answered.{follow_may, follow_same}
 use Rattle.cp_core.proofs.Kept.{nine_each}
 use Rattle.cp_core.proofs.Led.{come_led, led_alone, lives_on, others_stay, printer_stays, punch_stays, stays_each}
 use Rattle.cp_core.proofs.Switches.{switch_wants_none}

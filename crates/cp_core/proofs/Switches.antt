@@ -2,12 +2,12 @@
 use Rattle.std.proofs.Common.{◌≡◌, ℕ, List, [], ◌∷◌, true, Option, Some, subst, sym, inl, inr}
 use Rattle.s370_store.specs.Access.{Touches}
 use Rattle.s370_intr.specs.Run.{AllNeeded}
-use Rattle.cp_devices.specs.declared.request.Request.{Request}
-use Rattle.cp_devices.specs.declared.request.Request.TheVariants.{LogsOn, LogsOff, Resets, Types, Asks, Alone}
-use Rattle.cp_devices.specs.Comes.{asks_to_load, is_ipl}
-use Rattle.cp_devices.specs.Equipped.{Equipped}
-use Rattle.cp_devices.specs.Lines.{IplNeeds, requested}
-use Rattle.cp_devices.specs.Requests.{needs_of, switches}
+use Rattle.machine_devices.specs.declared.request.Request.{Request}
+use Rattle.machine_devices.specs.declared.request.Request.TheVariants.{LogsOn, LogsOff, Resets, Types, Asks, Alone}
+use Rattle.machine_devices.specs.Comes.{asks_to_load, is_ipl}
+use Rattle.machine_devices.specs.Equipped.{Equipped}
+use Rattle.machine_devices.specs.Lines.{IplNeeds, requested}
+use Rattle.machine_devices.specs.Requests.{needs_of, switches}
 use Rattle.cp_core.specs.Wants.{LineWants, LoadWants}
 
 -- it is no IPL

@@ -6,16 +6,16 @@ use Rattle.ckd_volume.specs.Volume.{VolumeFormat}
 use Rattle.cp_directory.specs.Users.{DirectoryUser}
 use Rattle.cp_frames.specs.Layout.{FrameSupply}
 use Rattle.cp_dat.specs.Lent.{set_own}
-use Rattle.cp_devices.specs.Equipped.{Equipped}
-use Rattle.cp_devices.specs.World.{is_logged_on}
+use Rattle.machine_devices.specs.Equipped.{Equipped}
+use Rattle.machine_devices.specs.World.{is_logged_on}
 use Rattle.cp_core.specs.UserMachines.{Fits, UserParts, user_with}
 use Rattle.cp_core.specs.System.{SystemView, deliveries_of, logged_on_of, nobody, stands_among, users_of}
-use Rattle.cp_channels.specs.Disks.{DiskAt}
+use Rattle.machine_channels.specs.Disks.{DiskAt}
 use Rattle.cp_volumes.specs.Shared.{AllLeaveBe, DisksValue, IsConfined, IsUsers, KeepsNeighbours, SharedMinidisk, Stand, disks_on, stand_of, stands_of}
 use Rattle.cp_volumes.proofs.Seats.{disks_stay, stand_at, users_on}
 use Rattle.cp_core.specs.Whole.{AreSeated, IsWhole, no_user}
-use Rattle.cp_devices.specs.declared.reply.Delivery.{Delivery}
-use Rattle.cp_devices.specs.declared.files.FileNote.{FileNote}
+use Rattle.machine_devices.specs.declared.reply.Delivery.{Delivery}
+use Rattle.machine_devices.specs.declared.files.FileNote.{FileNote}
 
 pub length-users : (seats : List UserParts) (volumes : List VolumeFormat) (storages : List (List ℕ)) → length seats ≡ length storages → length (users_of seats volumes storages) ≡ length seats
 length-users [] volumes storages e = refl

@@ -16,19 +16,19 @@ use Rattle.cp_dat.specs.Bringing.{found_from}
 use Rattle.cp_dat.specs.Lent.{KeepsFrames, is_lent_page, keeps_frames_on, lent_bytes, lent_pool, user_of}
 use Rattle.cp_dat.specs.Letting.{between_again, came_on, let_go_came}
 use Rattle.cp_dat.specs.Supplied.{GivesBack, HasNoRoom, HasSuch, IsBetweenUnits, IsBroughtInUnits, IsPagedFor, Supplied, SuppliedUnits, TakesPins, unpinned}
-use Rattle.cp_panel.specs.declared.line.LineError.{LineError}
-use Rattle.cp_panel.specs.declared.line.LineError.TheVariants as errors
-use Rattle.cp_devices.specs.Requests.{needs_of, switches}
-use Rattle.cp_channels.specs.Channels.{Brings, LacksRoom, NoRoom}
-use Rattle.cp_devices.specs.declared.line.Told.{Told}
-use Rattle.cp_devices.specs.Equipped.{Equipped}
-use Rattle.cp_devices.specs.Lines.{IplNeeds, IsWholeLine, requested}
-use Rattle.cp_devices.specs.Serve.{IsServedAt}
-use Rattle.cp_devices.specs.World.{World}
+use Rattle.machine_panel.specs.declared.line.LineError.{LineError}
+use Rattle.machine_panel.specs.declared.line.LineError.TheVariants as errors
+use Rattle.machine_devices.specs.Requests.{needs_of, switches}
+use Rattle.machine_channels.specs.Channels.{Brings, LacksRoom, NoRoom}
+use Rattle.machine_devices.specs.declared.line.Told.{Told}
+use Rattle.machine_devices.specs.Equipped.{Equipped}
+use Rattle.machine_devices.specs.Lines.{IplNeeds, IsWholeLine, requested}
+use Rattle.machine_devices.specs.Serve.{IsServedAt}
+use Rattle.machine_devices.specs.World.{World}
 use Rattle.cp_resident.specs.Resident.{CameIn, IsFilled}
 use Rattle.cp_core.specs.Supply.{IsGivenBack, IsShort, LineBrings, NeedsAll}
 use Rattle.cp_core.specs.Typed.{IsLineLent}
-use Rattle.cp_devices.specs.Comes.{LineMay, asks_to_load, is_ipl}
+use Rattle.machine_devices.specs.Comes.{LineMay, asks_to_load, is_ipl}
 use Rattle.cp_core.specs.Wants.{DeviceNeeds, LineWants}
 use Rattle.cp_core.specs.Work.{HasServed, HasTyped, LineGivesBack, LineLeaves, ServeLeaves}
 use Rattle.cp_core.proofs.Switches.{all_wanted, load_wanted, switch_no_ipl, wanted}

@@ -1,8 +1,8 @@
 -- What is known in a user's world.
 use Rattle.std.specs.Prelude.{ℕ, Bool, List}
-use Rattle.cp_users.specs.Users.{name_of}
+use Rattle.user_names.specs.Users.{name_of}
 use Rattle.cp_directory.specs.Users.{DirectoryUser}
-use Rattle.cp_devices.specs.World.{World}
+use Rattle.machine_devices.specs.World.{World}
 use Rattle.cp_core.specs.declared.world.Among.{Among}
 use Rattle.cp_core.specs.declared.work.Line.{Line}
 use Rattle.cp_core.specs.System.{world_among}

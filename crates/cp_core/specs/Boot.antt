@@ -5,12 +5,12 @@ use Rattle.s370_subchannels.specs.declared.subchannel.Subchannel.{Subchannel}
 use Rattle.cp_directory.specs.Users.{DirectoryUser}
 use Rattle.cp_directory.specs.declared.devices.UserDevices.{UserDevices}
 use Rattle.cp_frames.specs.Layout.{FrameSupply}
-use Rattle.cp_panel.specs.Machine.{unused}
-use Rattle.cp_devices.specs.declared.places.Places.{Places}
-use Rattle.cp_devices.specs.Devices.{AreAttached, devices_new}
-use Rattle.cp_devices.specs.Equipped.{Equipped}
-use Rattle.cp_devices.specs.declared.attaching.AttachError.{AttachError}
-use Rattle.cp_devices.specs.declared.attaching.AttachError.TheVariants as attaching
+use Rattle.machine_panel.specs.Machine.{unused}
+use Rattle.machine_devices.specs.declared.places.Places.{Places}
+use Rattle.machine_devices.specs.Devices.{AreAttached, devices_new}
+use Rattle.machine_devices.specs.Equipped.{Equipped}
+use Rattle.machine_devices.specs.declared.attaching.AttachError.{AttachError}
+use Rattle.machine_devices.specs.declared.attaching.AttachError.TheVariants as attaching
 use Rattle.cp_core.specs.declared.events.BootError.{BootError}
 use Rattle.cp_core.specs.declared.events.BootError.TheVariants as errors
 use Rattle.ckd_volume.specs.Volume.{VolumeFormat}

@@ -1,10 +1,10 @@
 -- What has come to a user of what is delivered.
 use Rattle.std.specs.Prelude.{◌≡◌, ◌<◌, length, slice_set, Option, Some, None}
 use Rattle.s370_channel.specs.Reading.{as_reached}
-use Rattle.cp_devices.specs.Life.{Event as Local, Leaves}
+use Rattle.machine_devices.specs.Life.{Event as Local, Leaves}
 use Rattle.cp_core.specs.System.{SystemView, user_at}
-use Rattle.cp_devices.specs.declared.reply.Delivered.{Delivered}
-use Rattle.cp_devices.specs.declared.reply.Delivery.{Delivery}
+use Rattle.machine_devices.specs.declared.reply.Delivered.{Delivered}
+use Rattle.machine_devices.specs.declared.reply.Delivery.{Delivery}
 
 -- it has come to its receiver, and every other user's machine stays
 pub record ComesTo (coming : Delivery → Local) (delivered : Delivered) (old new : SystemView) : Type 0 where

@@ -1,7 +1,7 @@
 -- Whole histories: events that were applied one after another.
 use Rattle.std.specs.Prelude.{◌≡◌, ℕ, List, [], ◌∷◌, ◌++◌}
 use Rattle.s370_channel.specs.Reading.{as_reached}
-use Rattle.cp_devices.specs.Life.{Event as Local, Lives}
+use Rattle.machine_devices.specs.Life.{Event as Local, Lives}
 use Rattle.cp_core.specs.Local.{IsApplied, Step, local}
 use Rattle.cp_core.specs.Supply.{IsSupplied}
 use Rattle.cp_core.specs.System.{SystemView, user_at}

@@ -3,7 +3,7 @@ use Rattle.std.specs.Prelude.{◌≡◌, ℕ, ◌*◌, nat_lt, if◌then◌else�
 use Rattle.std.specs.Borrow.{LendsSo, MutBor, Fml, u8, Array}
 use Rattle.cp_frames.specs.declared.numbers.UserPage.{UserPage}
 use Rattle.cp_frames.specs.Layout.{frame_of, put_page}
-use Rattle.cp_devices.specs.Equipped.{Equipped, with_bytes}
+use Rattle.machine_devices.specs.Equipped.{Equipped, with_bytes}
 use Rattle.cp_core.specs.System.{SystemView, machine_at, user_at}
 use Rattle.cp_core.specs.contracts.system.System.{the_row}
 

@@ -6,18 +6,18 @@ use Rattle.s370_intr.specs.declared.run.Ran.{Ran as RanUnits}
 use Rattle.unit_record.specs.declared.reader.Sender.TheVariants as senders
 use Rattle.unit_record.specs.Reader.{DeckValue}
 use Rattle.cp_console.specs.ConsoleLine.{characters_of}
-use Rattle.cp_devices.specs.Life.{Event as Local, Units, Serve as Serves, Line as Types, Tick as Ticks, Deck as Gets, Message as Hears, Lives}
-use Rattle.cp_devices.specs.Spooling.{deck_punched}
+use Rattle.machine_devices.specs.Life.{Event as Local, Units, Serve as Serves, Line as Types, Tick as Ticks, Deck as Gets, Message as Hears, Lives}
+use Rattle.machine_devices.specs.Spooling.{deck_punched}
 use Rattle.cp_core.specs.Events.{user_of}
 use Rattle.cp_core.specs.System.{SystemView, user_at, world_of}
-use Rattle.cp_devices.specs.declared.reply.Delivered.{Delivered}
-use Rattle.cp_devices.specs.declared.reply.Delivery.{Delivery}
-use Rattle.cp_devices.specs.declared.reply.Delivery.TheVariants as deliveries
-use Rattle.cp_devices.specs.declared.reply.Ended.{Ended}
-use Rattle.cp_devices.specs.declared.reply.Ended.TheVariants.{Ran, Done, Served, FramesOut}
+use Rattle.machine_devices.specs.declared.reply.Delivered.{Delivered}
+use Rattle.machine_devices.specs.declared.reply.Delivery.{Delivery}
+use Rattle.machine_devices.specs.declared.reply.Delivery.TheVariants as deliveries
+use Rattle.machine_devices.specs.declared.reply.Ended.{Ended}
+use Rattle.machine_devices.specs.declared.reply.Ended.TheVariants.{Ran, Done, Served, FramesOut}
 use Rattle.cp_core.specs.declared.events.Event.{Event}
 use Rattle.cp_core.specs.declared.events.Event.TheVariants.{Run, Line, Tick, Deck, Serve}
-use Rattle.cp_devices.specs.declared.reply.Reply.{Reply}
+use Rattle.machine_devices.specs.declared.reply.Reply.{Reply}
 
 -- an event that was applied, its reply, and what was seen after it
 pub record Step : Type 0 where

@@ -1,8 +1,8 @@
 -- Where memory may be refused, and what is left then.
 use Rattle.std.specs.Prelude.{◌≡◌, ℕ, ◌<◌, ◌==◌, ◌&&◌, Bool, true, false, length, IsSome}
 use Rattle.s370_subchannels.specs.Programs.{program_of}
-use Rattle.cp_devices.specs.Comes.{LineMay, is_cut}
-use Rattle.cp_devices.specs.Lines.{requested}
+use Rattle.machine_devices.specs.Comes.{LineMay, is_cut}
+use Rattle.machine_devices.specs.Lines.{requested}
 use Rattle.cp_core.specs.Supply.{IsSuppliedInPart}
 use Rattle.cp_core.specs.System.{SystemView, machine_at, user_at}
 use Rattle.cp_core.specs.declared.events.Event.{Event}

@@ -3,11 +3,11 @@ use Rattle.std.specs.Prelude.{ℕ, ◌<◌, length}
 use Rattle.unit_record.specs.declared.reader.Sender.TheVariants as senders
 use Rattle.cp_console.specs.ConsoleLine.{characters_of}
 use Rattle.cp_spool.specs.Queues.{QueuesValue, deck_of, files_of}
-use Rattle.cp_devices.specs.Spooling.{deck_punched}
+use Rattle.machine_devices.specs.Spooling.{deck_punched}
 use Rattle.cp_core.specs.System.{SystemView, user_at}
-use Rattle.cp_devices.specs.Life.{Event as Local, Deck as Gets, Message as Hears}
-use Rattle.cp_devices.specs.declared.reply.Delivery.{Delivery}
-use Rattle.cp_devices.specs.declared.reply.Delivery.TheVariants as deliveries
+use Rattle.machine_devices.specs.Life.{Event as Local, Deck as Gets, Message as Hears}
+use Rattle.machine_devices.specs.declared.reply.Delivery.{Delivery}
+use Rattle.machine_devices.specs.declared.reply.Delivery.TheVariants as deliveries
 use Rattle.cp_core.specs.declared.delivery.Parcel.{Parcel}
 use Rattle.cp_core.specs.declared.delivery.Parcel.TheVariants as parcels
 

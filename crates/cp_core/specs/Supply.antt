@@ -7,16 +7,16 @@ use Rattle.s370_intr.specs.Run.{AllNeeded, EachBrings}
 use Rattle.s370_intr.specs.Laws.{begun}
 use Rattle.cp_frames.specs.Layout.{FrameSupply, cleared_of, is_there}
 use Rattle.cp_dat.specs.Supplied.{HasSuch, IsBetweenUnits, IsBroughtInUnits}
-use Rattle.cp_panel.specs.Machine.{Machine}
-use Rattle.cp_devices.specs.Requests.{switches}
-use Rattle.cp_panel.specs.Tick.{TickNeeds}
+use Rattle.machine_panel.specs.Machine.{Machine}
+use Rattle.machine_devices.specs.Requests.{switches}
+use Rattle.machine_panel.specs.Tick.{TickNeeds}
 use Rattle.cp_core.specs.Events.{user_of}
 use Rattle.cp_core.specs.System.{SystemView, machine_at, user_at}
-use Rattle.cp_devices.specs.Lines.{requested}
-use Rattle.cp_devices.specs.Comes.{is_ipl}
+use Rattle.machine_devices.specs.Lines.{requested}
+use Rattle.machine_devices.specs.Comes.{is_ipl}
 use Rattle.cp_core.specs.Wants.{DeviceNeeds, LineWants}
-use Rattle.cp_devices.specs.declared.reply.Ended.{Ended}
-use Rattle.cp_devices.specs.declared.reply.Ended.TheVariants.{Ran, Served, Done, FramesOut}
+use Rattle.machine_devices.specs.declared.reply.Ended.{Ended}
+use Rattle.machine_devices.specs.declared.reply.Ended.TheVariants.{Ran, Served, Done, FramesOut}
 use Rattle.cp_core.specs.declared.events.Event.{Event}
 use Rattle.cp_core.specs.declared.events.Event.TheVariants.{Run, Line, Tick, Deck, Serve}
 

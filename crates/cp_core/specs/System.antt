@@ -1,17 +1,17 @@
 -- The whole system as it is seen.
 use Rattle.std.specs.Prelude.{ℕ, Bool, List, [], ◌∷◌, map, slice_index_or}
 use Rattle.ckd_volume.specs.Volume.{VolumeFormat}
-use Rattle.cp_users.specs.Users.{name_of}
+use Rattle.user_names.specs.Users.{name_of}
 use Rattle.cp_directory.specs.Users.{DirectoryUser}
 use Rattle.cp_frames.specs.Layout.{FrameSupply}
-use Rattle.cp_panel.specs.Machine.{Machine, unused}
-use Rattle.cp_devices.specs.Devices.{devices_new, no_places}
-use Rattle.cp_devices.specs.Equipped.{Equipped}
-use Rattle.cp_devices.specs.World.{World, is_logged_on}
+use Rattle.machine_panel.specs.Machine.{Machine, unused}
+use Rattle.machine_devices.specs.Devices.{devices_new, no_places}
+use Rattle.machine_devices.specs.Equipped.{Equipped}
+use Rattle.machine_devices.specs.World.{World, is_logged_on}
 use Rattle.cp_volumes.specs.Shared.{Stand, stands_of}
 use Rattle.cp_core.specs.UserMachines.{UserParts, user_with}
-use Rattle.cp_devices.specs.declared.reply.Delivery.{Delivery}
-use Rattle.cp_devices.specs.declared.files.FileNote.{FileNote}
+use Rattle.machine_devices.specs.declared.reply.Delivery.{Delivery}
+use Rattle.machine_devices.specs.declared.files.FileNote.{FileNote}
 
 -- each user's machine with its devices, the users of the directory, where pages stand and how many have come, what each file
 -- was when it got its number and whose it is, what was delivered to each user, the volumes as they are now, where each user's

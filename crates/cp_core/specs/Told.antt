@@ -3,26 +3,26 @@ use Rattle.std.specs.Prelude.{◌≡◌, ℕ, ◌-◌, List, [], ◌∷◌, ◌+
 use Rattle.s370_channel.specs.Reading.{as_reached}
 use Rattle.s370_intr.specs.Run.{IsLacking}
 use Rattle.cp_dat.specs.Supplied.{HasNoRoom}
-use Rattle.cp_panel.specs.Run.{TellsRun, notice_of}
-use Rattle.cp_panel.specs.Tick.{TickNeeds}
-use Rattle.cp_devices.specs.declared.line.Told.TheVariants.{Silent}
-use Rattle.cp_devices.specs.Lines.{said}
-use Rattle.cp_devices.specs.Serve.{IsServedAt}
+use Rattle.machine_panel.specs.Run.{TellsRun, notice_of}
+use Rattle.machine_panel.specs.Tick.{TickNeeds}
+use Rattle.machine_devices.specs.declared.line.Told.TheVariants.{Silent}
+use Rattle.machine_devices.specs.Lines.{said}
+use Rattle.machine_devices.specs.Serve.{IsServedAt}
 use Rattle.cp_core.specs.Events.{user_of}
-use Rattle.cp_devices.specs.Notes.{closed_by, deck_noted, next_file}
-use Rattle.cp_devices.specs.Replies.{IsLineTold, given}
+use Rattle.machine_devices.specs.Notes.{closed_by, deck_noted, next_file}
+use Rattle.machine_devices.specs.Replies.{IsLineTold, given}
 use Rattle.cp_core.specs.Local.{Step}
 use Rattle.cp_core.specs.Supply.{IsShort}
 use Rattle.cp_core.specs.Wants.{DeviceNeeds, LineWants}
 use Rattle.cp_core.specs.System.{SystemView, deliveries_at, machine_at, user_at, world_of}
-use Rattle.cp_devices.specs.declared.reply.Delivered.{Delivered}
-use Rattle.cp_devices.specs.declared.reply.Delivery.{Delivery}
-use Rattle.cp_devices.specs.declared.reply.Ended.{Ended}
-use Rattle.cp_devices.specs.declared.reply.Ended.TheVariants.{Ran, Served, Done, FramesOut}
+use Rattle.machine_devices.specs.declared.reply.Delivered.{Delivered}
+use Rattle.machine_devices.specs.declared.reply.Delivery.{Delivery}
+use Rattle.machine_devices.specs.declared.reply.Ended.{Ended}
+use Rattle.machine_devices.specs.declared.reply.Ended.TheVariants.{Ran, Served, Done, FramesOut}
 use Rattle.cp_core.specs.declared.events.Event.{Event}
 use Rattle.cp_core.specs.declared.events.Event.TheVariants.{Run, Line, Tick, Deck, Serve}
-use Rattle.cp_devices.specs.declared.reply.Reply.{Reply}
-use Rattle.cp_devices.specs.declared.files.FileNote.{FileNote}
+use Rattle.machine_devices.specs.declared.reply.Reply.{Reply}
+use Rattle.machine_devices.specs.declared.files.FileNote.{FileNote}
 
 -- ---- out of frames
 

@@ -4,14 +4,14 @@ use Rattle.s370_intr.specs.Run.{IsLacking}
 use Rattle.cp_dat.specs.declared.dat.Dat.{Dat}
 use Rattle.cp_dat.specs.Lent.{KeepsFrames, lent_pool, user_of}
 use Rattle.cp_dat.specs.Supplied.{IsBetweenUnits, SuppliedUnits}
-use Rattle.cp_panel.specs.declared.line.LineError.{LineError}
-use Rattle.cp_panel.specs.declared.line.LineError.TheVariants as errors
-use Rattle.cp_devices.specs.declared.line.Told.{Told}
-use Rattle.cp_devices.specs.Equipped.{Equipped}
-use Rattle.cp_devices.specs.Lines.{requested}
-use Rattle.cp_devices.specs.Requests.{switches}
+use Rattle.machine_panel.specs.declared.line.LineError.{LineError}
+use Rattle.machine_panel.specs.declared.line.LineError.TheVariants as errors
+use Rattle.machine_devices.specs.declared.line.Told.{Told}
+use Rattle.machine_devices.specs.Equipped.{Equipped}
+use Rattle.machine_devices.specs.Lines.{requested}
+use Rattle.machine_devices.specs.Requests.{switches}
 use Rattle.cp_core.specs.Supply.{IsGivenBack, IsShort, LineBrings}
-use Rattle.cp_devices.specs.Comes.{is_ipl}
+use Rattle.machine_devices.specs.Comes.{is_ipl}
 use Rattle.cp_core.specs.Wants.{LineWants}
 
 -- LOGON and LOGOFF give back all pages, unless they are refused memory; every other line brings pages that it needs; no frame is

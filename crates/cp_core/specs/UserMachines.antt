@@ -1,15 +1,15 @@
 -- A user's machine with its devices, of which the storage stands in frames.
 use Rattle.std.specs.Prelude.{◌≡◌, ℕ, ◌*◌, ◌≤◌, List, [], length, map, replicate}
 use Rattle.s370_subchannels.specs.declared.subchannel.Subchannel.{Subchannel}
-use Rattle.cp_panel.specs.Machine.{Parts, machine_of, unused}
-use Rattle.cp_devices.specs.Devices.{AreAttached, DevicesValue}
-use Rattle.cp_channels.specs.Disks.{DiskAt}
+use Rattle.machine_panel.specs.Machine.{Parts, machine_of, unused}
+use Rattle.machine_devices.specs.Devices.{AreAttached, DevicesValue}
+use Rattle.machine_channels.specs.Disks.{DiskAt}
 use Rattle.ckd_volume.specs.Volume.{VolumeFormat}
 use Rattle.cp_volumes.specs.Shared.{SharedMinidisk, disks_on}
-use Rattle.cp_devices.specs.Equipped.{Equipped, equipped}
+use Rattle.machine_devices.specs.Equipped.{Equipped, equipped}
 use Rattle.cp_spool.specs.Queues.{QueuesValue, no_files}
-use Rattle.cp_devices.specs.Lent.{DevicesParts, devices_on, devices_with}
-use Rattle.cp_devices.specs.declared.reply.Delivery.{Delivery}
+use Rattle.machine_devices.specs.Lent.{DevicesParts, devices_on, devices_with}
+use Rattle.machine_devices.specs.declared.reply.Delivery.{Delivery}
 
 -- a machine with its devices but for the bytes of its storage and the cylinders of its minidisks, and what was delivered to its
 -- user

@@ -2,11 +2,11 @@
 use Rattle.std.specs.Prelude.{◌⊎◌, ℕ, List, Option, Some, None}
 use Rattle.s370_store.specs.Access.{Touches}
 use Rattle.cp_hold.specs.Holding.{HoldNeeds}
-use Rattle.cp_devices.specs.Equipped.{Equipped}
-use Rattle.cp_devices.specs.Comes.{asks_to_load}
-use Rattle.cp_devices.specs.Lines.{IplNeeds, requested}
-use Rattle.cp_devices.specs.Requests.{needs_of}
-use Rattle.cp_devices.specs.Serve.{ServeNeeds}
+use Rattle.machine_devices.specs.Equipped.{Equipped}
+use Rattle.machine_devices.specs.Comes.{asks_to_load}
+use Rattle.machine_devices.specs.Lines.{IplNeeds, requested}
+use Rattle.machine_devices.specs.Requests.{needs_of}
+use Rattle.machine_devices.specs.Serve.{ServeNeeds}
 
 -- a serve needs the pages that the program of the device touches, which was started on it: each with a byte of a word that it
 -- fetches, of that word's list, or of a byte that it moves; and where no input can change the program, those of the words that it

@@ -4,9 +4,9 @@ use Rattle.ckd_volume.specs.Volume.{VolumeFormat}
 use Rattle.cp_directory.specs.Users.{DirectoryUser}
 use Rattle.cp_frames.specs.Layout.{Pool}
 use Rattle.cp_dat.specs.Supplied.{IsBetweenUnits}
-use Rattle.cp_panel.specs.Machine.{nothing_pending, reset_cpu}
-use Rattle.cp_panel.specs.declared.machine.Mode.TheVariants.{Off}
-use Rattle.cp_devices.specs.Devices.{devices_new, no_places}
+use Rattle.machine_panel.specs.Machine.{nothing_pending, reset_cpu}
+use Rattle.machine_panel.specs.declared.machine.Mode.TheVariants.{Off}
+use Rattle.machine_devices.specs.Devices.{devices_new, no_places}
 use Rattle.cp_core.specs.UserMachines.{UserParts, Fits, user_with}
 use Rattle.cp_volumes.specs.Shared.{AllLeaveBe, AreThere, IsUsers, Stand, stands_of}
 use Rattle.cp_seating.specs.Seating.{seats_of}

@@ -10,18 +10,18 @@ use Rattle.s370_intr.specs.Run.{AllNeeded, EachBrings, IsLacking}
 use Rattle.s370_subchannels.specs.Programs.{program_of}
 use Rattle.cp_frames.specs.Layout.{FrameSupply}
 use Rattle.cp_dat.specs.Supplied.{HasNoRoom, IsBroughtInUnits}
-use Rattle.cp_panel.specs.declared.line.LineError.{LineError}
-use Rattle.cp_panel.specs.declared.line.LineError.TheVariants as errors
-use Rattle.cp_panel.specs.Run.{TellsRun, notice_of}
-use Rattle.cp_panel.specs.Tick.{TickNeeds, ticked}
-use Rattle.cp_devices.specs.declared.line.Told.{Told}
-use Rattle.cp_devices.specs.Equipped.{Equipped}
-use Rattle.cp_devices.specs.Lines.{IsWholeLine, requested}
-use Rattle.cp_devices.specs.Requests.{switches}
-use Rattle.cp_devices.specs.Serve.{IsServedAt}
-use Rattle.cp_devices.specs.World.{World}
+use Rattle.machine_panel.specs.declared.line.LineError.{LineError}
+use Rattle.machine_panel.specs.declared.line.LineError.TheVariants as errors
+use Rattle.machine_panel.specs.Run.{TellsRun, notice_of}
+use Rattle.machine_panel.specs.Tick.{TickNeeds, ticked}
+use Rattle.machine_devices.specs.declared.line.Told.{Told}
+use Rattle.machine_devices.specs.Equipped.{Equipped}
+use Rattle.machine_devices.specs.Lines.{IsWholeLine, requested}
+use Rattle.machine_devices.specs.Requests.{switches}
+use Rattle.machine_devices.specs.Serve.{IsServedAt}
+use Rattle.machine_devices.specs.World.{World}
 use Rattle.cp_core.specs.Supply.{IsGivenBack, IsShort, LineBrings}
-use Rattle.cp_devices.specs.Comes.{LineMay, is_ipl}
+use Rattle.machine_devices.specs.Comes.{LineMay, is_ipl}
 use Rattle.cp_core.specs.Wants.{DeviceNeeds, LineWants}
 
 -- ---- a run

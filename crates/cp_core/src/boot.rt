@@ -5,22 +5,22 @@ ghost use Rattle.cp_core.specs.Boot.{IsBooted, boot_error, places_in};
 ghost use Rattle.cp_seating.specs.Seating.{AreLawful, IsFirstPast, first_lacking, has_twins, minidisks_at, user_is_past, user_lacks};
 ghost use Rattle.cp_core.specs.UserMachines.{SeatParts, unowned};
 ghost use Rattle.cp_core.specs.Whole.{AreNew};
-ghost use Rattle.cp_devices.specs.declared.attaching.AttachError.TheVariants as attaching;
+ghost use Rattle.machine_devices.specs.declared.attaching.AttachError.TheVariants as attaching;
 ghost use Rattle.cp_directory.specs.Grammar.{HasLawfulDevices};
 
 use crate::events::BootError;
 use crate::system::System;
 use crate::user_machine::UserMachine;
 use ckd_volume::Volume;
-use cp_devices::{AttachError, Places};
 use cp_directory::{Directory, User, UserDevices};
 use cp_frames::Frames;
 use cp_seating::{has_twins, lacking_volume, past_end, seats_of};
 use cp_spool::Queues;
-use cp_users::UserNo;
 use cp_volumes::Volumes;
+use machine_devices::{AttachError, Places};
 use std::alloc::{AllocError, Global};
 use std::marker::Model;
+use user_names::UserNo;
 
 /// How many frames and slots a system has.
 #[derive(Clone, Copy, Debug, PartialEq, Eq)]

@@ -2,9 +2,9 @@
 ghost use Rattle.std.specs.Prelude.{◌≡◌};
 
 use cp_console::console_line::ConsoleLine;
-use cp_devices::Delivery;
-use cp_users::UserNo;
+use machine_devices::Delivery;
 use unit_record::Card;
+use user_names::UserNo;
 
 /// What is to be delivered to a user.
 #[derive(Drop)]

@@ -2,10 +2,10 @@
 ghost use Rattle.std.specs.Prelude.{◌≡◌};
 
 use cp_directory::Volser;
-use cp_users::UserNo;
 use s370_num::DevAddr;
 use thiserror::Error;
 use unit_record::Card;
+use user_names::UserNo;
 
 /// What happens to the system.
 #[derive(Clone, Copy, Debug, PartialEq, Eq)]

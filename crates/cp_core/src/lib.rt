@@ -13,9 +13,9 @@
 //! ```
 //! use cp_console::responses::Response;
 //! use cp_core::{Event, Sizes, System};
-//! use cp_devices::Told;
+//! use machine_devices::Told;
 //! use cp_directory::read_directory;
-//! use cp_users::UserNo;
+//! use user_names::UserNo;
 //!
 //! let directory = read_directory(alloc, b"USER A PW 8K\nUSER B PW 8K\n")?;
 //! let sizes = Sizes::new(16, 0).ok_or("too many frames")?;

@@ -1,18 +1,18 @@
 //! Lines of users, and decks of the operator: what comes of them for the files of all, and for others.
 ghost use Rattle.std.specs.Prelude.{◌≡◌, ◌<◌, ◌≤◌, ◌++◌, [], ◌∷◌, None, Some, IfOk, OnErr, OnOk, length, map, nat_lt, if◌then◌else◌, slice_get, slice_set};
 ghost use Rattle.cp_dat.specs.Supplied.{IsBetweenUnits};
-ghost use Rattle.cp_devices.specs.World.{is_logged_on};
+ghost use Rattle.machine_devices.specs.World.{is_logged_on};
 ghost use Rattle.cp_core.specs.declared.events.Event.TheVariants as happening;
-ghost use Rattle.cp_devices.specs.Comes.{HasClosed, NeedsMemory};
+ghost use Rattle.machine_devices.specs.Comes.{HasClosed, NeedsMemory};
 ghost use Rattle.cp_core.specs.Come.{HasCome};
-ghost use Rattle.cp_devices.specs.Coming.{comes_by_line, comes_from_operator};
-ghost use Rattle.cp_devices.specs.Notes.{closed_since, next_file};
+ghost use Rattle.machine_devices.specs.Coming.{comes_by_line, comes_from_operator};
+ghost use Rattle.machine_devices.specs.Notes.{closed_since, next_file};
 ghost use Rattle.cp_core.specs.Histories.{IsStep};
 ghost use Rattle.cp_core.specs.Memory.{IsCutShort};
 ghost use Rattle.cp_core.specs.Parcels.{IsThere, contents, note_of};
 ghost use Rattle.cp_volumes.specs.Shared.{IsConfined};
 ghost use Rattle.cp_core.specs.System.{SystemView, logged_on_of, stands_at, user_at, world_of};
-ghost use Rattle.cp_devices.specs.Replies.{receiver_of, delivered_by, delivery_to, punched, said_to_line};
+ghost use Rattle.machine_devices.specs.Replies.{receiver_of, delivered_by, delivery_to, punched, said_to_line};
 ghost use Rattle.cp_core.specs.Told.{with_delivered};
 ghost use Rattle.cp_core.specs.Work.{HasTyped};
 
@@ -21,13 +21,13 @@ use crate::system::System;
 use crate::user_machine::UserMachine;
 use crate::work::Line;
 use arrayvec::ArrayVec;
-use cp_devices::{
+use machine_devices::{
     Delivered, Delivery, Ended, FileKind, Reply, Told, copy_of, is_logged_on, said_to_line,
 };
-use cp_panel::LineError;
-use cp_users::UserNo;
+use machine_panel::LineError;
 use std::alloc::AllocError;
 use unit_record::{Card, Target};
+use user_names::UserNo;
 
 /// How many files the punch and the printer of a user have closed.
 #[derive(Clone, Copy)]

@@ -6,8 +6,8 @@ ghost use Rattle.cp_core.specs.System.{machine_at};
 
 use crate::system::System;
 use cp_frames::{FRAME_SIZE, FrameNo};
-use cp_users::UserNo;
 use s370_store::{PAGE_SIZE, Page};
+use user_names::UserNo;
 
 impl System {
     ghost use Rattle.std.specs.Borrow.{sem};

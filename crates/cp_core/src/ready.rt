@@ -1,10 +1,10 @@
 //! Which users are ready for a slice of the processor.
 ghost use Rattle.std.specs.Prelude.{◌≡◌};
-ghost use Rattle.cp_panel.specs.Ready.{is_ready};
+ghost use Rattle.machine_panel.specs.Ready.{is_ready};
 ghost use Rattle.cp_core.specs.System.{machine_at};
 
 use crate::system::System;
-use cp_users::UserNo;
+use user_names::UserNo;
 
 impl System {
     /// Whether a user is ready for a slice: he is, unless a run of one unit of his machine would tell that it waits for

@@ -1,24 +1,24 @@
 //! A device of a user is served, and a line is typed, with the loading for which it asks.
 ghost use Rattle.std.specs.Prelude.{◌≡◌, ◌<◌, ◌≤◌, Err, IfOk, IsSome, OnErr, false, length, true};
 ghost use Rattle.s370_subchannels.specs.Programs.{program_of};
-ghost use Rattle.cp_channels.specs.Channels.{Brings, LacksRoom, NoRoom};
-ghost use Rattle.cp_devices.specs.Equipped.{equipped};
-ghost use Rattle.cp_devices.specs.Lent.{KeepsBeside, devices_on};
-ghost use Rattle.cp_devices.specs.Serve.{IsServedAt, ServeNeeds};
-ghost use Rattle.cp_panel.specs.declared.line.LineError.TheVariants as errors;
+ghost use Rattle.machine_channels.specs.Channels.{Brings, LacksRoom, NoRoom};
+ghost use Rattle.machine_devices.specs.Equipped.{equipped};
+ghost use Rattle.machine_devices.specs.Lent.{KeepsBeside, devices_on};
+ghost use Rattle.machine_devices.specs.Serve.{IsServedAt, ServeNeeds};
+ghost use Rattle.machine_panel.specs.declared.line.LineError.TheVariants as errors;
 ghost use Rattle.cp_dat.specs.Lent.{lent_bytes, lent_keys, lent_pool};
 ghost use Rattle.cp_dat.specs.Supplied.{IsBetweenUnits};
-ghost use Rattle.cp_devices.specs.Lines.{IsLine, IsWholeLine, MayTakeMemory, requested};
+ghost use Rattle.machine_devices.specs.Lines.{IsLine, IsWholeLine, MayTakeMemory, requested};
 ghost use Rattle.cp_resident.specs.Resident.{KeepsHung, disks_on};
 ghost use Rattle.cp_core.specs.Typed.{IsLineLent};
-ghost use Rattle.cp_devices.specs.Comes.{LineMay, is_ipl};
+ghost use Rattle.machine_devices.specs.Comes.{LineMay, is_ipl};
 
-use cp_channels::Channels;
 use cp_dat::Dat;
-use cp_devices::{Devices, Told, World};
-use cp_panel::{LineError, Machine};
 use cp_resident::Resident;
 use cp_spool::Queues;
+use machine_channels::Channels;
+use machine_devices::{Devices, Told, World};
+use machine_panel::{LineError, Machine};
 use s370_channel::ChannelError;
 use s370_num::DevAddr;
 use s370_store::{Storage, UnitSupply};

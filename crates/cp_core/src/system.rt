@@ -2,10 +2,10 @@
 ghost use Rattle.std.specs.Prelude.{◌≡◌, ◌<◌, ◌≤◌, ◌↔◌, ℕ, [], ◌∷◌, ◌++◌, ◌^◌, Err, Some, true, false, IfSome, IsOk, IfOk, OnErr, OnOk, length, option_copied, slice_get, slice_set};
 ghost use Rattle.s370_channel.specs.Reading.{as_reached};
 ghost use Rattle.cp_dat.specs.Supplied.{IsBetweenUnits};
-ghost use Rattle.cp_devices.specs.Life.{Leaves};
-ghost use Rattle.cp_devices.specs.declared.reply.Ended.TheVariants.{Done};
+ghost use Rattle.machine_devices.specs.Life.{Leaves};
+ghost use Rattle.machine_devices.specs.declared.reply.Ended.TheVariants.{Done};
 ghost use Rattle.cp_core.specs.Events.{IsNoRun, user_of};
-ghost use Rattle.cp_devices.specs.Notes.{next_file};
+ghost use Rattle.machine_devices.specs.Notes.{next_file};
 ghost use Rattle.cp_core.specs.Histories.{EachIsBare, IsStep};
 ghost use Rattle.cp_core.specs.Local.{IsApplied};
 ghost use Rattle.cp_core.specs.Memory.{IsCutShort, MayTakeMemory, is_cut_short};
@@ -21,16 +21,16 @@ use crate::events::{CpError, Event};
 use crate::user_machine::UserMachine;
 use crate::work::{Service, Tick, Units, Work};
 use ckd_volume::Volume;
-use cp_devices::{Ended, FileKind, FileNote, Reply, SeenDevices, Told};
 use cp_directory::Directory;
 use cp_frames::Frames;
-use cp_panel::{LineError, notice_of};
 use cp_spool::Queues;
-use cp_users::UserNo;
 use cp_volumes::Volumes;
+use machine_devices::{Ended, FileKind, FileNote, Reply, SeenDevices, Told};
+use machine_panel::{LineError, notice_of};
 use s370_num::DevAddr;
 use std::alloc::{AllocError, Global};
 use std::marker::Model;
+use user_names::UserNo;
 
 /// Many users' machines with their devices, on shared frames.
 #[derive(Drop)]

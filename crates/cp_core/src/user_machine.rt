@@ -3,11 +3,11 @@ ghost use Rattle.std.specs.Prelude.{◌≡◌, ◌<◌, ◌≤◌, ◌*◌, ◌+
 ghost use Rattle.s370_channel.specs.Reading.{as_reached};
 ghost use Rattle.cp_frames.specs.Layout.{bytes_of};
 ghost use Rattle.cp_dat.specs.Supplied.{IsBetweenUnits};
-ghost use Rattle.cp_devices.specs.Devices.{can_attach, devices_new, places_of};
-ghost use Rattle.cp_devices.specs.declared.attaching.AttachError.TheVariants as attaching;
-ghost use Rattle.cp_devices.specs.Equipped.{equipped};
-ghost use Rattle.cp_devices.specs.Life.{Leaves};
-ghost use Rattle.cp_devices.specs.Lent.{KeepsBeside, devices_on, parts_new};
+ghost use Rattle.machine_devices.specs.Devices.{can_attach, devices_new, places_of};
+ghost use Rattle.machine_devices.specs.declared.attaching.AttachError.TheVariants as attaching;
+ghost use Rattle.machine_devices.specs.Equipped.{equipped};
+ghost use Rattle.machine_devices.specs.Life.{Leaves};
+ghost use Rattle.machine_devices.specs.Lent.{KeepsBeside, devices_on, parts_new};
 ghost use Rattle.cp_core.specs.Parcels.{IsThereIn, contents_in, note_of};
 ghost use Rattle.cp_core.specs.UserMachines.{Fits, IsUnused, seat_on, user_with};
 ghost use Rattle.ckd_volume.specs.Volume.{VolumeFormat};
@@ -17,18 +17,18 @@ use crate::delivery::Parcel;
 use crate::work::Work;
 use cp_console::responses::Response;
 use cp_dat::Dat;
-use cp_devices::{AttachError, Delivery, Devices, Places};
 use cp_directory::Directory;
 use cp_frames::Frames;
-use cp_panel::Machine;
 use cp_resident::Reuse;
 use cp_spool::Queues;
-use cp_users::UserNo;
 use cp_volumes::{SharedDisk, Volumes};
+use machine_devices::{AttachError, Delivery, Devices, Places};
+use machine_panel::Machine;
 use s370_num::{DevAddr, StorageKey};
 use std::alloc::{AllocError, Global};
 use std::marker::Model;
 use unit_record::Sender;
+use user_names::UserNo;
 
 /// A user's machine with its devices but for the bytes of its storage and the cylinders of its minidisks, and what was
 /// delivered to him.

@@ -3,21 +3,21 @@
 ghost use Rattle.std.specs.Prelude.{◌≡◌, ◌<◌, ◌↔◌, IfSome, IsSome, length, slice_get};
 ghost use Rattle.std.specs.List.{find};
 ghost use Rattle.std.specs.Option.{option_map};
-ghost use Rattle.cp_channels.specs.Disks.{is_disk_at};
+ghost use Rattle.machine_channels.specs.Disks.{is_disk_at};
 ghost use Rattle.cp_volumes.specs.Seen.{seen_disk};
 ghost use Rattle.cp_core.specs.UserMachines.{seat_with, user_with};
 ghost use Rattle.cp_core.specs.System.{deliveries_at, machine_at, user_at};
 
 use crate::system::System;
 use crate::user_machine::UserMachine;
-use cp_devices::{Delivery, SeenDevices};
-use cp_panel::Mode;
-use cp_users::UserNo;
 use cp_volumes::SeenDisk;
+use machine_devices::{Delivery, SeenDevices};
+use machine_panel::Mode;
 use s370_intr::Pending;
 use s370_num::{DevAddr, StorageKey};
 use s370_psw::Psw;
 use s370_subchannels::Subchannel;
+use user_names::UserNo;
 
 impl System {
     /// A user's machine with its devices but for the bytes of its storage.

@@ -5,26 +5,26 @@ ghost use Rattle.cp_directory.specs.Users.{DirectoryUser};
 ghost use Rattle.cp_frames.specs.Layout.{FrameSupply};
 ghost use Rattle.cp_dat.specs.Lent.{KeepsFrames, lent_bytes, lent_keys, lent_pool, user_of};
 ghost use Rattle.cp_dat.specs.Supplied.{IsBetweenUnits};
-ghost use Rattle.cp_devices.specs.Equipped.{Equipped, equipped};
-ghost use Rattle.cp_devices.specs.Lent.{KeepsBeside, devices_on};
+ghost use Rattle.machine_devices.specs.Equipped.{Equipped, equipped};
+ghost use Rattle.machine_devices.specs.Lent.{KeepsBeside, devices_on};
 ghost use Rattle.cp_volumes.specs.Shared.{IsUsers, KeepsNeighbours, disks_on, stands_of};
 
 use crate::serving::{serve_supplied, type_supplied};
 use crate::world::Among;
 use arrayvec::ArrayVec;
 use cp_dat::Dat;
-use cp_devices::{Devices, Told};
 use cp_directory::Directory;
-use cp_panel::{LineError, Machine};
 use cp_resident::{Resident, Reuse};
 use cp_spool::Queues;
 use cp_trap::VirtualCpu;
-use cp_users::UserNo;
 use cp_volumes::{SharedDisk, Volumes};
+use machine_devices::{Devices, Told};
+use machine_panel::{LineError, Machine};
 use s370_intr::Ran;
 use s370_num::DevAddr;
 use s370_store::FramesOut;
 use std::alloc::Global;
+use user_names::UserNo;
 
 /// What is done with the machine of one user.
 pub(crate) trait Work {

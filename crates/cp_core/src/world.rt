@@ -1,9 +1,9 @@
 //! The world of one user: the users of the directory, and who of them is logged on.
 ghost use Rattle.std.specs.Prelude.{◌≤◌, length};
 
-use cp_devices::World;
 use cp_directory::User;
-use cp_users::{UserNo, name_of, user_of};
+use machine_devices::World;
+use user_names::{UserNo, name_of, user_of};
 
 /// What the control program knows beside the machine of one user.
 #[derive(Clone, Copy)]

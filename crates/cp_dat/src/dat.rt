@@ -6,12 +6,12 @@ ghost use Rattle.cp_frames.specs.Paging.{IsBrought, IsOpen, IsRefused};
 ghost use Rattle.cp_frames.specs.Tables.{segment_entry, page_entry};
 
 use cp_frames::{FrameNo, Frames};
-use cp_users::UserNo;
 use s370_num::{AccessKey, StorageKey};
 use s370_store::{
     Access, BLOCK_SIZE, Block, Fault, FramesOut, Keyed, Listed, PAGE_SIZE, Page, Range, Storage,
     Supply, UnitSupply, may_access_block, passes_in_block, test_range,
 };
+use user_names::UserNo;
 
 /// One user's pages, of which those that stand in frames are present, and his storage keys.
 ///

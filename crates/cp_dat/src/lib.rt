@@ -10,7 +10,7 @@
 //! ```
 //! use cp_dat::Dat;
 //! use cp_frames::Frames;
-//! use cp_users::UserNo;
+//! use user_names::UserNo;
 //! use s370_num::{AccessKey, StorageKey};
 //! use s370_store::{Access, Fault, Page, Range, Storage, load_byte};
 //!

@@ -1,9 +1,9 @@
 -- What is read is in the grammar, what is in the grammar is read, and another text has its first fault told.
 use Rattle.std.proofs.Common.{◌≡◌, ℕ, ◌+◌, ◌≤◌, ◌⊎◌, inl, inr, Bool, true, false, cond, List, [], ◌∷◌, ◌++◌, length, Result, Ok, Err, refl, ap, sym, ◌∙◌, subst, arith}
-use Rattle.cp_text.specs.Lines.{and_then, is_comment, lines_of, read_lines}
-use Rattle.cp_text.specs.Words.{words_of}
-use Rattle.cp_text.proofs.Spellings.{chosen}
-use Rattle.cp_text.proofs.Firsts.{first_fault_of}
+use Rattle.text_words.specs.Lines.{and_then, is_comment, lines_of, read_lines}
+use Rattle.text_words.specs.Words.{words_of}
+use Rattle.text_words.proofs.Spellings.{chosen}
+use Rattle.text_words.proofs.Firsts.{first_fault_of}
 use Rattle.cp_directory.specs.Users.{DirectoryUser}
 use Rattle.cp_directory.specs.Statements.{Stated, added, line_placed, placed, stated_by, words_placed}
 use Rattle.cp_directory.specs.Directories.{at_line, directory_step}

@@ -8,8 +8,8 @@ use Rattle.std.proofs.lemmas.List.{length-set}
 use Rattle.std.proofs.lemmas.List.Elements.{All-get_or, All-nil, All-push, All-set, All-weaker}
 use Rattle.std.proofs.lemmas.List.Folds.{list_any_at}
 use Rattle.std.proofs.lemmas.List.Quantifiers.{all_pairs_push}
-use Rattle.cp_text.specs.Lines.{lines_of}
-use Rattle.cp_text.specs.Words.{words_of}
+use Rattle.text_words.specs.Lines.{lines_of}
+use Rattle.text_words.specs.Words.{words_of}
 use Rattle.cp_directory.specs.Names.{is_name}
 use Rattle.cp_directory.specs.Sizes.{is_size}
 use Rattle.cp_directory.specs.Devices.{place_of}

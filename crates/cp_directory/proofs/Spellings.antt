@@ -8,8 +8,8 @@ use Rattle.std.proofs.lemmas.Bool.Decides.{nat_tests}
 use Rattle.std.proofs.lemmas.List.{take_more}
 use Rattle.std.proofs.lemmas.Option.{option_and_then_some}
 use Rattle.std.proofs.lemmas.Slice.Eq.{bytes_eq-Decides}
-use Rattle.cp_text.proofs.Spellings.{chosen}
-use Rattle.cp_text.specs.Numbers.{decimal_of, hexadecimal_of}
+use Rattle.text_words.proofs.Spellings.{chosen}
+use Rattle.text_words.specs.Numbers.{decimal_of, hexadecimal_of}
 use Rattle.cp_directory.specs.Names.{is_name, is_short_word}
 use Rattle.cp_directory.specs.Sizes.{is_number, kilobytes_by, kilobytes_of, number, unit_of}
 use Rattle.cp_directory.specs.Extents.{Extent, is_volser, mode_of}

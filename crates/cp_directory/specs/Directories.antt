@@ -1,6 +1,6 @@
 -- The directory that a text states, and the fault of another text.
 use Rattle.std.specs.Prelude.{◌≡◌, ℕ, List, [], Result, Ok, Err}
-use Rattle.cp_text.specs.Lines.{lines_of, read_lines}
+use Rattle.text_words.specs.Lines.{lines_of, read_lines}
 use Rattle.cp_directory.specs.Users.{DirectoryUser}
 use Rattle.cp_directory.specs.Statements.{line_placed}
 use Rattle.cp_directory.specs.declared.faults.LineFault.{LineFault}

@@ -2,9 +2,9 @@
 use Rattle.std.specs.Prelude.{◌≡◌, ℕ, ◌+◌, ◌*◌, ◌==◌, ◌<◌, ◌≤◌, ◌⊎◌, true, false, List, [], ◌∷◌, ◌++◌, length, codes, All, IsSome, Some, Ok, Err}
 use Rattle.std.specs.List.{AllPairs, list_any}
 use Rattle.std.specs.Str.{bytes_eq}
-use Rattle.cp_text.specs.Lines.{LineAt, is_comment, lines_of}
-use Rattle.cp_text.specs.Numbers.{decimal_of, hexadecimal_of}
-use Rattle.cp_text.specs.Words.{words_of}
+use Rattle.text_words.specs.Lines.{LineAt, is_comment, lines_of}
+use Rattle.text_words.specs.Numbers.{decimal_of, hexadecimal_of}
+use Rattle.text_words.specs.Words.{words_of}
 use Rattle.cp_directory.specs.Names.{is_name, is_short_word}
 use Rattle.cp_directory.specs.Sizes.{is_number, is_size, number, unit_of}
 use Rattle.cp_directory.specs.Devices.{place_of}

@@ -2,7 +2,7 @@
 use Rattle.std.specs.Prelude.{ℕ, ◌&&◌, ◌||◌, Bool, not, nat_le, List, length, codes, slice_index}
 use Rattle.std.specs.List.{list_all}
 use Rattle.std.specs.Str.{bytes_eq}
-use Rattle.cp_text.specs.Numbers.{is_digit}
+use Rattle.text_words.specs.Numbers.{is_digit}
 
 -- one of `A` to `Z`
 abbrev pub is_letter : ℕ → Bool

@@ -2,7 +2,7 @@
 use Rattle.std.specs.Prelude.{ℕ, ◌+◌, ◌-◌, ◌*◌, ◌/◌, ◌%◌, ◌==◌, ◌&&◌, Bool, false, not, if◌then◌else◌, nat_le, List, [], ◌∷◌, length, take, slice_index, Option, Some, None}
 use Rattle.std.specs.Option.{option_map, option_and_then}
 use Rattle.std.specs.List.{list_all}
-use Rattle.cp_text.specs.Numbers.{is_digit}
+use Rattle.text_words.specs.Numbers.{is_digit}
 
 -- the number that these digits spell, however many, after those that spell n
 abbrev pub number : ℕ → List ℕ → ℕ

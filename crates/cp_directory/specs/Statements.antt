@@ -3,9 +3,9 @@ use Rattle.std.specs.Prelude.{ℕ, ◌/◌, ◌==◌, ◌&&◌, ◌||◌, Bool, 
 use Rattle.std.specs.Option.{option_and_then, option_map}
 use Rattle.std.specs.List.{list_any}
 use Rattle.std.specs.Str.{bytes_eq}
-use Rattle.cp_text.specs.Lines.{and_then, is_comment}
-use Rattle.cp_text.specs.Numbers.{decimal_of, hexadecimal_of}
-use Rattle.cp_text.specs.Words.{words_of}
+use Rattle.text_words.specs.Lines.{and_then, is_comment}
+use Rattle.text_words.specs.Numbers.{decimal_of, hexadecimal_of}
+use Rattle.text_words.specs.Words.{words_of}
 use Rattle.cp_directory.specs.Names.{is_name, is_short_word}
 use Rattle.cp_directory.specs.Sizes.{is_size, kilobytes_of}
 use Rattle.cp_directory.specs.Devices.{place_of}

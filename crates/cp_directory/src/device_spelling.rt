@@ -8,8 +8,8 @@ ghost use Rattle.cp_directory.specs.Spelled.{stated};
 use crate::devices::DeviceKind;
 use crate::extent::{DiskMode, SpelledExtent, Volser};
 use crate::spelling::Statement;
-use cp_text::numbers::{decimal_of, hexadecimal_of};
 use s370_num::DevAddr;
+use text_words::numbers::{decimal_of, hexadecimal_of};
 
 /// The highest address of a device.
 const HIGHEST_ADDRESS: u32 = 0x5FF;

@@ -10,10 +10,10 @@ use crate::extent::DiskExtent;
 use crate::minidisk::Minidisk;
 use crate::name::UserName;
 use crate::storage::StorageSize;
-use cp_users::{MOST_USERS, Named};
 use s370_num::DevAddr;
 use std::alloc::{AllocError, Global};
 use std::marker::Model;
+use user_names::{MOST_USERS, Named};
 
 /// The most devices of one user.
 pub const MOST_DEVICES: usize = 32;

@@ -8,7 +8,7 @@
 //!
 //! ```
 //! use cp_directory::{DirError, read_directory};
-//! use cp_users::{UserNo, user_of};
+//! use user_names::{UserNo, user_of};
 //! use s370_num::DevAddr;
 //!
 //! let directory = read_directory(alloc, b"USER ALPHA SECRET 4M\nUSER B2 X 12K\n")?;

@@ -2,8 +2,8 @@
 ghost use Rattle.std.specs.Prelude.{◌≡◌, if◌then◌else◌, Option, Some, None};
 ghost use Rattle.cp_directory.specs.Names.{is_letter, is_letter_or_digit, is_name, is_short_word};
 
-use cp_text::numbers::is_digit;
 use std::marker::Model;
+use text_words::numbers::is_digit;
 
 /// A user's name: one to eight of `A` to `Z` and `0` to `9`, the first a letter, and not `SYSTEM`.
 #[derive(Debug, Drop)]

@@ -13,11 +13,11 @@ use crate::faults::{DirError, LineError, LineFault};
 use crate::minidisk::Minidisk;
 use crate::name::UserName;
 use crate::spelling::{SpelledSize, Statement, read_statement, size_of};
-use cp_text::lines::{is_comment, numbered_lines};
-use cp_text::words::words_of;
-use cp_users::MOST_USERS;
 use s370_num::DevAddr;
 use std::alloc::Global;
+use text_words::lines::{is_comment, numbered_lines};
+use text_words::words::words_of;
+use user_names::MOST_USERS;
 
 /// The directory that a text states.
 ///

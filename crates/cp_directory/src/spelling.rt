@@ -2,7 +2,7 @@
 ghost use Rattle.std.specs.Prelude.{◌≡◌, map, min};
 ghost use Rattle.std.specs.Option.{option_map};
 ghost use Rattle.std.specs.List.{list_all};
-ghost use Rattle.cp_text.specs.Numbers.{is_digit};
+ghost use Rattle.text_words.specs.Numbers.{is_digit};
 ghost use Rattle.cp_directory.specs.Sizes.{is_number, kilobytes_of, kilobytes_by, pages_of, number, storage_of, unit_of};
 ghost use Rattle.cp_directory.specs.Statements.{stated_by, user_of, user_stated, well_formed};
 ghost use Rattle.cp_directory.specs.Spelled.{kilobytes, kilobytes_in, stated, stated_result};
@@ -13,8 +13,8 @@ use crate::extent::SpelledExtent;
 use crate::faults::LineFault;
 use crate::name::{UserName, is_short_word};
 use crate::storage::StorageSize;
-use cp_text::numbers::is_digit;
 use s370_num::DevAddr;
+use text_words::numbers::is_digit;
 
 /// The letter of a size.
 #[derive(Clone, Copy)]

@@ -10,7 +10,7 @@
 //!
 //! ```
 //! use cp_dispatch::{Policy, Ready};
-//! use cp_users::UserNo;
+//! use user_names::UserNo;
 //!
 //! let (a, b) = (UserNo::new(0), UserNo::new(1));
 //! let mut policy = Policy::new(alloc, 64)?;

@@ -7,10 +7,10 @@ ghost use Rattle.cp_dispatch.specs.Policy.{IsFairPolicy, always, is_of, is_ready
 
 use crate::program::Program;
 use crate::ready::Ready;
-use cp_users::UserNo;
 use s370_num::DevAddr;
 use std::alloc::{AllocError, Global};
 use std::marker::Model;
+use user_names::UserNo;
 
 /// Who is dealt the slices, and which programs are served: the users who are logged on and the programs that were
 /// started, each in the order in which they are dealt.

@@ -2,8 +2,8 @@
 ghost use Rattle.std.specs.Prelude.{◌≡◌};
 ghost use Rattle.cp_dispatch.specs.Policy.{is_of};
 
-use cp_users::UserNo;
 use s370_num::DevAddr;
+use user_names::UserNo;
 
 /// A channel program that was started: whose it is, and at which device.
 #[derive(Clone, Copy, PartialEq, Eq, Drop)]

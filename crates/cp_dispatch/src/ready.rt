@@ -2,8 +2,8 @@
 ghost use Rattle.std.specs.Prelude.{◌≡◌, ℕ, false, replicate, slice_set};
 ghost use Rattle.cp_dispatch.specs.Policy.{is_ready};
 
-use cp_users::{MOST_USERS, UserNo};
 use std::marker::Model;
+use user_names::{MOST_USERS, UserNo};
 
 /// The users who are ready for a slice: those whose machines would do something with it.
 #[derive(Clone, Copy, PartialEq, Eq, Drop)]

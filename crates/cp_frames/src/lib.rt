@@ -12,7 +12,7 @@
 //!
 //! ```
 //! use cp_frames::Frames;
-//! use cp_users::UserNo;
+//! use user_names::UserNo;
 //! use s370_store::Page;
 //!
 //! let (a, b) = (UserNo::new(0), UserNo::new(1));

@@ -5,9 +5,9 @@ ghost use Rattle.cp_frames.specs.Layout.{without, cleared_of, frame_entry, slot_
 
 use crate::UserPage;
 use crate::table::{ABSENT, entry_of, forget, forget_slots, frame_in};
-use cp_users::UserNo;
 use s370_store::Page;
 use std::alloc::{AllocError, Global};
+use user_names::UserNo;
 
 /// So many frames or slots with no page in them.
 pub fn free_frames(alloc: Global, count: usize) -> Result<Vec<Option<UserPage>>, AllocError>

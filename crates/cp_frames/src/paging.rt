@@ -8,9 +8,9 @@ use crate::order::{count, free_turn, last, open_turn};
 use crate::owners::{first_free, low_after};
 use crate::table::{forget, forget_slot, note, tell_slot};
 use crate::{FrameNo, Frames, UserPage};
-use cp_users::UserNo;
 use s370_store::{FramesOut, Page};
 use std::mem::swap;
+use user_names::UserNo;
 
 impl Frames {
     ghost use Rattle.cp_frames.specs.Layout.{bytes_of};

@@ -13,10 +13,10 @@ use crate::table::{
     half_at, new_tables, page_place, place_in, segment_place, word_at,
 };
 use crate::{FRAME_SIZE, FrameNo, UserPage};
-use cp_users::UserNo;
 use s370_store::{BLOCK_SIZE, PAGE_SIZE, Page};
 use std::alloc::{AllocError, Global};
 use std::marker::Model;
+use user_names::UserNo;
 
 /// The most bytes that are loaded or stored at once.
 const LONGEST: usize = 256;

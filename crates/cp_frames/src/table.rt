@@ -12,9 +12,9 @@ ghost use Rattle.cp_frames.specs.Layout.{frame_entry, slot_entry, told};
 ghost use Rattle.cp_frames.specs.Tables.{half_at, word_at, page_place, segment_entry, segment_place, first_half, put_half, noted};
 
 use crate::{FRAME_SIZE, UserPage};
-use cp_users::UserNo;
 use s370_store::PAGE_SIZE;
 use std::alloc::{AllocError, Global};
+use user_names::UserNo;
 
 /// Entries of a user in a list: the pages of the largest storage.
 pub const PAGES: usize = 1024;

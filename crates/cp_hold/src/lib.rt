@@ -11,7 +11,7 @@
 //! use cp_dat::Dat;
 //! use cp_frames::Frames;
 //! use cp_hold::{Program, hold};
-//! use cp_users::UserNo;
+//! use user_names::UserNo;
 //! use s370_num::StorageKey;
 //! use s370_store::{Page, store_doubleword};
 //!

@@ -5,7 +5,7 @@ use Rattle.std.proofs.lemmas.Option.{slice_get_cases}
 use Rattle.s370_channel.specs.declared.words.Caw.{Caw}
 use Rattle.s370_store.specs.declared.Page.{Page}
 use Rattle.s370_walk.specs.Hardware.{Memory}
-use Rattle.cp_channels.specs.Disks.{DiskAt}
+use Rattle.machine_channels.specs.Disks.{DiskAt}
 use Rattle.cp_dat.specs.Lent.{is_lent_page, lent_keys}
 use Rattle.cp_hold.specs.Holding.{HoldNeeds, IsFixedProgram, guest_memory}
 use Rattle.cp_hold.proofs.Holds.{memory_same}
@@ -15,7 +15,7 @@ use Rattle.s370_channel.specs.declared.running.ChannelError.{ChannelError}
 use Rattle.s370_channel.specs.declared.running.ChannelError.TheVariants as errors
 use Rattle.s370_channel.specs.Supplied.{AllSuch, EachSuch}
 use Rattle.s370_walk.specs.declared.parts.Ending.{Ending}
-use Rattle.cp_channels.specs.Channels.{Brings, DiskLoads, DiskNeeds, LacksRoom, WhereOut}
+use Rattle.machine_channels.specs.Channels.{Brings, DiskLoads, DiskNeeds, LacksRoom, WhereOut}
 use Rattle.cp_dat.specs.declared.dat.Dat.{Dat}
 use Rattle.cp_dat.specs.Bringing.{supplied_none, supplied_on}
 use Rattle.cp_dat.specs.Copies.{CameOnly}

@@ -9,7 +9,7 @@ use Rattle.cp_frames.specs.Layout.{FrameSupply, Holds, frame_of, is_there, owned
 use Rattle.cp_frames.specs.Paging.{IsPinned, IsRefused}
 use Rattle.cp_frames.proofs.Tables.{page_is}
 use Rattle.cp_frames.proofs.Moves.{held_place}
-use Rattle.cp_channels.specs.Channels.{LacksRoom, NoRoom}
+use Rattle.machine_channels.specs.Channels.{LacksRoom, NoRoom}
 use Rattle.cp_dat.specs.declared.dat.Dat.{Dat}
 use Rattle.cp_dat.specs.Copies.{AllAre, CameOnly, EachAre}
 use Rattle.cp_dat.specs.Lent.{is_lent_page, lent_bytes, lent_pool, user_of}

@@ -11,7 +11,7 @@ use Rattle.cp_dat.specs.Letting.{came_none}
 use Rattle.cp_dat.specs.Supplied.{HasSuch, IsBetweenUnits, IsBroughtInUnits, SuppliedUnits}
 use Rattle.cp_trial.specs.declared.TriedError.{TriedError}
 use Rattle.cp_trial.specs.declared.TriedError.TheVariants as tries
-use Rattle.cp_channels.specs.Disks.{DiskAt}
+use Rattle.machine_channels.specs.Disks.{DiskAt}
 use Rattle.cp_volumes.specs.Keeping.{neighbours_on, neighbours_same}
 use Rattle.cp_volumes.specs.Shared.{DisksValue, KeepsNeighbours, seen}
 use Rattle.cp_resident.specs.declared.resident.Resident.{Resident}

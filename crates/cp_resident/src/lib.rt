@@ -3,15 +3,15 @@
 //! A program that no input can change runs over its own pages, which are held until it has run, and is kept; any other, and
 //! that of a loading, is tried first, and then runs over the pages that it touches.
 //!
-//! Its one theorem ([`Resident`], as [`Channels`](cp_channels::Channels)): what runs is the walk of its user's bytes as they
+//! Its one theorem ([`Resident`], as [`Channels`](machine_channels::Channels)): what runs is the walk of its user's bytes as they
 //! stood; only pages that it needs are brought; and where there is no room for one, nothing has happened.
 //!
 //! ```
-//! use cp_channels::{Channels, UnitRecord};
+//! use machine_channels::{Channels, UnitRecord};
 //! use cp_dat::Dat;
 //! use cp_frames::Frames;
 //! use cp_resident::{Resident, Reuse};
-//! use cp_users::UserNo;
+//! use user_names::UserNo;
 //! use cp_volumes::Volumes;
 //! use s370_channel::Caw;
 //! use s370_num::StorageKey;

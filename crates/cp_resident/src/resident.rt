@@ -4,7 +4,7 @@ ghost use Rattle.s370_channel.specs.Reading.{as_reached};
 ghost use Rattle.s370_channel.specs.Runs.{Walks};
 ghost use Rattle.s370_channel.specs.declared.running.ChannelError.TheVariants as errors;
 ghost use Rattle.s370_walk.specs.Hardware.{memory_of};
-ghost use Rattle.cp_channels.specs.Channels.{WalksDisk};
+ghost use Rattle.machine_channels.specs.Channels.{WalksDisk};
 ghost use Rattle.cp_dat.specs.Lent.{KeepsRest, is_lent_page, lent_bytes, lent_keys};
 ghost use Rattle.cp_hold.specs.Holding.{IsFixedProgram, guest_memory};
 ghost use Rattle.s370_store.specs.declared.Page.{Page};
@@ -14,12 +14,12 @@ ghost use Rattle.cp_resident.specs.Resident.{KeepsHung, disks_on, told_by, told_
 use crate::reuse::Reuse;
 use channel_trial::{Tried, TriedLoading};
 use cp_ccw::{Kept, keep, know, run_kept};
-use cp_channels::{Channels, Disks, UnitRecord};
 use cp_dat::Dat;
 use cp_hold::{Program, hold};
 use cp_needs::Fullword;
 use cp_trial::{TriedError, fetch_again, fetch_first, load_open, run_open};
 use cp_volumes::{SharedDisk, UserDisks, Volumes};
+use machine_channels::{Channels, Disks, UnitRecord};
 use s370_channel::{Caw, ChannelError, Limits, MOST_COMMANDS};
 use s370_store::{Page, UnitSupply};
 use s370_walk::{Device, Ending};
@@ -81,7 +81,7 @@ impl Resident {
 
 impl Disks for Resident {
     ghost use Rattle.std.specs.Prelude.{◌≡◌, map};
-    ghost use Rattle.cp_channels.specs.Disks.{cleared_disk, reset_disk};
+    ghost use Rattle.machine_channels.specs.Disks.{cleared_disk, reset_disk};
     ghost use Rattle.cp_resident.specs.Resident.{KeepsHung, disks_on, hung_further, hung_same, reuse_of};
     ghost use Rattle.cp_resident.specs.Reuse.{IsEmpty};
 

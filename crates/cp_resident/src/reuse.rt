@@ -7,8 +7,8 @@ ghost use Rattle.cp_needs.specs.Words.{IsFixedStill};
 ghost use Rattle.s370_walk.specs.Hardware.{memory_of};
 
 use cp_ccw::{Kept, Known, reusable, runs_still};
-use cp_channels::UnitRecord;
 use cp_dat::Dat;
+use machine_channels::UnitRecord;
 use s370_channel::Caw;
 use std::alloc::{AllocError, Global};
 use std::mem::replace;

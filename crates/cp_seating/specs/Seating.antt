@@ -4,7 +4,7 @@ use Rattle.std.specs.List.{All, find, list_any, position, position_or_len}
 use Rattle.std.specs.Option.{option_map}
 use Rattle.std.specs.Str.{bytes_eq}
 use Rattle.ckd_volume.specs.Volume.{VolumeFormat}
-use Rattle.cp_channels.specs.Disks.{DiskAt}
+use Rattle.machine_channels.specs.Disks.{DiskAt}
 use Rattle.cp_directory.specs.Extents.{Extent, is_read_only, is_volser, padded}
 use Rattle.cp_directory.specs.Users.{DirectoryUser}
 use Rattle.cp_directory.specs.declared.minidisk.Minidisk.{Minidisk}

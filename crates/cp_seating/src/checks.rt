@@ -8,8 +8,8 @@ ghost use Rattle.cp_seating.specs.Seating.{user_is_past, user_lacks, volume_name
 
 use ckd_volume::Volume;
 use cp_directory::{Minidisk, User, Volser};
-use cp_users::UserNo;
 use s370_num::DevAddr;
+use user_names::UserNo;
 
 /// Whether two of these volumes have one serial number.
 pub fn has_twins(volumes: &[Volume]) -> bool

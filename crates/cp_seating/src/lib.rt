@@ -10,7 +10,7 @@
 //! use ckd_volume::Volume;
 //! use cp_directory::read_directory;
 //! use cp_seating::{past_end, seats_of};
-//! use cp_users::UserNo;
+//! use user_names::UserNo;
 //! use s370_num::DevAddr;
 //!
 //! let directory = read_directory(alloc, b"USER A PW 8K\nMDISK 191 3330 3 2 VOL1 W\n")?;

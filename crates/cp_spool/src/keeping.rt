@@ -7,9 +7,9 @@ ghost use Rattle.cp_spool.specs.Queues.{no_files};
 
 use crate::file::SpoolFile;
 use crate::queue::{UserQueue, Waiting};
-use cp_users::UserNo;
 use slab::Slab;
 use std::alloc::{AllocError, Global};
+use user_names::UserNo;
 
 /// A deck comes to the end of the queue of this user's reader.
 pub(crate) fn push_waiting(

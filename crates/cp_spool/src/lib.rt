@@ -14,7 +14,7 @@
 //!
 //! ```
 //! use cp_spool::{FedReader, Queues, Reader};
-//! use cp_users::UserNo;
+//! use user_names::UserNo;
 //! use s370_walk::{Answer, Command, Device, Flags, Order};
 //! use unit_record::{Entry, Record, Sender, Target};
 //!

@@ -14,11 +14,11 @@ use crate::keeping::{
 use crate::progress::Progress;
 use crate::queue::{UserQueue, Waiting};
 use crate::seen::SeenDeck;
-use cp_users::UserNo;
 use slab::Slab;
 use std::alloc::{AllocError, Global};
 use std::marker::Model;
 use unit_record::{Card, Entry, Sender, Target};
+use user_names::UserNo;
 
 /// The spool files of all users: the decks in their readers, and the files that their punches and printers closed.
 #[derive(Drop)]

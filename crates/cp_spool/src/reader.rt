@@ -8,12 +8,12 @@ ghost use Rattle.cp_spool.specs.Reader.{fed_by, part_new};
 use crate::progress::Progress;
 use crate::queues::Queues;
 use channel_trial::{TrialStorage, Tried, TriedLoading, try_loading, try_program};
-use cp_users::UserNo;
 use s370_channel::Caw;
 use s370_walk::{Answer, Device, Flags, Order, UnitStatus};
 use std::alloc::AllocError;
 use std::marker::Model;
 use unit_record::{COMMAND_REJECT, INTERVENTION_REQUIRED, RECORD_LENGTH, Record};
+use user_names::UserNo;
 
 /// The command that reads a card.
 const READ: u8 = 0x02;

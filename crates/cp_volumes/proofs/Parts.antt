@@ -11,7 +11,7 @@ use Rattle.s370_channel.specs.Progress.{setting}
 use Rattle.s370_channel.specs.Reading.{as_reached}
 use Rattle.s370_channel.specs.Runs.{Walks, limited}
 use Rattle.ckd_volume.specs.Unit.{disk_machine}
-use Rattle.cp_channels.specs.Channels.{WalksLoading}
+use Rattle.machine_channels.specs.Channels.{WalksLoading}
 use Rattle.cp_minidisk.specs.Kept.{Keeps, device_in}
 use Rattle.cp_minidisk.specs.Part.{Part, disk_seen, extent_of, part_machine}
 use Rattle.cp_minidisk.specs.PartLaws.{HasSameNeighbours}

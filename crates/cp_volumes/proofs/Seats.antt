@@ -11,8 +11,8 @@ use Rattle.s370_walk.specs.declared.parts.Ending.{Ending}
 use Rattle.s370_walk.specs.Hardware.{Memory}
 use Rattle.s370_channel.specs.declared.words.Caw.{Caw}
 use Rattle.s370_channel.specs.Reading.{Reading}
-use Rattle.cp_channels.specs.Channels.{LoadsAt, LoadsDisk, RestsAfter, RestsLoaded, WalksAt, WalksDisk}
-use Rattle.cp_channels.specs.Disks.{DiskAt, cleared_disk, is_disk_at, reset_disk}
+use Rattle.machine_channels.specs.Channels.{LoadsAt, LoadsDisk, RestsAfter, RestsLoaded, WalksAt, WalksDisk}
+use Rattle.machine_channels.specs.Disks.{DiskAt, cleared_disk, is_disk_at, reset_disk}
 use Rattle.cp_minidisk.specs.Minidisk.{slice}
 use Rattle.ckd_volume.specs.Unit.{idle}
 use Rattle.cp_minidisk.specs.Minidisk.{own_arm}

@@ -8,7 +8,7 @@ use Rattle.s370_channel.specs.Progress.{setting}
 use Rattle.s370_channel.specs.Runs.{begun, limited}
 use Rattle.s370_channel.specs.Supplied.{IsTouched}
 use Rattle.ckd_volume.specs.Unit.{disk_machine}
-use Rattle.cp_channels.specs.Disks.{DiskAt}
+use Rattle.machine_channels.specs.Disks.{DiskAt}
 use Rattle.cp_minidisk.specs.Part.{Part, extent_of, unit_of}
 use Rattle.cp_minidisk.specs.PartLaws.{HasSameNeighbours}
 use Rattle.cp_minidisk.specs.Placed.{IsReadOnly}

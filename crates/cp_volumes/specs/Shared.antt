@@ -2,7 +2,7 @@
 use Rattle.std.specs.Prelude.{ℕ, ◌≡◌, ◌+◌, ◌<◌, ◌≤◌, ◌⊎◌, true, List, [], map, length, slice_get, slice_index_or, Option, Some, None}
 use Rattle.ckd_volume.specs.Volume.{VolumeFormat}
 use Rattle.ckd_volume.specs.Unit.{Disk, volume_of}
-use Rattle.cp_channels.specs.Disks.{DiskAt}
+use Rattle.machine_channels.specs.Disks.{DiskAt}
 use Rattle.cp_minidisk.specs.Extent.{ExtentValue}
 use Rattle.cp_minidisk.specs.Minidisk.{MinidiskValue, HasExtent, minidisk_new, minidisk_reset, slice, users_disk}
 

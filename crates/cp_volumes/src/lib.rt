@@ -12,7 +12,7 @@
 //! use cp_dat::Dat;
 //! use cp_frames::Frames;
 //! use cp_minidisk::Extent;
-//! use cp_users::UserNo;
+//! use user_names::UserNo;
 //! use cp_volumes::{SharedDisk, UserDisks, Volumes};
 //! use s370_channel::Caw;
 //! use s370_num::{DevAddr, StorageKey};

@@ -5,7 +5,7 @@ ghost use Rattle.s370_channel.specs.Reading.{as_reached};
 ghost use Rattle.s370_channel.specs.Runs.{Walks};
 ghost use Rattle.s370_walk.specs.Hardware.{memory_of};
 ghost use Rattle.ckd_volume.specs.Unit.{disk_machine};
-ghost use Rattle.cp_channels.specs.Channels.{WalksLoading};
+ghost use Rattle.machine_channels.specs.Channels.{WalksLoading};
 ghost use Rattle.cp_dat.specs.Copies.{CameOnly, is_wanted};
 ghost use Rattle.cp_dat.specs.Lent.{lent_bytes, lent_keys, lent_pool};
 ghost use Rattle.cp_dat.specs.Supplied.{IsBetweenUnits};

@@ -2,7 +2,7 @@
 ghost use Rattle.std.specs.Prelude.{◌≡◌, ◌==◌, option_copied};
 ghost use Rattle.std.specs.List.{find};
 ghost use Rattle.std.specs.Option.{option_map};
-ghost use Rattle.cp_channels.specs.Disks.{is_disk_at};
+ghost use Rattle.machine_channels.specs.Disks.{is_disk_at};
 ghost use Rattle.cp_minidisk.specs.Minidisk.{own_arm};
 ghost use Rattle.cp_volumes.specs.Shared.{disks_on};
 

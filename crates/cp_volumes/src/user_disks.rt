@@ -3,8 +3,8 @@ ghost use Rattle.std.specs.Prelude.{◌≡◌, ◌==◌, ◌<◌, Err, IfOk, IfS
 ghost use Rattle.std.specs.List.{position};
 ghost use Rattle.s370_channel.specs.Reading.{as_reached};
 ghost use Rattle.s370_walk.specs.Hardware.{memory_of};
-ghost use Rattle.cp_channels.specs.Channels.{LoadsDisk, WalksDisk};
-ghost use Rattle.cp_channels.specs.Disks.{cleared_disk, is_disk_at, reset_disk};
+ghost use Rattle.machine_channels.specs.Channels.{LoadsDisk, WalksDisk};
+ghost use Rattle.machine_channels.specs.Disks.{cleared_disk, is_disk_at, reset_disk};
 ghost use Rattle.cp_dat.specs.Copies.{CameOnly};
 ghost use Rattle.cp_dat.specs.Lent.{lent_bytes, lent_keys, lent_pool};
 ghost use Rattle.cp_dat.specs.Supplied.{IsBetweenUnits};

@@ -8,7 +8,7 @@ ghost use Rattle.s370_channel.specs.Runs.{begun, limited};
 ghost use Rattle.s370_channel.specs.Supplied.{IsTouched};
 ghost use Rattle.s370_walk.specs.Hardware.{memory_of};
 ghost use Rattle.ckd_volume.specs.Unit.{disk_machine, rested, volume_of};
-ghost use Rattle.cp_channels.specs.Channels.{RestsAfter, RestsLoaded};
+ghost use Rattle.machine_channels.specs.Channels.{RestsAfter, RestsLoaded};
 ghost use Rattle.cp_dat.specs.Copies.{CameOnly};
 ghost use Rattle.cp_dat.specs.Lent.{lent_bytes, lent_keys, lent_pool};
 ghost use Rattle.cp_dat.specs.Supplied.{IsBetweenUnits};

@@ -5,9 +5,9 @@ ghost use Rattle.frame_map.specs.Runs.{AreTogether, follows};
 use crate::places::{Owner, Places};
 use cp_core::{Sizes, System};
 use cp_directory::User;
-use cp_users::name_of;
 use s370_store::PAGE_SIZE;
 use std::alloc::{AllocError, Global};
+use user_names::name_of;
 
 /// The map of a system that has so many frames and slots, as lines that are ended by LF: frames, slots, and how many
 /// pages have come into frames so far.

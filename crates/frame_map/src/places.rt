@@ -1,8 +1,8 @@
 //! The places of a system, frames and slots, and the page that stands in each.
 use cp_core::{Sizes, System};
-use cp_users::{MOST_USERS, UserNo};
 use s370_store::Page;
 use std::alloc::{AllocError, Global};
+use user_names::{MOST_USERS, UserNo};
 
 /// A page of a user.
 #[derive(Clone, Copy, PartialEq, Eq, Drop)]

@@ -17,11 +17,11 @@
 //! > DONE
 //! ```
 use crate::faults::Failure;
-use cp_panel::Mode;
-use cp_text::numbers::decimal_of;
+use machine_panel::Mode;
 use s370_num::host::{HostFault, HostReader, HostWriter, write_all};
 use sessions::{Detail, Follower, Installation, Part};
 use std::alloc::{AllocError, Global};
+use text_words::numbers::decimal_of;
 
 /// The most decimal digits of the size of a part.
 const MOST_DIGITS: usize = 9;

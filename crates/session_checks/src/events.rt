@@ -1,11 +1,11 @@
 //! Systems, and the events that are given to them.
 use anyhow::{Context, Result, bail};
 use cp_core::{CpError, Event, Sizes, System};
-use cp_devices::Ended;
 use cp_directory::read_directory;
-use cp_users::UserNo;
+use machine_devices::Ended;
 use s370_num::DevAddr;
 use std::alloc::Global;
+use user_names::UserNo;
 
 /// The fewest frames that a system may have.
 pub const FEWEST_FRAMES: u32 = 16;

@@ -4,9 +4,9 @@ use crate::events::{
 };
 use anyhow::{Result, bail};
 use cp_core::{CpError, FrameNo, System};
-use cp_devices::Ended;
-use cp_users::UserNo;
+use machine_devices::Ended;
 use s370_store::Page;
+use user_names::UserNo;
 
 /// Two users with two pages each.
 const TWO_USERS: &[u8] = b"USER A PW 8K\nUSER B PW 8K\n";

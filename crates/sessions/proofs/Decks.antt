@@ -3,7 +3,7 @@ use Rattle.std.proofs.Common.{◌≡◌, ℕ, ◌+◌, ◌≤◌, List, [], ◌�
 use Rattle.std.proofs.lemmas.List.{drop_all}
 use Rattle.std.specs.Prelude.{slice_get}
 use Rattle.unit_record.specs.Reader.{DeckValue}
-use Rattle.cp_devices.specs.Files.{deck_line}
+use Rattle.machine_devices.specs.Files.{deck_line}
 use Rattle.sessions.specs.Transcript.{ended, queue_lines, told_line}
 use Rattle.sessions.proofs.Rest.{from_here, lines_more}
 

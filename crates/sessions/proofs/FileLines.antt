@@ -1,7 +1,7 @@
 -- The lines of files that were noted one after another.
 use Rattle.std.proofs.Common.{◌≡◌, ℕ, zero, suc, ◌+◌, ◌<◌, List, [], ◌∷◌, ◌++◌, Option, Some, None, take, drop, length, refl, ap, sym, ◌∙◌, add-one, arith}
 use Rattle.std.specs.Prelude.{slice_get}
-use Rattle.cp_devices.specs.declared.files.FileNote.{FileNote}
+use Rattle.machine_devices.specs.declared.files.FileNote.{FileNote}
 use Rattle.sessions.specs.Installed.{Installed}
 use Rattle.sessions.specs.declared.files.Telling.{Telling}
 use Rattle.sessions.specs.Files.{lines_after, note_lines, place_lines}

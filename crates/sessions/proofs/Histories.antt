@@ -8,10 +8,10 @@ use Rattle.s370_num.specs.Host.{AppendsFront}
 use Rattle.cp_dispatch.specs.Policy.{Lines, always}
 use Rattle.cp_dispatch.specs.Turns.{IsDealt}
 use Rattle.cp_dispatch.specs.declared.program.Program.{Program}
-use Rattle.cp_devices.specs.declared.reply.Reply.{Reply}
-use Rattle.cp_script.specs.Script.{Said}
-use Rattle.cp_script.specs.Script as said
-use Rattle.cp_script.specs.Users.{KnownUser}
+use Rattle.machine_devices.specs.declared.reply.Reply.{Reply}
+use Rattle.session_script.specs.Script.{Said}
+use Rattle.session_script.specs.Script as said
+use Rattle.session_script.specs.Users.{KnownUser}
 use Rattle.sessions.specs.Installed.{Installation, IsHistory, Step, names_of}
 use Rattle.sessions.specs.Schedule.{Act, Applies, Slices, Serves, AreDone, Entry, Answered, Dealt, Passed, Idle, IsDone, IsLacking, IsOf, MayAsk, Scene, acts, acts_of, line_after, lines_after, moved, passed, ready_in, scene, slice_units, steps_of, turn, turns, user_said, within}
 use Rattle.sessions.specs.Session.{IsAnswered, IsAnsweredPartly, IsPlayed, IsPartly, IsUnanswered}

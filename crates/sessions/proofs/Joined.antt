@@ -2,10 +2,10 @@
 use Rattle.std.proofs.Common.{◌≡◌, ℕ, zero, suc, Bool, true, false, inl, inr, List, [], ◌∷◌, ◌++◌, Ok, refl, ap, ◌∙◌, subst, append_assoc, append-nil}
 use Rattle.std.specs.Prelude.{◌==◌}
 use Rattle.std.proofs.KnownBytes.{Appends-trans}
-use Rattle.cp_text.specs.Lines.{lines_of}
-use Rattle.cp_script.specs.Grammar.{Reads, ReadsGrammar, Says}
-use Rattle.cp_script.specs.Script.{Said, Run, Line, Tick, Serve, Auto, Deck, cards_after, script_of}
-use Rattle.cp_script.specs.Users.{KnownUser}
+use Rattle.text_words.specs.Lines.{lines_of}
+use Rattle.session_script.specs.Grammar.{Reads, ReadsGrammar, Says}
+use Rattle.session_script.specs.Script.{Said, Run, Line, Tick, Serve, Auto, Deck, cards_after, script_of}
+use Rattle.session_script.specs.Users.{KnownUser}
 use Rattle.sessions.specs.Files.{closing_lines}
 use Rattle.sessions.specs.Installed.{Installation, names_of}
 use Rattle.sessions.specs.Follow.{BeginsWithNothing, EndsAsSession, HasWholeLines, PartsJoin}

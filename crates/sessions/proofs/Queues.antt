@@ -6,7 +6,7 @@ use Rattle.std.proofs.lemmas.List.{get_or_past, get_or-replicate, length-replica
 use Rattle.std.proofs.lemmas.Grind.{common_steps}
 use Rattle.cp_dispatch.specs.Turns.{IsDealt}
 use Rattle.cp_dispatch.specs.Policy.{is_ready}
-use Rattle.cp_devices.specs.Equipped.{Equipped}
+use Rattle.machine_devices.specs.Equipped.{Equipped}
 use Rattle.sessions.specs.Installed.{Installed, nobody, user_at}
 use Rattle.sessions.specs.Schedule.{is_on, ready_in}
 

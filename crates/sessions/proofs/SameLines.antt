@@ -1,7 +1,7 @@
 -- The same events have the same lines.
 use Rattle.std.proofs.Common.{◌≡◌, ℕ, List, [], ◌∷◌, ◌++◌, refl, ap, ◌∙◌}
-use Rattle.cp_devices.specs.declared.reply.Reply.{Reply}
-use Rattle.cp_script.specs.Script.{Said}
+use Rattle.machine_devices.specs.declared.reply.Reply.{Reply}
+use Rattle.session_script.specs.Script.{Said}
 use Rattle.unit_record.specs.Reader.{DeckValue}
 use Rattle.sessions.specs.Alike.{AreAlike, IsAlike, TranscriptsAgree}
 use Rattle.sessions.specs.Installed.{Installation, Step, machine_at, user_at}

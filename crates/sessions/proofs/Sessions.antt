@@ -6,7 +6,7 @@ use Rattle.std.proofs.KnownBytes.{Appends-trans}
 use Rattle.std.proofs.lemmas.List.{take-append-le}
 use Rattle.s370_num.specs.Host.{AppendsFront}
 use Rattle.cp_dispatch.specs.Policy.{Lines}
-use Rattle.cp_script.specs.Script.{Said, script_of}
+use Rattle.session_script.specs.Script.{Said, script_of}
 use Rattle.sessions.specs.Files.{closing_lines}
 use Rattle.sessions.specs.Installed.{Installation, names_of}
 use Rattle.sessions.specs.Schedule.{Scene, acts, first_lines, scene}

@@ -8,7 +8,7 @@ use Rattle.s370_subchannels.specs.declared.subchannel.Subchannel.{Subchannel}
 use Rattle.cp_dispatch.specs.Policy.{Lines, always, is_of}
 use Rattle.cp_dispatch.specs.Turns.{IsTaken, at_end, without}
 use Rattle.cp_dispatch.specs.declared.program.Program.{Program}
-use Rattle.cp_script.specs.Users.{KnownUser, devices_of, has_device}
+use Rattle.session_script.specs.Users.{KnownUser, devices_of, has_device}
 use Rattle.sessions.specs.Installed.{Installed, IsLineStated, is_stated, subchannels_at}
 use Rattle.sessions.specs.Schedule.{IsOf, first_line, first_lines, in_order, is_before, is_joining, joined, line_after, line_since, started_since, with_joining, withdrawn}
 

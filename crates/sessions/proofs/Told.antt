@@ -1,8 +1,8 @@
 -- What is told of an event that was answered.
 use Rattle.std.proofs.Common.{◌≡◌, ℕ, List, ap, ◌∙◌}
-use Rattle.cp_devices.specs.declared.reply.Reply.{Reply}
-use Rattle.cp_script.specs.Script.{Said}
-use Rattle.cp_script.specs.Users.{KnownUser, names_of as names_in}
+use Rattle.machine_devices.specs.declared.reply.Reply.{Reply}
+use Rattle.session_script.specs.Script.{Said}
+use Rattle.session_script.specs.Users.{KnownUser, names_of as names_in}
 use Rattle.sessions.specs.Installed.{Installation, names_of, user_at}
 use Rattle.sessions.specs.Schedule.{user_said}
 use Rattle.sessions.specs.Transcript.{ended, reply_lines, step_lines}

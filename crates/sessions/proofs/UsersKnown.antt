@@ -2,8 +2,8 @@
 use Rattle.std.proofs.Common.{◌≡◌, ℕ, ◌+◌, ◌<◌, zero, suc, List, [], ◌∷◌, ◌++◌, length, map, take, get_or, refl, ap, sym, ◌∙◌, add-one, arith}
 use Rattle.std.specs.Prelude.{slice_index_or}
 use Rattle.std.proofs.lemmas.List.{length-map}
-use Rattle.cp_script.specs.Users.{KnownUser, devices_of, names_of}
-use Rattle.cp_users.specs.Users.{name_of}
+use Rattle.session_script.specs.Users.{KnownUser, devices_of, names_of}
+use Rattle.user_names.specs.Users.{name_of}
 
 -- a user of his name and his devices
 abbrev pub user_of : List KnownUser → ℕ → KnownUser

@@ -5,11 +5,11 @@ use Rattle.s370_num.specs.Ebcdic.{printable_of}
 use Rattle.unit_record.specs.Output.{EntryValue, FileValue}
 use Rattle.unit_record.specs.declared.output.Target.{Target}
 use Rattle.unit_record.specs.declared.output.Target.TheVariants as targets
-use Rattle.cp_users.specs.Users.{name_of}
+use Rattle.user_names.specs.Users.{name_of}
 use Rattle.cp_console.specs.Responses.{file_number}
-use Rattle.cp_devices.specs.declared.files.FileKind.{FileKind}
-use Rattle.cp_devices.specs.declared.files.FileKind.TheVariants as kinds
-use Rattle.cp_devices.specs.declared.files.FileNote.{FileNote}
+use Rattle.machine_devices.specs.declared.files.FileKind.{FileKind}
+use Rattle.machine_devices.specs.declared.files.FileKind.TheVariants as kinds
+use Rattle.machine_devices.specs.declared.files.FileNote.{FileNote}
 use Rattle.sessions.specs.declared.files.Telling.{Telling}
 use Rattle.sessions.specs.declared.files.Telling.TheVariants as tellings
 use Rattle.sessions.specs.Installed.{Installed, names_of, user_at}

@@ -1,7 +1,7 @@
 -- A script that is given part by part.
 use Rattle.std.specs.Prelude.{◌≡◌, ℕ, List, [], ◌∷◌, ◌++◌, ◌⊎◌, Option, Ok, Err}
 use Rattle.std.specs.Io.KnownBytes.{Appends}
-use Rattle.cp_script.specs.Script.{Said, script_of}
+use Rattle.session_script.specs.Script.{Said, script_of}
 use Rattle.sessions.specs.Files.{closing_lines}
 use Rattle.sessions.specs.Installed.{Installation}
 use Rattle.sessions.specs.Schedule.{IsOf, Scene, acts}

@@ -2,14 +2,14 @@
 use Rattle.std.specs.Prelude.{ℕ, ◌≡◌, Bool, true, List, [], ◌∷◌, slice_index_or}
 use Rattle.std.specs.List.{list_all}
 use Rattle.s370_subchannels.specs.declared.subchannel.Subchannel.{Subchannel}
-use Rattle.cp_panel.specs.Machine.{Machine, unused}
-use Rattle.cp_devices.specs.Devices.{devices_new, no_places}
-use Rattle.cp_devices.specs.Equipped.{Equipped}
-use Rattle.cp_devices.specs.declared.files.FileNote.{FileNote}
-use Rattle.cp_devices.specs.declared.reply.Reply.{Reply}
+use Rattle.machine_panel.specs.Machine.{Machine, unused}
+use Rattle.machine_devices.specs.Devices.{devices_new, no_places}
+use Rattle.machine_devices.specs.Equipped.{Equipped}
+use Rattle.machine_devices.specs.declared.files.FileNote.{FileNote}
+use Rattle.machine_devices.specs.declared.reply.Reply.{Reply}
 use Rattle.cp_dispatch.specs.declared.program.Program.{Program}
-use Rattle.cp_script.specs.Script.{Said}
-use Rattle.cp_script.specs.Users.{KnownUser, has_device, names_of as names_in}
+use Rattle.session_script.specs.Script.{Said}
+use Rattle.session_script.specs.Users.{KnownUser, has_device, names_of as names_in}
 
 -- its users, as scripts know them; each one's machine with its devices; and of each file what it was and whose when it got its number
 pub record Installed : Type 0 where

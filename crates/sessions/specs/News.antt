@@ -1,8 +1,8 @@
 -- What the answer to a part of a script tells of the users' machines.
 use Rattle.std.specs.Prelude.{ℕ, ◌&&◌, Bool, true, false, if◌then◌else◌, List, [], ◌∷◌, ◌++◌, codes, map}
 use Rattle.std.specs.List.{list_any}
-use Rattle.cp_panel.specs.declared.machine.Mode.{Mode}
-use Rattle.cp_panel.specs.declared.machine.Mode.TheVariants.{Off, Stopped, Running}
+use Rattle.machine_panel.specs.declared.machine.Mode.{Mode}
+use Rattle.machine_panel.specs.declared.machine.Mode.TheVariants.{Off, Stopped, Running}
 use Rattle.cp_dispatch.specs.declared.program.Program.{Program}
 use Rattle.sessions.specs.Installed.{Installation, Installed}
 use Rattle.sessions.specs.Schedule.{Scene, ready_in}

@@ -7,13 +7,13 @@ use Rattle.s370_subchannels.specs.declared.subchannel.Subchannel.{Subchannel}
 use Rattle.cp_dispatch.specs.Turns.{IsDealt, at_end, without}
 use Rattle.cp_dispatch.specs.Policy.{Lines, always, is_of, same_user}
 use Rattle.cp_dispatch.specs.declared.program.Program.{Program}
-use Rattle.cp_panel.specs.declared.machine.Mode.{Mode}
-use Rattle.cp_panel.specs.declared.machine.Mode.TheVariants.{Off, Stopped, Running}
-use Rattle.cp_panel.specs.Ready.{is_ready}
-use Rattle.cp_script.specs.Script.{Said, Run, Line, Tick, Serve, Deck, Auto}
-use Rattle.cp_script.specs.Users.{has_device}
-use Rattle.cp_script.specs.declared.event.ScriptEvent.{ScriptEvent}
-use Rattle.cp_script.specs.declared.event.ScriptEvent.TheVariants as scripts
+use Rattle.machine_panel.specs.declared.machine.Mode.{Mode}
+use Rattle.machine_panel.specs.declared.machine.Mode.TheVariants.{Off, Stopped, Running}
+use Rattle.machine_panel.specs.Ready.{is_ready}
+use Rattle.session_script.specs.Script.{Said, Run, Line, Tick, Serve, Deck, Auto}
+use Rattle.session_script.specs.Users.{has_device}
+use Rattle.session_script.specs.declared.event.ScriptEvent.{ScriptEvent}
+use Rattle.session_script.specs.declared.event.ScriptEvent.TheVariants as scripts
 use Rattle.sessions.specs.Installed.{Installation, Installed, IsLineStated, Step, machine_at, subchannels_at}
 use Rattle.sessions.specs.declared.schedule.Detail.{Detail}
 

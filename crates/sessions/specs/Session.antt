@@ -4,11 +4,11 @@ use Rattle.std.specs.Io.KnownBytes.{Appends, Consumes, IsAtEnd}
 use Rattle.s370_num.specs.Host.{AppendsFront, IsCounted}
 use Rattle.s370_num.specs.declared.host.HostFault.{HostFault}
 use Rattle.s370_num.specs.declared.host.HostFault.TheVariants as faults
-use Rattle.cp_devices.specs.declared.reply.Reply.{Reply}
-use Rattle.cp_script.specs.Users.{KnownUser}
-use Rattle.cp_script.specs.Script.{Said, script_of}
-use Rattle.cp_script.specs.declared.reader.ScriptError.{ScriptError}
-use Rattle.cp_script.specs.declared.reader.ScriptError.TheVariants as refusals
+use Rattle.machine_devices.specs.declared.reply.Reply.{Reply}
+use Rattle.session_script.specs.Users.{KnownUser}
+use Rattle.session_script.specs.Script.{Said, script_of}
+use Rattle.session_script.specs.declared.reader.ScriptError.{ScriptError}
+use Rattle.session_script.specs.declared.reader.ScriptError.TheVariants as refusals
 use Rattle.sessions.specs.Files.{closing_lines}
 use Rattle.sessions.specs.Installed.{Installation, IsHistory, Step, names_of}
 use Rattle.sessions.specs.Schedule.{Act, AreDone, Entry, IsLacking, IsOf, Scene, acts, first_lines, steps_of}

@@ -5,22 +5,22 @@ use Rattle.s370_num.specs.Address.{device_text}
 use Rattle.s370_intr.specs.declared.next.Reason.{Reason}
 use Rattle.s370_intr.specs.declared.next.Reason.TheVariants as reasons
 use Rattle.s370_intr.specs.declared.run.Ran.{Ran as RanUnits}
-use Rattle.cp_text.specs.Lines.{lines_of}
-use Rattle.cp_users.specs.Users.{name_of}
+use Rattle.text_words.specs.Lines.{lines_of}
+use Rattle.user_names.specs.Users.{name_of}
 use Rattle.cp_console.specs.Responses.{text_of}
 use Rattle.cp_console.specs.ConsoleLine.{characters_of}
 use Rattle.unit_record.specs.Reader.{DeckValue}
-use Rattle.cp_devices.specs.declared.line.Told.{Told}
-use Rattle.cp_devices.specs.declared.line.Told.TheVariants.{Silent, Said, Files, Sent, Loads, Closed}
-use Rattle.cp_devices.specs.Files.{file_lines}
-use Rattle.cp_devices.specs.declared.reply.Ended.{Ended}
-use Rattle.cp_devices.specs.declared.reply.Ended.TheVariants.{Ran, Served, Done, FramesOut}
-use Rattle.cp_devices.specs.declared.reply.Delivered.{Delivered}
-use Rattle.cp_devices.specs.declared.reply.Delivery.{Delivery}
-use Rattle.cp_devices.specs.declared.reply.Delivery.TheVariants as deliveries
-use Rattle.cp_devices.specs.declared.reply.Reply.{Reply}
-use Rattle.cp_script.specs.Script.{Said as Asked}
-use Rattle.cp_script.specs.Script as asked
+use Rattle.machine_devices.specs.declared.line.Told.{Told}
+use Rattle.machine_devices.specs.declared.line.Told.TheVariants.{Silent, Said, Files, Sent, Loads, Closed}
+use Rattle.machine_devices.specs.Files.{file_lines}
+use Rattle.machine_devices.specs.declared.reply.Ended.{Ended}
+use Rattle.machine_devices.specs.declared.reply.Ended.TheVariants.{Ran, Served, Done, FramesOut}
+use Rattle.machine_devices.specs.declared.reply.Delivered.{Delivered}
+use Rattle.machine_devices.specs.declared.reply.Delivery.{Delivery}
+use Rattle.machine_devices.specs.declared.reply.Delivery.TheVariants as deliveries
+use Rattle.machine_devices.specs.declared.reply.Reply.{Reply}
+use Rattle.session_script.specs.Script.{Said as Asked}
+use Rattle.session_script.specs.Script as asked
 use Rattle.sessions.specs.Installed.{Installation, Step, machine_at, user_at}
 use Rattle.sessions.specs.Schedule.{Entry, Answered, Dealt, Passed, Idle, user_said}
 use Rattle.sessions.specs.declared.schedule.Detail.{Detail}

@@ -2,7 +2,7 @@
 ghost use Rattle.std.specs.Prelude.{[], ◌∷◌, Bool, IfOk, OnErr, OnOk};
 ghost use Rattle.std.specs.Io.KnownBytes.{Appends};
 ghost use Rattle.s370_num.specs.Host.{AppendsFront};
-ghost use Rattle.cp_script.specs.Script.{IsOfDevice, IsOfUser, said};
+ghost use Rattle.session_script.specs.Script.{IsOfDevice, IsOfUser, said};
 ghost use Rattle.sessions.specs.Schedule.{Applies, IsEvent, IsOf, Serves, Slices, acts_of, passed, scene, turn, turns, within};
 ghost use Rattle.sessions.specs.Session.{Accounts, IsPartly, IsPlayed};
 ghost use Rattle.sessions.specs.Transcript.{ended, passed_lines};
@@ -13,8 +13,8 @@ use crate::installation::Installation;
 use crate::schedule::{Detail, SLICE_UNITS, is_on, note, ready_users};
 use crate::transcript::idle_line;
 use cp_dispatch::Policy;
-use cp_script::ScriptEvent;
 use s370_num::host::{HostWriter, write_all};
+use session_script::ScriptEvent;
 use std::alloc::Global;
 
 /// Does what a line of the script asks for, and writes the lines that come of it.

@@ -1,6 +1,6 @@
 //! An event that happens, its lines that are written, and the line of programs after it.
 ghost use Rattle.std.specs.Prelude.{◌≡◌, ◌<◌, ◌⊎◌, OnErr, OnOk, length};
-ghost use Rattle.cp_script.specs.Script.{IsOfDevice, IsOfUser, said};
+ghost use Rattle.session_script.specs.Script.{IsOfDevice, IsOfUser, said};
 ghost use Rattle.sessions.specs.Schedule.{IsEvent, line_after, user_said};
 ghost use Rattle.sessions.specs.Session.{Accounts, IsAnswered, IsAnsweredPartly, IsUnanswered};
 
@@ -10,10 +10,10 @@ use crate::schedule::Detail;
 use crate::starts::{line_up, next_start};
 use crate::transcript::print_reply;
 use cp_dispatch::Policy;
-use cp_script::ScriptEvent;
-use cp_users::UserNo;
 use s370_num::host::{HostWriter, write_all};
+use session_script::ScriptEvent;
 use std::alloc::Global;
+use user_names::UserNo;
 
 /// Lets an event happen, and writes its reply's lines. The programs that have ended or were withdrawn by it stand in the
 /// line no more, and those that were started by it stand at its end.

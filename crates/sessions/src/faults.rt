@@ -5,8 +5,8 @@ ghost use Rattle.sessions.specs.declared.faults.PlayError.TheVariants.{Memory};
 ghost use Rattle.sessions.specs.declared.faults.SessionError.TheVariants as ends;
 
 use crate::installation::Refused;
-use cp_script::ScriptError;
 use s370_num::host::HostFault;
+use session_script::ScriptError;
 use std::alloc::AllocError;
 use thiserror::Error;
 

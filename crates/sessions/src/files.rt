@@ -3,7 +3,7 @@
 ghost use Rattle.std.specs.Prelude.{◌≡◌, ◌++◌, ◌∷◌, ◌<◌, [], IfOk, OnOk, Some, length, map, slice_get, take};
 ghost use Rattle.std.specs.Option.{option_copied, option_map};
 ghost use Rattle.cp_spool.specs.File.{closed_file};
-ghost use Rattle.cp_users.specs.Users.{name_of};
+ghost use Rattle.user_names.specs.Users.{name_of};
 ghost use Rattle.std.specs.String.{string_bytes};
 ghost use Rattle.cp_console.specs.Responses.{file_number};
 ghost use Rattle.s370_num.specs.Address.{two_digits};
@@ -12,12 +12,12 @@ ghost use Rattle.sessions.specs.Installed.{names_of};
 ghost use Rattle.sessions.specs.Transcript.{ended};
 
 use crate::installation::Installation;
-use cp_devices::{FileKind, FileNote};
 use cp_spool::SpoolFile;
-use cp_users::UserNo;
+use machine_devices::{FileKind, FileNote};
 use s370_num::ebcdic::printable;
 use std::alloc::{AllocError, Global};
 use unit_record::{Entry, Target};
+use user_names::UserNo;
 
 /// Where the lines of a file are told.
 #[derive(Clone, Copy, Debug, PartialEq, Eq)]

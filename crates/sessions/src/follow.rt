@@ -25,12 +25,12 @@ use crate::schedule::{Detail, first_policy, ready_users};
 use crate::session::{close, play};
 use crate::transcript::names;
 use cp_dispatch::{Policy, Ready};
-use cp_panel::Mode;
-use cp_script::{ScriptError, reads_grammar};
-use cp_users::UserNo;
+use machine_panel::Mode;
 use s370_num::host::HostWriter;
+use session_script::{ScriptError, reads_grammar};
 use std::alloc::{AllocError, Global};
 use std::marker::Model;
+use user_names::UserNo;
 
 /// An installation that goes on from where a script has led it.
 #[derive(Drop)]

@@ -1,19 +1,19 @@
 //! What a session needs of the machines that its script speaks to.
 ghost use Rattle.std.specs.Prelude.{◌≡◌, ◌<◌, ◌≤◌, ◌⊎◌, Bool, true, false, Err, IfOk, OnErr, OnOk, length, slice_get};
 ghost use Rattle.std.specs.Option.{option_map};
-ghost use Rattle.cp_script.specs.Script.{IsOfDevice, IsOfUser, said};
-ghost use Rattle.cp_script.specs.Users.{devices_of, has_device};
-ghost use Rattle.cp_users.specs.Users.{name_of};
+ghost use Rattle.session_script.specs.Script.{IsOfDevice, IsOfUser, said};
+ghost use Rattle.session_script.specs.Users.{devices_of, has_device};
+ghost use Rattle.user_names.specs.Users.{name_of};
 ghost use Rattle.sessions.specs.Installed.{Installation as Goings, machine_at, names_of, subchannels_at, user_at};
 ghost use Rattle.sessions.specs.Schedule.{IsEvent, ready_in};
 
-use cp_devices::{FileNote, Reply, SeenDevices};
-use cp_panel::Mode;
-use cp_script::ScriptEvent;
-use cp_users::UserNo;
+use machine_devices::{FileNote, Reply, SeenDevices};
+use machine_panel::Mode;
 use s370_subchannels::Subchannel;
+use session_script::ScriptEvent;
 use std::alloc::{AllocError, Global};
 use thiserror::Error;
+use user_names::UserNo;
 
 /// Why an event did not happen.
 #[derive(Clone, Copy, Debug, PartialEq, Eq, Drop, Error)]

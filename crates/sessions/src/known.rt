@@ -1,11 +1,11 @@
 //! What scripts know of the users of an installation: their names, and the addresses of their devices.
 ghost use Rattle.std.specs.Prelude.{◌≡◌, All, IfErr, IfOk, Ok, length, map};
-ghost use Rattle.cp_script.specs.Script.{IsOfDevice, IsOfUser, IsRefusal, said, script_of};
+ghost use Rattle.session_script.specs.Script.{IsOfDevice, IsOfUser, IsRefusal, said, script_of};
 
 use crate::installation::Installation;
-use cp_script::{ScriptError, ScriptEvent, ScriptUser, read_script};
-use cp_users::UserNo;
+use session_script::{ScriptError, ScriptEvent, ScriptUser, read_script};
 use std::alloc::{AllocError, Global};
+use user_names::UserNo;
 
 /// The events that a script names for the users of an installation and their devices.
 pub(crate) fn read_events<'a, I: Installation>(

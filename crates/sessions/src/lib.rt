@@ -5,8 +5,8 @@
 //! given part by part, and is followed ([`follow::Follower`]): the parts joined are one session.
 //!
 //! A script's bytes name events exactly where they are a text of the grammar of docs/FORMATS.md, and any other text is
-//! refused at its first line that the grammar does not have ([`cp_script::reads_grammar`] carries that law,
-//! [`cp_script::read_script`] keeps it). The lines that the transcript has for an event are those of that document, in its
+//! refused at its first line that the grammar does not have ([`session_script::reads_grammar`] carries that law,
+//! [`session_script::read_script`] keeps it). The lines that the transcript has for an event are those of that document, in its
 //! order.
 //!
 //! ```

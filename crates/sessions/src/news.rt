@@ -5,9 +5,9 @@ ghost use Rattle.sessions.specs.News.{change_lines, changed_lines, modes_of};
 ghost use Rattle.sessions.specs.Transcript.{ended};
 
 use crate::installation::Installation;
-use cp_panel::Mode;
-use cp_users::UserNo;
+use machine_panel::Mode;
 use std::alloc::{AllocError, Global};
+use user_names::UserNo;
 
 /// In which mode each user's machine is.
 pub(crate) fn modes<I: Installation>(

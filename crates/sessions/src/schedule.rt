@@ -6,9 +6,9 @@ ghost use Rattle.sessions.specs.Schedule.{first_lines, is_on, is_user_on, queue_
 use crate::installation::Installation;
 use crate::starts::line_up;
 use cp_dispatch::{Policy, Ready};
-use cp_panel::Mode;
-use cp_users::UserNo;
+use machine_panel::Mode;
 use std::alloc::{AllocError, Global};
+use user_names::UserNo;
 
 /// How many units a slice has.
 pub(crate) const SLICE_UNITS: u32 = 100;

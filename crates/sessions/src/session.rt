@@ -2,7 +2,7 @@
 ghost use Rattle.std.specs.Prelude.{◌≡◌, ◌⊎◌, ℕ, Bool, [], All, Err, OnErr, OnOk, map};
 ghost use Rattle.std.specs.Io.KnownBytes.{Appends};
 ghost use Rattle.s370_num.specs.Host.{AppendsFront};
-ghost use Rattle.cp_script.specs.Script.{IsOfDevice, IsOfUser, said};
+ghost use Rattle.session_script.specs.Script.{IsOfDevice, IsOfUser, said};
 ghost use Rattle.sessions.specs.Files.{closing_lines};
 ghost use Rattle.sessions.specs.Schedule.{IsOf, acts, scene};
 ghost use Rattle.sessions.specs.Session.{Accounts, AccountsFiles, IsCut, IsPartly, IsPlayed, IsRefused, IsSession};
@@ -16,8 +16,8 @@ use crate::installation::Installation;
 use crate::known::read_events;
 use crate::schedule::{Detail, first_policy};
 use cp_dispatch::Policy;
-use cp_script::ScriptEvent;
 use s370_num::host::{HostReader, HostWriter, read_all, write_all};
+use session_script::ScriptEvent;
 use std::alloc::Global;
 
 /// Reads a whole script and judges it; then lets its events happen and deals its turns one after another, and writes the

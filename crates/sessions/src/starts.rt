@@ -3,7 +3,7 @@ ghost use Rattle.std.specs.Prelude.{◌≡◌, ◌<◌, IfOk, OnOk, if◌then◌
 ghost use Rattle.std.specs.List.{position};
 ghost use Rattle.s370_subchannels.specs.Starts.{works};
 ghost use Rattle.s370_subchannels.specs.Subchannels.{latest_start, next_start};
-ghost use Rattle.cp_script.specs.Users.{has_device};
+ghost use Rattle.session_script.specs.Users.{has_device};
 ghost use Rattle.cp_dispatch.specs.Policy.{is_of};
 ghost use Rattle.cp_dispatch.specs.Turns.{without};
 ghost use Rattle.sessions.specs.Installed.{subchannels_at};
@@ -11,10 +11,10 @@ ghost use Rattle.sessions.specs.Schedule.{in_order, is_before, is_joining, joine
 
 use crate::installation::Installation;
 use cp_dispatch::Policy;
-use cp_users::UserNo;
 use s370_num::DevAddr;
 use s370_subchannels::{DeviceState, Subchannel};
 use std::alloc::{AllocError, Global};
+use user_names::UserNo;
 
 /// The number that the next start of a user's machine has.
 pub(crate) fn next_start<I: Installation>(installation: &I, user: UserNo) -> u64

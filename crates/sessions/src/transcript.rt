@@ -1,7 +1,7 @@
 //! The transcript: the lines of an event and its reply.
 ghost use Rattle.std.specs.Prelude.{◌≡◌, ◌++◌, ◌∷◌, ◌<◌, [], IfOk, OnOk, length, map};
-ghost use Rattle.cp_script.specs.Script.{said};
-ghost use Rattle.cp_users.specs.Users.{name_of};
+ghost use Rattle.session_script.specs.Script.{said};
+ghost use Rattle.user_names.specs.Users.{name_of};
 ghost use Rattle.sessions.specs.Installed.{machine_at, names_of, user_at};
 ghost use Rattle.sessions.specs.Schedule.{Idle};
 ghost use Rattle.sessions.specs.Transcript.{CutsBack, delivered_lines, ended, ending_lines, frames_line, idle_lines, lacking_lines, last_lines, queue_lines, ran_line, reason_word, reply_lines, said_lines, scant_lines, served_line, served_lines, served_word, told_line, end_lines, written_lines};
@@ -9,12 +9,12 @@ ghost use Rattle.sessions.specs.Transcript.{CutsBack, delivered_lines, ended, en
 use crate::installation::Installation;
 use crate::schedule::Detail;
 use cp_console::printing;
-use cp_devices::{Delivered, Delivery, Ended, Reply, Told, deck_line};
-use cp_script::ScriptEvent;
-use cp_users::UserNo;
+use machine_devices::{Delivered, Delivery, Ended, Reply, Told, deck_line};
 use s370_intr::{Ran, Reason};
 use s370_num::DevAddr;
+use session_script::ScriptEvent;
 use std::alloc::{AllocError, Global};
+use user_names::UserNo;
 
 /// The transcript's lines for the reply to an event of this user, each ended by LF: what was said to the
 /// user, what has been written at his console, what stands at another's terminal, and then how the event ended.

@@ -8,10 +8,10 @@ use Rattle.cp_core.specs.System.{SystemView, names_of as names_in}
 use Rattle.cp_core.specs.declared.events.Event.{Event}
 use Rattle.cp_core.specs.declared.events.Event.TheVariants as events
 use Rattle.cp_directory.specs.Users.{DirectoryUser, addresses_of}
-use Rattle.cp_script.specs.Users.{KnownUser, devices_of, has_device}
-use Rattle.cp_script.specs.Script.{Said, Run, Line, Tick, Serve, Auto, Deck, IsOfDevice, said}
-use Rattle.cp_script.specs.declared.event.ScriptEvent.{ScriptEvent}
-use Rattle.cp_script.specs.declared.event.ScriptEvent.TheVariants as scripts
+use Rattle.session_script.specs.Users.{KnownUser, devices_of, has_device}
+use Rattle.session_script.specs.Script.{Said, Run, Line, Tick, Serve, Auto, Deck, IsOfDevice, said}
+use Rattle.session_script.specs.declared.event.ScriptEvent.{ScriptEvent}
+use Rattle.session_script.specs.declared.event.ScriptEvent.TheVariants as scripts
 use Rattle.sessions.specs.Installed.{IsHistory, Step, names_of}
 use Rattle.vm370.specs.Goes.{IsStated, as_said, known_users, seen_in, system_goes}
 use Rattle.vm370.specs.Histories.{AreHistories, of_system}

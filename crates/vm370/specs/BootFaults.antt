@@ -1,6 +1,6 @@
 -- What the program says of a system that is not booted.
 use Rattle.std.specs.Prelude.{ℕ, List, codes, ◌++◌}
-use Rattle.cp_users.specs.Users.{name_of}
+use Rattle.user_names.specs.Users.{name_of}
 use Rattle.cp_core.specs.declared.events.BootError.{BootError}
 use Rattle.cp_core.specs.declared.events.BootError.TheVariants as refusals
 use Rattle.programs.specs.BootFaults.{past_end_text}

@@ -6,13 +6,13 @@ use Rattle.cp_core.specs.Stated.{LacksDevice}
 use Rattle.cp_core.specs.System.{SystemView, user_at}
 use Rattle.cp_core.specs.declared.events.Event.{Event}
 use Rattle.cp_core.specs.declared.events.Event.TheVariants as events
-use Rattle.cp_devices.specs.declared.reply.Reply.{Reply}
+use Rattle.machine_devices.specs.declared.reply.Reply.{Reply}
 use Rattle.cp_directory.specs.Users.{DirectoryUser, addresses_of}
-use Rattle.cp_script.specs.Cards.{cards_of}
-use Rattle.cp_script.specs.Script.{Said, Run, Line, Tick, Serve, Deck}
-use Rattle.cp_script.specs.Users.{KnownUser}
-use Rattle.cp_script.specs.declared.event.ScriptEvent.{ScriptEvent}
-use Rattle.cp_script.specs.declared.event.ScriptEvent.TheVariants as scripts
+use Rattle.session_script.specs.Cards.{cards_of}
+use Rattle.session_script.specs.Script.{Said, Run, Line, Tick, Serve, Deck}
+use Rattle.session_script.specs.Users.{KnownUser}
+use Rattle.session_script.specs.declared.event.ScriptEvent.{ScriptEvent}
+use Rattle.session_script.specs.declared.event.ScriptEvent.TheVariants as scripts
 use Rattle.sessions.specs.Installed.{Installation, Installed}
 
 -- scripts know a user of a directory by his name, and the addresses of his devices

@@ -2,7 +2,7 @@
 use Rattle.std.specs.Prelude.{◌≡◌, ◌≤◌, ◌&&◌, ℕ, Bool, true, false, List, [], map, codes, Option, Some, None, is_some}
 use Rattle.clap.specs.Words.{App, Row, Rule, all_of, fault_of, first_of, matches_of, new_app, new_rule, one_of, takes, with_rule}
 use Rattle.clap.specs.declared.builder.action.ArgAction.TheVariants.{Set}
-use Rattle.cp_text.specs.Numbers.{decimal_of}
+use Rattle.text_words.specs.Numbers.{decimal_of}
 use Rattle.cp_core.specs.Sizes.{SystemSizes}
 use Rattle.programs.specs.Arguments.{IsFlag, save_rule, script_rule, texts_of, volume_rule}
 use Rattle.vm370.specs.declared.arguments.Options.{Options}

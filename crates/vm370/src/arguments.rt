@@ -6,12 +6,12 @@ ghost use Rattle.vm370.specs.Options.{HasNoFault, IsNamed, IsSized, command_of, 
 
 use clap::{Arg, ArgAction, ArgMatches, Command};
 use cp_core::Sizes;
-use cp_text::numbers::decimal_of;
 use programs::words::{
     UsageError, is_given, paths_of, refusal, save, script, text_of, usage, volumes,
 };
 use std::alloc::{AllocError, Global};
 use std::convert::AsStr;
+use text_words::numbers::decimal_of;
 
 /// How many frames the machine has where the words name no number.
 const FRAMES: u32 = 64;

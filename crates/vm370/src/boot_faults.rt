@@ -1,15 +1,15 @@
 //! What a system that is not booted is as a failure of the program.
 ghost use Rattle.std.specs.Prelude.{◌≡◌, IfOk, map, string_bytes};
 ghost use Rattle.std.specs.Str.Lossy.{utf8_lossy};
-ghost use Rattle.cp_users.specs.Users.{name_of};
+ghost use Rattle.user_names.specs.Users.{name_of};
 ghost use Rattle.programs.specs.Faults.{fault_text, status_of};
 ghost use Rattle.vm370.specs.BootFaults.{refusal_status, refusal_text};
 
 use cp_core::BootError;
 use cp_directory::User;
-use cp_users::UserNo;
 use programs::{BootFault, Failure};
 use std::alloc::{AllocError, Global};
+use user_names::UserNo;
 
 /// The names of users, as texts. They are kept while the system is booted, which takes the directory.
 pub(crate) fn names_of(alloc: Global, users: &[User]) -> Result<Vec<String>, AllocError>

@@ -4,25 +4,25 @@ ghost use Rattle.std.specs.Option.{option_to_list};
 ghost use Rattle.cp_directory.specs.Devices.{places_of};
 ghost use Rattle.cp_directory.specs.Users.{addresses_of};
 ghost use Rattle.cp_core.specs.Stated.{states_device};
-ghost use Rattle.cp_script.specs.Script.{IsOfDevice, IsOfUser, said};
-ghost use Rattle.cp_script.specs.Users.{devices_of};
-ghost use Rattle.cp_users.specs.Users.{name_of};
+ghost use Rattle.session_script.specs.Script.{IsOfDevice, IsOfUser, said};
+ghost use Rattle.session_script.specs.Users.{devices_of};
+ghost use Rattle.user_names.specs.Users.{name_of};
 ghost use Rattle.sessions.specs.Installed.{names_of};
 ghost use Rattle.sessions.specs.Schedule.{IsEvent};
 ghost use Rattle.vm370.specs.Goes.{HasCards, HasHappened, IsSpent, as_said, known_users, seen_in, system_goes};
 
 use cp_core::{CpError, Event, System};
-use cp_devices::{FileNote, Reply, SeenDevices};
 use cp_directory::{Minidisk, User, UserDevices};
-use cp_panel::Mode;
-use cp_script::ScriptEvent;
-use cp_users::{UserNo, name_of};
+use machine_devices::{FileNote, Reply, SeenDevices};
+use machine_panel::Mode;
 use s370_num::DevAddr;
 use s370_subchannels::Subchannel;
+use session_script::ScriptEvent;
 use sessions::{Installation, Refused};
 use std::alloc::{AllocError, Global};
 use std::marker::Model;
 use unit_record::Card;
+use user_names::{UserNo, name_of};
 
 /// The machines of many users, on one system.
 #[derive(Drop)]

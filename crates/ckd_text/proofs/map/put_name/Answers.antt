@@ -1,5 +1,5 @@
 use Rattle.std.proofs.Common.{codes}
-use Rattle.cp_text.specs.Words.{word_of}
+use Rattle.text_words.specs.Words.{word_of}
 use Rattle.ckd_text.specs.Map.{cylinders_text}
 use Rattle.ckd_text.proofs.Maps.{append_three}
 use Rattle.ckd_text.proofs.map.put_name.Goals as goal

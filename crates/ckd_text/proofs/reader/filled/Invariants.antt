@@ -1,5 +1,5 @@
 use Rattle.std.proofs.Common.{◌≡◌, ◌≤◌, ◌+◌, length}
-use Rattle.cp_text.specs.Lines.{lines_of, read_lines}
+use Rattle.text_words.specs.Lines.{lines_of, read_lines}
 use Rattle.ckd_text.specs.Text.{line_step}
 use Rattle.ckd_text.proofs.reader.filled.Given as goal
 

@@ -1,7 +1,7 @@
 use Rattle.std.proofs.Common.{◌≡◌, ◌∙◌, ◌+◌, None, ap, drop, get_or, sym}
 use Rattle.std.proofs.lemmas.List.{drop_more}
 use Rattle.std.specs.Option.{option_and_then}
-use Rattle.cp_text.specs.Numbers.{number_from}
+use Rattle.text_words.specs.Numbers.{number_from}
 use Rattle.cp_console.specs.Operands.{file_of, in_64_bits}
 use Rattle.cp_console.proofs.FileNumbers.{refused}
 use Rattle.cp_console.proofs.operands.file_of.Goals as goal

@@ -1,6 +1,6 @@
 use Rattle.std.proofs.Common.{◌≡◌, ◌<◌, ◌^◌, drop}
 use Rattle.std.specs.Option.{option_and_then}
-use Rattle.cp_text.specs.Numbers.{number_from}
+use Rattle.text_words.specs.Numbers.{number_from}
 use Rattle.cp_console.specs.Operands.{file_of, in_64_bits}
 use Rattle.cp_console.proofs.operands.file_of.Given as goal
 

@@ -3,15 +3,15 @@ use Rattle.std.proofs.lemmas.List.{length-append, map-append, take_more}
 use Rattle.std.proofs.lemmas.Bool.{true≢false}
 use Rattle.std.proofs.lemmas.Result.{err_from_is_err_and}
 use Rattle.cp_spool.specs.Queues.{no_files}
-use Rattle.cp_devices.specs.Lent.{DevicesParts, devices_with}
+use Rattle.machine_devices.specs.Lent.{DevicesParts, devices_with}
 use Rattle.cp_core.proofs.Owned.{owners_more}
-use Rattle.cp_devices.specs.declared.attaching.AttachError.TheVariants as attaching
+use Rattle.machine_devices.specs.declared.attaching.AttachError.TheVariants as attaching
 use Rattle.cp_directory.specs.Grammar.{HasLawfulDevices}
 use Rattle.cp_directory.specs.Users.{DirectoryUser, addresses_of}
 use Rattle.cp_directory.specs.declared.minidisk.Minidisk.{Minidisk}
-use Rattle.cp_channels.specs.Disks.{DiskAt}
-use Rattle.cp_devices.specs.Devices.{can_attach, devices_new, places_of}
-use Rattle.cp_devices.specs.declared.places.Places.{Places}
+use Rattle.machine_channels.specs.Disks.{DiskAt}
+use Rattle.machine_devices.specs.Devices.{can_attach, devices_new, places_of}
+use Rattle.machine_devices.specs.declared.places.Places.{Places}
 use Rattle.cp_core.specs.Boot.{places_in}
 use Rattle.cp_core.specs.UserMachines.{IsUnused, unowned}
 use Rattle.cp_seating.specs.Seating.{AreDisks, AreLawful, seats_of}

@@ -1,6 +1,6 @@
 use Rattle.cp_dat.specs.Lent.{lent_bytes, lent_keys}
-use Rattle.cp_devices.specs.Equipped.{equipped}
-use Rattle.cp_devices.specs.Lent.{devices_on}
+use Rattle.machine_devices.specs.Equipped.{equipped}
+use Rattle.machine_devices.specs.Lent.{devices_on}
 use Rattle.cp_resident.specs.Resident.{disks_on}
 use Rattle.cp_core.proofs.Worked.{plainly_lent}
 use Rattle.cp_core.proofs.serving.type_line.Goals as goal

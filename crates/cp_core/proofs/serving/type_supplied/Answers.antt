@@ -1,15 +1,15 @@
 use Rattle.std.proofs.Common.{◌≡◌, ◌∙◌, Bool, sym, subst, inr, refl, length, Ok, Err, Result, IfOk, true, false, ℕ, None, Some}
 use Rattle.cp_dat.specs.Lent.{lent_bytes, lent_keys}
-use Rattle.cp_devices.specs.Equipped.{Equipped, equipped}
-use Rattle.cp_devices.specs.Lent.{devices_on}
-use Rattle.cp_devices.specs.declared.line.Told.{Told}
-use Rattle.cp_devices.specs.Lines.{IplNeeds, IsIpl, IsWholeLine, loads_from}
-use Rattle.cp_devices.proofs.Beside.{beside_on}
+use Rattle.machine_devices.specs.Equipped.{Equipped, equipped}
+use Rattle.machine_devices.specs.Lent.{devices_on}
+use Rattle.machine_devices.specs.declared.line.Told.{Told}
+use Rattle.machine_devices.specs.Lines.{IplNeeds, IsIpl, IsWholeLine, loads_from}
+use Rattle.machine_devices.proofs.Beside.{beside_on}
 use Rattle.cp_core.proofs.Owned.{owner_still}
-use Rattle.cp_channels.specs.Channels.{Brings, LacksRoom}
-use Rattle.cp_panel.specs.declared.line.LineError.TheVariants as errors
+use Rattle.machine_channels.specs.Channels.{Brings, LacksRoom}
+use Rattle.machine_panel.specs.declared.line.LineError.TheVariants as errors
 use Rattle.cp_resident.specs.Resident.{CameIn, disks_on, hung_further}
-use Rattle.cp_devices.proofs.Answered.{loaded_whole, loads_ipl, plain_whole}
+use Rattle.machine_devices.proofs.Answered.{loaded_whole, loads_ipl, plain_whole}
 use Rattle.cp_core.proofs.Worked.{loading_lent, no_room}
 use Rattle.cp_core.proofs.serving.type_supplied.Goals as goal
 

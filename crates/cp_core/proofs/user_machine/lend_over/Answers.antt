@@ -2,8 +2,8 @@ use Rattle.cp_volumes.specs.Shared.{disks_on}
 use Rattle.std.proofs.Common.{rules, ◌≡◌, ◌∙◌, ℕ, List, subst}
 use Rattle.cp_frames.specs.Layout.{Pool, bytes_of}
 use Rattle.cp_dat.specs.Lent.{user_of, lent_pool, lent_keys}
-use Rattle.cp_devices.specs.Equipped.{equipped}
-use Rattle.cp_devices.specs.Lent.{devices_on}
+use Rattle.machine_devices.specs.Equipped.{equipped}
+use Rattle.machine_devices.specs.Lent.{devices_on}
 use Rattle.cp_core.proofs.user_machine.lend_over.Goals as goal
 
 pub returns-clause-does : goal.returns-clause-does

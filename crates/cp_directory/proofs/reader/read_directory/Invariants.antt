@@ -1,5 +1,5 @@
 use Rattle.std.proofs.Common.{◌≡◌}
-use Rattle.cp_text.specs.Lines.{read_lines}
+use Rattle.text_words.specs.Lines.{read_lines}
 use Rattle.cp_directory.specs.Directories.{directory_of, directory_step}
 use Rattle.cp_directory.proofs.reader.read_directory.Given as goal
 

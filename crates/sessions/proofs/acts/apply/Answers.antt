@@ -1,6 +1,6 @@
 use Rattle.std.proofs.Common.{◌≡◌, ◌∙◌, ap, ℕ}
 use Rattle.cp_dispatch.specs.Policy.{Lines}
-use Rattle.cp_script.specs.Script.{said}
+use Rattle.session_script.specs.Script.{said}
 use Rattle.sessions.specs.Schedule.{line_after, lines_after, queue_after, user_said}
 use Rattle.sessions.proofs.Stated.{after_event}
 use Rattle.sessions.proofs.Histories.{applied, applied_partly, on_err}

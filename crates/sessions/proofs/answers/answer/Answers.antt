@@ -2,7 +2,7 @@ use Rattle.std.proofs.Common.{◌≡◌, ◌∙◌, ℕ, List, ap, inl, inr, ref
 use Rattle.std.specs.Io.KnownBytes.{Appends}
 use Rattle.std.proofs.KnownBytes.{Appends-nil}
 use Rattle.s370_num.specs.Host.{AppendsFront}
-use Rattle.cp_script.specs.Script.{said}
+use Rattle.session_script.specs.Script.{said}
 use Rattle.sessions.proofs.Histories.{on_err}
 use Rattle.sessions.proofs.Told.{told_alike}
 use Rattle.sessions.proofs.answers.answer.Goals as goal

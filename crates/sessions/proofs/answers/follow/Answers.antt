@@ -1,5 +1,5 @@
 use Rattle.std.proofs.Common.{inr}
-use Rattle.cp_script.specs.Script.{said}
+use Rattle.session_script.specs.Script.{said}
 use Rattle.sessions.proofs.Histories.{answered_partly, on_err}
 use Rattle.sessions.proofs.answers.follow.Goals as goal
 

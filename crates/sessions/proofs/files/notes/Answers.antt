@@ -1,5 +1,5 @@
 use Rattle.std.proofs.Common.{List, ◌++◌, [], ◌∷◌, ap, sym, ◌∙◌}
-use Rattle.cp_devices.specs.declared.files.FileNote.{FileNote}
+use Rattle.machine_devices.specs.declared.files.FileNote.{FileNote}
 use Rattle.sessions.proofs.FileLines.{take_more}
 use Rattle.sessions.proofs.files.notes.Goals as goal
 

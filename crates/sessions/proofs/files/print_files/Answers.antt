@@ -1,6 +1,6 @@
 use Rattle.std.proofs.Common.{◌≡◌, ◌<◌, ◌++◌, ◌∙◌, List, ap, sym, subst, length, take, arith}
 use Rattle.std.specs.Prelude.{slice_get}
-use Rattle.cp_devices.specs.declared.files.FileNote.{FileNote}
+use Rattle.machine_devices.specs.declared.files.FileNote.{FileNote}
 use Rattle.sessions.specs.Files.{place_lines}
 use Rattle.sessions.specs.Transcript.{ended}
 use Rattle.sessions.proofs.FileLines.{note_more}

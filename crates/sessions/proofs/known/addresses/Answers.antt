@@ -1,5 +1,5 @@
 use Rattle.std.proofs.Common.{◌<◌, length, arith, ap, ◌∙◌}
-use Rattle.cp_script.specs.Users.{devices_of}
+use Rattle.session_script.specs.Users.{devices_of}
 use Rattle.sessions.proofs.UsersKnown.{lists_more}
 use Rattle.sessions.proofs.known.addresses.Goals as goal
 

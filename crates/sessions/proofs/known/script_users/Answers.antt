@@ -1,6 +1,6 @@
 use Rattle.std.proofs.Common.{◌<◌, length, arith, ap, ◌∙◌}
-use Rattle.cp_users.specs.Users.{name_of}
-use Rattle.cp_script.specs.Users.{names_of}
+use Rattle.user_names.specs.Users.{name_of}
+use Rattle.session_script.specs.Users.{names_of}
 use Rattle.sessions.proofs.UsersKnown.{as_long, devices_at, users_more}
 use Rattle.sessions.proofs.known.script_users.Goals as goal
 

@@ -1,5 +1,5 @@
 use Rattle.std.proofs.Common.{◌≡◌, ◌+◌, refl, subst, sym, ap, ◌∙◌, map, take, drop, List, [], ◌∷◌, ◌++◌, All, arith}
-use Rattle.cp_script.specs.Script.{said, Said}
+use Rattle.session_script.specs.Script.{said, Said}
 use Rattle.sessions.specs.Schedule.{Act, acts, acts_of, scene}
 use Rattle.sessions.proofs.Lists.{map_take_more, map_around}
 use Rattle.sessions.proofs.Histories.{acts_append, acts_more, on_err, played_more, played_none, partly_more, partly_rest}

@@ -1,5 +1,5 @@
 use Rattle.std.proofs.Common.{◌≡◌, true, map, take}
-use Rattle.cp_script.specs.Script.{said}
+use Rattle.session_script.specs.Script.{said}
 use Rattle.sessions.specs.Schedule.{acts, scene}
 use Rattle.sessions.specs.Session.{IsPlayed}
 use Rattle.sessions.proofs.session.play.Given as goal

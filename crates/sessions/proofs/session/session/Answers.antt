@@ -1,9 +1,9 @@
 use Rattle.std.proofs.Common.{◌≡◌, ℕ, Bool, Err, Ok, Result, List, true, refl, inl, inr, map, length, ap, sym, subst, ◌∙◌}
 use Rattle.std.specs.Prelude.{IsErrAnd}
 use Rattle.cp_dispatch.specs.Policy.{Lines}
-use Rattle.cp_script.specs.Script.{IsRefusal, Said, said}
-use Rattle.cp_script.specs.declared.reader.ScriptError.{ScriptError}
-use Rattle.cp_script.specs.declared.reader.ScriptError.TheVariants as refusals
+use Rattle.session_script.specs.Script.{IsRefusal, Said, said}
+use Rattle.session_script.specs.declared.reader.ScriptError.{ScriptError}
+use Rattle.session_script.specs.declared.reader.ScriptError.TheVariants as refusals
 use Rattle.sessions.specs.Schedule.{IsOf, first_line, first_lines, scene}
 use Rattle.s370_num.specs.Host.{IsCounted}
 use Rattle.s370_num.specs.declared.host.HostFault.TheVariants as faults

@@ -1,5 +1,5 @@
 use Rattle.std.proofs.Common.{◌≡◌, ◌++◌, drop, map}
-use Rattle.cp_users.specs.Users.{name_of}
+use Rattle.user_names.specs.Users.{name_of}
 use Rattle.sessions.specs.Installed.{machine_at, names_of}
 use Rattle.sessions.specs.Transcript.{ended, last_lines, told_line}
 use Rattle.sessions.proofs.transcript.print_last.Given as goal

@@ -1,5 +1,5 @@
 use Rattle.std.proofs.Common.{◌≡◌, ◌++◌, drop, map}
-use Rattle.cp_users.specs.Users.{name_of}
+use Rattle.user_names.specs.Users.{name_of}
 use Rattle.sessions.specs.Installed.{names_of, user_at}
 use Rattle.sessions.specs.Transcript.{ended, queue_lines}
 use Rattle.sessions.proofs.transcript.print_queue.Given as goal

@@ -1,5 +1,5 @@
 use Rattle.std.proofs.Common.{ℕ, List, ap, sym, ◌∙◌}
-use Rattle.cp_users.specs.Users.{name_of}
+use Rattle.user_names.specs.Users.{name_of}
 use Rattle.vm370.proofs.Stated.{known_names}
 use Rattle.vm370.proofs.installation.name_in.Goals as goal
 

@@ -1,6 +1,6 @@
 use Rattle.std.proofs.Common.{◌≡◌, ◌∙◌, ℕ, Err, Ok, OnErr, Option, Result, Some, inr, refl, sym, subst}
-use Rattle.cp_devices.specs.Lines.{IsFollowed, loads_from}
-use Rattle.cp_devices.proofs.Answered.{loads_ipl}
+use Rattle.machine_devices.specs.Lines.{IsFollowed, loads_from}
+use Rattle.machine_devices.proofs.Answered.{loads_ipl}
 use Rattle.bare_installation.proofs.bare.Bare.answer_whole.Goals as goal
 
 pub returns-in-None-clause-line : goal.returns-in-None-clause-line

@@ -1,9 +1,9 @@
 use Rattle.std.proofs.Common.{◌≡◌, IfOk, Option, ap, subst}
 use Rattle.s370_channel.specs.Reading.{as_reached}
-use Rattle.cp_devices.specs.declared.reply.Delivered.{Delivered}
-use Rattle.cp_devices.specs.Coming.{comes_by_line, coming_of}
-use Rattle.cp_devices.specs.Equipped.{Equipped}
-use Rattle.cp_devices.specs.Life.{Lives}
+use Rattle.machine_devices.specs.declared.reply.Delivered.{Delivered}
+use Rattle.machine_devices.specs.Coming.{comes_by_line, coming_of}
+use Rattle.machine_devices.specs.Equipped.{Equipped}
+use Rattle.machine_devices.specs.Life.{Lives}
 use Rattle.bare_installation.specs.Bare.{Bare}
 use Rattle.bare_installation.proofs.bare.Bare.follow.Goals as goal
 

@@ -1,15 +1,15 @@
 use Rattle.std.proofs.Common.{◌≡◌, ◌∙◌, ◌++◌, ℕ, Err, List, Ok, OnErr, Option, Result, ap, length, subst}
 use Rattle.s370_channel.specs.Reading.{as_reached}
-use Rattle.cp_devices.specs.declared.files.FileNote.{FileNote}
-use Rattle.cp_devices.specs.declared.reply.Delivered.{Delivered}
-use Rattle.cp_devices.specs.Comes.{NeedsMemory}
-use Rattle.cp_devices.specs.Coming.{comes_by_line, coming_of}
-use Rattle.cp_devices.specs.Life.{Lives}
-use Rattle.cp_devices.specs.Lines.{IsWholeLine}
-use Rattle.cp_devices.specs.Notes.{closed_since, next_file}
-use Rattle.cp_devices.specs.Replies.{delivered_by, said_to_line}
-use Rattle.cp_devices.specs.World.{World}
-use Rattle.cp_devices.proofs.Answered.{follow_may}
+use Rattle.machine_devices.specs.declared.files.FileNote.{FileNote}
+use Rattle.machine_devices.specs.declared.reply.Delivered.{Delivered}
+use Rattle.machine_devices.specs.Comes.{NeedsMemory}
+use Rattle.machine_devices.specs.Coming.{comes_by_line, coming_of}
+use Rattle.machine_devices.specs.Life.{Lives}
+use Rattle.machine_devices.specs.Lines.{IsWholeLine}
+use Rattle.machine_devices.specs.Notes.{closed_since, next_file}
+use Rattle.machine_devices.specs.Replies.{delivered_by, said_to_line}
+use Rattle.machine_devices.specs.World.{World}
+use Rattle.machine_devices.proofs.Answered.{follow_may}
 use Rattle.bare_installation.proofs.bare.Bare.line.Goals as goal
 
 on_err : {T E : Type 0} (X : Type 0) (result : Result T E) → X → OnErr result X

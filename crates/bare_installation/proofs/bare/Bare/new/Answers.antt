@@ -1,10 +1,10 @@
 use Rattle.std.proofs.Common.{◌≡◌, List, subst, sym, ap, ◌∙◌, ◌++◌, map, Err, Result, true, false}
 use Rattle.std.proofs.lemmas.Result.{err_from_is_err_and}
-use Rattle.cp_channels.specs.Disks.{DiskAt}
+use Rattle.machine_channels.specs.Disks.{DiskAt}
 use Rattle.cp_spool.specs.Queues.{no_files}
-use Rattle.cp_devices.specs.Devices.{AreAttached, can_attach, places_of}
-use Rattle.cp_devices.specs.Lent.{DevicesParts, devices_with, parts_new}
-use Rattle.cp_devices.specs.declared.attaching.AttachError.TheVariants as errors
+use Rattle.machine_devices.specs.Devices.{AreAttached, can_attach, places_of}
+use Rattle.machine_devices.specs.Lent.{DevicesParts, devices_with, parts_new}
+use Rattle.machine_devices.specs.declared.attaching.AttachError.TheVariants as errors
 use Rattle.bare_installation.proofs.bare.Bare.new.Goals as goal
 
 err_same : {A E : Type 0} (x y : E) → (let told : Result A E = Err x in told ≡ Err y) → x ≡ y

@@ -1,9 +1,9 @@
 use Rattle.std.proofs.Common.{refl, rules}
 use Rattle.s370_store.specs.Plain.{plain_bytes, plain_keys}
 use Rattle.s370_channel.specs.Reading.{as_reached}
-use Rattle.cp_channels.specs.Own.{disks_of}
-use Rattle.cp_devices.specs.Equipped.{equipped}
-use Rattle.cp_devices.specs.Lent.{devices_on}
+use Rattle.machine_channels.specs.Own.{disks_of}
+use Rattle.machine_devices.specs.Equipped.{equipped}
+use Rattle.machine_devices.specs.Lent.{devices_on}
 use Rattle.bare_installation.proofs.Present.{never_away}
 use Rattle.bare_installation.proofs.bare.Bare.serve.Goals as goal
 use Rattle.bare_installation.proofs.bare.Bare.serve.Goals.{in-Ok, in-Err-Memory}

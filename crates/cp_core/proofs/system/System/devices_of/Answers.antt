@@ -1,6 +1,6 @@
 use Rattle.std.proofs.Common.{◌∙◌, ap, arith, sym}
-use Rattle.cp_devices.specs.Equipped.{Equipped}
-use Rattle.cp_devices.specs.Lent.{devices_on}
+use Rattle.machine_devices.specs.Equipped.{Equipped}
+use Rattle.machine_devices.specs.Lent.{devices_on}
 use Rattle.cp_core.specs.System.{SystemView}
 use Rattle.cp_core.specs.UserMachines.{SeatParts, seat_on, seats_on}
 use Rattle.cp_core.proofs.Systems.{has_seat, seat_is}

@@ -1,11 +1,11 @@
 use Rattle.std.proofs.Common.{◌∙◌, Err, ap, arith, subst, sym, ℕ}
-use Rattle.cp_panel.specs.declared.line.LineError.{LineError}
+use Rattle.machine_panel.specs.declared.line.LineError.{LineError}
 use Rattle.cp_core.specs.Histories.{IsStep}
 use Rattle.cp_core.specs.System.{user_at, world_of}
-use Rattle.cp_devices.specs.Replies.{said_to_line}
+use Rattle.machine_devices.specs.Replies.{said_to_line}
 use Rattle.cp_core.specs.Work.{HasTyped}
 use Rattle.cp_core.specs.declared.events.Event.TheVariants.{Line}
-use Rattle.cp_devices.specs.declared.reply.Reply.{Reply}
+use Rattle.machine_devices.specs.declared.reply.Reply.{Reply}
 use Rattle.cp_core.proofs.Steps.{if_err, line_cut, line_done, line_out}
 use Rattle.cp_core.proofs.system.System.line.Goals as goal
 

@@ -1,5 +1,5 @@
 use Rattle.std.proofs.Common.{◌∙◌, ap, arith, length, sym}
-use Rattle.cp_devices.specs.Equipped.{Equipped}
+use Rattle.machine_devices.specs.Equipped.{Equipped}
 use Rattle.cp_core.specs.System.{SystemView}
 use Rattle.cp_core.specs.UserMachines.{SeatParts, seat_on, seats_on}
 use Rattle.cp_core.proofs.Systems.{has_seat, seat_is}

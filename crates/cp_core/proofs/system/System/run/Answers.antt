@@ -1,5 +1,5 @@
 use Rattle.std.proofs.Common.{◌∙◌, ap, arith}
-use Rattle.cp_devices.specs.Lines.{said}
+use Rattle.machine_devices.specs.Lines.{said}
 use Rattle.cp_core.proofs.Steps.{run_step}
 use Rattle.cp_core.proofs.system.System.run.Goals as goal
 

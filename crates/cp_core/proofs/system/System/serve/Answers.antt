@@ -1,8 +1,8 @@
 use Rattle.std.proofs.Common.{Err, arith, sym, subst}
-use Rattle.cp_panel.specs.declared.line.LineError.{LineError}
+use Rattle.machine_panel.specs.declared.line.LineError.{LineError}
 use Rattle.cp_core.specs.Histories.{IsStep}
 use Rattle.cp_core.specs.declared.events.Event.TheVariants.{Serve}
-use Rattle.cp_devices.specs.declared.reply.Reply.{Reply}
+use Rattle.machine_devices.specs.declared.reply.Reply.{Reply}
 use Rattle.cp_core.specs.System.{user_at}
 use Rattle.cp_core.specs.Work.{HasServed}
 use Rattle.cp_core.proofs.Steps.{serve_cut, serve_done, serve_out}

@@ -1,7 +1,7 @@
 use Rattle.std.proofs.Common.{sym, subst}
 use Rattle.cp_core.specs.Histories.{IsStep}
 use Rattle.cp_core.specs.declared.events.Event.TheVariants.{Tick}
-use Rattle.cp_devices.specs.declared.reply.Reply.{Reply}
+use Rattle.machine_devices.specs.declared.reply.Reply.{Reply}
 use Rattle.cp_core.proofs.Steps.{tick_done, tick_out}
 use Rattle.cp_core.proofs.system.System.tick.Goals as goal
 

@@ -3,8 +3,8 @@ use Rattle.std.proofs.Common.{◌≡◌, ℕ, List, arith, rules, subst, sym}
 use Rattle.std.specs.Vec.{with_items}
 use Rattle.std.proofs.lemmas.List.{with_items_is}
 use Rattle.cp_frames.specs.Layout.{bytes_of}
-use Rattle.cp_devices.specs.Equipped.{Equipped, equipped}
-use Rattle.cp_devices.specs.Lent.{devices_on}
+use Rattle.machine_devices.specs.Equipped.{Equipped, equipped}
+use Rattle.machine_devices.specs.Lent.{devices_on}
 use Rattle.cp_core.specs.UserMachines.{seat_on, user_with}
 use Rattle.cp_core.proofs.user_machine.UserMachine.lend.Goals as goal
 

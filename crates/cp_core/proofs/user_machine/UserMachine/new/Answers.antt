@@ -1,9 +1,9 @@
 use Rattle.std.proofs.Common.{◌≡◌, ◌∙◌, ℕ, List, ap, map, sym, subst}
 use Rattle.ckd_volume.specs.Volume.{VolumeFormat}
-use Rattle.cp_channels.specs.Disks.{DiskAt}
+use Rattle.machine_channels.specs.Disks.{DiskAt}
 use Rattle.cp_spool.specs.Queues.{no_files}
-use Rattle.cp_devices.specs.Devices.{AreAttached, DevicesValue}
-use Rattle.cp_devices.specs.Lent.{DevicesParts, devices_with}
+use Rattle.machine_devices.specs.Devices.{AreAttached, DevicesValue}
+use Rattle.machine_devices.specs.Lent.{DevicesParts, devices_with}
 use Rattle.cp_volumes.specs.Shared.{SharedMinidisk, disks_on}
 use Rattle.cp_core.proofs.Boots.{disk_addresses}
 use Rattle.cp_core.proofs.user_machine.UserMachine.new.Goals as goal

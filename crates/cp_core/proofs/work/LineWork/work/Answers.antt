@@ -1,16 +1,16 @@
 use Rattle.std.proofs.Common.{◌≡◌, refl, subst, sym, Err, Result, false, List}
 use Rattle.std.specs.Prelude.{IfOk}
 use Rattle.cp_dat.specs.Lent.{lent_bytes, lent_keys, user_of}
-use Rattle.cp_devices.specs.Equipped.{Equipped, equipped}
-use Rattle.cp_devices.specs.Lent.{devices_on}
-use Rattle.cp_devices.specs.Lines.{IsWholeLine, requested}
-use Rattle.cp_panel.specs.declared.line.LineError.TheVariants as errors
+use Rattle.machine_devices.specs.Equipped.{Equipped, equipped}
+use Rattle.machine_devices.specs.Lent.{devices_on}
+use Rattle.machine_devices.specs.Lines.{IsWholeLine, requested}
+use Rattle.machine_panel.specs.declared.line.LineError.TheVariants as errors
 use Rattle.cp_volumes.specs.Shared.{DisksValue, KeepsNeighbours, SharedMinidisk, seen}
 use Rattle.ckd_volume.specs.Volume.{VolumeFormat}
 use Rattle.cp_resident.specs.Resident.{disks_on, hung_on}
 use Rattle.cp_core.specs.System.{world_among}
 use Rattle.cp_core.specs.Typed.{IsLineLent}
-use Rattle.cp_devices.specs.Comes.{LineMay, is_ipl}
+use Rattle.machine_devices.specs.Comes.{LineMay, is_ipl}
 use Rattle.cp_core.proofs.Worked.{typed_work}
 use Rattle.cp_core.proofs.work.LineWork.work.Goals as goal
 

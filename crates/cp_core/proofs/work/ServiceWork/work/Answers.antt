@@ -2,13 +2,13 @@ use Rattle.std.proofs.Common.{◌≡◌, refl, subst, length, Err}
 use Rattle.std.specs.Prelude.{IfOk}
 use Rattle.s370_channel.specs.Reading.{as_reached}
 use Rattle.cp_dat.specs.Lent.{lent_bytes, lent_keys, user_of}
-use Rattle.cp_devices.specs.Equipped.{Equipped, equipped}
-use Rattle.cp_devices.specs.Lent.{devices_on}
-use Rattle.cp_devices.specs.Serve.{IsServedAt}
-use Rattle.cp_panel.specs.declared.line.LineError.TheVariants as errors
+use Rattle.machine_devices.specs.Equipped.{Equipped, equipped}
+use Rattle.machine_devices.specs.Lent.{devices_on}
+use Rattle.machine_devices.specs.Serve.{IsServedAt}
+use Rattle.machine_panel.specs.declared.line.LineError.TheVariants as errors
 use Rattle.cp_volumes.specs.Shared.{DisksValue, KeepsNeighbours, seen}
 use Rattle.cp_resident.specs.Resident.{CameIn, disks_on, hung_on}
-use Rattle.cp_channels.specs.Channels.{Brings, LacksRoom}
+use Rattle.machine_channels.specs.Channels.{Brings, LacksRoom}
 use Rattle.cp_core.specs.Wants.{DeviceNeeds}
 use Rattle.cp_core.proofs.Worked.{no_room, serve_work}
 use Rattle.cp_core.proofs.work.ServiceWork.work.Goals as goal

@@ -1,5 +1,5 @@
 use Rattle.std.proofs.Common.{refl}
-use Rattle.cp_devices.proofs.Beside.{beside_same}
+use Rattle.machine_devices.proofs.Beside.{beside_same}
 use Rattle.cp_volumes.specs.Shared.{DisksValue}
 use Rattle.cp_volumes.specs.Keeping.{neighbours_same}
 use Rattle.cp_core.proofs.work.UnitsWork.work.Goals as goal

@@ -2,7 +2,7 @@ use Rattle.std.proofs.Common.{◌≡◌, ℕ, subst, sym, length, Result, true}
 use Rattle.std.specs.Prelude.{IfErr, IfOk, OnOk}
 use Rattle.s370_channel.specs.declared.running.ChannelError.{ChannelError}
 use Rattle.s370_walk.specs.declared.parts.Ending.{Ending}
-use Rattle.cp_channels.specs.Channels.{WalksLoading, WhereOut}
+use Rattle.machine_channels.specs.Channels.{WalksLoading, WhereOut}
 use Rattle.cp_dat.specs.Lent.{is_lent_page, lent_bytes}
 use Rattle.cp_hold.specs.Holding.{guest_memory}
 use Rattle.cp_trial.specs.Tried.{LoadTouches}

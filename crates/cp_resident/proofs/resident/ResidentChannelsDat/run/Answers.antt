@@ -7,7 +7,7 @@ use Rattle.s370_channel.specs.Runs.{Walks, begun, limited}
 use Rattle.s370_channel.specs.Supplied.{IsTouched}
 use Rattle.s370_walk.specs.declared.parts.Ending.{Ending}
 use Rattle.s370_walk.specs.Hardware.{Memory}
-use Rattle.cp_channels.specs.Channels.{ProgramNeeds, WhereOut}
+use Rattle.machine_channels.specs.Channels.{ProgramNeeds, WhereOut}
 use Rattle.cp_dat.specs.declared.dat.Dat.{Dat}
 use Rattle.cp_dat.specs.Copies.{CameOnly}
 use Rattle.cp_dat.specs.Lent.{is_lent_page, lent_bytes, lent_keys, lent_pool}

@@ -4,8 +4,8 @@ use Rattle.s370_channel.specs.declared.running.ChannelError.{ChannelError}
 use Rattle.s370_channel.specs.Reading.{as_reached}
 use Rattle.s370_walk.specs.declared.parts.Ending.{Ending}
 use Rattle.s370_walk.specs.Hardware.{Memory}
-use Rattle.cp_channels.specs.Channels.{DiskLoads, DiskNeeds, LoadsDisk, WalksDisk, WhereOut}
-use Rattle.cp_channels.specs.Disks.{DiskAt, reset_disk}
+use Rattle.machine_channels.specs.Channels.{DiskLoads, DiskNeeds, LoadsDisk, WalksDisk, WhereOut}
+use Rattle.machine_channels.specs.Disks.{DiskAt, reset_disk}
 use Rattle.cp_dat.specs.declared.dat.Dat.{Dat}
 use Rattle.cp_dat.specs.Copies.{CameOnly}
 use Rattle.cp_dat.specs.Lent.{is_lent_page, keeps_rest_same, lent_bytes, lent_keys, lent_pool}

@@ -1,7 +1,7 @@
 use Rattle.std.proofs.Common.{◌≡◌, ◌∙◌, ap, arith, List, map, subst, sym}
 use Rattle.std.specs.Vec.{with_items}
 use Rattle.std.proofs.lemmas.List.{with_items_is}
-use Rattle.cp_channels.specs.Disks.{cleared_disk}
+use Rattle.machine_channels.specs.Disks.{cleared_disk}
 use Rattle.cp_volumes.specs.Shared.{DisksValue, IsUsers, KeepsNeighbours, SharedMinidisk, Stand, cleared_minidisk, disks_on, seen, stands_of}
 use Rattle.cp_volumes.proofs.Seats.{neighbours_still, cleared_seen, cleared_stands}
 use Rattle.cp_volumes.proofs.user_disks.UserDisks.clear.Goals as goal

@@ -1,6 +1,6 @@
 use Rattle.std.proofs.Common.{◌∙◌, ◌==◌, ap, List}
 use Rattle.std.specs.List.{position}
-use Rattle.cp_channels.specs.Disks.{is_disk_at}
+use Rattle.machine_channels.specs.Disks.{is_disk_at}
 use Rattle.cp_volumes.specs.Shared.{DisksValue, SharedMinidisk, seen}
 use Rattle.cp_volumes.proofs.Seats.{found_at}
 use Rattle.cp_volumes.proofs.user_disks.UserDisks.disk_at.Goals as goal

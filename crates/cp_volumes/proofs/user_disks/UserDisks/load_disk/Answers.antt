@@ -2,14 +2,14 @@ use Rattle.std.proofs.Common.{◌≡◌, ◌∙◌, ◌<◌, ap, arith, length, 
 use Rattle.std.specs.Prelude.{[], ◌∷◌, slice_get}
 use Rattle.std.proofs.lemmas.Option.{slice_get_read}
 use Rattle.s370_walk.specs.Hardware.{memory_of}
-use Rattle.cp_channels.specs.Disks.{DiskAt, reset_disk}
+use Rattle.machine_channels.specs.Disks.{DiskAt, reset_disk}
 use Rattle.cp_dat.specs.Copies.{CameOnly}
 use Rattle.cp_dat.specs.Lent.{lent_bytes, lent_keys}
 use Rattle.cp_trial.specs.Tried.{LacksSuch}
 use Rattle.cp_volumes.specs.Shared.{DisksValue, IsConfined, IsSeated, IsUsers, KeepsNeighbours, SharedMinidisk, disk_on, disks_on, reset_minidisk, seen, stand_of, stands_of}
 use Rattle.std.specs.Vec.{with_items}
 use Rattle.std.proofs.lemmas.List.{with_items_is}
-use Rattle.cp_channels.specs.Channels.{LoadsDisk, RestsLoaded}
+use Rattle.machine_channels.specs.Channels.{LoadsDisk, RestsLoaded}
 use Rattle.cp_volumes.specs.Running.{DiskLoadTouches}
 use Rattle.cp_volumes.proofs.Seats.{as_many, kept_one, kept_reset, loads, reset_at, reset_seen, reset_seen_at, seated_at, users_kept, users_reset}
 use Rattle.cp_volumes.proofs.user_disks.UserDisks.load_disk.Goals as goal

@@ -2,13 +2,13 @@ use Rattle.std.proofs.Common.{◌≡◌, ◌<◌, ap, arith, length, set, subst,
 use Rattle.std.specs.Prelude.{slice_get}
 use Rattle.std.proofs.lemmas.Option.{slice_get_read}
 use Rattle.s370_walk.specs.Hardware.{memory_of}
-use Rattle.cp_channels.specs.Disks.{DiskAt}
+use Rattle.machine_channels.specs.Disks.{DiskAt}
 use Rattle.cp_dat.specs.Copies.{CameOnly}
 use Rattle.cp_dat.specs.Lent.{lent_bytes, lent_keys}
 use Rattle.cp_trial.specs.Tried.{LacksSuch}
 use Rattle.cp_volumes.specs.Shared.{DisksValue, KeepsNeighbours, disk_on, seen}
 use Rattle.s370_channel.specs.Reading.{as_reached}
-use Rattle.cp_channels.specs.Channels.{WalksDisk}
+use Rattle.machine_channels.specs.Channels.{WalksDisk}
 use Rattle.cp_volumes.specs.Running.{DiskTouches}
 use Rattle.cp_volumes.proofs.Seats.{as_many, kept_one, seated_at, seen_at, users_kept, walks}
 use Rattle.cp_volumes.proofs.user_disks.UserDisks.run_disk.Goals as goal

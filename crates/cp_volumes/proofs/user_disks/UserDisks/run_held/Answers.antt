@@ -3,7 +3,7 @@ use Rattle.std.specs.Prelude.{slice_get}
 use Rattle.std.proofs.lemmas.Option.{slice_get_read}
 use Rattle.s370_walk.specs.Hardware.{memory_of}
 use Rattle.s370_channel.specs.Reading.{as_reached}
-use Rattle.cp_channels.specs.Channels.{WalksDisk}
+use Rattle.machine_channels.specs.Channels.{WalksDisk}
 use Rattle.cp_volumes.specs.Shared.{DisksValue, KeepsNeighbours, seen}
 use Rattle.cp_volumes.proofs.Seats.{as_many, kept_one, seated_at, users_kept, walks}
 use Rattle.cp_volumes.proofs.user_disks.UserDisks.run_held.Goals as goal

@@ -1,6 +1,0 @@
-use Rattle.std.proofs.Common.{◌≡◌, ◌++◌, drop, map, take}
-use Rattle.cp_channels.specs.Disks.{cleared_disk}
-use Rattle.cp_channels.proofs.disks.clear_each.Given as goal
-
-abbrev pub invariant-loop-disk : goal.invariant-loop-disk
-invariant-loop-disk l = l.disks ≡ map cleared_disk (take l.disk-index l.initial.disks) ++ drop l.disk-index l.initial.disks

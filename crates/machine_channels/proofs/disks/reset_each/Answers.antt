@@ -1,0 +1,14 @@
+use Rattle.std.proofs.Common.{arith, ◌<◌, length, get_or}
+use Rattle.std.proofs.lemmas.List.{get_or_default}
+use Rattle.std.proofs.lemmas.List.Edits.{map_over_more}
+use Rattle.machine_channels.specs.Disks.{reset_disk}
+use Rattle.machine_channels.proofs.disks.reset_each.Goals as goal
+
+pub loop-disk-preserved : goal.loop-disk-preserved
+loop-disk-preserved c =
+    let xs = c.args.disks.now in
+    let items = c.loop-disk.disks in
+    let k = c.loop-disk.disk-index in
+    let x = get_or items k c.disk-item.result in
+    let lt : k < length items = omega arith in
+    rw c.reset.ensures (map_over_more reset_disk xs items k x c.loop-disk-test.true c.loop-disk.invariant (get_or_default items k c.disk-item.result x lt))

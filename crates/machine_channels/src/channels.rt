@@ -1,0 +1,198 @@
+//! Who runs the programs of a machine's devices, and has its disks.
+ghost use Rattle.std.specs.Prelude.{◌≡◌, ◌*◌, ◌<◌, ℕ, Bool, true, false, List, [], length, map, slice_get, IfErr, IfOk, IfSome, OnOk};
+ghost use Rattle.std.specs.List.{position};
+ghost use Rattle.s370_walk.specs.Hardware.{Memory, memory_of};
+ghost use Rattle.s370_channel.specs.Guest.{guest_written};
+ghost use Rattle.s370_channel.specs.Loading.{MatchLoading};
+ghost use Rattle.s370_channel.specs.Reading.{Reading};
+ghost use Rattle.s370_channel.specs.Runs.{IsStopped, TellsAway, Walks};
+ghost use Rattle.machine_channels.specs.Channels.{Brings, DiskLoads, DiskNeeds, LacksPage, LoadNeeds, LoadsDisk, NoRoom, ProgramNeeds, StopsDisk, WalksDisk, WalksLoading, WhereOut};
+ghost use Rattle.machine_channels.specs.Disks.{DiskAt, cleared_disk, is_disk_at, reset_disk};
+
+use channel_trial::{Tried, TriedLoading};
+use s370_channel::{Caw, ChannelError};
+use s370_store::Storage;
+use s370_walk::Ending;
+
+/// The disks of a machine, in the order in which they were attached.
+pub trait Disks {
+    /// The disks.
+    ghost disks: { Self → List DiskAt };
+
+    /// What stands beside the disks stays: the other cylinders of the volumes on which they are.
+    ghost KeepsOthers: { Self → Self → Type 0 };
+
+    /// The index of the first disk with this address.
+    fn disk_at(&self, device: u16) -> Option<usize>
+        ensures index { result ≡ position (is_disk_at device) (disks self.now) }
+        ensures inside { IfSome result (λ index. index < length (disks self.now)) };
+
+    /// A system reset of the disks: the arms stay.
+    fn reset_disks(&mut self)
+        ensures reset { disks self.new ≡ map reset_disk (disks self.old) }
+        ensures others { KeepsOthers self.old self.new };
+
+    /// As for a LOGON: the arms stand over cylinder 0, with head 0 chosen.
+    fn clear_disks(&mut self)
+        ensures cleared { disks self.new ≡ map cleared_disk (disks self.old) }
+        ensures others { KeepsOthers self.old self.new };
+
+    /// All stays where nothing changes.
+    ghost others_same: { (d : Self) → KeepsOthers d d };
+
+    /// What stays twice stays.
+    ghost others_on: { (d e f : Self) → KeepsOthers d e → KeepsOthers e f → KeepsOthers d f };
+}
+
+/// A device of a machine that is no disk.
+#[derive(Clone, Copy, PartialEq, Eq)]
+pub enum UnitRecord {
+    Console,
+    Reader,
+    Punch,
+    Printer,
+}
+
+/// The channels of a machine with this storage, which have its disks.
+pub trait Channels<S: Storage>: Disks {
+    /// How a program is read that begins with this storage.
+    ghost reads: { Reading };
+
+    /// Whether a program is run as a whole or not at all, with the pages that it needs: one that is refused for want of
+    /// room has done nothing. Where it is not so, a program stops at the step that needs a page which is not present.
+    ghost is_whole: { Bool };
+
+    /// Which pages are held together for a program that is copied before it runs, and begins at an address of this
+    /// storage.
+    ghost holds: { Memory → ℕ → ℕ → Type 0 };
+
+    /// A program may begin.
+    ghost IsReady: { S → Type 0 };
+
+    /// There is no room for this page: neither a place for it, nor one for what it would take the place of.
+    ghost IsOut: { S → ℕ → Type 0 };
+
+    /// This page is not present, and wherever one could be stands one of this storage.
+    ghost IsFilled: { S → ℕ → Type 0 };
+
+    /// From one storage to the other just these pages were brought, in these units.
+    ghost Came: { S → List (List ℕ) → S → Type 0 };
+
+    /// Runs the program with this start, for a device that is no disk, of which `unit` says which it is. An error is
+    /// told only where memory was refused, a page is not present, or there is no room for one.
+    fn run<D: Tried>(
+        &mut self,
+        storage: &mut S,
+        start: Caw,
+        unit: UnitRecord,
+        device: &mut D,
+    ) -> Result<Ending, ChannelError>
+        requires { IsReady storage.old }
+        ensures walk { IfOk result
+            (λ ending. Walks reads D.Device.machine start
+            (memory_of (S.bytes storage.old) (S.keys storage.old)) device.old ending
+            (memory_of (S.bytes storage.new) (S.keys storage.new)) device.new) }
+        ensures disks { Self.disks self.new ≡ Self.disks self.old }
+        ensures stopped { is_whole ≡ false
+            → IfErr result (IsStopped D.Device.machine D.Device.needs_memory (S.present storage.old) start
+            (memory_of (S.bytes storage.old) (S.keys storage.old)) device.old) }
+        ensures whole { let needs = ProgramNeeds holds D.Device.machine start
+            (memory_of (S.bytes storage.old) (S.keys storage.old)) device.old in
+            is_whole ≡ true
+            → IfErr result (WhereOut (length (S.bytes storage.old)) needs (NoRoom IsOut IsFilled S.present storage.new needs)
+            ((S.bytes storage.new ≡ S.bytes storage.old) × (device.new ≡ device.old))) }
+        ensures came { Brings Came storage.old (ProgramNeeds holds D.Device.machine start
+            (memory_of (S.bytes storage.old) (S.keys storage.old)) device.old) storage.new }
+        ensures ready { IsReady storage.new }
+        ensures others { Self.KeepsOthers self.old self.new }
+        ensures keys { S.keys storage.new ≡ S.keys storage.old };
+
+    /// The same for the disk of this index, which is at rest after its program.
+    fn run_disk(
+        &mut self,
+        storage: &mut S,
+        start: Caw,
+        index: usize,
+    ) -> Result<Ending, ChannelError>
+        requires inside { index < length (Self.disks self.old) }
+        requires ready { IsReady storage.old }
+        ensures walk { IfOk result
+            (λ ending. WalksDisk reads start (memory_of (S.bytes storage.old) (S.keys storage.old))
+            (Self.disks self.old) index ending (memory_of (S.bytes storage.new) (S.keys storage.new)) (Self.disks self.new)) }
+        ensures stopped { is_whole ≡ false
+            → IfErr result (StopsDisk (S.present storage.old) start
+            (memory_of (S.bytes storage.old) (S.keys storage.old)) (slice_get (Self.disks self.old) index)) }
+        ensures whole { let needs = DiskNeeds holds start (memory_of (S.bytes storage.old) (S.keys storage.old))
+            (slice_get (Self.disks self.old) index) in
+            is_whole ≡ true
+            → IfErr result (WhereOut (length (S.bytes storage.old)) needs (NoRoom IsOut IsFilled S.present storage.new needs)
+            ((S.bytes storage.new ≡ S.bytes storage.old) × (Self.disks self.new ≡ Self.disks self.old))) }
+        ensures came { Brings Came storage.old (DiskNeeds holds start (memory_of (S.bytes storage.old) (S.keys storage.old))
+            (slice_get (Self.disks self.old) index)) storage.new }
+        ensures ready { IsReady storage.new }
+        ensures others { Self.KeepsOthers self.old self.new }
+        ensures keys { S.keys storage.new ≡ S.keys storage.old };
+
+    /// The program of an initial program loading runs, for a device that is no disk.
+    fn load<D: TriedLoading>(
+        &mut self,
+        storage: &mut S,
+        device: &mut D,
+    ) -> Result<Ending, ChannelError>
+        requires { IsReady storage.old }
+        ensures walk { IfOk result
+            (λ ending. WalksLoading D.Device.machine (memory_of (S.bytes storage.old) (S.keys storage.old))
+            device.old ending (memory_of (S.bytes storage.new) (S.keys storage.new)) device.new) }
+        ensures disks { Self.disks self.new ≡ Self.disks self.old }
+        ensures stopped { is_whole ≡ false
+            → IfErr result (MatchLoading guest_written D.Device.machine D.Device.needs_memory (S.present storage.old)
+            (memory_of (S.bytes storage.old) (S.keys storage.old)) device.old) }
+        ensures whole { let needs = LoadNeeds D.Device.machine (memory_of (S.bytes storage.old) (S.keys storage.old))
+            device.old in
+            is_whole ≡ true
+            → IfErr result (WhereOut (length (S.bytes storage.old)) needs (NoRoom IsOut IsFilled S.present storage.new needs)
+            ((S.bytes storage.new ≡ S.bytes storage.old) × (device.new ≡ device.old))) }
+        ensures there { is_whole ≡ true → OnOk result (S.present storage.new 0 ≡ true) }
+        ensures same { is_whole ≡ false → S.present storage.new ≡ S.present storage.old }
+        ensures came { Brings Came storage.old (LoadNeeds D.Device.machine
+            (memory_of (S.bytes storage.old) (S.keys storage.old)) device.old) storage.new }
+        ensures ready { IsReady storage.new }
+        ensures others { Self.KeepsOthers self.old self.new }
+        ensures keys { S.keys storage.new ≡ S.keys storage.old };
+
+    /// The disks are reset, and the program of an initial program loading runs on that of this index, which is at rest
+    /// after it. Where that is refused for want of room they aren't reset either.
+    fn load_disk(&mut self, storage: &mut S, index: usize) -> Result<Ending, ChannelError>
+        requires inside { index < length (Self.disks self.old) }
+        requires ready { IsReady storage.old }
+        ensures walk { IfOk result
+            (λ ending. LoadsDisk (memory_of (S.bytes storage.old) (S.keys storage.old))
+            (map reset_disk (Self.disks self.old)) index ending
+            (memory_of (S.bytes storage.new) (S.keys storage.new)) (Self.disks self.new)) }
+        ensures lacks { is_whole ≡ false
+            → IfErr result (LacksPage (length (S.bytes storage.old)) (S.present storage.old)) }
+        ensures whole { let needs = DiskLoads (memory_of (S.bytes storage.old) (S.keys storage.old))
+            (slice_get (map reset_disk (Self.disks self.old)) index) in
+            is_whole ≡ true
+            → IfErr result (WhereOut (length (S.bytes storage.old)) needs (NoRoom IsOut IsFilled S.present storage.new needs)
+            ((S.bytes storage.new ≡ S.bytes storage.old) × (Self.disks self.new ≡ Self.disks self.old))) }
+        ensures there { is_whole ≡ true → OnOk result (S.present storage.new 0 ≡ true) }
+        ensures same { is_whole ≡ false → S.present storage.new ≡ S.present storage.old }
+        ensures came { Brings Came storage.old (DiskLoads (memory_of (S.bytes storage.old) (S.keys storage.old))
+            (slice_get (map reset_disk (Self.disks self.old)) index)) storage.new }
+        ensures ready { IsReady storage.new }
+        ensures others { Self.KeepsOthers self.old self.new }
+        ensures keys { S.keys storage.new ≡ S.keys storage.old };
+
+    /// Where nothing is done, nothing comes.
+    ghost came_none: { (s : S) → IsReady s → Came s [] s };
+
+    /// What an access keeps brings nothing.
+    ghost came_kept: { (s t u : S) (units : List (List ℕ)) → Came s units t → S.Keeps t u → Came s units u };
+
+    /// An access holds nothing.
+    ghost ready_kept: { (s t : S) → S.Keeps s t → IsReady s → IsReady t };
+
+    /// A storage has always as many bytes.
+    ghost came_size: { (s t : S) (units : List (List ℕ)) → Came s units t → length (S.bytes t) ≡ length (S.bytes s) };
+}

@@ -1,0 +1,131 @@
+//! The disks of a machine, each at its address.
+ghost use Rattle.std.specs.Prelude.{◌≡◌, IfErr, IfOk, length, map};
+ghost use Rattle.s370_walk.specs.Hardware.{memory_of};
+ghost use Rattle.s370_channel.specs.Reading.{as_reached};
+ghost use Rattle.s370_channel.specs.Runs.{TellsAway};
+ghost use Rattle.machine_channels.specs.Channels.{LacksPage, RestsAfter, RestsLoaded, StopsForPage};
+ghost use Rattle.machine_channels.specs.Disks.{cleared_disk, reset_disk};
+ghost use Rattle.ckd_volume.specs.Unit.{disk_machine};
+
+use crate::running::run_live;
+use ckd_volume::Unit;
+use s370_channel::{Caw, ChannelError, Guest, run_ipl};
+use s370_num::DevAddr;
+use s370_store::Storage;
+use s370_walk::Ending;
+use std::marker::Model;
+
+/// A disk unit, and its address.
+#[derive(Drop)]
+pub struct AttachedDisk {
+    pub(crate) address: DevAddr,
+    pub(crate) unit: Unit,
+}
+
+impl Model for AttachedDisk {
+    ghost use Rattle.machine_channels.specs.Disks.{DiskAt};
+
+    ghost Value = { DiskAt };
+
+    ghost view = { λ d. record { address = d.address; unit = d.unit } };
+}
+
+impl AttachedDisk {
+    /// This unit at this address.
+    pub fn new(address: DevAddr, unit: Unit) -> AttachedDisk
+        ensures { result ≡ record { address = address; unit = unit } }
+    {
+        AttachedDisk { address, unit }
+    }
+
+    /// Its address.
+    pub fn address(&self) -> DevAddr
+        ensures { result ≡ self.now.address }
+    {
+        self.address
+    }
+
+    /// The unit.
+    pub fn unit(&self) -> &Unit
+        ensures { result.now ≡ self.now.unit }
+    {
+        &self.unit
+    }
+
+    /// The unit, which is taken off its address.
+    pub fn into_unit(self) -> Unit
+        ensures { result ≡ self.unit }
+    {
+        self.unit
+    }
+
+    /// The program with this start runs on the unit, each word read when it is reached; the unit is then at rest.
+    pub(crate) fn run<S: Storage>(
+        &mut self,
+        storage: &mut S,
+        start: Caw,
+    ) -> Result<Ending, ChannelError>
+        ensures walk { IfOk result
+            (λ ending. RestsAfter as_reached start
+            (memory_of (S.bytes storage.old) (S.keys storage.old)) self.old ending
+            (memory_of (S.bytes storage.new) (S.keys storage.new)) self.new) }
+        ensures away { IfErr result (TellsAway (S.present storage.old)) }
+        ensures stopped { IfErr result
+            (StopsForPage disk_machine (S.present storage.old) start
+            (memory_of (S.bytes storage.old) (S.keys storage.old)) self.old.unit) }
+        ensures keys { S.keys storage.new ≡ S.keys storage.old }
+        ensures rest { S.Keeps storage.old storage.new }
+    {
+        let ending = run_live(storage, start, &mut self.unit)?;
+        self.unit.rest();
+        Ok(ending)
+    }
+
+    /// The program of an initial program loading runs on the unit, which is then at rest. It has gone well where its
+    /// ending says so.
+    #[tactic(auto, using(crate::proofs::Staying::disk_lacks))]
+    pub(crate) fn load<S: Storage>(&mut self, storage: &mut S) -> Result<Ending, ChannelError>
+        ensures walk { IfOk result
+            (λ ending. RestsLoaded (memory_of (S.bytes storage.old) (S.keys storage.old)) self.old ending
+            (memory_of (S.bytes storage.new) (S.keys storage.new)) self.new) }
+        ensures lacks { IfErr result (LacksPage (length (S.bytes storage.old)) (S.present storage.old)) }
+        ensures keys { S.keys storage.new ≡ S.keys storage.old }
+        ensures rest { S.Keeps storage.old storage.new }
+    {
+        let ending = run_ipl(&Guest, storage, &mut self.unit)?;
+        self.unit.rest();
+        Ok(ending)
+    }
+
+    /// A system reset.
+    pub(crate) fn reset(&mut self)
+        ensures { self.new ≡ reset_disk self.old }
+    {
+        self.unit.reset();
+    }
+
+    /// As for a LOGON.
+    pub(crate) fn clear(&mut self)
+        ensures { self.new ≡ cleared_disk self.old }
+    {
+        self.unit.clear();
+    }
+}
+
+/// Resets each of these disks.
+pub(crate) fn reset_each(disks: &mut [AttachedDisk])
+    ensures { disks.new ≡ map reset_disk disks.old }
+{
+    for disk in disks.iter_mut() {
+        disk.reset();
+    }
+}
+
+/// Clears each of these disks.
+pub(crate) fn clear_each(disks: &mut [AttachedDisk])
+    ensures { disks.new ≡ map cleared_disk disks.old }
+{
+    for disk in disks.iter_mut() {
+        disk.clear();
+    }
+}

@@ -1,0 +1,263 @@
+-- What a line does to a machine and its devices, and what is told (docs/COMMANDS.md).
+use Rattle.std.specs.Prelude.{ℕ, ◌≡◌, ◌<◌, Bool, true, false, if◌then◌else◌, List, [], ◌∷◌, codes, is_some, map, set, slice_get, take, Option, Some, None}
+use Rattle.std.specs.Str.{bytes_eq}
+use Rattle.user_names.specs.Users.{user_of}
+use Rattle.cp_console.specs.ConsoleLine.{characters_of}
+use Rattle.cp_console.specs.Lines.{cleaned}
+use Rattle.cp_console.specs.Responses.{text_of, told_text}
+use Rattle.cp_console.specs.declared.console_line.ConsoleLine.{ConsoleLine}
+use Rattle.cp_console.specs.declared.device_commands.DeviceCommand.{DeviceCommand}
+use Rattle.cp_console.specs.declared.device_commands.DeviceCommand.TheVariants as commands
+use Rattle.cp_console.specs.declared.responses.Response.{Response}
+use Rattle.cp_console.specs.declared.responses.Response.TheVariants as responses
+use Rattle.unit_record.specs.declared.output.Target.{Target}
+use Rattle.unit_record.specs.declared.output.Target.TheVariants as targets
+use Rattle.unit_record.specs.Console.{has_room, with_typed}
+use Rattle.unit_record.specs.Reader.{DeckValue, queued_at, reader_machine}
+use Rattle.ckd_volume.specs.Unit.{Disk, disk_machine, rested}
+use Rattle.machine_panel.specs.Machine.{cleared, printed, reset, switched_off}
+use Rattle.machine_panel.specs.declared.line.PanelLine.{PanelLine}
+use Rattle.machine_panel.specs.Panel.{line, line_room}
+use Rattle.machine_devices.specs.declared.line.Told.{Told}
+use Rattle.machine_devices.specs.declared.line.Told.TheVariants.{Silent, Said, Files, Sent, Loads, Closed}
+use Rattle.machine_devices.specs.declared.places.Kind.{Kind}
+use Rattle.machine_devices.specs.declared.places.Kind.TheVariants as kinds
+use Rattle.machine_devices.specs.declared.request.Request.{Request}
+use Rattle.machine_devices.specs.declared.request.Request.TheVariants.{LogsOn, LogsOff, Resets, Types, Asks, Alone}
+use Rattle.machine_channels.specs.Channels.{DiskLoads, LoadNeeds}
+use Rattle.machine_channels.specs.Disks.{DiskAt, cleared_disk, reset_disk}
+use Rattle.machine_devices.specs.Devices.{DevicesValue, kind_at, part_at}
+use Rattle.machine_devices.specs.Equipped.{Equipped, storage_in, with_attended}
+use Rattle.machine_devices.specs.Loading.{IsLoaded}
+use Rattle.machine_devices.specs.Requests.{request_in}
+use Rattle.machine_devices.specs.Resets.{devices_reset}
+use Rattle.machine_devices.specs.Spooling.{devices_logged_off, is_punch, output_of, spooled, with_deck_purged, with_printer_closed, with_punch_closed}
+use Rattle.machine_devices.specs.World.{World, is_on, users_on}
+
+-- the machine and its devices after a line, and what is told
+pub record Outcome : Type 0 where
+  pub equipped : Equipped
+  pub told : Told
+
+abbrev pub outcome : Equipped → Told → Outcome
+outcome e told = record { equipped = e; told = told }
+
+abbrev pub said : Option Response → Told
+said None = Silent
+said (Some response) = Said response
+
+-- ---- LOGON, LOGOFF, SYSTEM RESET, and lines that the machine alone answers
+
+abbrev pub logged_on : Equipped → Outcome
+logged_on e = outcome (record { machine = cleared e.machine; devices = devices_reset e.devices; disks = map cleared_disk e.disks }) (Said responses.LogonOk)
+
+-- LOGOFF closes the open files of punch and printer first
+abbrev pub logged_off : Equipped → Outcome
+logged_off e =
+    outcome (record { machine = switched_off e.machine; devices = devices_reset (devices_logged_off e.devices); disks = map cleared_disk e.disks }) (Said responses.LogoffOk)
+
+abbrev pub was_reset : Equipped → Outcome
+was_reset e =
+    outcome (record { machine = printed (reset e.machine) (text_of responses.SystemReset); devices = devices_reset e.devices; disks = map reset_disk e.disks }) (Said responses.SystemReset)
+
+abbrev pub answered_alone : PanelLine → Equipped → Outcome
+answered_alone asked e = let a = line asked e.machine in outcome (record e { machine = a.machine }) (said a.reply)
+
+-- ---- a line for the console
+
+-- it waits to be read, and gives attention; where too many wait it is lost, and a notice says so
+abbrev pub typed_where : Bool → ℕ → List ℕ → Equipped → Outcome
+typed_where true device text e =
+    outcome (record e { machine = with_attended device e.machine; devices = record e.devices { console = with_typed e.devices.console text } }) Silent
+typed_where false device text e =
+    outcome (record e { machine = printed e.machine (text_of responses.LineLost) }) (Said responses.LineLost)
+
+abbrev pub typed_at : Option ℕ → List ℕ → Equipped → Outcome
+typed_at None text e = outcome e Silent
+typed_at (Some device) text e = typed_where (has_room e.devices.console) device text e
+
+-- ---- SPOOL
+
+abbrev pub target_in : Option ℕ → Option Target
+target_in None = None
+target_in (Some user) = Some (targets.User user)
+
+-- `SYSTEM` is the operator, another name is a user's
+abbrev pub target_of : World → List ℕ → Option Target
+target_of w name = if bytes_eq name (codes "SYSTEM") then Some targets.System else target_in (user_of w.names name)
+
+abbrev pub spooled_to : Option Target → ℕ → Equipped → Outcome
+spooled_to None device e = outcome e (Said responses.UserNotFound)
+spooled_to (Some target) device e = outcome (record e { devices = spooled e.devices device target }) (Said responses.Spooled)
+
+abbrev pub spool_answered : World → ℕ → List ℕ → Equipped → Outcome
+spool_answered w device name e =
+    if is_punch (part_at e.devices device)
+    then spooled_to (target_of w name) device e
+    else outcome e (Said responses.DeviceNotFound)
+
+-- ---- CLOSE: the owner of all files has a number for the one that is closed
+
+abbrev pub with_closed : Option Kind → DevicesValue → DevicesValue
+with_closed (Some kinds.Punch) d = with_punch_closed d
+with_closed (Some kinds.Printer) d = with_printer_closed d
+with_closed (Some kinds.Console) d = d
+with_closed (Some kinds.Reader) d = d
+with_closed (Some (kinds.Disk index)) d = d
+with_closed None d = d
+
+abbrev pub closed_where : Option Bool → Option Kind → Equipped → Outcome
+closed_where None kind e = outcome e (Said responses.DeviceNotFound)
+closed_where (Some false) kind e = outcome e (Said responses.NoFile)
+closed_where (Some true) kind e =
+    outcome (record e { devices = with_closed kind e.devices }) Closed
+
+abbrev pub close_answered : ℕ → Equipped → Outcome
+close_answered device e = let kind = part_at e.devices device in closed_where (output_of e.devices kind) kind e
+
+-- ---- PURGE and QUERY
+
+abbrev pub purge_answered : ℕ → Equipped → Outcome
+purge_answered file e =
+    outcome (record e { devices = with_deck_purged e.devices file })
+    (Said (if is_some (queued_at e.devices.reader file) then responses.Purged else responses.FileNotFound))
+
+abbrev pub files_told : List DeckValue → Told
+files_told [] = Said responses.NoFiles
+files_told (deck ∷ decks) = Files
+
+-- ---- MSG
+
+abbrev pub SendsWhere : Bool → ℕ → World → List ℕ → Told → Type 0
+SendsWhere true user w text told = (line : ConsoleLine) × (characters_of line ≡ take 144 (told_text w.own text)) × (told ≡ Sent user line)
+SendsWhere false user w text told = told ≡ Said responses.UserNotLoggedOn
+
+abbrev pub SendsTo : Option ℕ → World → List ℕ → Told → Type 0
+SendsTo None w text told = told ≡ Said responses.UserNotFound
+SendsTo (Some user) w text told = SendsWhere (is_on w user) user w text told
+
+-- ---- IPL
+
+abbrev pub ipl_told : Bool → Told
+ipl_told true = Silent
+ipl_told false = Said responses.IplFailed
+
+pub record LoadsReader (device : ℕ) (old : Equipped) (told : Told) (new : Equipped) : Type 0 where
+  pub well : Bool
+  pub loaded : IsLoaded reader_machine device old.machine (devices_reset old.devices).reader well new.machine new.devices.reader
+  pub rest : new.devices ≡ record (devices_reset old.devices) { reader = new.devices.reader }
+  pub disks : new.disks ≡ map reset_disk old.disks
+  pub says : told ≡ ipl_told well
+
+pub record LoadsUnit (index : ℕ) (disk : DiskAt) (device : ℕ) (old : Equipped) (told : Told) (new : Equipped) : Type 0 where
+  pub well : Bool
+  pub unit : Disk
+  pub loaded : IsLoaded disk_machine device old.machine disk.unit well new.machine unit
+  pub rest : new.devices ≡ devices_reset old.devices
+  pub disks : new.disks ≡ set (map reset_disk old.disks) index (record disk { unit = rested unit })
+  pub says : told ≡ ipl_told well
+
+abbrev pub IsNotFound : Equipped → Told → Equipped → Type 0
+IsNotFound old told new = outcome new told ≡ outcome old (Said responses.DeviceNotFound)
+
+-- the disk as the reset left it
+abbrev pub LoadsDisk : ℕ → Option DiskAt → ℕ → Equipped → Told → Equipped → Type 0
+LoadsDisk index (Some disk) device old told new = LoadsUnit index disk device old told new
+LoadsDisk index None device old told new = IsNotFound old told new
+
+-- a reader or a disk is loaded from
+abbrev pub LoadsKind : Option Kind → ℕ → Equipped → Told → Equipped → Type 0
+LoadsKind (Some kinds.Reader) device old told new = LoadsReader device old told new
+LoadsKind (Some (kinds.Disk index)) device old told new = LoadsDisk index (slice_get (map reset_disk old.disks) index) device old told new
+LoadsKind (Some kinds.Console) device old told new = IsNotFound old told new
+LoadsKind (Some kinds.Punch) device old told new = IsNotFound old told new
+LoadsKind (Some kinds.Printer) device old told new = IsNotFound old told new
+LoadsKind None device old told new = IsNotFound old told new
+
+-- which pages it needs: those that the walk of the loading touches, and that of the PSW
+abbrev pub KindLoads : Option Kind → Equipped → ℕ → Type 0
+KindLoads (Some kinds.Reader) e = LoadNeeds reader_machine (storage_in e.machine) (devices_reset e.devices).reader
+KindLoads (Some (kinds.Disk index)) e = DiskLoads (storage_in e.machine) (slice_get (map reset_disk e.disks) index)
+KindLoads (Some kinds.Console) e = λ page. ⊥
+KindLoads (Some kinds.Punch) e = λ page. ⊥
+KindLoads (Some kinds.Printer) e = λ page. ⊥
+KindLoads None e = λ page. ⊥
+
+abbrev pub IplNeeds : ℕ → Equipped → ℕ → Type 0
+IplNeeds device e = KindLoads (kind_at e.devices e.disks device) e
+
+-- an IPL from the device of this address, which the owner of the machine does
+abbrev pub IsIpl : ℕ → Equipped → Told → Equipped → Type 0
+IsIpl device old told new = LoadsKind (kind_at old.devices old.disks device) device old told new
+
+-- ---- a command that concerns devices, their files or other users
+
+abbrev pub IsObeyed : World → DeviceCommand → Equipped → Told → Equipped → Type 0
+IsObeyed w (commands.Ipl device) old told new = outcome new told ≡ outcome old (Loads device)
+IsObeyed w commands.QueryFiles old told new = outcome new told ≡ outcome old (files_told old.devices.reader.decks)
+IsObeyed w commands.QueryUsers old told new = outcome new told ≡ outcome old (Said (responses.Users (users_on w)))
+IsObeyed w (commands.Spool device name) old told new = outcome new told ≡ spool_answered w device name old
+IsObeyed w (commands.Close device) old told new = outcome new told ≡ close_answered device old
+IsObeyed w (commands.Purge file) old told new = outcome new told ≡ purge_answered file old
+IsObeyed w (commands.Message name text) old told new = (new ≡ old) × SendsTo (user_of w.names name) w text told
+
+-- ---- a line
+
+abbrev pub IsAnswered : Request → World → List ℕ → Equipped → Told → Equipped → Type 0
+IsAnswered LogsOn w typed old told new = outcome new told ≡ logged_on old
+IsAnswered LogsOff w typed old told new = outcome new told ≡ logged_off old
+IsAnswered Resets w typed old told new = outcome new told ≡ was_reset old
+IsAnswered Types w typed old told new = outcome new told ≡ typed_at old.devices.places.console (cleaned typed) old
+IsAnswered (Asks command) w typed old told new = IsObeyed w command old told new
+IsAnswered (Alone asked) w typed old told new = outcome new told ≡ answered_alone asked old
+
+-- what a line asks; it is cut and cleaned first
+abbrev pub requested : List ℕ → Equipped → Request
+requested typed e = request_in e.machine.mode (is_some e.devices.places.console) (cleaned typed)
+
+-- a line, what it leaves, and what is told
+abbrev pub IsLine : World → List ℕ → Equipped → Told → Equipped → Type 0
+IsLine w typed old told new = IsAnswered (requested typed old) w typed old told new
+
+-- the device from which the owner is to load the machine
+abbrev pub loads_from : Told → Option ℕ
+loads_from (Loads device) = Some device
+loads_from Silent = None
+loads_from (Said response) = None
+loads_from Files = None
+loads_from (Sent user line) = None
+loads_from Closed = None
+
+-- where a line tells of an IPL, the owner does that at once
+abbrev pub IsFollowed : Option ℕ → Told → Equipped → Told → Equipped → Type 0
+IsFollowed (Some device) first old told new = IsIpl device old told new
+IsFollowed None first old told new = outcome new told ≡ outcome old first
+
+-- a line with what follows it
+pub record IsWholeLine (w : World) (typed : List ℕ) (old : Equipped) (told : Told) (new : Equipped) : Type 0 where
+  pub first : Told
+  pub next : Equipped
+  pub line : IsLine w typed old first next
+  pub followed : IsFollowed (loads_from first) first next told new
+
+-- ---- where memory may be refused
+
+-- a file that is closed and a message that is sent take memory
+abbrev pub CommandMayTakeMemory : DeviceCommand → Type 0
+CommandMayTakeMemory (commands.Close device) = Unit {0}
+CommandMayTakeMemory (commands.Message name text) = Unit {0}
+CommandMayTakeMemory (commands.Ipl device) = ⊥
+CommandMayTakeMemory commands.QueryFiles = ⊥
+CommandMayTakeMemory commands.QueryUsers = ⊥
+CommandMayTakeMemory (commands.Spool device name) = ⊥
+CommandMayTakeMemory (commands.Purge file) = ⊥
+
+-- and so do the files that LOGOFF closes, the answer to a reset, a line that waits for the console, and what a machine alone
+-- makes room for
+abbrev pub MayTakeMemory : Request → Type 0
+MayTakeMemory LogsOn = ⊥
+MayTakeMemory LogsOff = Unit {0}
+MayTakeMemory Resets = Unit {0}
+MayTakeMemory Types = Unit {0}
+MayTakeMemory (Asks command) = CommandMayTakeMemory command
+MayTakeMemory (Alone asked) = 0 < line_room asked

@@ -1,0 +1,28 @@
+-- The files of all users, by number: the first has number 1, and each the number after the last.
+use Rattle.std.specs.Prelude.{ℕ, ◌+◌, Bool, true, false, nat_lt, List, [], ◌∷◌, ◌++◌, length}
+use Rattle.machine_devices.specs.declared.files.FileKind.{FileKind}
+use Rattle.machine_devices.specs.declared.files.FileKind.TheVariants as kinds
+use Rattle.machine_devices.specs.declared.files.FileNote.{FileNote}
+use Rattle.machine_devices.specs.Equipped.{Equipped}
+
+-- the number of the next file
+abbrev pub next_file : List FileNote → ℕ
+next_file files = length files + 1
+
+abbrev pub note_where : Bool → ℕ → FileKind → List FileNote
+note_where false user kind = []
+note_where true user kind = record { user = user; kind = kind } ∷ []
+
+-- the files that a user's punch and printer, which had closed so many, have closed since, that of the punch first
+abbrev pub closed_since : ℕ → ℕ → ℕ → Equipped → List FileNote
+closed_since user punched printed new =
+    note_where (nat_lt punched (length new.devices.punched)) user kinds.Punch
+    ++ note_where (nat_lt printed (length new.devices.printed)) user kinds.Printer
+
+abbrev pub closed_by : ℕ → Equipped → Equipped → List FileNote
+closed_by user old new = closed_since user (length old.devices.punched) (length old.devices.printed) new
+
+-- a deck of the operator; no cards are no deck
+abbrev pub deck_noted : ℕ → List (List ℕ) → List FileNote
+deck_noted user [] = []
+deck_noted user (card ∷ cards) = record { user = user; kind = kinds.Deck } ∷ []

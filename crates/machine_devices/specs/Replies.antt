@@ -1,0 +1,81 @@
+-- What an installation replies to an event: what is said, and what is delivered (docs/COMMANDS.md).
+use Rattle.std.specs.Prelude.{◌≡◌, ℕ, nat_lt, if◌then◌else◌, List, [], ◌∷◌, length, slice_get, Option, Some, None}
+use Rattle.unit_record.specs.declared.output.Target.{Target}
+use Rattle.unit_record.specs.declared.output.Target.TheVariants as targets
+use Rattle.unit_record.specs.Output.{FileValue}
+use Rattle.cp_console.specs.declared.responses.Response.TheVariants as responses
+use Rattle.machine_devices.specs.declared.line.Told.{Told}
+use Rattle.machine_devices.specs.declared.line.Told.TheVariants.{Silent, Said, Files, Sent, Loads, Closed}
+use Rattle.machine_devices.specs.declared.reply.Delivered.{Delivered}
+use Rattle.machine_devices.specs.declared.reply.Delivery.{Delivery}
+use Rattle.machine_devices.specs.declared.reply.Delivery.TheVariants as deliveries
+use Rattle.machine_devices.specs.declared.reply.Ended.{Ended}
+use Rattle.machine_devices.specs.declared.reply.Reply.{Reply}
+use Rattle.machine_devices.specs.Equipped.{Equipped}
+use Rattle.machine_devices.specs.Lines.{IsWholeLine}
+use Rattle.machine_devices.specs.World.{World}
+
+-- it tells no more than how the event ended
+abbrev pub silent : Ended → Reply
+silent ended = record { ended = ended; said = Silent; lines = 0; delivered = None }
+
+-- ---- a line
+
+-- a message is sent to its receiver, and a file that was closed has this number; that a machine is loaded is told by what the
+-- loading tells
+abbrev pub said_to_line : ℕ → Told → Told
+said_to_line number Silent = Silent
+said_to_line number (Said response) = Said response
+said_to_line number Files = Files
+said_to_line number (Sent user line) = Said responses.Sent
+said_to_line number (Loads device) = Loads device
+said_to_line number Closed = Said (responses.FileClosed number)
+
+-- what is for a user of whom there are fewer comes to nobody
+abbrev pub delivery_to : ℕ → ℕ → Delivery → Option Delivered
+delivery_to users user what = if nat_lt user users then Some (record { to = user; what = what }) else None
+
+-- a file that is for a user comes to his reader, as a deck with this number
+abbrev pub deck_for : ℕ → ℕ → Target → Option Delivered
+deck_for users number targets.System = None
+deck_for users number (targets.User user) = delivery_to users user (deliveries.Deck number)
+
+abbrev pub deck_of : ℕ → ℕ → Option FileValue → Option Delivered
+deck_of users number None = None
+deck_of users number (Some file) = deck_for users number file.target
+
+-- the user for whom a file is, if it is for one
+abbrev pub user_in : Target → Option ℕ
+user_in targets.System = None
+user_in (targets.User user) = Some user
+
+abbrev pub receiver_of : Option FileValue → Option ℕ
+receiver_of None = None
+receiver_of (Some file) = user_in file.target
+
+-- the punch's file of this index, where there is one
+abbrev pub punched : ℕ → ℕ → ℕ → Equipped → Option Delivered
+punched users number index answered = deck_of users number (slice_get answered.devices.punched index)
+
+-- what a line delivers: the message that it sends, or the file that the punch closed, which is the first after those of before
+abbrev pub delivered_by : ℕ → ℕ → ℕ → Told → Equipped → Option Delivered
+delivered_by users number before (Sent user line) answered = delivery_to users user (deliveries.Message line)
+delivered_by users number before Silent answered = punched users number before answered
+delivered_by users number before (Said response) answered = punched users number before answered
+delivered_by users number before Files answered = punched users number before answered
+delivered_by users number before (Loads device) answered = punched users number before answered
+delivered_by users number before Closed answered = punched users number before answered
+
+-- the machine answers as one with devices does in this world, where there are so many users and the next file has this number
+pub record IsLineTold (world : World) (users number : ℕ) (typed : List ℕ) (old : Equipped) (reply : Reply) : Type 0 where
+  pub told : Told
+  pub answered : Equipped
+  pub line : IsWholeLine world typed old told answered
+  pub said : reply.said ≡ said_to_line number told
+  pub delivered : reply.delivered ≡ delivered_by users number (length old.devices.punched) told answered
+
+-- ---- a deck of the operator, with this number: no cards are no deck
+
+abbrev pub given : ℕ → ℕ → List (List ℕ) → Option Delivered
+given user number [] = None
+given user number (card ∷ cards) = Some (record { to = user; what = deliveries.Deck number })

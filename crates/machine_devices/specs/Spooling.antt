@@ -1,0 +1,66 @@
+-- What the control program does with the files and decks of a machine.
+use Rattle.std.specs.Prelude.{ℕ, Bool, true, false, if◌then◌else◌, slice_get, Option, Some, None}
+use Rattle.unit_record.specs.declared.output.Target.{Target}
+use Rattle.unit_record.specs.declared.output.Target.TheVariants.{System}
+use Rattle.unit_record.specs.declared.reader.Sender.{Sender}
+use Rattle.unit_record.specs.Output.{closed_with, has_entries}
+use Rattle.unit_record.specs.Reader.{DeckValue, with_deck, with_deck_back, queued_at, purged}
+use Rattle.unit_record.specs.Punch.{punch_emptied}
+use Rattle.unit_record.specs.Printer.{printer_emptied}
+use Rattle.cp_spool.specs.Queues.{cards_of}
+use Rattle.machine_devices.specs.declared.places.Kind.{Kind}
+use Rattle.machine_devices.specs.declared.places.Kind.TheVariants as kinds
+use Rattle.machine_devices.specs.Devices.{DevicesValue, part_at}
+
+-- ---- SPOOL
+
+abbrev pub is_punch : Option Kind → Bool
+is_punch (Some kinds.Punch) = true
+is_punch (Some kinds.Console) = false
+is_punch (Some kinds.Reader) = false
+is_punch (Some kinds.Printer) = false
+is_punch (Some (kinds.Disk index)) = false
+is_punch None = false
+
+-- Where a punch has this address, its next file is for this target.
+abbrev pub spooled : DevicesValue → ℕ → Target → DevicesValue
+spooled d device to = if is_punch (part_at d device) then record d { target = to } else d
+
+-- ---- CLOSE and LOGOFF
+
+-- Whether the open file of the punch or printer with this address has an entry; None where there is neither.
+abbrev pub output_of : DevicesValue → Option Kind → Option Bool
+output_of d (Some kinds.Punch) = Some (has_entries d.punch.entries)
+output_of d (Some kinds.Printer) = Some (has_entries d.printer.entries)
+output_of d (Some kinds.Console) = None
+output_of d (Some kinds.Reader) = None
+output_of d (Some (kinds.Disk index)) = None
+output_of d None = None
+
+abbrev pub with_punch_closed : DevicesValue → DevicesValue
+with_punch_closed d = record d { punch = punch_emptied d.punch; punched = closed_with d.punched d.target d.punch.entries }
+
+-- What is printed is for the operator.
+abbrev pub with_printer_closed : DevicesValue → DevicesValue
+with_printer_closed d = record d { printer = printer_emptied d.printer; printed = closed_with d.printed System d.printer.entries }
+
+-- LOGOFF closes both open files, and puts the current deck back into the queue.
+abbrev pub devices_logged_off : DevicesValue → DevicesValue
+devices_logged_off d = record (with_printer_closed (with_punch_closed d)) { reader = with_deck_back d.reader }
+
+-- ---- decks
+
+abbrev pub with_deck_queued : DevicesValue → DeckValue → DevicesValue
+with_deck_queued d deck = record d { reader = with_deck d.reader deck }
+
+-- The current deck is not queued, and so it is not withdrawn.
+abbrev pub with_deck_purged : DevicesValue → ℕ → DevicesValue
+with_deck_purged d id = record d { reader = purged d.reader (queued_at d.reader id) }
+
+abbrev pub with_deck_put_back : DevicesValue → DevicesValue
+with_deck_put_back d = record d { reader = with_deck_back d.reader }
+
+-- The deck of a closed file has a card for each entry, in order. A file that is not there has no cards.
+abbrev pub deck_punched : DevicesValue → ℕ → ℕ → Sender → DeckValue
+deck_punched d index label sender =
+    record { label = label; sender = sender; cards = cards_of (slice_get d.punched index) }

@@ -1,0 +1,171 @@
+//! The parts of the devices of one machine.
+ghost use Rattle.std.specs.Prelude.{◌≡◌, IfSome};
+ghost use Rattle.machine_devices.specs.Devices.{IsAttached, kind_in, place_at};
+ghost use Rattle.machine_devices.specs.Lent.{parts_new, parts_reset};
+
+use crate::places::{Kind, Places, is_there};
+use cp_spool::Reader;
+use machine_channels::Disks;
+use std::alloc::Global;
+use std::marker::Model;
+use unit_record::{Console, Printer, Punch, Target};
+use user_names::UserNo;
+
+/// The parts of the devices of one machine, but for its disks and its files, which stand among those of all users
+/// ([`Queues`](cp_spool::Queues)) and are lent to each call. Console, reader, punch and printer are there also where no
+/// address leads to them.
+#[derive(Drop)]
+pub struct Devices {
+    pub(crate) places: Places,
+    pub(crate) console: Console,
+    pub(crate) reader: Reader,
+    pub(crate) punch: Punch,
+    pub(crate) printer: Printer,
+    pub(crate) target: Target,
+    pub(crate) user: UserNo,
+}
+
+impl Model for Devices {
+    ghost use Rattle.machine_devices.specs.Lent.{DevicesParts};
+
+    ghost Value = { DevicesParts };
+
+    ghost view = { λ d. record {
+      places = d.places;
+      console = d.console;
+      reader = d.reader;
+      punch = d.punch;
+      printer = d.printer;
+      target = d.target;
+      user = d.user;
+    } };
+}
+
+impl Devices {
+    /// Devices at these places that have done nothing, whose files are those of this user. What is punched is for the
+    /// operator.
+    pub fn new(alloc: Global, places: Places, user: UserNo) -> Devices
+        ensures { result ≡ parts_new places user }
+    {
+        Devices {
+            places,
+            console: Console::new(alloc),
+            reader: Reader::new(),
+            punch: Punch::new(alloc),
+            printer: Printer::new(alloc),
+            target: Target::System,
+            user,
+        }
+    }
+
+    /// Which of console, reader, punch and printer has this address, if any has.
+    pub fn part_at(&self, device: u16) -> Option<Kind>
+        ensures { result ≡ place_at self.now.places device }
+    {
+        let places = self.places;
+        if is_there(places.console, device) {
+            Some(Kind::Console)
+        } else if is_there(places.reader, device) {
+            Some(Kind::Reader)
+        } else if is_there(places.punch, device) {
+            Some(Kind::Punch)
+        } else if is_there(places.printer, device) {
+            Some(Kind::Printer)
+        } else {
+            None
+        }
+    }
+
+    /// What has this address, if anything has, these disks included.
+    pub fn kind_at<D: Disks>(&self, disks: &D, device: u16) -> Option<Kind>
+        ensures kind { result ≡ kind_in self.now.places (D.disks disks.now) device }
+        ensures inside { IfSome result (IsAttached (D.disks disks.now)) }
+    {
+        match self.part_at(device) {
+            Some(part) => Some(part),
+            None => match disks.disk_at(device) {
+                Some(index) => Some(Kind::Disk(index)),
+                None => None,
+            },
+        }
+    }
+
+    /// A system reset of all but the disks: no command is under way, no console line waits, and no device has sense.
+    /// Files, decks, the lines that were written and the punch's target stay.
+    pub fn reset(&mut self)
+        ensures { self.new ≡ parts_reset self.old }
+    {
+        self.console.reset();
+        self.reader = Reader::new();
+        self.punch.reset();
+        self.printer.reset();
+    }
+
+    /// The same of all but the reader.
+    pub(crate) fn reset_beside(&mut self)
+        ensures { self.new ≡ record (parts_reset self.old) { reader = self.old.reader } }
+    {
+        self.console.reset();
+        self.punch.reset();
+        self.printer.reset();
+    }
+
+    /// Where the devices are.
+    pub fn places(&self) -> Places
+        ensures { result ≡ self.now.places }
+    {
+        self.places
+    }
+
+    /// The console.
+    pub fn console(&self) -> &Console
+        ensures { result.now ≡ self.now.console }
+    {
+        &self.console
+    }
+
+    /// What the card reader has beside its decks.
+    pub fn reader(&self) -> &Reader
+        ensures { result.now ≡ self.now.reader }
+    {
+        &self.reader
+    }
+
+    /// The user whose files are theirs.
+    pub fn user(&self) -> UserNo
+        ensures { result ≡ self.now.user }
+    {
+        // All its fields: what is added to them is seen here.
+        let Devices {
+            places: _,
+            console: _,
+            reader: _,
+            punch: _,
+            printer: _,
+            target: _,
+            user,
+        } = self;
+        *user
+    }
+
+    /// The card punch.
+    pub fn punch(&self) -> &Punch
+        ensures { result.now ≡ self.now.punch }
+    {
+        &self.punch
+    }
+
+    /// The line printer.
+    pub fn printer(&self) -> &Printer
+        ensures { result.now ≡ self.now.printer }
+    {
+        &self.printer
+    }
+
+    /// For whom the punch's open file is.
+    pub fn target(&self) -> Target
+        ensures { result ≡ self.now.target }
+    {
+        self.target
+    }
+}

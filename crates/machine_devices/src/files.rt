@@ -1,0 +1,63 @@
+//! What files of the control program are, and the lines that `QUERY FILES` tells.
+ghost use Rattle.std.specs.Prelude.{◌≡◌, IfOk, map};
+ghost use Rattle.machine_devices.specs.Files.{deck_line, sender_name};
+
+use cp_console::printing::file_line;
+use cp_spool::SeenDeck;
+use std::alloc::{AllocError, Global};
+use unit_record::Sender;
+use user_names::{Named, UserNo};
+
+/// What a file was when it got its number.
+#[derive(Clone, Copy, Debug, PartialEq, Eq)]
+pub enum FileKind {
+    /// A deck that the operator gave.
+    Deck,
+    /// A file of the punch.
+    Punch,
+    /// A file of the printer.
+    Printer,
+}
+
+/// Whose a file was when it got its number, and what.
+#[derive(Clone, Copy, Debug, PartialEq, Eq)]
+pub struct FileNote {
+    /// The number of the user who closed it, or to whom the operator gave the deck.
+    pub user: UserNo,
+    /// What it was.
+    pub kind: FileKind,
+}
+
+/// The line that tells of a deck of the reader, where these are all users: its number, from whom it comes, and how many
+/// cards it has. Only want of memory is an error.
+///
+/// ```text
+/// let line = deck_line(alloc, &users, deck)?; // b"FILE 0001 FROM A CARDS 3"
+/// ```
+pub fn deck_line<N: Named>(
+    alloc: Global,
+    users: &[N],
+    deck: &SeenDeck<'_>,
+) -> Result<Vec<u8>, AllocError>
+    ensures { IfOk result (λ line. line.items ≡ deck_line (map N.name users.now) deck.now) }
+{
+    file_line(
+        alloc,
+        deck.label(),
+        sender_name(users, deck.sender()),
+        deck.count(),
+    )
+}
+
+/// Who sent a deck, by name: the operator is `SYSTEM`.
+fn sender_name<N: Named>(users: &[N], sender: Sender) -> &[u8]
+    ensures { result.now ≡ sender_name (map N.name users.now) sender }
+{
+    match sender {
+        Sender::System => b"SYSTEM",
+        Sender::User(user) => match users.get(usize::from(user)) {
+            Some(user) => user.name(),
+            None => &[],
+        },
+    }
+}

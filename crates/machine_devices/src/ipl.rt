@@ -1,0 +1,192 @@
+//! IPL, which the owner of a machine does for it.
+ghost use Rattle.std.specs.Prelude.{◌≡◌, ◌<◌, ◌≤◌, ℕ, false, true, Err, IfOk, Some, length, map, slice_get};
+ghost use Rattle.s370_store.specs.Access.{IsAway};
+ghost use Rattle.machine_channels.specs.Channels.{Brings, LacksRoom, NoRoom};
+ghost use Rattle.machine_channels.specs.Disks.{reset_disk};
+ghost use Rattle.machine_devices.specs.Equipped.{equipped};
+ghost use Rattle.machine_devices.specs.Lent.{KeepsBeside, devices_on};
+ghost use Rattle.machine_devices.specs.Lines.{IplNeeds, IsIpl, KindLoads, LoadsDisk, LoadsReader, ipl_told};
+ghost use Rattle.machine_devices.specs.declared.places.Kind.TheVariants as kinds;
+
+use crate::devices::Devices;
+use crate::feeding::load_fed;
+use crate::line::Told;
+use crate::loading::start_loaded;
+use crate::places::Kind;
+use cp_console::responses::Response;
+use cp_spool::Queues;
+use machine_channels::Channels;
+use machine_panel::{LineError, Machine};
+use s370_channel::ChannelError;
+use s370_num::DevAddr;
+use s370_store::Storage;
+
+/// What an IPL tells.
+fn loaded(well: bool) -> Told
+    ensures { result ≡ ipl_told well }
+{
+    if well {
+        Told::Silent
+    } else {
+        Told::Said(Response::IplFailed)
+    }
+}
+
+impl Devices {
+    /// The machine is loaded from the device of this address, a reader or a disk. Where the channels are whole and there
+    /// is no room for a page that this needs, nothing has happened but that such pages came; else, where it is not
+    /// obeyed, nothing is said of the machine.
+    pub fn ipl<S: Storage, C: Channels<S>>(
+        &mut self,
+        queues: &mut Queues,
+        machine: &mut Machine,
+        storage: &mut S,
+        channels: &mut C,
+        device: DevAddr,
+    ) -> Result<Told, LineError>
+        requires size { 8192 ≤ length (S.bytes storage.old) }
+        requires user { self.old.user < length queues.old.users }
+        requires ready { C.IsReady storage.old }
+        ensures ok { let before = equipped machine.old (devices_on self.old queues.old) (C.disks channels.old) (S.bytes storage.old)
+            (S.keys storage.old) in
+            let after = equipped machine.new (devices_on self.new queues.new) (C.disks channels.new) (S.bytes storage.new)
+            (S.keys storage.new) in
+            IfOk result (λ told. IsIpl device before told after) }
+        ensures lacks { C.is_whole ≡ false → result ≡ Err LineError.FramesOut
+            → ((page : ℕ) × IsAway (length (S.bytes storage.old)) (S.present storage.old) page) }
+        ensures same { let before = equipped machine.old (devices_on self.old queues.old) (C.disks channels.old) (S.bytes storage.old)
+            (S.keys storage.old) in
+            let after = equipped machine.new (devices_on self.new queues.new) (C.disks channels.new) (S.bytes storage.new)
+            (S.keys storage.new) in
+            C.is_whole ≡ true → result ≡ Err LineError.FramesOut → after ≡ before }
+        ensures out { let before = equipped machine.old (devices_on self.old queues.old) (C.disks channels.old) (S.bytes storage.old)
+            (S.keys storage.old) in
+            let needs = IplNeeds device before in
+            C.is_whole ≡ true → result ≡ Err LineError.FramesOut
+            → LacksRoom (length (S.bytes storage.old)) needs (NoRoom C.IsOut C.IsFilled S.present storage.new needs) }
+        ensures came { let before = equipped machine.old (devices_on self.old queues.old) (C.disks channels.old) (S.bytes storage.old)
+            (S.keys storage.old) in
+            Brings C.Came storage.old (IplNeeds device before) storage.new }
+        ensures ready { C.IsReady storage.new }
+        ensures others { C.KeepsOthers channels.old channels.new }
+        ensures beside { KeepsBeside self.old queues.old self.new queues.new }
+    {
+        match self.kind_at(channels, device.get()) {
+            Some(Kind::Reader) => self.load_reader(queues, machine, storage, channels, device),
+            Some(Kind::Disk(index)) => self.load_disk(
+                queues, machine, storage, channels, device, index,
+            ),
+            _ => Ok(Told::Said(Response::DeviceNotFound)),
+        }
+    }
+
+    /// The machine is loaded from the reader.
+    fn load_reader<S: Storage, C: Channels<S>>(
+        &mut self,
+        queues: &mut Queues,
+        machine: &mut Machine,
+        storage: &mut S,
+        channels: &mut C,
+        device: DevAddr,
+    ) -> Result<Told, LineError>
+        requires size { 8192 ≤ length (S.bytes storage.old) }
+        requires user { self.old.user < length queues.old.users }
+        requires ready { C.IsReady storage.old }
+        ensures ok { let before = equipped machine.old (devices_on self.old queues.old) (C.disks channels.old) (S.bytes storage.old)
+            (S.keys storage.old) in
+            let after = equipped machine.new (devices_on self.new queues.new) (C.disks channels.new) (S.bytes storage.new)
+            (S.keys storage.new) in
+            IfOk result (λ told. LoadsReader device before told after) }
+        ensures lacks { C.is_whole ≡ false → result ≡ Err LineError.FramesOut
+            → ((page : ℕ) × IsAway (length (S.bytes storage.old)) (S.present storage.old) page) }
+        ensures same { let before = equipped machine.old (devices_on self.old queues.old) (C.disks channels.old) (S.bytes storage.old)
+            (S.keys storage.old) in
+            let after = equipped machine.new (devices_on self.new queues.new) (C.disks channels.new) (S.bytes storage.new)
+            (S.keys storage.new) in
+            C.is_whole ≡ true → result ≡ Err LineError.FramesOut → after ≡ before }
+        ensures out { let before = equipped machine.old (devices_on self.old queues.old) (C.disks channels.old) (S.bytes storage.old)
+            (S.keys storage.old) in
+            let needs = KindLoads (Some kinds.Reader) before in
+            C.is_whole ≡ true → result ≡ Err LineError.FramesOut
+            → LacksRoom (length (S.bytes storage.old)) needs (NoRoom C.IsOut C.IsFilled S.present storage.new needs) }
+        ensures came { let before = equipped machine.old (devices_on self.old queues.old) (C.disks channels.old) (S.bytes storage.old)
+            (S.keys storage.old) in
+            Brings C.Came storage.old (KindLoads (Some kinds.Reader) before) storage.new }
+        ensures ready { C.IsReady storage.new }
+        ensures others { C.KeepsOthers channels.old channels.new }
+        ensures beside { KeepsBeside self.old queues.old self.new queues.new }
+    {
+        match machine.make_room(1) {
+            Ok(()) => {}
+            Err(_) => return Err(LineError::Memory),
+        }
+        let ending = match load_fed(&mut self.reader, queues, self.user, storage, channels) {
+            Ok(ending) => ending,
+            Err(ChannelError::Memory) => return Err(LineError::Memory),
+            Err(ChannelError::Absent(_)) => return Err(LineError::FramesOut),
+        };
+        self.reset_beside();
+        channels.reset_disks();
+        machine.reset();
+        match start_loaded(machine, storage, device, &ending) {
+            Ok(well) => Ok(loaded(well)),
+            // The page of the PSW is not present.
+            Err(_) => Err(LineError::FramesOut),
+        }
+    }
+
+    /// The machine is loaded from the disk of this index.
+    fn load_disk<S: Storage, C: Channels<S>>(
+        &mut self,
+        queues: &Queues,
+        machine: &mut Machine,
+        storage: &mut S,
+        channels: &mut C,
+        device: DevAddr,
+        index: usize,
+    ) -> Result<Told, LineError>
+        requires size { 8192 ≤ length (S.bytes storage.old) }
+        requires ready { C.IsReady storage.old }
+        requires inside { index < length (C.disks channels.old) }
+        ensures ok { let before = equipped machine.old (devices_on self.old queues.now) (C.disks channels.old) (S.bytes storage.old)
+            (S.keys storage.old) in
+            let after = equipped machine.new (devices_on self.new queues.now) (C.disks channels.new) (S.bytes storage.new)
+            (S.keys storage.new) in
+            IfOk result (λ told. LoadsDisk index (slice_get (map reset_disk (C.disks channels.old)) index) device before told after) }
+        ensures lacks { C.is_whole ≡ false → result ≡ Err LineError.FramesOut
+            → ((page : ℕ) × IsAway (length (S.bytes storage.old)) (S.present storage.old) page) }
+        ensures same { let before = equipped machine.old (devices_on self.old queues.now) (C.disks channels.old) (S.bytes storage.old)
+            (S.keys storage.old) in
+            let after = equipped machine.new (devices_on self.new queues.now) (C.disks channels.new) (S.bytes storage.new)
+            (S.keys storage.new) in
+            C.is_whole ≡ true → result ≡ Err LineError.FramesOut → after ≡ before }
+        ensures out { let before = equipped machine.old (devices_on self.old queues.now) (C.disks channels.old) (S.bytes storage.old)
+            (S.keys storage.old) in
+            let needs = KindLoads (Some (kinds.Disk index)) before in
+            C.is_whole ≡ true → result ≡ Err LineError.FramesOut
+            → LacksRoom (length (S.bytes storage.old)) needs (NoRoom C.IsOut C.IsFilled S.present storage.new needs) }
+        ensures came { let before = equipped machine.old (devices_on self.old queues.now) (C.disks channels.old) (S.bytes storage.old)
+            (S.keys storage.old) in
+            Brings C.Came storage.old (KindLoads (Some (kinds.Disk index)) before) storage.new }
+        ensures ready { C.IsReady storage.new }
+        ensures others { C.KeepsOthers channels.old channels.new }
+        ensures user { self.new.user ≡ self.old.user }
+    {
+        match machine.make_room(1) {
+            Ok(()) => {}
+            Err(_) => return Err(LineError::Memory),
+        }
+        let ending = match channels.load_disk(storage, index) {
+            Ok(ending) => ending,
+            Err(ChannelError::Memory) => return Err(LineError::Memory),
+            Err(ChannelError::Absent(_)) => return Err(LineError::FramesOut),
+        };
+        self.reset();
+        machine.reset();
+        match start_loaded(machine, storage, device, &ending) {
+            Ok(well) => Ok(loaded(well)),
+            // The page of the PSW is not present.
+            Err(_) => Err(LineError::FramesOut),
+        }
+    }
+}

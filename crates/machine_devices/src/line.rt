@@ -1,0 +1,227 @@
+//! Lines that are typed to a machine with devices.
+ghost use Rattle.std.specs.Prelude.{◌≡◌, ◌<◌, ◌≤◌, ℕ, List, [], IfOk, OnErr, OnOk, Err, false, true, length};
+ghost use Rattle.s370_store.specs.Access.{Touches};
+ghost use Rattle.machine_channels.specs.Disks.{DiskAt};
+ghost use Rattle.s370_intr.specs.Run.{AllNeeded, IsLacking};
+ghost use Rattle.cp_spool.specs.Queues.{UserFiles};
+ghost use Rattle.machine_devices.specs.Equipped.{equipped};
+ghost use Rattle.machine_devices.specs.Lent.{KeepsBeside, devices_on, devices_with};
+ghost use Rattle.machine_devices.specs.Requests.{needs_of, switches};
+ghost use Rattle.machine_devices.specs.Lines.{IsLine, MayTakeMemory, loads_from, logged_off, outcome, said, requested, typed_at, was_reset};
+
+use crate::devices::Devices;
+use crate::request::{Request, request_of};
+use crate::world::World;
+use cp_console::console_line::ConsoleLine;
+use cp_console::lines::ConsoleText;
+use cp_console::responses::Response;
+use cp_spool::Queues;
+use machine_channels::Disks;
+use machine_panel::{LineError, Machine};
+use s370_num::DevAddr;
+use s370_store::Supply;
+use std::alloc::Global;
+use unit_record::Arrival;
+
+/// What is told to a line.
+#[derive(Clone, Copy, Debug, PartialEq, Eq)]
+pub enum Told {
+    /// Nothing.
+    Silent,
+    /// A response.
+    Said(Response),
+    /// The files of the reader, one line each: the decks of the reader, in their order.
+    Files,
+    /// That the line was sent to the user of this number, whose console is to print it.
+    Sent(u8, ConsoleLine),
+    /// That the machine is to be loaded from the device of this address: its owner does it.
+    Loads(DevAddr),
+    /// That a file was closed, the last of its device: its owner gives it a number.
+    Closed,
+}
+
+impl Told {
+    /// A response that is said, where there is one.
+    #[inline]
+    pub fn of(response: Option<Response>) -> Told
+        ensures { result ≡ said response }
+    {
+        match response {
+            None => Told::Silent,
+            Some(response) => Told::Said(response),
+        }
+    }
+
+    /// The device from which its owner is to load the machine, where that is told.
+    pub fn loads_from(&self) -> Option<DevAddr>
+        ensures { result ≡ loads_from self.now }
+    {
+        match self {
+            Told::Loads(device) => Some(*device),
+            Told::Silent | Told::Said(_) | Told::Files | Told::Sent(_, _) | Told::Closed => None,
+        }
+    }
+}
+
+impl Devices {
+    /// A line that is typed to a machine with these devices, and what is told. Where it is not obeyed, nothing has
+    /// happened.
+    pub fn line<S: Supply, D: Disks, W: World>(
+        &mut self,
+        alloc: Global,
+        queues: &mut Queues,
+        machine: &mut Machine,
+        storage: &mut S,
+        disks: &mut D,
+        world: &W,
+        typed: &[u8],
+    ) -> Result<Told, LineError>
+        requires size { 8192 ≤ length (S.Storage.bytes storage.old) }
+        requires user { self.old.user < length queues.old.users }
+        ensures ok { let before = equipped machine.old (devices_on self.old queues.old) (D.disks disks.old) (S.Storage.bytes storage.old)
+            (S.Storage.keys storage.old) in
+            let after = equipped machine.new (devices_on self.new queues.new) (D.disks disks.new) (S.Storage.bytes storage.new)
+            (S.Storage.keys storage.new) in
+            IfOk result (λ told. IsLine (W.known world.now) typed.now before told after) }
+        ensures err { let before = equipped machine.old (devices_on self.old queues.old) (D.disks disks.old) (S.Storage.bytes storage.old)
+            (S.Storage.keys storage.old) in
+            let after = equipped machine.new (devices_on self.new queues.new) (D.disks disks.new) (S.Storage.bytes storage.new)
+            (S.Storage.keys storage.new) in
+            OnErr result (after ≡ before) }
+        ensures memory { let before = equipped machine.old (devices_on self.old queues.old) (D.disks disks.old) (S.Storage.bytes storage.old)
+            (S.Storage.keys storage.old) in
+            result ≡ Err LineError.Memory → MayTakeMemory (requested typed.now before) }
+        ensures frames { let before = equipped machine.old (devices_on self.old queues.old) (D.disks disks.old) (S.Storage.bytes storage.old)
+            (S.Storage.keys storage.old) in
+            result ≡ Err LineError.FramesOut
+            → IsLacking (Touches (needs_of (requested typed.now before))) (length (S.Storage.bytes storage.old))
+            (S.IsShort storage.new) }
+        ensures cleared { let before = equipped machine.old (devices_on self.old queues.old) (D.disks disks.old) (S.Storage.bytes storage.old)
+            (S.Storage.keys storage.old) in
+            switches (requested typed.now before) ≡ true → OnOk result (S.Cleared storage.old storage.new) }
+        ensures not_cleared { let before = equipped machine.old (devices_on self.old queues.old) (D.disks disks.old)
+            (S.Storage.bytes storage.old) (S.Storage.keys storage.old) in
+            switches (requested typed.now before) ≡ true → OnErr result (S.Brought storage.old [] storage.new) }
+        ensures supply { let before = equipped machine.old (devices_on self.old queues.old) (D.disks disks.old) (S.Storage.bytes storage.old)
+            (S.Storage.keys storage.old) in
+            switches (requested typed.now before) ≡ false
+            → ((pages : List ℕ) × S.Brought storage.old pages storage.new
+            × AllNeeded (Touches (needs_of (requested typed.now before))) pages) }
+        ensures others { D.KeepsOthers disks.old disks.new }
+        ensures beside { KeepsBeside self.old queues.old self.new queues.new }
+        ensures size { length (S.Storage.bytes storage.new) ≡ length (S.Storage.bytes storage.old) }
+    {
+        let text = ConsoleText::new(typed);
+        let has_console = self.places().console.is_some();
+        match request_of(machine.mode(), has_console, text.as_slice()) {
+            Request::LogsOn => {
+                machine.clear(storage);
+                self.reset();
+                disks.clear_disks();
+                Ok(Told::Said(Response::LogonOk))
+            }
+            Request::LogsOff => self.leave(alloc, queues, machine, storage, disks),
+            Request::Resets => self.reset_machine(machine, disks),
+            Request::Types => self.type_line(machine, text.as_slice()),
+            Request::Asks(command) => self.obey(alloc, queues, world, &command),
+            Request::Alone(asked) => match machine.answer(storage, asked) {
+                Ok(response) => Ok(Told::of(response)),
+                Err(error) => Err(error),
+            },
+        }
+    }
+
+    /// LOGOFF.
+    fn leave<S: Supply, D: Disks>(
+        &mut self,
+        alloc: Global,
+        queues: &mut Queues,
+        machine: &mut Machine,
+        storage: &mut S,
+        disks: &mut D,
+    ) -> Result<Told, LineError>
+        requires { self.old.user < length queues.old.users }
+        ensures ok { let before = equipped machine.old (devices_on self.old queues.old) (D.disks disks.old) (S.Storage.bytes storage.old)
+            (S.Storage.keys storage.old) in
+            let after = equipped machine.new (devices_on self.new queues.new) (D.disks disks.new) (S.Storage.bytes storage.new)
+            (S.Storage.keys storage.new) in
+            IfOk result (λ told. outcome after told ≡ logged_off before) }
+        ensures err { let before = equipped machine.old (devices_on self.old queues.old) (D.disks disks.old) (S.Storage.bytes storage.old)
+            (S.Storage.keys storage.old) in
+            let after = equipped machine.new (devices_on self.new queues.new) (D.disks disks.new) (S.Storage.bytes storage.new)
+            (S.Storage.keys storage.new) in
+            OnErr result (after ≡ before) }
+        ensures memory { result ≡ Err LineError.FramesOut → ⊥ }
+        ensures cleared { OnOk result (S.Cleared storage.old storage.new) }
+        ensures not_cleared { OnErr result (S.Brought storage.old [] storage.new) }
+        ensures others { D.KeepsOthers disks.old disks.new }
+        ensures beside { KeepsBeside self.old queues.old self.new queues.new }
+        ensures size { length (S.Storage.bytes storage.new) ≡ length (S.Storage.bytes storage.old) }
+    {
+        match self.log_off(alloc, queues) {
+            Ok(()) => {}
+            Err(_) => return Err(LineError::Memory),
+        }
+        machine.switch_off(storage);
+        self.reset();
+        disks.clear_disks();
+        Ok(Told::Said(Response::LogoffOk))
+    }
+
+    /// SYSTEM RESET.
+    fn reset_machine<D: Disks>(
+        &mut self,
+        machine: &mut Machine,
+        disks: &mut D,
+    ) -> Result<Told, LineError>
+        ensures ok { (files : UserFiles) (bytes keys : List ℕ)
+            → IfOk result (λ told. outcome (equipped machine.new (devices_with self.new files) (D.disks disks.new) bytes keys) told
+            ≡ was_reset (equipped machine.old (devices_with self.old files) (D.disks disks.old) bytes keys)) }
+        ensures err { (files : UserFiles) (bytes keys : List ℕ)
+            → OnErr result (equipped machine.new (devices_with self.new files) (D.disks disks.new) bytes keys
+            ≡ equipped machine.old (devices_with self.old files) (D.disks disks.old) bytes keys) }
+        ensures memory { result ≡ Err LineError.FramesOut → ⊥ }
+        ensures user { self.new.user ≡ self.old.user }
+        ensures others { D.KeepsOthers disks.old disks.new }
+    {
+        match machine.system_reset() {
+            Ok(()) => {}
+            Err(_) => return Err(LineError::Memory),
+        }
+        self.reset();
+        disks.reset_disks();
+        Ok(Told::Said(Response::SystemReset))
+    }
+
+    /// A line for the console.
+    fn type_line(&mut self, machine: &mut Machine, text: &[u8]) -> Result<Told, LineError>
+        requires { length text.now ≤ 132 }
+        ensures ok { (files : UserFiles) (disks : List DiskAt) (bytes keys : List ℕ)
+            → IfOk result (λ told. outcome (equipped machine.new (devices_with self.new files) disks bytes keys) told
+            ≡ typed_at self.old.places.console text.now (equipped machine.old (devices_with self.old files) disks bytes keys)) }
+        ensures err { (files : UserFiles) (disks : List DiskAt) (bytes keys : List ℕ)
+            → OnErr result (equipped machine.new (devices_with self.new files) disks bytes keys
+            ≡ equipped machine.old (devices_with self.old files) disks bytes keys) }
+        ensures memory { result ≡ Err LineError.FramesOut → ⊥ }
+        ensures user { self.new.user ≡ self.old.user }
+    {
+        let Some(device) = self.places.console else {
+            return Ok(Told::Silent);
+        };
+        match self.console.line(text) {
+            Ok(Arrival::Kept) => {
+                machine.attend(device);
+                Ok(Told::Silent)
+            }
+            Ok(Arrival::Lost) => {
+                match machine.make_room(1) {
+                    Ok(()) => {}
+                    Err(_) => return Err(LineError::Memory),
+                }
+                machine.print(&Response::LineLost);
+                Ok(Told::Said(Response::LineLost))
+            }
+            Err(_) => Err(LineError::Memory),
+        }
+    }
+}

@@ -1,0 +1,56 @@
+//! The initial program loading of a machine.
+ghost use Rattle.std.specs.Prelude.{◌≡◌, ◌<◌, ◌≤◌, IfErr, IfOk, length};
+ghost use Rattle.machine_panel.specs.Machine.{machine_of};
+ghost use Rattle.machine_devices.specs.Loading.{LacksPsw, is_good, left_by};
+
+use cp_console::responses::Response;
+use machine_panel::Machine;
+use s370_channel::ChannelError;
+use s370_num::{AccessKey, DevAddr};
+use s370_psw::Psw;
+use s370_store::{Access, Fault, Range, Storage, load_doubleword, store_halfword};
+use s370_walk::{ChannelStatus, Ending, UnitStatus};
+
+/// Where the device's address is stored, in the PSW that is loaded.
+const IPL_PSW: Range = Range { start: 0, count: 8 };
+
+/// Lets a machine run whose program of loading ended well, and tells whether it did. There is room for a line and for
+/// the notice of the machine's stop.
+pub(crate) fn start_loaded<S: Storage>(
+    machine: &mut Machine,
+    storage: &mut S,
+    device: DevAddr,
+    ending: &Ending,
+) -> Result<bool, ChannelError>
+    requires size { 8192 ≤ length (S.bytes storage.old) }
+    requires room { 1 < machine.old.room }
+    ensures well { IfOk result (λ well. well ≡ is_good ending.now) }
+    ensures left { let before = machine_of machine.old (S.bytes storage.old) (S.keys storage.old) in
+        let after = machine_of machine.new (S.bytes storage.new) (S.keys storage.new) in
+        IfOk result (λ well. after ≡ left_by (is_good ending.now) device before (S.bytes storage.old)) }
+    ensures stopped { IfErr result (LacksPsw (S.present storage.old)) }
+    ensures keys { S.keys storage.new ≡ S.keys storage.old }
+    ensures rest { S.Keeps storage.old storage.new }
+{
+    if !is_good(ending) {
+        machine.print(&Response::IplFailed);
+        return Ok(false);
+    }
+    match storage.check(IPL_PSW, Access::Store, AccessKey::ZERO) {
+        Ok(()) => {}
+        Err(Fault::Absent(page)) => return Err(ChannelError::Absent(page)),
+        // The location lies in every storage, and key 0 passes every test.
+        Err(Fault::Addressing) => unreachable!(),
+        Err(Fault::Protection) => unreachable!(),
+    }
+    store_halfword(storage, 2, device.get());
+    machine.start(Psw::from_word(load_doubleword(storage, 0)));
+    Ok(true)
+}
+
+/// Whether nothing went wrong.
+fn is_good(ending: &Ending) -> bool
+    ensures { result ≡ is_good ending.now }
+{
+    ending.unit == UnitStatus::ENDED && ending.channel == ChannelStatus::NONE
+}

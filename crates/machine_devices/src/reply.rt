@@ -1,0 +1,79 @@
+//! What a machine of one user, or the system of many, answers to an event.
+ghost use Rattle.std.specs.Prelude.{◌≡◌};
+ghost use Rattle.machine_devices.specs.Replies.{said_to_line, silent};
+
+use crate::line::Told;
+use cp_console::console_line::ConsoleLine;
+use cp_console::responses::Response;
+use s370_intr::Ran;
+use user_names::UserNo;
+
+/// How an event ended.
+#[derive(Clone, Copy, PartialEq, Eq)]
+pub enum Ended {
+    /// A run: so many units were done, and why no more.
+    Ran(Ran),
+    /// A serve: whether there was a program.
+    Served(bool),
+    /// Any other event is done.
+    Done,
+    /// An event that is no run needs a page for which there is no room. Nothing has happened.
+    FramesOut,
+}
+
+/// What an installation answers to an event. It has no memory of its own.
+#[derive(Clone, Copy, PartialEq, Eq)]
+pub struct Reply {
+    /// How the event ended.
+    pub ended: Ended,
+    /// What is said to the user whom the event names: the answer to his line, or the notice of a machine that stopped.
+    /// Of his files only that they are to be listed is told; they are the decks of his reader.
+    pub said: Told,
+    /// How many lines have joined the console of that user, the last of its output.
+    pub lines: usize,
+    /// What was delivered, and to whom. The cards of a deck are those of the last deck of his reader.
+    pub delivered: Option<Delivered>,
+}
+
+impl Reply {
+    /// Nothing is said, and nothing was delivered.
+    pub fn silent(ended: Ended) -> Reply
+        ensures { result ≡ silent ended }
+    {
+        Reply {
+            ended,
+            said: Told::Silent,
+            lines: 0,
+            delivered: None,
+        }
+    }
+}
+
+/// What a user was told as delivered to him.
+#[derive(Clone, Copy, Debug, PartialEq, Eq)]
+pub enum Delivery {
+    /// The deck of the file with this number, which is the last of his reader.
+    Deck(u64),
+    /// A message, as the whole line that his console prints.
+    Message(ConsoleLine),
+}
+
+/// What was delivered by an event, and to whom.
+#[derive(Clone, Copy, Debug, PartialEq, Eq)]
+pub struct Delivered {
+    /// The number of the user.
+    pub to: UserNo,
+    /// What he gets.
+    pub what: Delivery,
+}
+
+/// What is said to a line that was answered so, where the next file has this number.
+pub fn said_to_line(number: u64, told: &Told) -> Told
+    ensures { result ≡ said_to_line number told.now }
+{
+    match told {
+        Told::Sent(_, _) => Told::Said(Response::Sent),
+        Told::Closed => Told::Said(Response::FileClosed(number)),
+        Told::Silent | Told::Said(_) | Told::Files | Told::Loads(_) => *told,
+    }
+}

@@ -1,0 +1,99 @@
+//! What a line asks of a machine with devices.
+ghost use Rattle.std.specs.Prelude.{◌≡◌};
+ghost use Rattle.cp_console.specs.Asked.{asked_of};
+ghost use Rattle.cp_console.specs.Commands.{command_of};
+ghost use Rattle.machine_devices.specs.Requests.{asked_request, command_request, off_request, plain_request, request_in};
+
+use cp_console::commands::{Command, CommandError, read_command};
+use cp_console::device_commands::DeviceCommand;
+use cp_console::lines::{Asked, asked_of};
+use cp_console::responses::Response;
+use machine_panel::{Mode, PanelLine};
+
+/// What a line asks of a machine with devices.
+#[derive(PartialEq, Eq, Drop)]
+pub enum Request<'a> {
+    /// LOGON switches the machine on.
+    LogsOn,
+    /// LOGOFF.
+    LogsOff,
+    /// SYSTEM RESET.
+    Resets,
+    /// A line for the console of a machine that runs.
+    Types,
+    /// A command that concerns devices, their files or other users.
+    Asks(DeviceCommand<'a>),
+    /// What the machine alone answers.
+    Alone(PanelLine),
+}
+
+/// What a line that was cut and cleaned asks of a machine in this mode, with a console or without one.
+pub(crate) fn request_of(mode: Mode, has_console: bool, text: &[u8]) -> Request<'_>
+    ensures { result ≡ request_in mode has_console text.now }
+{
+    match mode {
+        Mode::Off => off_request(text),
+        Mode::Stopped | Mode::Running => on_request(mode, has_console, text),
+    }
+}
+
+/// Of a line to a machine that is on.
+fn on_request(mode: Mode, has_console: bool, text: &[u8]) -> Request<'_>
+    ensures { result ≡ asked_request mode has_console (asked_of text.now) }
+{
+    match asked_of(text) {
+        Asked::Stop => Request::Alone(PanelLine::Stop),
+        Asked::Command(text) => command_request(text),
+        Asked::Plain(text) => plain_request(mode, has_console, text),
+    }
+}
+
+/// Of a line that does not name the control program.
+fn plain_request(mode: Mode, has_console: bool, text: &[u8]) -> Request<'_>
+    ensures { result ≡ plain_request mode has_console text.now }
+{
+    match mode {
+        Mode::Running => {
+            if has_console {
+                Request::Types
+            } else {
+                Request::Alone(PanelLine::Says(Response::NoConsole))
+            }
+        }
+        Mode::Stopped => command_request(text),
+        Mode::Off => Request::Alone(PanelLine::Nothing),
+    }
+}
+
+/// Of a line to a machine that is off.
+fn off_request(text: &[u8]) -> Request<'_>
+    ensures { result ≡ off_request (command_of text.now) }
+{
+    match read_command(text) {
+        Ok(Command::Logon) => Request::LogsOn,
+        _ => Request::Alone(PanelLine::Says(Response::NotLoggedOn)),
+    }
+}
+
+/// Of a command's text.
+fn command_request(text: &[u8]) -> Request<'_>
+    ensures { result ≡ command_request (command_of text.now) }
+{
+    match read_command(text) {
+        Ok(Command::Nothing) => Request::Alone(PanelLine::Nothing),
+        Ok(Command::Logon) => Request::Alone(PanelLine::Says(Response::AlreadyLoggedOn)),
+        Ok(Command::Logoff) => Request::LogsOff,
+        Ok(Command::Begin(address)) => Request::Alone(PanelLine::Begin(address)),
+        Ok(Command::SystemReset) => Request::Resets,
+        Ok(Command::External) => Request::Alone(PanelLine::External),
+        Ok(Command::Display(place)) => Request::Alone(PanelLine::Display(place)),
+        Ok(Command::Store(change)) => Request::Alone(PanelLine::Store(change)),
+        Ok(Command::Device(command)) => Request::Asks(command),
+        Err(CommandError::Unknown) => Request::Alone(PanelLine::Says(Response::UnknownCommand)),
+        Err(CommandError::Operand(place)) => {
+            Request::Alone(PanelLine::Says(Response::BadOperand(place)))
+        }
+        // No command takes memory to be read.
+        Err(CommandError::Memory) => Request::Alone(PanelLine::Nothing),
+    }
+}

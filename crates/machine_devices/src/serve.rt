@@ -1,0 +1,258 @@
+//! The devices of a machine are served.
+ghost use Rattle.std.specs.Prelude.{◌≡◌, ◌<◌, ◌++◌, false, true, IfErr, IfOk, OnErr, OnOk, length};
+ghost use Rattle.machine_channels.specs.Channels.{Brings, NoRoom, WhereOut};
+ghost use Rattle.machine_devices.specs.Devices.{IsAttached};
+ghost use Rattle.machine_devices.specs.declared.places.Kind.TheVariants as kinds;
+ghost use Rattle.machine_devices.specs.Equipped.{equipped};
+ghost use Rattle.machine_devices.specs.Lent.{KeepsBeside, devices_on};
+ghost use Rattle.machine_devices.specs.Serve.{IsServedAt, KindNeeds, RunsConsole, RunsKind, ServeNeeds};
+ghost use Rattle.machine_devices.specs.Stopped.{StopsAt, StopsConsole, StopsKind};
+
+use crate::devices::Devices;
+use crate::feeding::feed;
+use crate::places::Kind;
+use cp_console::console_line::ConsoleLine;
+use cp_console::responses::Response;
+use cp_spool::Queues;
+use machine_channels::{Channels, UnitRecord};
+use machine_panel::Machine;
+use s370_channel::{Caw, ChannelError};
+use s370_num::DevAddr;
+use s370_store::Storage;
+use std::alloc::AllocError;
+use unit_record::Console;
+
+impl Devices {
+    /// Serves the device of this address: the channel program that was started runs as a whole on these channels, and
+    /// its status is pending. Tells whether there was one; else nothing has happened. An error is told only where
+    /// memory was refused, or a page is not present that the program needs. Where the channels are whole, there is no
+    /// room for that page then, and nothing has happened but that pages came which the program needs.
+    pub fn serve<S: Storage, C: Channels<S>>(
+        &mut self,
+        queues: &mut Queues,
+        machine: &mut Machine,
+        storage: &mut S,
+        channels: &mut C,
+        device: DevAddr,
+    ) -> Result<bool, ChannelError>
+        requires user { self.old.user < length queues.old.users }
+        requires ready { C.IsReady storage.old }
+        ensures served { let before = equipped machine.old (devices_on self.old queues.old) (C.disks channels.old) (S.bytes storage.old)
+            (S.keys storage.old) in
+            let after = equipped machine.new (devices_on self.new queues.new) (C.disks channels.new) (S.bytes storage.new)
+            (S.keys storage.new) in
+            IfOk result (λ done. IsServedAt C.reads device before done after) }
+        ensures whole { let before = equipped machine.old (devices_on self.old queues.old) (C.disks channels.old) (S.bytes storage.old)
+            (S.keys storage.old) in
+            let after = equipped machine.new (devices_on self.new queues.new) (C.disks channels.new) (S.bytes storage.new)
+            (S.keys storage.new) in
+            let needs = ServeNeeds C.holds device before in
+            C.is_whole ≡ true
+            → IfErr result (WhereOut (length (S.bytes storage.old)) needs (NoRoom C.IsOut C.IsFilled S.present storage.new needs) (after ≡ before)) }
+        ensures stopped { let before = equipped machine.old (devices_on self.old queues.old) (C.disks channels.old) (S.bytes storage.old)
+            (S.keys storage.old) in
+            C.is_whole ≡ false → IfErr result (StopsAt C.reads (S.present storage.old) device before) }
+        ensures others { C.KeepsOthers channels.old channels.new }
+        ensures beside { KeepsBeside self.old queues.old self.new queues.new }
+        ensures keys { S.keys storage.new ≡ S.keys storage.old }
+        ensures came { let before = equipped machine.old (devices_on self.old queues.old) (C.disks channels.old) (S.bytes storage.old)
+            (S.keys storage.old) in
+            Brings C.Came storage.old (ServeNeeds C.holds device before) storage.new }
+        ensures ready { C.IsReady storage.new }
+    {
+        let Some(kind) = self.kind_at(channels, device.get()) else {
+            return Ok(false);
+        };
+        let Some(start) = machine.program(device) else {
+            return Ok(false);
+        };
+        match self.run_kind(queues, machine, storage, channels, kind, device, start) {
+            Ok(()) => Ok(true),
+            Err(error) => Err(error),
+        }
+    }
+
+    /// The program of the device of this kind, at this address, runs.
+    fn run_kind<S: Storage, C: Channels<S>>(
+        &mut self,
+        queues: &mut Queues,
+        machine: &mut Machine,
+        storage: &mut S,
+        channels: &mut C,
+        kind: Kind,
+        device: DevAddr,
+        start: Caw,
+    ) -> Result<(), ChannelError>
+        requires attached { IsAttached (C.disks channels.old) kind }
+        requires user { self.old.user < length queues.old.users }
+        requires ready { C.IsReady storage.old }
+        ensures runs { let before = equipped machine.old (devices_on self.old queues.old) (C.disks channels.old) (S.bytes storage.old)
+            (S.keys storage.old) in
+            let after = equipped machine.new (devices_on self.new queues.new) (C.disks channels.new) (S.bytes storage.new)
+            (S.keys storage.new) in
+            OnOk result (RunsKind C.reads kind device start before after) }
+        ensures whole { let before = equipped machine.old (devices_on self.old queues.old) (C.disks channels.old) (S.bytes storage.old)
+            (S.keys storage.old) in
+            let after = equipped machine.new (devices_on self.new queues.new) (C.disks channels.new) (S.bytes storage.new)
+            (S.keys storage.new) in
+            let needs = KindNeeds C.holds kind start before in
+            C.is_whole ≡ true
+            → IfErr result (WhereOut (length (S.bytes storage.old)) needs (NoRoom C.IsOut C.IsFilled S.present storage.new needs) (after ≡ before)) }
+        ensures stopped { let before = equipped machine.old (devices_on self.old queues.old) (C.disks channels.old) (S.bytes storage.old)
+            (S.keys storage.old) in
+            C.is_whole ≡ false → IfErr result (StopsKind C.reads (S.present storage.old) kind start before) }
+        ensures others { C.KeepsOthers channels.old channels.new }
+        ensures beside { KeepsBeside self.old queues.old self.new queues.new }
+        ensures keys { S.keys storage.new ≡ S.keys storage.old }
+        ensures came { let before = equipped machine.old (devices_on self.old queues.old) (C.disks channels.old) (S.bytes storage.old)
+            (S.keys storage.old) in
+            Brings C.Came storage.old (KindNeeds C.holds kind start before) storage.new }
+        ensures ready { C.IsReady storage.new }
+    {
+        let key = start.key;
+        let ending = match kind {
+            Kind::Console => return self.run_console(
+                queues, machine, storage, channels, device, start,
+            ),
+            Kind::Reader => return self.run_reader(
+                queues, machine, storage, channels, device, start,
+            ),
+            Kind::Punch => match channels.run(storage, start, UnitRecord::Punch, &mut self.punch) {
+                Ok(ending) => ending,
+                Err(error) => return Err(error),
+            },
+            Kind::Printer => match channels.run(
+                storage,
+                start,
+                UnitRecord::Printer,
+                &mut self.printer,
+            ) {
+                Ok(ending) => ending,
+                Err(error) => return Err(error),
+            },
+            Kind::Disk(index) => match channels.run_disk(storage, start, index) {
+                Ok(ending) => ending,
+                Err(error) => return Err(error),
+            },
+        };
+        machine.end_program(device, key, ending);
+        Ok(())
+    }
+
+    /// The program of the reader runs.
+    fn run_reader<S: Storage, C: Channels<S>>(
+        &mut self,
+        queues: &mut Queues,
+        machine: &mut Machine,
+        storage: &mut S,
+        channels: &mut C,
+        device: DevAddr,
+        start: Caw,
+    ) -> Result<(), ChannelError>
+        requires user { self.old.user < length queues.old.users }
+        requires ready { C.IsReady storage.old }
+        ensures runs { let before = equipped machine.old (devices_on self.old queues.old) (C.disks channels.old) (S.bytes storage.old)
+            (S.keys storage.old) in
+            let after = equipped machine.new (devices_on self.new queues.new) (C.disks channels.new) (S.bytes storage.new)
+            (S.keys storage.new) in
+            OnOk result (RunsKind C.reads kinds.Reader device start before after) }
+        ensures whole { let before = equipped machine.old (devices_on self.old queues.old) (C.disks channels.old) (S.bytes storage.old)
+            (S.keys storage.old) in
+            let after = equipped machine.new (devices_on self.new queues.new) (C.disks channels.new) (S.bytes storage.new)
+            (S.keys storage.new) in
+            let needs = KindNeeds C.holds kinds.Reader start before in
+            C.is_whole ≡ true
+            → IfErr result (WhereOut (length (S.bytes storage.old)) needs (NoRoom C.IsOut C.IsFilled S.present storage.new needs) (after ≡ before)) }
+        ensures stopped { let before = equipped machine.old (devices_on self.old queues.old) (C.disks channels.old) (S.bytes storage.old)
+            (S.keys storage.old) in
+            C.is_whole ≡ false → IfErr result (StopsKind C.reads (S.present storage.old) kinds.Reader start before) }
+        ensures others { C.KeepsOthers channels.old channels.new }
+        ensures beside { KeepsBeside self.old queues.old self.new queues.new }
+        ensures keys { S.keys storage.new ≡ S.keys storage.old }
+        ensures came { let before = equipped machine.old (devices_on self.old queues.old) (C.disks channels.old) (S.bytes storage.old)
+            (S.keys storage.old) in
+            Brings C.Came storage.old (KindNeeds C.holds kinds.Reader start before) storage.new }
+        ensures ready { C.IsReady storage.new }
+    {
+        let key = start.key;
+        match feed(
+            &mut self.reader,
+            queues,
+            self.user,
+            storage,
+            channels,
+            start,
+        ) {
+            Ok(ending) => {
+                machine.end_program(device, key, ending);
+                Ok(())
+            }
+            Err(error) => Err(error),
+        }
+    }
+
+    /// The program of the console runs.
+    fn run_console<S: Storage, C: Channels<S>>(
+        &mut self,
+        queues: &Queues,
+        machine: &mut Machine,
+        storage: &mut S,
+        channels: &mut C,
+        device: DevAddr,
+        start: Caw,
+    ) -> Result<(), ChannelError>
+        requires { C.IsReady storage.old }
+        ensures runs { let before = equipped machine.old (devices_on self.old queues.now) (C.disks channels.old) (S.bytes storage.old)
+            (S.keys storage.old) in
+            let after = equipped machine.new (devices_on self.new queues.now) (C.disks channels.new) (S.bytes storage.new)
+            (S.keys storage.new) in
+            OnOk result (RunsConsole C.reads device start before after) }
+        ensures whole { let before = equipped machine.old (devices_on self.old queues.now) (C.disks channels.old) (S.bytes storage.old)
+            (S.keys storage.old) in
+            let after = equipped machine.new (devices_on self.new queues.now) (C.disks channels.new) (S.bytes storage.new)
+            (S.keys storage.new) in
+            let needs = KindNeeds C.holds kinds.Console start before in
+            C.is_whole ≡ true
+            → IfErr result (WhereOut (length (S.bytes storage.old)) needs (NoRoom C.IsOut C.IsFilled S.present storage.new needs) (after ≡ before)) }
+        ensures stopped { let before = equipped machine.old (devices_on self.old queues.now) (C.disks channels.old) (S.bytes storage.old)
+            (S.keys storage.old) in
+            C.is_whole ≡ false → IfErr result (StopsConsole C.reads (S.present storage.old) start before) }
+        ensures others { C.KeepsOthers channels.old channels.new }
+        ensures user { self.new.user ≡ self.old.user }
+        ensures keys { S.keys storage.new ≡ S.keys storage.old }
+        ensures came { let before = equipped machine.old (devices_on self.old queues.now) (C.disks channels.old) (S.bytes storage.old)
+            (S.keys storage.old) in
+            Brings C.Came storage.old (KindNeeds C.holds kinds.Console start before) storage.new }
+        ensures ready { C.IsReady storage.new }
+    {
+        let key = start.key;
+        let ending = match channels.run(storage, start, UnitRecord::Console, &mut self.console) {
+            Ok(ending) => ending,
+            Err(error) => return Err(error),
+        };
+        machine.set_attention(device, self.console.attention());
+        machine.end_program(device, key, ending);
+        match print_written(machine, &self.console) {
+            Ok(()) => {}
+            Err(_) => return Err(ChannelError::Memory),
+        }
+        self.console.forget_lines();
+        Ok(())
+    }
+}
+
+/// Prints the lines that a console has finished.
+fn print_written(machine: &mut Machine, console: &Console) -> Result<(), AllocError>
+    ensures printed { OnOk result
+        (machine.new ≡ record machine.old {
+          output = machine.old.output ++ console.now.lines;
+          room = machine.new.room;
+        }) }
+    ensures some { OnErr result (0 < length console.now.lines) }
+{
+    for line in console.lines() {
+        machine.make_room(1)?;
+        machine.print(&Response::Written(ConsoleLine::of(line.as_slice())));
+    }
+    Ok(())
+}

@@ -1,0 +1,183 @@
+//! Files and decks: what SPOOL, CLOSE, PURGE and LOGOFF do with the devices.
+ghost use Rattle.std.specs.Prelude.{◌≡◌, ◌+◌, ◌<◌, ◌≤◌, is_some, length, slice_index, IfOk, OnOk, OnErr};
+ghost use Rattle.unit_record.specs.Reader.{queued_at};
+ghost use Rattle.cp_spool.specs.Queues.{UserFiles, deck_of, files_of};
+ghost use Rattle.machine_devices.specs.Devices.{place_at};
+ghost use Rattle.machine_devices.specs.Lent.{KeepsBeside, devices_on, devices_with};
+ghost use Rattle.machine_devices.specs.Spooling.{devices_logged_off, output_of, with_deck_purged, with_deck_put_back, with_deck_queued, with_printer_closed, with_punch_closed};
+
+use crate::devices::Devices;
+use crate::places::Kind;
+use cp_spool::Queues;
+use std::alloc::{AllocError, Global};
+use unit_record::{Card, Sender, Target};
+use user_names::UserNo;
+
+impl Devices {
+    /// From now on what the punch punches is for this target.
+    pub(crate) fn spool(&mut self, to: Target)
+        ensures { self.new ≡ record self.old { target = to } }
+    {
+        self.target = to;
+    }
+
+    /// Whether the open file of the punch or printer with this address has an entry; None where neither has this
+    /// address.
+    pub fn has_output(&self, device: u16) -> Option<bool>
+        ensures { (files : UserFiles)
+            → result ≡ output_of (devices_with self.now files) (place_at self.now.places device) }
+    {
+        match self.part_at(device) {
+            Some(Kind::Punch) => Some(!self.punch.entries().is_empty()),
+            Some(Kind::Printer) => Some(!self.printer.entries().is_empty()),
+            _ => None,
+        }
+    }
+
+    /// Closes the punch's open file, for its target. Where memory is refused all stays. No card is copied.
+    pub fn close_punch(&mut self, alloc: Global, queues: &mut Queues) -> Result<(), AllocError>
+        requires { self.old.user < length queues.old.users }
+        ensures closed { OnOk result (devices_on self.new queues.new ≡ with_punch_closed (devices_on self.old queues.old)) }
+        ensures err { OnErr result (devices_on self.new queues.new ≡ devices_on self.old queues.old) }
+        ensures beside { KeepsBeside self.old queues.old self.new queues.new }
+    {
+        if queues.make_room(self.user).is_err() {
+            return Err(AllocError);
+        }
+        self.close_punch_reserved(alloc, queues);
+        Ok(())
+    }
+
+    /// Closes the printer's open file, for the operator. Where memory is refused all stays. No line is copied.
+    pub fn close_printer(&mut self, alloc: Global, queues: &mut Queues) -> Result<(), AllocError>
+        requires { self.old.user < length queues.old.users }
+        ensures closed { OnOk result (devices_on self.new queues.new ≡ with_printer_closed (devices_on self.old queues.old)) }
+        ensures err { OnErr result (devices_on self.new queues.new ≡ devices_on self.old queues.old) }
+        ensures beside { KeepsBeside self.old queues.old self.new queues.new }
+    {
+        if queues.make_room(self.user).is_err() {
+            return Err(AllocError);
+        }
+        self.close_printer_reserved(alloc, queues);
+        Ok(())
+    }
+
+    /// The same, where there is room for the file.
+    fn close_punch_reserved(&mut self, alloc: Global, queues: &mut Queues)
+        requires user { self.old.user < length queues.old.users }
+        requires files { 1 ≤ queues.old.room.files }
+        requires room { 1 ≤ slice_index queues.old.room.punched self.old.user }
+        ensures closed { devices_on self.new queues.new ≡ with_punch_closed (devices_on self.old queues.old) }
+        ensures beside { KeepsBeside self.old queues.old self.new queues.new }
+        ensures files { queues.old.room.files ≤ queues.new.room.files + 1 }
+        ensures printed { queues.new.room.printed ≡ queues.old.room.printed }
+    {
+        let entries = self.punch.take_entries(alloc);
+        if !entries.is_empty() {
+            queues.close_punched(self.user, self.target, entries);
+        }
+    }
+
+    /// The same, where there is room for the file.
+    fn close_printer_reserved(&mut self, alloc: Global, queues: &mut Queues)
+        requires user { self.old.user < length queues.old.users }
+        requires files { 1 ≤ queues.old.room.files }
+        requires room { 1 ≤ slice_index queues.old.room.printed self.old.user }
+        ensures closed { devices_on self.new queues.new ≡ with_printer_closed (devices_on self.old queues.old) }
+        ensures beside { KeepsBeside self.old queues.old self.new queues.new }
+    {
+        let entries = self.printer.take_entries(alloc);
+        if !entries.is_empty() {
+            queues.close_printed(self.user, Target::System, entries);
+        }
+    }
+
+    /// What LOGOFF does: closes the open files of punch and printer, and puts the current deck back into the queue.
+    /// Where memory is refused all stays.
+    pub fn log_off(&mut self, alloc: Global, queues: &mut Queues) -> Result<(), AllocError>
+        requires { self.old.user < length queues.old.users }
+        ensures after { OnOk result (devices_on self.new queues.new ≡ devices_logged_off (devices_on self.old queues.old)) }
+        ensures err { OnErr result (devices_on self.new queues.new ≡ devices_on self.old queues.old) }
+        ensures beside { KeepsBeside self.old queues.old self.new queues.new }
+    {
+        if queues.make_room(self.user).is_err() {
+            return Err(AllocError);
+        }
+        self.close_punch_reserved(alloc, queues);
+        self.close_printer_reserved(alloc, queues);
+        self.put_back(queues);
+        Ok(())
+    }
+
+    /// A deck of these cards comes to the end of the reader's queue. Where memory is refused all stays, and the cards
+    /// are gone.
+    pub fn deck(
+        &self,
+        queues: &mut Queues,
+        label: u64,
+        sender: Sender,
+        cards: Vec<Card>,
+    ) -> Result<(), AllocError>
+        requires { self.now.user < length queues.old.users }
+        ensures kept { OnOk result (devices_on self.now queues.new
+            ≡ with_deck_queued (devices_on self.now queues.old)
+            (record { label = label; sender = sender; cards = cards.items })) }
+        ensures err { OnErr result (devices_on self.now queues.new ≡ devices_on self.now queues.old) }
+        ensures beside { KeepsBeside self.now queues.old self.now queues.new }
+    {
+        match queues.append(self.user, label, sender, cards) {
+            Ok(()) => Ok(()),
+            Err(_) => Err(AllocError),
+        }
+    }
+
+    /// The file of this index that a user's punch closed comes to the end of the reader's queue, as a deck with this
+    /// label. Where memory is refused all stays. No card is copied.
+    pub fn receive(
+        &self,
+        queues: &mut Queues,
+        from: UserNo,
+        index: usize,
+        label: u64,
+    ) -> Result<(), AllocError>
+        requires index { index < length (files_of queues.old.users from).punched }
+        requires user { self.now.user < length queues.old.users }
+        ensures kept { OnOk result (devices_on self.now queues.new
+            ≡ with_deck_queued (devices_on self.now queues.old)
+            (deck_of (files_of queues.old.users from).punched index label (Sender.User from))) }
+        ensures err { OnErr result (devices_on self.now queues.new ≡ devices_on self.now queues.old) }
+        ensures beside { KeepsBeside self.now queues.old self.now queues.new }
+    {
+        match queues.deliver(from, index, self.user, label, Sender::User(from.number())) {
+            Ok(()) => Ok(()),
+            Err(_) => Err(AllocError),
+        }
+    }
+
+    /// Takes the queued deck of this id away, and tells whether there was any. The current deck is not queued.
+    pub fn purge(&self, queues: &mut Queues, id: u64) -> bool
+        requires { self.now.user < length queues.old.users }
+        ensures found { result ≡ is_some (queued_at (devices_on self.now queues.old).reader id) }
+        ensures after { devices_on self.now queues.new ≡ with_deck_purged (devices_on self.now queues.old) id }
+        ensures beside { KeepsBeside self.now queues.old self.now queues.new }
+    {
+        queues.purge(self.user, id).is_ok()
+    }
+
+    /// The current deck, if there is one, goes back to the front of the queue, to be read from its first card.
+    pub fn put_back(&self, queues: &mut Queues)
+        requires { self.now.user < length queues.old.users }
+        ensures after { devices_on self.now queues.new ≡ with_deck_put_back (devices_on self.now queues.old) }
+        ensures beside { KeepsBeside self.now queues.old self.now queues.new }
+    {
+        queues.put_back(self.user);
+    }
+}
+
+/// The same cards once more.
+pub fn copy_of(alloc: Global, cards: &[Card]) -> Result<Vec<Card>, AllocError>
+    ensures { IfOk result (λ copy. copy.items ≡ cards.now) }
+{
+    let copy = cards.to_vec(alloc)?;
+    Ok(copy)
+}

@@ -1,0 +1,15 @@
+use Rattle.std.proofs.Common.{◌≡◌, ℕ, List}
+use Rattle.s370_store.specs.Access.{Touches}
+use Rattle.s370_rows.specs.State.{state_of}
+use Rattle.s370_intr.specs.Run.{AllNeeded}
+use Rattle.machine_panel.specs.DisplayStore.{touched}
+use Rattle.machine_panel.proofs.commands.change_supplied.Given as goal
+
+abbrev pub invariant-loop-response : goal.invariant-loop-response
+invariant-loop-response g l = record {
+  state : state_of l.cpu (g.S.Storage.bytes l.storage) (g.S.Storage.keys l.storage) ≡ state_of l.fn.cpu (g.S.Storage.bytes l.fn.storage) (g.S.Storage.keys l.fn.storage);
+  supply : (pages : List ℕ) × g.S.Supply.Brought l.fn.storage pages l.storage × AllNeeded (Touches (touched l.fn.change_of)) pages;
+}
+
+abbrev pub decreases-loop-response : goal.decreases-loop-response
+decreases-loop-response g l = g.S.Supply.spare l.storage

@@ -1,0 +1,120 @@
+//! DISPLAY and STORE.
+ghost use Rattle.std.specs.Prelude.{◌≡◌, ◌*◌, ◌+◌, ◌/◌, ◌≤◌, ℕ, [], ◌∷◌, length, Result};
+ghost use Rattle.s370_rows.specs.State.{state_of};
+ghost use Rattle.s370_store.specs.Access.{tested};
+ghost use Rattle.machine_panel.specs.DisplayStore.{Changes, Displays, Reaches, displayed};
+
+use cp_console::StoredBytes;
+use cp_console::commands::{Change, Place};
+use cp_console::responses::Response;
+use s370_num::{AccessKey, Addr24, Word};
+use s370_psw::{Ilc, Psw};
+use s370_rows::Cpu;
+use s370_store::{Access, BLOCK_SIZE, Fault, Keyed, Page, Range, Storage};
+
+/// What a place holds.
+pub fn display<S: Keyed>(place: Place, cpu: &Cpu, storage: &S) -> Result<Response, Page>
+    ensures { let s = state_of cpu.now (S.Storage.bytes storage.now) (S.Storage.keys storage.now) in
+        Displays place (S.Storage.present storage.now) s result }
+{
+    match place {
+        Place::Psw => Ok(Response::Psw(cpu.psw.to_word(0, Ilc::ZERO))),
+        Place::General(register) => {
+            let contents = cpu.general[register.index()];
+            Ok(Response::General(register, Word::from_unsigned(contents)))
+        }
+        Place::Control(register) => {
+            let contents = cpu.control[register.index()];
+            Ok(Response::Control(register, Word::from_unsigned(contents)))
+        }
+        Place::Key(address) => Ok(display_key(address, cpu, storage)),
+        Place::Storage(address) => display_storage(address, cpu, storage),
+    }
+}
+
+/// The key of the block in which an address lies.
+fn display_key<S: Keyed>(address: Addr24, cpu: &Cpu, storage: &S) -> Response
+    ensures { let s = state_of cpu.now (S.Storage.bytes storage.now) (S.Storage.keys storage.now) in
+        result ≡ displayed (Place.Key address) s }
+{
+    if address.get() >= storage.size() {
+        return Response::AddressPastStorage;
+    }
+    Response::Key(address, storage.key_of(address.get() / BLOCK_SIZE))
+}
+
+/// The sixteen bytes round an address.
+fn display_storage<S: Storage>(address: Addr24, cpu: &Cpu, storage: &S) -> Result<Response, Page>
+    ensures { let s = state_of cpu.now (S.bytes storage.now) (S.keys storage.now) in
+        Displays (Place.Storage address) (S.present storage.now) s result }
+{
+    let start = address.get() / 16 * 16;
+    if start + 16 > storage.size() {
+        return Ok(Response::AddressPastStorage);
+    }
+    reach(storage, Range { start, count: 16 }, Access::Fetch)?;
+    let mut bytes = [0; 16];
+    storage.load(start, &mut bytes);
+    Ok(Response::Storage(address, bytes))
+}
+
+/// Gives a place what a command stores there.
+pub fn change<S: Storage>(change: Change, cpu: &mut Cpu, storage: &mut S) -> Result<Response, Page>
+    ensures change { let before = state_of cpu.old (S.bytes storage.old) (S.keys storage.old) in
+        let after = state_of cpu.new (S.bytes storage.new) (S.keys storage.new) in
+        Changes change (S.present storage.old) before result after }
+    ensures rest { S.Keeps storage.old storage.new }
+{
+    match change {
+        Change::Psw(word) => {
+            cpu.psw = Psw::from_word(word);
+            Ok(Response::Stored)
+        }
+        Change::General(register, contents) => {
+            cpu.general[register.index()] = contents.unsigned();
+            Ok(Response::Stored)
+        }
+        Change::Storage(address, bytes) => change_storage(address, bytes, cpu, storage),
+    }
+}
+
+/// Stores bytes from an address on, where they lie in storage.
+fn change_storage<S: Storage>(
+    address: Addr24,
+    stored: StoredBytes,
+    cpu: &Cpu,
+    storage: &mut S,
+) -> Result<Response, Page>
+    ensures change { let before = state_of cpu.now (S.bytes storage.old) (S.keys storage.old) in
+        let after = state_of cpu.now (S.bytes storage.new) (S.keys storage.new) in
+        Changes (Change.Storage address stored) (S.present storage.old) before result after }
+    ensures rest { S.Keeps storage.old storage.new }
+{
+    let bytes = stored.as_slice();
+    let start = address.get();
+    let count = bytes.len() as u32;
+    if start + count > storage.size() {
+        return Ok(Response::AddressPastStorage);
+    }
+    reach(storage, Range { start, count }, Access::Store)?;
+    if count == 0 {
+        return Ok(Response::Stored);
+    }
+    storage.store(start, bytes);
+    Ok(Response::Stored)
+}
+
+/// Leave to access a range that lies in storage, whatever its keys; or a page of it that is not present.
+fn reach<S: Storage>(storage: &S, range: Range, access: Access) -> Result<(), Page>
+    requires short { range.count ≤ 256 }
+    requires inside { range.start + range.count ≤ length (S.bytes storage.now) }
+    ensures { Reaches (length (S.bytes storage.now)) (S.present storage.now) (tested access range ∷ []) result }
+{
+    match storage.check(range, access, AccessKey::ZERO) {
+        Ok(()) => Ok(()),
+        Err(Fault::Absent(page)) => Err(page),
+        // The bytes lie in storage, and key 0 passes.
+        Err(Fault::Addressing) => unreachable!(),
+        Err(Fault::Protection) => unreachable!(),
+    }
+}

@@ -1,0 +1,163 @@
+//! A machine but for its storage.
+ghost use Rattle.std.specs.Prelude.{◌≡◌, ◌≤◌, [], List, ℕ, length, replicate, slice_get};
+ghost use Rattle.std.specs.Option.{option_map};
+ghost use Rattle.machine_panel.specs.Machine.{cleared, machine_of, reset_cpu, switched_off, unused};
+
+use cp_console::output::ConsoleOutput;
+use s370_intr::Pending;
+use s370_psw::Psw;
+use s370_rows::Cpu;
+use s370_store::Supply;
+use s370_subchannels::{Subchannel, Subchannels};
+use std::alloc::Global;
+use std::marker::Model;
+
+/// Whether a machine is switched on, and whether it runs.
+#[derive(Clone, Copy, Debug, PartialEq, Eq)]
+pub enum Mode {
+    /// Nobody is logged on; the machine does nothing.
+    Off,
+    /// It does no units, and takes lines as commands.
+    Stopped,
+    /// It does units.
+    Running,
+}
+
+/// A System/370 with its panel, but for its storage, which is lent to each of its calls.
+///
+/// A machine that runs has room for the notice of its stop, so a run takes no memory.
+#[derive(Drop)]
+pub struct Machine {
+    pub(crate) cpu: Cpu,
+    pub(crate) pending: Pending,
+    pub(crate) subchannels: Subchannels,
+    pub(crate) mode: Mode,
+    pub(crate) output: ConsoleOutput,
+}
+
+impl Model for Machine {
+    ghost use Rattle.std.specs.Prelude.{◌≡◌, ◌≤◌};
+    ghost use Rattle.machine_panel.specs.declared.machine.Mode.TheVariants.{Running};
+    ghost use Rattle.machine_panel.specs.Machine.{Parts};
+
+    ghost Value = { Parts };
+
+    ghost view = { λ m. record {
+      cpu = m.cpu;
+      pending = m.pending;
+      subchannels = m.subchannels;
+      mode = m.mode;
+      output = m.output.lines;
+      room = m.output.room;
+    } };
+
+    ghost invariant = { λ m. m.mode ≡ Running → 1 ≤ m.output.room };
+}
+
+/// The registers and the PSW after a reset, which leaves the general registers.
+pub(crate) fn reset_cpu(general: [u32; 16]) -> Cpu
+    ensures { result ≡ reset_cpu general }
+{
+    let mut control = [0; 16];
+    control[0] = 0xE0;
+    Cpu {
+        general,
+        control,
+        psw: Psw::from_word(0),
+    }
+}
+
+impl Machine {
+    /// A machine with these devices that is off and was never on.
+    pub fn new(alloc: Global, mut subchannels: Subchannels) -> Machine
+        ensures machine { (bytes keys : List ℕ)
+            → machine_of result (replicate (length bytes) 0) (replicate (length keys) 0)
+            ≡ unused bytes keys subchannels }
+    {
+        subchannels.reset();
+        Machine {
+            cpu: reset_cpu([0; 16]),
+            pending: Pending::NOTHING,
+            subchannels,
+            mode: Mode::Off,
+            output: ConsoleOutput::new(alloc),
+        }
+    }
+
+    /// LOGON: a reset machine with zeros everywhere; what was printed stays.
+    pub fn clear<S: Supply>(&mut self, storage: &mut S)
+        ensures machine { machine_of self.new (S.Storage.bytes storage.new) (S.Storage.keys storage.new)
+            ≡ cleared (machine_of self.old (S.Storage.bytes storage.old) (S.Storage.keys storage.old)) }
+        ensures cleared { S.Cleared storage.old storage.new }
+        ensures size { length (S.Storage.bytes storage.new) ≡ length (S.Storage.bytes storage.old) }
+        ensures keys { length (S.Storage.keys storage.new) ≡ length (S.Storage.keys storage.old) }
+    {
+        self.cpu = reset_cpu([0; 16]);
+        self.pending = Pending::NOTHING;
+        self.subchannels.reset();
+        self.mode = Mode::Stopped;
+        storage.clear();
+    }
+
+    /// LOGOFF: as after LOGON, but off.
+    pub fn switch_off<S: Supply>(&mut self, storage: &mut S)
+        ensures machine { machine_of self.new (S.Storage.bytes storage.new) (S.Storage.keys storage.new)
+            ≡ switched_off (machine_of self.old (S.Storage.bytes storage.old) (S.Storage.keys storage.old)) }
+        ensures cleared { S.Cleared storage.old storage.new }
+        ensures size { length (S.Storage.bytes storage.new) ≡ length (S.Storage.bytes storage.old) }
+        ensures keys { length (S.Storage.keys storage.new) ≡ length (S.Storage.keys storage.old) }
+    {
+        self.clear(storage);
+        self.mode = Mode::Off;
+    }
+
+    /// The registers and the PSW.
+    pub fn cpu(&self) -> &Cpu
+        ensures { result.now ≡ self.now.cpu }
+    {
+        &self.cpu
+    }
+
+    /// The external conditions that are pending.
+    pub fn pending(&self) -> Pending
+        ensures { result ≡ self.now.pending }
+    {
+        self.pending
+    }
+
+    /// The subchannels of the devices, in the order of their addresses.
+    pub fn subchannels(&self) -> &[Subchannel]
+        ensures { result.now ≡ self.now.subchannels }
+    {
+        self.subchannels.list()
+    }
+
+    /// Whether the machine is on, and whether it runs.
+    pub fn mode(&self) -> Mode
+        ensures { result ≡ self.now.mode }
+    {
+        // All its fields: what is added to them is seen here. None has bytes of storage, which is lent to each call.
+        let Machine {
+            cpu: _,
+            pending: _,
+            subchannels: _,
+            mode,
+            output: _,
+        } = self;
+        *mode
+    }
+
+    /// How many lines the console has printed.
+    pub fn printed(&self) -> usize
+        ensures { result ≡ length self.now.output }
+    {
+        self.output.len()
+    }
+
+    /// The text of a line that the console has printed.
+    pub fn console_output(&self, line: usize) -> Option<&[u8]>
+        ensures { option_map (λ text. text.now) result ≡ slice_get self.now.output line }
+    {
+        self.output.get(line)
+    }
+}

@@ -1,0 +1,43 @@
+//! Whether a machine would do something with a slice of the processor.
+ghost use Rattle.std.specs.Prelude.{◌≡◌, ℕ, List};
+ghost use Rattle.s370_rows.specs.State.{state_of};
+ghost use Rattle.s370_intr.specs.Units.{core_of};
+ghost use Rattle.machine_panel.specs.Machine.{machine_of};
+ghost use Rattle.machine_panel.specs.Ready.{does_something, has_work, is_ready};
+
+use crate::machine::{Machine, Mode};
+use s370_intr::{Next, Reason, look};
+
+/// Whether a machine does something that tells this.
+fn does_something(reason: Reason) -> bool
+    ensures { result ≡ does_something reason }
+{
+    match reason {
+        Reason::Stopped | Reason::Wait => false,
+        Reason::Count | Reason::EcMode | Reason::DisabledWait | Reason::FramesOut => true,
+    }
+}
+
+/// Whether a running processor that does this next does something.
+fn has_work(next: Next) -> bool
+    ensures { result ≡ has_work next }
+{
+    match next {
+        Next::Stops(reason) => does_something(reason),
+        Next::Accepts(_) | Next::AcceptsStatus(_) | Next::Instructs => true,
+    }
+}
+
+impl Machine {
+    /// Whether the machine is ready for a unit: it is, unless a run of one unit would tell that it waits for an
+    /// interruption or is stopped. Nothing is done.
+    pub fn is_ready(&self) -> bool
+        ensures { (bytes keys : List ℕ) → result ≡ is_ready (machine_of self.now bytes keys) }
+    {
+        match self.mode {
+            Mode::Running => {}
+            Mode::Off | Mode::Stopped => return false,
+        }
+        has_work(look(&self.cpu, self.pending, &self.subchannels))
+    }
+}

@@ -1,0 +1,99 @@
+//! Units of a machine.
+ghost use Rattle.std.specs.Prelude.{◌≡◌, ℕ, ◌+◌, ◌≤◌, List, Option, length};
+ghost use Rattle.s370_intr.specs.Laws.{begun};
+ghost use Rattle.s370_intr.specs.Run.{EachBrings};
+ghost use Rattle.machine_panel.specs.Machine.{machine_of};
+ghost use Rattle.machine_panel.specs.Run.{TellsRun, halted, notice_of};
+
+use crate::machine::{Machine, Mode};
+use cp_console::responses::Response;
+use s370_intr::{Processor, Ran, Reason, run_units};
+use s370_store::UnitSupply;
+
+/// What a run of a machine tells: how many units it did, why it did no more, and the notice that it printed, if it
+/// stopped.
+#[derive(Clone, Copy, PartialEq, Eq)]
+pub struct MachineRan {
+    pub ran: Ran,
+    pub notice: Option<Response>,
+}
+
+/// The notice of a machine that stops by itself.
+#[inline]
+pub fn notice_of(reason: Reason) -> Option<Response>
+    ensures { result ≡ notice_of reason }
+{
+    match reason {
+        Reason::EcMode => Some(Response::StoppedEcMode),
+        Reason::DisabledWait => Some(Response::StoppedDisabledWait),
+        Reason::Stopped | Reason::Count | Reason::Wait | Reason::FramesOut => None,
+    }
+}
+
+impl MachineRan {
+    /// What a run tells, with its notice.
+    pub fn told(ran: Ran) -> MachineRan
+        ensures ran { result.ran ≡ ran }
+        ensures notice { result.notice ≡ notice_of ran.reason }
+    {
+        MachineRan {
+            ran,
+            notice: notice_of(ran.reason),
+        }
+    }
+}
+
+impl Machine {
+    /// Lets the machine run for at most so many units. This takes no memory. What it printed, if it stopped, is
+    /// [`notice_of`] the reason: a run that goes on carries no room for it.
+    pub fn run<P: Processor, S: UnitSupply>(&mut self, storage: &mut S, count: u32) -> Ran
+        requires large { 8192 ≤ length (S.Storage.bytes storage.old) }
+        requires between { S.IsBetween storage.old }
+        ensures told { let before = machine_of self.old (S.Storage.bytes storage.old) (S.Storage.keys storage.old) in
+            let after = machine_of self.new (S.Storage.bytes storage.new) (S.Storage.keys storage.new) in
+            TellsRun count before
+            (record { machine = after; units = result.units; reason = result.reason; notice = notice_of result.reason })
+            (S.IsOut storage.new) }
+        ensures supply { let before = machine_of self.old (S.Storage.bytes storage.old) (S.Storage.keys storage.old) in
+            (units : List (List ℕ)) × S.Came storage.old units storage.new × EachBrings before.core 0 units
+            × (length units ≤ begun result.units result.reason) }
+        ensures between { S.IsBetween storage.new }
+        ensures size { length (S.Storage.bytes storage.new) ≡ length (S.Storage.bytes storage.old) }
+        ensures room { length self.new.output + self.new.room ≡ length self.old.output + self.old.room }
+    {
+        match self.mode {
+            Mode::Running => {}
+            Mode::Off | Mode::Stopped => {
+                return Ran {
+                    units: 0,
+                    reason: Reason::Stopped,
+                };
+            }
+        }
+        let ran = run_units::<P, S>(
+            &mut self.cpu,
+            &mut self.pending,
+            &mut self.subchannels,
+            storage,
+            count,
+        );
+        self.halt(notice_of(ran.reason));
+        ran
+    }
+
+    /// Stops the machine with a notice, where there is one.
+    fn halt(&mut self, notice: Option<Response>)
+        requires { 1 ≤ self.old.room }
+        ensures machine { (bytes keys : List ℕ)
+            → machine_of self.new bytes keys ≡ halted notice (machine_of self.old bytes keys) }
+        ensures room { length self.new.output + self.new.room ≡ length self.old.output + self.old.room }
+    {
+        match notice {
+            Some(notice) => {
+                self.mode = Mode::Stopped;
+                self.output.print(&notice);
+            }
+            None => {}
+        }
+    }
+}

@@ -1,0 +1,49 @@
+//! What a script says that happens.
+ghost use Rattle.std.specs.Prelude.{◌≡◌};
+ghost use Rattle.session_script.specs.Script.{cards_after, said, user_of_event};
+
+use crate::cards::Cards;
+use user_names::UserNo;
+
+/// What a line of a script says that happens.
+#[derive(Clone, Copy, PartialEq, Eq)]
+pub enum ScriptEvent<'a> {
+    /// A user's machine runs for at most so many units.
+    Run(UserNo, u32),
+    /// A user types a line.
+    Line(UserNo, &'a [u8]),
+    /// The interval timer of a user's machine ticks.
+    Tick(UserNo),
+    /// The device of this address of a user's machine is served.
+    Serve(UserNo, u16),
+    /// So many turns are dealt.
+    Auto(u32),
+    /// The operator gives a user a deck of these cards.
+    Deck(UserNo, Cards<'a>),
+}
+
+impl<'a> ScriptEvent<'a> {
+    /// The user whom the event names; turns name nobody.
+    pub fn user(&self) -> Option<UserNo>
+        ensures { result ≡ user_of_event self.now }
+    {
+        match self {
+            ScriptEvent::Run(user, _) => Some(*user),
+            ScriptEvent::Line(user, _) => Some(*user),
+            ScriptEvent::Tick(user) => Some(*user),
+            ScriptEvent::Serve(user, _) => Some(*user),
+            ScriptEvent::Auto(_) => None,
+            ScriptEvent::Deck(user, _) => Some(*user),
+        }
+    }
+
+    /// How many of the lines that follow are cards of the event.
+    pub(crate) fn cards(&self) -> usize
+        ensures { result ≡ cards_after (said self.now) }
+    {
+        match self {
+            ScriptEvent::Deck(_, cards) => cards.len(),
+            _ => 0,
+        }
+    }
+}

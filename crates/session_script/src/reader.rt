@@ -1,0 +1,277 @@
+//! The script: which texts are scripts, and the events that a script names.
+ghost use Rattle.std.specs.Prelude.{◌≡◌, ℕ, ◌<◌, ◌≤◌, ◌+◌, ◌∷◌, List, Option, Some, None, IfOk, IfErr, IfSome, OnOk, All, Ok, Err, length, map};
+ghost use Rattle.std.specs.Option.{option_map};
+ghost use Rattle.text_words.specs.Lines.{lines_of};
+ghost use Rattle.session_script.specs.Grammar.{ReadsGrammar};
+ghost use Rattle.session_script.specs.Script.{Auto, IsOfDevice, IsOfUser, IsRefusal, auto_of, deck_of, is_ignored, line_step, run_of, said, said_of, script_of, serve_of, step, tick_of, typed_of};
+ghost use Rattle.session_script.specs.Users.{names_of};
+
+use crate::cards::Cards;
+use crate::event::ScriptEvent;
+use crate::punch::COLUMNS;
+use crate::user::{ScriptUser, has_device};
+use std::alloc::Global;
+use text_words::lines::cut_line;
+use text_words::numbers::{decimal_of, hexadecimal_of};
+use text_words::words::cut_word;
+use thiserror::Error;
+use user_names::{MOST_USERS, user_of};
+
+/// The most decimal digits of a number in a script.
+const DIGITS: usize = 7;
+
+/// The hexadecimal digits of a device's address.
+const DEVICE_DIGITS: usize = 3;
+
+/// The most units of one `RUN`.
+const MOST_UNITS: u32 = 1_000_000;
+
+/// The most turns of one `AUTO`.
+const MOST_TURNS: u32 = 100_000;
+
+/// The most cards of one `DECK`.
+const MOST_CARDS: u32 = 1000;
+
+/// Why a script is refused.
+#[derive(Clone, Copy, Debug, PartialEq, Eq, Drop, Error)]
+pub enum ScriptError {
+    /// There was no memory for the events.
+    #[error("no memory for the script's events")]
+    Memory,
+    /// The first line, counted from 1, that is no line of a script: also a `DECK` whose cards are missing, or a card
+    /// that is too long.
+    #[error("line {0} of the script is misspelled or too long, lacks its cards, or names an unknown user or device")]
+    Line(u64),
+}
+
+/// The events that a script names, in the order of its lines. The whole text is judged: where one of
+/// its lines is no line of a script, the first such line is told. The events borrow their texts from
+/// the script.
+pub fn read_script<'a>(
+    alloc: Global,
+    users: &[ScriptUser<'_>],
+    text: &'a [u8],
+) -> Result<Vec<ScriptEvent<'a>>, ScriptError>
+    requires { length users.now ≤ MOST_USERS }
+    ensures ok { IfOk result (λ events. script_of users.now text.now ≡ Ok (map said events.items)) }
+    ensures users { IfOk result (λ events. All (IsOfUser users.now) events.items) }
+    ensures devices { IfOk result (λ events. All (IsOfDevice users.now) events.items) }
+    ensures err { IfErr result (IsRefusal (script_of users.now text.now)) }
+{
+    let mut events = Vec::new(alloc);
+    let mut rest = text;
+    let mut number = 1;
+    let mut cards = 0;
+    while !rest.is_empty() {
+        let (line, after) = cut_line(rest);
+        cards = read_line(users, number, cards, line, after, &mut events)?;
+        rest = after;
+        number += 1;
+    }
+    Ok(events)
+}
+
+/// Reads a line of this number, where it and those after it are so many cards of the last event, and says how many
+/// cards are left. What it names is added to the events before it.
+fn read_line<'a>(
+    users: &[ScriptUser<'_>],
+    number: u64,
+    cards: usize,
+    line: &'a [u8],
+    after: &'a [u8],
+    events: &mut Vec<ScriptEvent<'a>>,
+) -> Result<usize, ScriptError>
+    requires { length users.now ≤ MOST_USERS }
+    ensures ok { IfOk result (λ left.
+        step users.now number (map said events.old.items) cards line.now (lines_of after.now)
+        ≡ Ok (record { events = map said events.new.items; cards = left })) }
+    ensures users { All (IsOfUser users.now) events.old.items
+        → OnOk result (All (IsOfUser users.now) events.new.items) }
+    ensures devices { All (IsOfDevice users.now) events.old.items
+        → OnOk result (All (IsOfDevice users.now) events.new.items) }
+    ensures err { IfErr result
+        (IsRefusal (step users.now number (map said events.old.items) cards line.now (lines_of after.now))) }
+{
+    if cards == 0 {
+        return read_entry(users, number, line, after, events);
+    }
+    if line.len() > COLUMNS {
+        return Err(ScriptError::Line(number));
+    }
+    Ok(cards - 1)
+}
+
+/// Adds what a line of this number that is no card names to the events before it.
+fn read_entry<'a>(
+    users: &[ScriptUser<'_>],
+    number: u64,
+    line: &'a [u8],
+    after: &'a [u8],
+    events: &mut Vec<ScriptEvent<'a>>,
+) -> Result<usize, ScriptError>
+    requires { length users.now ≤ MOST_USERS }
+    ensures ok { IfOk result (λ left.
+        line_step users.now number (map said events.old.items) line.now (lines_of after.now)
+        ≡ Ok (record { events = map said events.new.items; cards = left })) }
+    ensures users { All (IsOfUser users.now) events.old.items
+        → OnOk result (All (IsOfUser users.now) events.new.items) }
+    ensures devices { All (IsOfDevice users.now) events.old.items
+        → OnOk result (All (IsOfDevice users.now) events.new.items) }
+    ensures err { IfErr result
+        (IsRefusal (line_step users.now number (map said events.old.items) line.now (lines_of after.now))) }
+{
+    if is_ignored(line) {
+        return Ok(0);
+    }
+    let Some(event) = read_event(users, line, after) else {
+        return Err(ScriptError::Line(number));
+    };
+    let cards = event.cards();
+    if events.push(event).is_err() {
+        return Err(ScriptError::Memory);
+    }
+    Ok(cards)
+}
+
+/// Whether a line is empty or a comment.
+fn is_ignored(line: &[u8]) -> bool
+    ensures { result ≡ is_ignored line.now }
+{
+    match line {
+        [] => true,
+        [first, ..] => *first == b'*',
+    }
+}
+
+/// The event that a line names before a text, by its first word.
+fn read_event<'a>(
+    users: &[ScriptUser<'_>],
+    line: &'a [u8],
+    after: &'a [u8],
+) -> Option<ScriptEvent<'a>>
+    requires { length users.now ≤ MOST_USERS }
+    ensures users { IfSome result (IsOfUser users.now) }
+    ensures devices { IfSome result (IsOfDevice users.now) }
+    ensures said { option_map said result ≡ said_of users.now line.now (lines_of after.now) }
+{
+    let (verb, operands) = cut_word(line);
+    let operands = operands?;
+    if verb == b"RUN".as_slice() {
+        read_run(users, operands)
+    } else if verb == b"LINE".as_slice() {
+        read_typed(users, operands)
+    } else if verb == b"TICK".as_slice() {
+        read_tick(users, operands)
+    } else if verb == b"SERVE".as_slice() {
+        read_serve(users, operands)
+    } else if verb == b"AUTO".as_slice() {
+        Some(ScriptEvent::Auto(turns_of(operands)?))
+    } else if verb == b"DECK".as_slice() {
+        read_deck(users, operands, after)
+    } else {
+        None
+    }
+}
+
+/// `RUN u n`, after its first word.
+fn read_run<'a>(users: &[ScriptUser<'_>], operands: &'a [u8]) -> Option<ScriptEvent<'a>>
+    requires { length users.now ≤ MOST_USERS }
+    ensures users { IfSome result (IsOfUser users.now) }
+    ensures devices { IfSome result (IsOfDevice users.now) }
+    ensures said { option_map said result ≡ run_of (names_of users.now) operands.now }
+{
+    let (name, digits) = cut_word(operands);
+    let user = user_of(users, name)?;
+    let units = decimal_of(DIGITS, digits?)?;
+    if 1 <= units && units <= MOST_UNITS {
+        Some(ScriptEvent::Run(user, units))
+    } else {
+        None
+    }
+}
+
+/// `LINE u text`, after its first word; an empty text may lack the blank before it.
+fn read_typed<'a>(users: &[ScriptUser<'_>], operands: &'a [u8]) -> Option<ScriptEvent<'a>>
+    requires { length users.now ≤ MOST_USERS }
+    ensures users { IfSome result (IsOfUser users.now) }
+    ensures devices { IfSome result (IsOfDevice users.now) }
+    ensures said { option_map said result ≡ typed_of (names_of users.now) operands.now }
+{
+    let (name, text) = cut_word(operands);
+    let user = user_of(users, name)?;
+    match text {
+        Some(text) => Some(ScriptEvent::Line(user, text)),
+        None => Some(ScriptEvent::Line(user, &[])),
+    }
+}
+
+/// `TICK u`, after its first word: nothing follows the name.
+fn read_tick<'a>(users: &[ScriptUser<'_>], operands: &'a [u8]) -> Option<ScriptEvent<'a>>
+    requires { length users.now ≤ MOST_USERS }
+    ensures users { IfSome result (IsOfUser users.now) }
+    ensures devices { IfSome result (IsOfDevice users.now) }
+    ensures said { option_map said result ≡ tick_of (names_of users.now) operands.now }
+{
+    let (name, more) = cut_word(operands);
+    if more.is_some() {
+        return None;
+    }
+    let user = user_of(users, name)?;
+    Some(ScriptEvent::Tick(user))
+}
+
+/// `SERVE u addr`, after its first word: the device is one that the user has.
+fn read_serve<'a>(users: &[ScriptUser<'_>], operands: &'a [u8]) -> Option<ScriptEvent<'a>>
+    requires { length users.now ≤ MOST_USERS }
+    ensures users { IfSome result (IsOfUser users.now) }
+    ensures devices { IfSome result (IsOfDevice users.now) }
+    ensures said { option_map said result ≡ serve_of users.now operands.now }
+{
+    let (name, digits) = cut_word(operands);
+    let user = user_of(users, name)?;
+    let address = hexadecimal_of(DEVICE_DIGITS, DEVICE_DIGITS, digits?)? as u16;
+    if has_device(users, user, address) {
+        Some(ScriptEvent::Serve(user, address))
+    } else {
+        None
+    }
+}
+
+/// How many turns `AUTO k` names, after its first word: nothing follows the number.
+fn turns_of(operands: &[u8]) -> Option<u32>
+    ensures { option_map Auto result ≡ auto_of operands.now }
+{
+    let turns = decimal_of(DIGITS, operands)?;
+    if 1 <= turns && turns <= MOST_TURNS {
+        Some(turns)
+    } else {
+        None
+    }
+}
+
+/// `DECK u k`, after its first word: the first k lines of the text after it are the cards.
+fn read_deck<'a>(
+    users: &[ScriptUser<'_>],
+    operands: &'a [u8],
+    after: &'a [u8],
+) -> Option<ScriptEvent<'a>>
+    requires { length users.now ≤ MOST_USERS }
+    ensures users { IfSome result (IsOfUser users.now) }
+    ensures devices { IfSome result (IsOfDevice users.now) }
+    ensures said { option_map said result ≡ deck_of (names_of users.now) operands.now (lines_of after.now) }
+{
+    let (name, digits) = cut_word(operands);
+    let user = user_of(users, name)?;
+    let count = decimal_of(DIGITS, digits?)?;
+    if 1 <= count && count <= MOST_CARDS {
+        Some(ScriptEvent::Deck(user, Cards::cut(after, count as usize)?))
+    } else {
+        None
+    }
+}
+
+/// A script is read as its events, nothing else is accepted, and a text that is no script is refused
+/// at its first bad line.
+pub fn reads_grammar()
+    ensures { ReadsGrammar }
+{}

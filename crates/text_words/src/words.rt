@@ -1,0 +1,57 @@
+//! The words of a line.
+ghost use Rattle.std.specs.Prelude.{◌≡◌, ◌∷◌, [], map, IfOk, IfSome, MatchOption};
+ghost use Rattle.std.specs.Option.{option_map};
+ghost use Rattle.text_words.specs.Words.{after_first_word, after_word, unindented, word_of, words_of};
+
+use crate::lines::place_of;
+use std::alloc::{AllocError, Global};
+
+/// The first word of a line whose words are separated by one blank, and what follows the blank
+/// after it. Where the line has no blank it is one word, and nothing follows.
+pub fn cut_word(line: &[u8]) -> (&[u8], Option<&[u8]>)
+    ensures word { result.0.now ≡ word_of line.now }
+    ensures rest { option_map (λ rest. rest.now) result.1 ≡ after_word line.now }
+{
+    match place_of(b' ', line) {
+        Some(at) => (&line[..at], Some(&line[at + 1..])),
+        None => (line, None),
+    }
+}
+
+/// The first word of a line whose words are separated by any number of blanks, and what stands
+/// after the blank that ends it; none where the line has only blanks.
+pub fn next_word(line: &[u8]) -> Option<(&[u8], &[u8])>
+    ensures words { MatchOption result (words_of line.now ≡ [])
+        (λ cut. words_of line.now ≡ cut.0.now ∷ words_of cut.1.now) }
+    ensures rest { IfSome result (λ cut. cut.1.now ≡ after_first_word line.now) }
+{
+    let line = unindented(line);
+    if line.is_empty() {
+        return None;
+    }
+    let (word, rest) = cut_word(line);
+    match rest {
+        Some(rest) => Some((word, rest)),
+        None => Some((word, &[])),
+    }
+}
+
+/// The line from its first character on that is no blank.
+pub fn unindented(line: &[u8]) -> &[u8]
+    ensures { result.now ≡ unindented line.now }
+{
+    let mut rest = line;
+    while let [b' ', after @ ..] = rest {
+        rest = after;
+    }
+    rest
+}
+
+/// The words of a line, separated by any number of blanks; no word is empty.
+pub fn words_of<'a>(alloc: Global, line: &'a [u8]) -> Result<Vec<&'a [u8]>, AllocError>
+    ensures { IfOk result (λ words. map (λ w. w.now) words.items ≡ words_of line.now) }
+{
+    line.split(|c| *c == b' ')
+        .filter(|word| !word.is_empty())
+        .collect(alloc)
+}

@@ -1,0 +1,59 @@
+//! Users by their names.
+ghost use Rattle.std.specs.Prelude.{◌≡◌, ℕ, ◌<◌, ◌≤◌, List, Option, Some, None, IfSome, length, map};
+ghost use Rattle.user_names.specs.Users.{name_of, user_of};
+
+use crate::number::{MOST_USERS, UserNo};
+
+/// Somebody whom a text calls by a name.
+pub trait Named {
+    /// The name's characters.
+    ghost name: { Self → List ℕ };
+
+    /// The name's characters.
+    fn name(&self) -> &[u8]
+        ensures { result.now ≡ name self.now };
+}
+
+impl Named for Vec<u8> {
+    ghost name = { λ s. s.items };
+
+    fn name(&self) -> &[u8] {
+        self
+    }
+}
+
+impl Named for &[u8] {
+    ghost name = { λ s. s.now };
+
+    fn name(&self) -> &[u8] {
+        *self
+    }
+}
+
+/// The number of the first user of this name.
+pub fn user_of<N: Named>(users: &[N], name: &[u8]) -> Option<UserNo>
+    requires { length users.now ≤ MOST_USERS }
+    ensures within { IfSome result (λ user. user < length users.now) }
+    ensures value { result ≡ user_of (map N.name users.now) name.now }
+{
+    let place = place_of(users, name)?;
+    Some(UserNo::new(place as u8))
+}
+
+/// The place of the first user of this name.
+fn place_of<N: Named>(users: &[N], name: &[u8]) -> Option<usize>
+    ensures within { IfSome result (λ user. user < length users.now) }
+    ensures value { result ≡ user_of (map N.name users.now) name.now }
+{
+    users.iter().position(|user| name == user.name())
+}
+
+/// The name of a user, empty for a number that no user has.
+pub fn name_of<N: Named>(users: &[N], user: UserNo) -> &[u8]
+    ensures { result.now ≡ name_of (map N.name users.now) user }
+{
+    match users.get(user.index()) {
+        Some(user) => user.name(),
+        None => &[],
+    }
+}
