@@ -164,8 +164,8 @@ ready() {
     ' "$root/crates.txt"
 }
 
-# begin CRATE: it is proved beside the others, in a group of its own that stop_build can end. Whoever else works in its folder is waited
-# for.
+# begin CRATE: it is proved beside the others, in a group of its own that stop_build can end. Whoever else works in its folder is
+# waited for.
 begin() {
     number=$((number + 1))
     running=$((running + 1))
@@ -175,30 +175,47 @@ begin() {
     (
         unset CDPATH
         ended=0
+        exec 9< "$root/crates/$1"
+        flock 9
         lay_out "$1" && cd -- "$checkout/crates/$1" &&
-            $apart sh -c 'echo $$ > "$1" && exec flock "$2" rt lib' sh "$logs/$1.pid" "$root/crates/$1" > "$logs/$1.log" 2>&1 \
-                < /dev/null 3>&- || ended=$?
+            $apart sh -c 'echo $$ > "$1" && exec rt lib' sh "$logs/$1.pid" > "$logs/$1.log" 2>&1 < /dev/null 3>&- 9<&- || ended=$?
+        bring_back "$1"
         rm -f -- "$logs/$1.pid"
         echo "$1 $ended" >&3
     ) &
 }
 
-# lay_out CRATE: a checkout of its own, of copies. One rt at a time works in a crate and in those below it, and what many stand on would
-# keep them from being proved side by side. What is built stays where it is.
+# lay_out CRATE: a checkout for it alone. One rt at a time works in a crate and in all those below it, and what many stand on would
+# keep them from being proved side by side. It has copies of the sources, second names of the libraries below, and what was built of the
+# crate before.
 lay_out() {
     checkout=$logs/$1.checkout
-    mkdir -p -- "$checkout/crates"
-    cp -- "$root/crates.txt" "$checkout/"
+    names=
     for name in $(crates_of "$1"); do
-        mkdir -p -- "$checkout/crates/$name" "$root/crates/$name/out"
-        ln -s -- "$root/crates/$name/out" "$checkout/crates/$name/out"
+        names="$names crates/$name"
+        mkdir -p -- "$checkout/crates/$name"
         for part in "$root/crates/$name"/*; do
             case ${part##*/} in
             out | data | must-fail | planted) ;;
             *) cp -R -- "$part" "$checkout/crates/$name/" ;;
             esac
         done
+        built=$root/crates/$name/out
+        if [ "$name" = "$1" ]; then
+            [ ! -d "$built" ] || mv -- "$built" "$checkout/crates/$name/"
+        elif [ -d "$built/rlib" ]; then
+            mkdir -- "$checkout/crates/$name/out"
+            cp -al -- "$built/rlib" "$checkout/crates/$name/out/" 2> /dev/null ||
+                cp -R -- "$built/rlib" "$checkout/crates/$name/out/"
+        fi
     done
+    (cd -- "$root" && listed "$names") > "$checkout/crates.txt"
+}
+
+# bring_back CRATE: what is built of it lies where it did
+bring_back() {
+    [ ! -d "$checkout/crates/$1/out" ] || mv -- "$checkout/crates/$1/out" "$root/crates/$1/"
+    rm -rf -- "$checkout"
 }
 
 # refuse_build CRATE: it was refused
@@ -214,6 +231,12 @@ refuse_build() {
 stop_build() {
     for pid in "$logs"/*.pid; do
         [ ! -r "$pid" ] || kill -- "-$(cat -- "$pid")" 2> /dev/null || kill "$(cat -- "$pid")" 2> /dev/null || true
+    done
+    # what was under way is brought back
+    turns=0
+    while [ "$turns" -lt 50 ] && [ -n "$(find "$logs" -name '*.pid')" ]; do
+        sleep 0.1
+        turns=$((turns + 1))
     done
     rm -f -- "$progress"
     say "broken off; what is proved is kept, and the next start goes on from there"

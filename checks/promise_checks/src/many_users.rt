@@ -22,7 +22,7 @@ const FRAMES: u32 = 16;
 const SLOTS: u32 = 1024;
 
 /// How many events come after the programs were typed.
-const EVENTS: u32 = 20_000;
+const EVENTS: u32 = 2_000;
 
 /// After so many events the views of all users are compared.
 const COMPARED_EACH: u32 = 16;
