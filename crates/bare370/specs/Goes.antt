@@ -1,6 +1,9 @@
 -- How a machine of its own goes on, as sessions see it.
-use Rattle.std.specs.Prelude.{◌≡◌, ℕ, false, List, [], ◌∷◌, map, Some}
+use Rattle.std.specs.Prelude.{◌≡◌, ℕ, ◌+◌, min, false, true, List, [], ◌∷◌, map, Some}
 use Rattle.s370_subchannels.specs.declared.subchannel.Subchannel.{Subchannel}
+use Rattle.ckd_volume.specs.Unit.{Disk, idle}
+use Rattle.ckd_volume.specs.Volume.{VolumeFormat}
+use Rattle.machine_channels.specs.Disks.{DiskAt}
 use Rattle.machine_devices.specs.declared.places.Places.{Places}
 use Rattle.machine_devices.specs.declared.reply.Reply.{Reply}
 use Rattle.session_script.specs.Script.{Said, Run, Line, Tick, Serve, Deck}
@@ -55,6 +58,18 @@ machine_goes = record { seen = seen_in; Happens = HasHappened; Lacks = MayLack; 
 -- console, reader, punch and printer are at 009, 00C, 00D and 00E
 abbrev pub usual_places : Places
 usual_places = record { console = Some 9; reader = Some 12; punch = Some 13; printer = Some 14 }
+
+-- a disk over this volume that may be written, its arm at the first track
+abbrev pub first_disk : VolumeFormat → Disk
+first_disk volume =
+    idle volume (record { cylinder = 0; head = 0; home = 0; writable = true; sense = record { first = 0; second = 0 } })
+
+-- a disk over each of these volumes, in their order: the first has this address, each other that after the one before, up to the
+-- last that there is
+abbrev pub disks_from : ℕ → List VolumeFormat → List DiskAt
+disks_from address [] = []
+disks_from address (volume ∷ volumes) =
+    record { address = address; unit = first_disk volume } ∷ disks_from (min (address + 1) 65535) volumes
 
 -- the addresses of these devices
 abbrev pub addresses_of : List Subchannel → List ℕ

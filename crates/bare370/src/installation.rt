@@ -6,7 +6,7 @@ ghost use Rattle.machine_devices.specs.Devices.{devices_new};
 ghost use Rattle.session_script.specs.Script.{Deck, said, user_of_event};
 ghost use Rattle.bare_installation.specs.Life.{IsApplied, MayLackMemory};
 ghost use Rattle.bare_installation.specs.declared.happening.Happening.{Happening};
-ghost use Rattle.bare370.specs.Goes.{IsWhole, addresses_of, as_said, machine_goes, usual_places};
+ghost use Rattle.bare370.specs.Goes.{IsWhole, addresses_of, as_said, disks_from, first_disk, machine_goes, usual_places};
 
 use bare_installation::{BARE, Bare, Happening};
 use ckd_volume::{Arm, Sense, Unit, Volume};
@@ -227,6 +227,7 @@ pub fn machine_of(
     ensures files { IfOk result (λ one. one.machine.files ≡ []) }
     ensures addresses { IfOk result
         (λ one. one.addresses ≡ addresses_of one.machine.equipped.machine.core.subchannels) }
+    ensures disks { IfOk result (λ one. one.machine.equipped.disks ≡ disks_from FIRST_DISK volumes.items) }
 {
     let places = Places {
         console: Some(DevAddr::new(CONSOLE)),
@@ -253,6 +254,7 @@ fn parts_of(
     requires least { 4 ≤ blocks }
     requires most { blocks ≤ 2048 }
     ensures size { IfOk result (λ parts. 8192 ≤ length (plain_bytes parts.0)) }
+    ensures disks { IfOk result (λ parts. parts.1.items ≡ disks_from FIRST_DISK volumes.items) }
 {
     let storage = PlainStorage::new(alloc, blocks)?;
     let disks = disks_of(alloc, volumes)?;
@@ -260,7 +262,9 @@ fn parts_of(
 }
 
 /// A disk for each of these volumes, at an address of its own.
-fn disks_of(alloc: Global, volumes: Vec<Volume>) -> Result<Vec<AttachedDisk>, AllocError> {
+fn disks_of(alloc: Global, volumes: Vec<Volume>) -> Result<Vec<AttachedDisk>, AllocError>
+    ensures { IfOk result (λ disks. disks.items ≡ disks_from FIRST_DISK volumes.items) }
+{
     let mut disks = Vec::new(alloc);
     let mut address = FIRST_DISK;
     for volume in volumes {
@@ -272,7 +276,9 @@ fn disks_of(alloc: Global, volumes: Vec<Volume>) -> Result<Vec<AttachedDisk>, Al
 }
 
 /// A disk over a volume.
-fn disk(alloc: Global, volume: Volume) -> Result<Unit, AllocError> {
+fn disk(alloc: Global, volume: Volume) -> Result<Unit, AllocError>
+    ensures { IfOk result (λ unit. unit ≡ first_disk volume) }
+{
     // A volume has a first cylinder.
     let _cylinders = volume.count();
     Unit::new(alloc, volume, FIRST_CYLINDER)

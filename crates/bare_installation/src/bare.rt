@@ -7,6 +7,7 @@ ghost use Rattle.machine_panel.specs.Machine.{unused};
 ghost use Rattle.machine_panel.specs.Ready.{is_ready};
 ghost use Rattle.machine_panel.specs.Run.{notice_of, run};
 ghost use Rattle.machine_panel.specs.Tick.{ticked};
+ghost use Rattle.s370_subchannels.specs.Subchannels.{AreAscending};
 ghost use Rattle.s370_subchannels.specs.declared.subchannel.Subchannel.{Subchannel};
 ghost use Rattle.machine_devices.specs.Devices.{AreAttached, can_attach, devices_new, no_places, places_of};
 ghost use Rattle.machine_devices.specs.declared.attaching.AttachError.TheVariants as errors;
@@ -340,7 +341,8 @@ impl Bare {
 
     /// The subchannels of the devices, in the order of their addresses.
     pub fn subchannels(&self) -> &[Subchannel]
-        ensures { result.now ≡ self.now.equipped.machine.core.subchannels }
+        ensures list { result.now ≡ self.now.equipped.machine.core.subchannels }
+        ensures order { AreAscending result.now }
     {
         self.machine.subchannels()
     }

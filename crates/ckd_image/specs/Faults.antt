@@ -14,6 +14,21 @@ IsCountedImage old new (BadTrack c h) = new ≡ old
 IsCountedImage old new Trailing = new ≡ old
 IsCountedImage old new BadTotal = new ≡ old
 
+-- an image is written: no other error than these two is told
+abbrev pub IsCountedWriting : ℕ → ℕ → ImageError → Type 0
+IsCountedWriting old new (Device k) = (new ≡ one_more old) × (k ≡ new)
+IsCountedWriting old new Memory = new ≡ old
+IsCountedWriting old new BadMagic = ⊥
+IsCountedWriting old new Truncated = ⊥
+IsCountedWriting old new (BadTrack c h) = ⊥
+IsCountedWriting old new Trailing = ⊥
+IsCountedWriting old new BadTotal = ⊥
+
+abbrev pub CountsWriting : {A : Type 0} → ℕ → ℕ → Result A ImageError → Type 0
+CountsWriting old new (Ok a) = new ≡ old
+CountsWriting old new (Err fault) = IsCountedWriting old new fault
+
+-- an image is read
 abbrev pub CountsImage : {A : Type 0} → ℕ → ℕ → Result A ImageError → Type 0
 CountsImage old new (Ok a) = new ≡ old
 CountsImage old new (Err fault) = IsCountedImage old new fault

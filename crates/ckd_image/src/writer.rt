@@ -2,7 +2,7 @@
 ghost use Rattle.std.specs.Prelude.{◌≡◌, ◌<◌, ◌≤◌, ◌+◌, ◌*◌, ◌++◌, ◌∷◌, [], length, OnOk, OnErr, IfOk};
 ghost use Rattle.std.specs.Io.KnownBytes.{Appends};
 ghost use Rattle.s370_num.specs.Host.{AppendsFront, Counts};
-ghost use Rattle.ckd_image.specs.Faults.{CountsImage};
+ghost use Rattle.ckd_image.specs.Faults.{CountsWriting};
 ghost use Rattle.ckd_track.specs.Track.{record_in};
 ghost use Rattle.ckd_image.specs.Image.{record_bytes, track_bytes, tracks_bytes, tracks_total, cylinders_bytes, cylinders_total, image_of};
 
@@ -128,7 +128,7 @@ pub fn write_image<W: HostWriter>(
     ensures ok { OnOk result (Appends (W.contents writer.old) (W.contents writer.new) (image_of volume.now)) }
     ensures flushed { OnOk result (W.held writer.new ≡ []) }
     ensures err { OnErr result (AppendsFront (W.contents writer.old) (W.contents writer.new) (image_of volume.now)) }
-    ensures counts { CountsImage (W.HostFile.failures writer.old) (W.HostFile.failures writer.new) result }
+    ensures counts { CountsWriting (W.HostFile.failures writer.old) (W.HostFile.failures writer.new) result }
 {
     let Ok(bytes) = image(alloc, volume) else {
         return Err(ImageError::Memory);

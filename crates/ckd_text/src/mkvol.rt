@@ -1,7 +1,8 @@
 //! The program `mkvol OUT TEXT`: the image of the volume that a text states.
-ghost use Rattle.std.specs.Prelude.{◌≡◌, ℕ, [], Err, IfOk};
+ghost use Rattle.std.specs.Prelude.{◌≡◌, ℕ, [], Err, IfErr, IfOk};
 ghost use Rattle.s370_num.specs.Counted.{failures_of};
-ghost use Rattle.ckd_text.specs.Made.{IsMade};
+ghost use Rattle.s370_num.specs.declared.host.HostFault.{HostFault};
+ghost use Rattle.ckd_text.specs.Made.{IsFirst, IsMade, IsUnmade};
 ghost use Rattle.ckd_text.specs.Text.{volume_of};
 
 use crate::arguments::{UsageError, volume_paths};
@@ -57,9 +58,13 @@ pub trait Output {
     /// The output may make this writer.
     ghost makes: { Self → Self.Writer → Type 0 };
 
+    /// The output may fail so.
+    ghost fails: { Self → HostFault → Type 0 };
+
     /// Makes the writer.
     fn make(&mut self) -> Result<Self::Writer, HostFault>
-        ensures { IfOk result (λ writer. makes self.old writer) };
+        ensures ok { IfOk result (λ writer. makes self.old writer) }
+        ensures err { IfErr result (λ fault. fails self.old fault) };
 }
 
 /// Makes the image of the volume that a text states, of which nothing is held back then, and gives what it was written
@@ -71,7 +76,8 @@ pub fn make_image<O: Output>(
 ) -> Result<O::Writer, Failure>
     ensures made { IfOk result (IsMade text.now (O.makes output.old) O.Writer.contents) }
     ensures flushed { IfOk result (λ writer. O.Writer.held writer ≡ []) }
-    ensures told { (line : ℕ) → result ≡ Err (Failure.Text line) → volume_of text.now ≡ Err line }
+    ensures err { IfErr result
+        (IsUnmade (O.makes output.old) O.Writer.HostFile.failures (O.fails output.old) (volume_of text.now)) }
     ensures unasked { (line : ℕ) → volume_of text.now ≡ Err line → output.new ≡ output.old }
 {
     let volume = make_volume(alloc, text)?;
@@ -91,6 +97,8 @@ impl<R: AllocGlobal + Files> Output for OutputFile<'_, R> {
     type Writer = Counted<io::BufWriter<R::File, Global>>;
 
     ghost makes = { λ _ writer. failures_of writer ≡ 0 };
+
+    ghost fails = { λ _ fault. IsFirst fault };
 
     fn make(&mut self) -> Result<Counted<io::BufWriter<R::File, Global>>, HostFault> {
         let Ok(file) = fs::create(self.rt, self.path) else {

@@ -3,6 +3,7 @@
 ghost use Rattle.std.specs.Prelude.{◌≡◌, ◌<◌, ◌↔◌, IfSome, IsSome, length, slice_get};
 ghost use Rattle.std.specs.List.{find};
 ghost use Rattle.std.specs.Option.{option_map};
+ghost use Rattle.s370_subchannels.specs.Subchannels.{AreAscending};
 ghost use Rattle.machine_channels.specs.Disks.{is_disk_at};
 ghost use Rattle.cp_volumes.specs.Seen.{seen_disk};
 ghost use Rattle.cp_core.specs.UserMachines.{seat_with, user_with};
@@ -96,6 +97,7 @@ impl System {
     pub fn subchannels(&self, user: UserNo) -> Option<&[Subchannel]>
         ensures some { IsSome result ↔ (user < length self.now.users) }
         ensures value { IfSome result (λ list. list.now ≡ (machine_at self.now user).core.subchannels) }
+        ensures order { IfSome result (λ list. AreAscending list.now) }
     {
         match self.user(user) {
             Some(user) => Some(user.machine.subchannels()),

@@ -166,6 +166,15 @@ LoadsDisk index (Some disk) device old told new = LoadsUnit index disk device ol
 LoadsDisk index None device old told new = IsNotFound old told new
 
 -- a reader or a disk is loaded from
+abbrev pub can_load : Option Kind → Bool
+can_load (Some kinds.Reader) = true
+can_load (Some (kinds.Disk index)) = true
+can_load (Some kinds.Console) = false
+can_load (Some kinds.Punch) = false
+can_load (Some kinds.Printer) = false
+can_load None = false
+
+-- the machine and its devices after that, and what is told
 abbrev pub LoadsKind : Option Kind → ℕ → Equipped → Told → Equipped → Type 0
 LoadsKind (Some kinds.Reader) device old told new = LoadsReader device old told new
 LoadsKind (Some (kinds.Disk index)) device old told new = LoadsDisk index (slice_get (map reset_disk old.disks) index) device old told new

@@ -3,9 +3,10 @@ ghost use Rattle.std.specs.Prelude.{◌≡◌, ◌<◌, ◌≤◌, ℕ, false, t
 ghost use Rattle.s370_store.specs.Access.{IsAway};
 ghost use Rattle.machine_channels.specs.Channels.{Brings, LacksRoom, NoRoom};
 ghost use Rattle.machine_channels.specs.Disks.{reset_disk};
+ghost use Rattle.machine_devices.specs.Devices.{kind_in};
 ghost use Rattle.machine_devices.specs.Equipped.{equipped};
 ghost use Rattle.machine_devices.specs.Lent.{KeepsBeside, devices_on};
-ghost use Rattle.machine_devices.specs.Lines.{IplNeeds, IsIpl, KindLoads, LoadsDisk, LoadsReader, ipl_told};
+ghost use Rattle.machine_devices.specs.Lines.{IplNeeds, IsIpl, KindLoads, LoadsDisk, LoadsReader, can_load, ipl_told};
 ghost use Rattle.machine_devices.specs.declared.places.Kind.TheVariants as kinds;
 
 use crate::devices::Devices;
@@ -35,7 +36,8 @@ fn loaded(well: bool) -> Told
 impl Devices {
     /// The machine is loaded from the device of this address, a reader or a disk. Where the channels are whole and there
     /// is no room for a page that this needs, nothing has happened but that such pages came; else, where it is not
-    /// obeyed, nothing is said of the machine.
+    /// obeyed, nothing is said of the machine. Memory is taken only for a reader or a disk: where the channels are not
+    /// whole, for the answer and the notice of the machine's stop alone.
     pub fn ipl<S: Storage, C: Channels<S>>(
         &mut self,
         queues: &mut Queues,
@@ -70,6 +72,9 @@ impl Devices {
         ensures ready { C.IsReady storage.new }
         ensures others { C.KeepsOthers channels.old channels.new }
         ensures beside { KeepsBeside self.old queues.old self.new queues.new }
+        ensures takes { result ≡ Err LineError.Memory
+            → can_load (kind_in self.old.places (C.disks channels.old) device) ≡ true }
+        ensures memory { C.is_whole ≡ false → result ≡ Err LineError.Memory → machine.old.room < 2 }
     {
         match self.kind_at(channels, device.get()) {
             Some(Kind::Reader) => self.load_reader(queues, machine, storage, channels, device),
@@ -115,6 +120,7 @@ impl Devices {
         ensures ready { C.IsReady storage.new }
         ensures others { C.KeepsOthers channels.old channels.new }
         ensures beside { KeepsBeside self.old queues.old self.new queues.new }
+        ensures memory { C.is_whole ≡ false → result ≡ Err LineError.Memory → machine.old.room < 2 }
     {
         match machine.make_room(1) {
             Ok(()) => {}
@@ -171,6 +177,7 @@ impl Devices {
         ensures ready { C.IsReady storage.new }
         ensures others { C.KeepsOthers channels.old channels.new }
         ensures user { self.new.user ≡ self.old.user }
+        ensures memory { C.is_whole ≡ false → result ≡ Err LineError.Memory → machine.old.room < 2 }
     {
         match machine.make_room(1) {
             Ok(()) => {}

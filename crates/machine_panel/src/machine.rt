@@ -1,6 +1,7 @@
 //! A machine but for its storage.
 ghost use Rattle.std.specs.Prelude.{◌≡◌, ◌≤◌, [], List, ℕ, length, replicate, slice_get};
 ghost use Rattle.std.specs.Option.{option_map};
+ghost use Rattle.s370_subchannels.specs.Subchannels.{AreAscending};
 ghost use Rattle.machine_panel.specs.Machine.{cleared, machine_of, reset_cpu, switched_off, unused};
 
 use cp_console::output::ConsoleOutput;
@@ -127,7 +128,8 @@ impl Machine {
 
     /// The subchannels of the devices, in the order of their addresses.
     pub fn subchannels(&self) -> &[Subchannel]
-        ensures { result.now ≡ self.now.subchannels }
+        ensures list { result.now ≡ self.now.subchannels }
+        ensures order { AreAscending result.now }
     {
         self.subchannels.list()
     }

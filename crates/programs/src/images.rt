@@ -1,4 +1,6 @@
 //! The images of volumes: files of the host that are read at first, and written again at the end.
+ghost use Rattle.std.specs.Prelude.{◌≡◌};
+
 use crate::faults::Failure;
 use crate::program::open;
 use ckd_image::{ImageError, image, read_image};
@@ -56,9 +58,12 @@ pub fn save_volume<R: AllocGlobal + Files>(
     }
 }
 
-/// What is told of a path to which no volume of the system belongs: its image is not saved.
-pub fn without_volume(path: String) -> Failure {
-    Failure::Unsaved(FAILED, path)
+/// What is told of a path to which no volume of the system belongs: its image is not saved. No file has failed, but an
+/// image without a volume is not whole.
+pub fn without_volume(path: String) -> Failure
+    ensures { result ≡ Failure.Unsaved ImageError.Truncated path }
+{
+    Failure::Unsaved(ImageError::Truncated, path)
 }
 
 /// Puts the image of a volume to a path. All bytes of the image are there before a file is touched.
