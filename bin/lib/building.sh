@@ -234,13 +234,21 @@ stop_build() {
     done
     # what was under way is brought back
     turns=0
-    while [ "$turns" -lt 50 ] && [ -n "$(find "$logs" -name '*.pid')" ]; do
+    while is_under_way && [ "$turns" -lt 100 ]; do
         sleep 0.1
         turns=$((turns + 1))
     done
     rm -f -- "$progress"
     say "broken off; what is proved is kept, and the next start goes on from there"
     exit "$1"
+}
+
+# whether a crate is still being proved
+is_under_way() {
+    for pid in "$logs"/*.pid; do
+        [ ! -e "$pid" ] || return 0
+    done
+    return 1
 }
 
 # how many minutes the build has taken so far
