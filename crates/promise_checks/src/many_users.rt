@@ -3,8 +3,8 @@
 //!
 //! The programs are made of pieces of code, and the events come in the order of a fixed sequence of numbers: mostly a
 //! run of some user, and now and then a tick of its timer or a line that its operator types. After each event every
-//! view of its user, and after each sixteenth every view of every user, has to be that of the bare machine that was
-//! given that user's own events. All users share 16 frames, so that pages are given up and come back all the time.
+//! view of every user has to be that of the bare machine that was given that user's own events. All users share 16
+//! frames, so that pages are given up and come back all the time.
 use crate::program::{DATA, PIECES, TYPED};
 use anyhow::{Context, Result, bail};
 use cp_core::Sizes;
@@ -22,10 +22,7 @@ const FRAMES: u32 = 16;
 const SLOTS: u32 = 1024;
 
 /// How many events come after the programs were typed.
-const EVENTS: u32 = 2_000;
-
-/// After so many events the views of all users are compared.
-const COMPARED_EACH: u32 = 16;
+const EVENTS: u32 = 20_000;
 
 /// How many pieces of code a program has.
 const PIECES_EACH: u32 = 40;
@@ -114,21 +111,17 @@ fn all_users(alloc: Global) -> Result<SideBySide> {
     Ok(SideBySide::boot(alloc, directory.as_bytes(), sizes)?)
 }
 
-/// Compares all views of a user but for the lines that his console has printed, of which it looks at the number.
-fn compare(machines: &SideBySide, user: UserNo) -> Result<(), SideError> {
-    machines.compare_registers(user)?;
-    machines.compare_storage(user)
-}
-
-/// Compares the views of all users.
+/// Compares all views of all users but for the lines that their consoles have printed, of which it looks at the number.
 fn compare_all(machines: &SideBySide) -> Result<(), SideError> {
     for number in 0..64u8 {
-        compare(machines, UserNo::new(number))?;
+        let user = UserNo::new(number);
+        machines.compare_registers(user)?;
+        machines.compare_storage(user)?;
     }
     Ok(())
 }
 
-/// Lets something happen to a user, and compares his views.
+/// Lets something happen to a user, and compares the views of all.
 fn happen(
     alloc: Global,
     machines: &mut SideBySide,
@@ -146,7 +139,7 @@ fn happen(
         Happening::Tick => machines.tick(user)?,
     }
     machines.compare_console(user, printed)?;
-    compare(machines, user)
+    compare_all(machines)
 }
 
 /// All users begin, all events come, and all views are compared.
@@ -159,11 +152,7 @@ fn play_on(alloc: Global, machines: &mut SideBySide) -> Result<()> {
         let user = next_user(&mut sequence);
         let what = next_happening(&mut sequence);
         happen(alloc, machines, user, what).context(format_args!("after event {event}"))?;
-        if event % COMPARED_EACH == 0 {
-            compare_all(machines).context(format_args!("after event {event}"))?;
-        }
     }
-    compare_all(machines).context("at the end")?;
     for number in 0..64u8 {
         machines.compare_console(UserNo::new(number), 0)?;
     }
@@ -179,6 +168,6 @@ fn play_all(alloc: Global) -> Result<()> {
 /// Plays it, and prints how many events there were, or fails at the first after which a view differs.
 pub fn play<R: AllocGlobal + Print>(rt: &R) -> Result<()> {
     play_all(rt.alloc())?;
-    println!(rt; "{EVENTS} events: all views of {USERS} users agree")?;
+    println!(rt; "{EVENTS} events: all views of {USERS} users agree after each")?;
     Ok(())
 }

@@ -1,4 +1,5 @@
 //! The world of one user beside the bare machines of all.
+ghost use Rattle.std.specs.Prelude.{◌≤◌, length};
 
 use cp_directory::User;
 use machine_devices::World;
@@ -13,6 +14,7 @@ pub(crate) struct Others<'a> {
     pub(crate) own: UserNo,
     /// Of each user, whether his bare machine is on.
     pub(crate) on: &'a [bool],
+    ghost few: { length users.now ≤ 64 },
 }
 
 impl<'a> World for Others<'a> {

@@ -17,7 +17,7 @@ use std::alloc::{AllocError, Global};
 use user_names::UserNo;
 
 /// How many events there are.
-const EVENTS: u32 = 2_000;
+const EVENTS: u32 = 20_000;
 
 /// After so many events the views of all users are compared.
 const SOME: u32 = 100;

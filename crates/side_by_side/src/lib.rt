@@ -18,6 +18,7 @@
 //! assert_eq!(rt; machines.run(a, 1)?.units, 1);
 //! machines.compare(a)?;
 //! ```
+#![tactic(auto)]
 
 mod compare;
 mod devices;

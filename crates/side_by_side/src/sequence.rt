@@ -1,4 +1,5 @@
 //! A fixed sequence of numbers that look as if they were drawn.
+ghost use Rattle.std.specs.Prelude.{◌<◌};
 
 /// A linear congruential generator, with the factor and the increment of Knuth's MMIX.
 #[derive(Drop)]
@@ -22,7 +23,10 @@ impl Sequence {
     }
 
     /// The next number below this one.
-    pub fn below(&mut self, limit: u32) -> u32 {
+    pub fn below(&mut self, limit: u32) -> u32
+        requires { 0 < limit }
+        ensures { result < limit }
+    {
         self.next_number() % limit
     }
 

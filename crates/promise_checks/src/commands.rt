@@ -10,7 +10,7 @@ use unit_record::Card;
 use user_names::UserNo;
 
 /// How many scripts there are, and how many events each has.
-const SCRIPTS: u32 = 200;
+const SCRIPTS: u32 = 2000;
 
 const EVENTS: u32 = 24;
 

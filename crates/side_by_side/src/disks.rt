@@ -1,4 +1,5 @@
 //! The disks of users: parts of volumes for bare machines, and whether a minidisk and a part are the same.
+ghost use Rattle.std.specs.Prelude.{◌≡◌};
 
 use crate::machines::same;
 use crate::view::{SideError, View};
@@ -10,7 +11,11 @@ use machine_channels::AttachedDisk;
 use std::alloc::Global;
 
 /// The arm of a disk as a machine finds it.
-fn first_track(extent: &DiskExtent) -> Arm {
+fn first_track(extent: &DiskExtent) -> Arm
+    ensures cylinder { result.cylinder ≡ 0 }
+    ensures home { result.home ≡ 0 }
+    ensures head { result.head ≡ 0 }
+{
     Arm {
         cylinder: 0,
         head: 0,

@@ -6,6 +6,7 @@
 //! - `commands`: scripts of commands of several users, with good and bad operands.
 //! - `many-users`: sixty-four users with programs of their own, in turns.
 //! - `talking-users`: sixteen users who talk, punch cards for each other, log off and on.
+#![tactic(auto)]
 
 mod commands;
 mod guest;
