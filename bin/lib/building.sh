@@ -90,10 +90,12 @@ ensure_built() {
 # each other, crate by crate; each has logs of its own.
 build() {
     need_kit
-    mkdir -p -- "$folder/out" 2> /dev/null && logs=$(mktemp -d -- "$folder/out/build.XXXXXX" 2> /dev/null) ||
-        fail "$not_writable" "the program is not built, and $folder/out cannot be written"
+    mkdir -p -- "$folder/out" 2> /dev/null && logs=$(mktemp -d -- "$folder/out/build.XXXXXX" 2> /dev/null) && aside=$(mktemp -d) ||
+        fail "$not_writable" "the program is not built, and $folder/out or the folder of temporary files cannot be written"
     # logs of builds that failed or were broken off
     find "$folder/out" -name 'build.??????' -mtime +6 -exec rm -rf -- {} +
+    # rt refuses a pipe among them
+    rm -f -- "$folder"/out/build.*/ended
     # shellcheck disable=SC2046
     set -- $(crates_of "$program_crate")
     crates=" $* "
@@ -110,7 +112,7 @@ build() {
     printf '%s\n%s\n' "$now_sources" "$now_kit" > "$mark.$$"
     mv -f -- "$mark.$$" "$mark"
     [ "$never_proved" -eq 0 ] || echo "$(minutes_gone) $never_proved" > "$folder/out/took"
-    rm -rf -- "$logs" "$progress"
+    rm -rf -- "$logs" "$aside" "$progress"
 }
 
 need_kit() {
@@ -128,8 +130,8 @@ places() {
 
 # proves each crate but the program's, once those below it are proved; the end of each comes through a pipe
 prove_all() {
-    mkfifo -- "$logs/ended"
-    exec 3<> "$logs/ended"
+    mkfifo -- "$aside/ended"
+    exec 3<> "$aside/ended"
     trap 'stop_build 129' HUP
     trap 'stop_build 130' INT
     trap 'stop_build 143' TERM
@@ -185,11 +187,11 @@ begin() {
     ) &
 }
 
-# lay_out CRATE: a checkout for it alone. One rt at a time works in a crate and in all those below it, and what many stand on would
-# keep them from being proved side by side. It has copies of the sources, second names of the libraries below, and what was built of the
-# crate before.
+# lay_out CRATE: a checkout for it alone, outside the repository. One rt at a time works in a crate and in all those below it, and what
+# many stand on would keep them from being proved side by side. It has copies of the sources, second names of the libraries below, and
+# what was built of the crate before.
 lay_out() {
-    checkout=$logs/$1.checkout
+    checkout=$aside/$1
     names=
     for name in $(crates_of "$1"); do
         names="$names crates/$name"
@@ -222,7 +224,7 @@ bring_back() {
 refuse_build() {
     [ "$running" -eq 0 ] || say "$1 was refused; what is under way is waited for, since it is kept"
     wait
-    rm -f -- "$progress"
+    rm -rf -- "$progress" "$aside"
     cat -- "$logs/$1.log" >&2
     fail "$not_built" "$1 was refused, and $program_crate is not built; the log is $logs/$1.log"
 }
@@ -238,7 +240,7 @@ stop_build() {
         sleep 0.1
         turns=$((turns + 1))
     done
-    rm -f -- "$progress"
+    rm -rf -- "$progress" "$aside"
     say "broken off; what is proved is kept, and the next start goes on from there"
     exit "$1"
 }
