@@ -4,7 +4,7 @@ ghost use Rattle.std.specs.Prelude.{◌≡◌, IfOk, OnOk};
 ghost use Rattle.s370_channel.specs.Reading.{as_reached};
 ghost use Rattle.cp_console.specs.ConsoleLine.{characters_of};
 ghost use Rattle.machine_devices.specs.Life.{Deck as Gets, Leaves, Message as Hears};
-ghost use Rattle.machine_devices.specs.Lines.{IsWholeLine};
+ghost use Rattle.machine_devices.specs.Lines.{IsLine};
 
 use crate::bare::Bare;
 use cp_console::console_line::ConsoleLine;
@@ -24,10 +24,10 @@ impl Bare {
         typed: &[u8],
     ) -> Result<Told, AllocError>
         ensures line { IfOk result
-            (λ told. IsWholeLine (W.known world.now) typed.now self.old.equipped told self.new.equipped) }
+            (λ told. IsLine (W.known world.now) typed.now self.old.equipped told self.new.equipped) }
         ensures files { self.new.files ≡ self.old.files }
     {
-        self.answer_whole(alloc, world, typed)
+        self.answer(alloc, world, typed)
     }
 
     /// A deck that another sent, or the operator, with the number that it has among the files of all. Where memory is

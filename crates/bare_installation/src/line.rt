@@ -4,7 +4,7 @@ ghost use Rattle.s370_channel.specs.Reading.{as_reached};
 ghost use Rattle.machine_devices.specs.Comes.{HasClosed, LineMay, NeedsMemory};
 ghost use Rattle.machine_devices.specs.Coming.{comes_by_line, coming_of};
 ghost use Rattle.machine_devices.specs.Life.{Leaves, Lives};
-ghost use Rattle.machine_devices.specs.Lines.{IsIpl, IsLine, IsWholeLine, MayTakeMemory, requested};
+ghost use Rattle.machine_devices.specs.Lines.{IsLine};
 ghost use Rattle.machine_devices.specs.Notes.{closed_since, next_file};
 ghost use Rattle.machine_devices.specs.Replies.{delivered_by, delivery_to, punched, receiver_of};
 ghost use Rattle.bare_installation.specs.Bare.{IsTyped, alone, world_of};
@@ -16,7 +16,6 @@ use machine_devices::{
     Delivered, Delivery, Ended, FileKind, FileNote, Reply, Told, World, is_logged_on, said_to_line,
 };
 use machine_panel::LineError;
-use s370_num::DevAddr;
 use std::alloc::{AllocError, Global};
 use unit_record::{Sender, Target};
 use user_names::UserNo;
@@ -41,7 +40,7 @@ impl Bare {
         let printer_files = self.printed_files();
         let number = self.next_file();
         let world = self.world();
-        let told = self.answer_whole(alloc, &world, typed)?;
+        let told = self.answer(alloc, &world, typed)?;
         let delivered = self.follow(punch_files, printer_files, &told)?;
         Ok(Reply {
             ended: Ended::Done,
@@ -60,27 +59,8 @@ impl Bare {
         }
     }
 
-    /// What a line does in this world, an IPL included.
-    pub(crate) fn answer_whole<W: World>(
-        &mut self,
-        alloc: Global,
-        world: &W,
-        typed: &[u8],
-    ) -> Result<Told, AllocError>
-        ensures line { IfOk result
-            (λ told. IsWholeLine (W.known world.now) typed.now self.old.equipped told self.new.equipped) }
-        ensures files { self.new.files ≡ self.old.files }
-        ensures memory { OnErr result (LineMay typed.now self.old.equipped) }
-    {
-        let first = self.answer(alloc, world, typed)?;
-        match first.loads_from() {
-            Some(device) => self.ipl(device),
-            None => Ok(first),
-        }
-    }
-
-    /// What a line does in this world.
-    fn answer<W: World>(
+    /// What a line does in this world. Where memory is refused, nothing is said of the machine.
+    pub(crate) fn answer<W: World>(
         &mut self,
         alloc: Global,
         world: &W,
@@ -89,7 +69,7 @@ impl Bare {
         ensures line { IfOk result
             (λ told. IsLine (W.known world.now) typed.now self.old.equipped told self.new.equipped) }
         ensures files { self.new.files ≡ self.old.files }
-        ensures memory { OnErr result (MayTakeMemory (requested typed.now self.old.equipped)) }
+        ensures memory { OnErr result (LineMay typed.now self.old.equipped) }
     {
         let told = self.devices.line(
             alloc,
@@ -99,26 +79,6 @@ impl Bare {
             &mut self.channels,
             world,
             typed,
-        );
-        match told {
-            Ok(told) => Ok(told),
-            Err(LineError::Memory) => Err(AllocError),
-            // Every page of its storage is present.
-            Err(LineError::FramesOut) => unreachable!(),
-        }
-    }
-
-    /// The machine is loaded from the device of this address.
-    fn ipl(&mut self, device: DevAddr) -> Result<Told, AllocError>
-        ensures loaded { IfOk result (λ told. IsIpl device self.old.equipped told self.new.equipped) }
-        ensures files { self.new.files ≡ self.old.files }
-    {
-        let told = self.devices.ipl(
-            &mut self.queues,
-            &mut self.machine,
-            &mut self.storage,
-            &mut self.channels,
-            device,
         );
         match told {
             Ok(told) => Ok(told),

@@ -8,8 +8,8 @@ use Rattle.cp_console.specs.DeviceCommands.{ipl_of, query_of, spool_of, close_of
 use Rattle.cp_console.specs.Commands.{command_by}
 use Rattle.cp_console.specs.Grammar.{Begins, Spells, SpellsOperand, Tells}
 use Rattle.cp_console.specs.declared.commands.Command.{Command}
-use Rattle.cp_console.specs.declared.commands.Command.TheVariants.{Device}
-use Rattle.cp_console.specs.declared.device_commands.DeviceCommand.TheVariants.{Ipl, QueryFiles, QueryUsers, Spool, Close, Purge, Message}
+use Rattle.cp_console.specs.declared.commands.Command.TheVariants.{Ipl, Device}
+use Rattle.cp_console.specs.declared.device_commands.DeviceCommand.TheVariants.{QueryFiles, QueryUsers, Spool, Close, Purge, Message}
 use Rattle.cp_console.specs.declared.commands.CommandError.TheVariants.{Unknown, Operand}
 use Rattle.cp_console.proofs.Spelled.{missing, never, whole_begins}
 
@@ -43,11 +43,11 @@ tells_operand name rule command reads spells begins following (word ∷ words) =
     operand_on name rule command reads spells begins following word words (rule word) refl
 
 ipl_begins : Begins (codes "IPL" ∷ [])
-ipl_begins = record { rest = codes "000" ∷ []; following = []; command = Device (Ipl 0); whole = record { word = codes "000"; spelled = refl; read = refl } }
+ipl_begins = record { rest = codes "000" ∷ []; following = []; command = Ipl 0; whole = record { word = codes "000"; spelled = refl; read = refl } }
 
 tells_ipl : (following : List ℕ) (operands : List (List ℕ)) → Tells (codes "IPL" ∷ operands) following (ipl_of operands)
 tells_ipl following operands =
-    tells_operand (codes "IPL") device_of (λ device. Device (Ipl device)) (λ words other. refl) (λ words other a h. h) ipl_begins following operands
+    tells_operand (codes "IPL") device_of Ipl (λ words other. refl) (λ words other a h. h) ipl_begins following operands
 
 close_begins : Begins (codes "CLOSE" ∷ [])
 close_begins = record { rest = codes "000" ∷ []; following = []; command = Device (Close 0); whole = record { word = codes "000"; spelled = refl; read = refl } }

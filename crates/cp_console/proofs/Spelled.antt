@@ -4,8 +4,8 @@ use Rattle.cp_console.specs.Commands.{command_by}
 use Rattle.cp_console.specs.Grammar.{Begins, Spells}
 use Rattle.cp_console.specs.declared.commands.Change.TheVariants as changes
 use Rattle.cp_console.specs.declared.commands.Command.{Command}
-use Rattle.cp_console.specs.declared.commands.Command.TheVariants.{Nothing, Logon, Logoff, Begin, SystemReset, External, Display, Store, Device}
-use Rattle.cp_console.specs.declared.device_commands.DeviceCommand.TheVariants.{Ipl, QueryFiles, QueryUsers, Spool, Close, Purge, Message}
+use Rattle.cp_console.specs.declared.commands.Command.TheVariants.{Nothing, Logon, Logoff, Begin, SystemReset, External, Display, Store, Ipl, Device}
+use Rattle.cp_console.specs.declared.device_commands.DeviceCommand.TheVariants.{QueryFiles, QueryUsers, Spool, Close, Purge, Message}
 use Rattle.cp_console.specs.declared.commands.CommandError.{CommandError}
 
 pub again : (words : List (List ℕ)) (following : List ℕ) (command : Command) → Spells words following command → command_by words following ≡ Ok command
@@ -20,7 +20,7 @@ again words following (Display place) h = rw (h.spelled, h.read) refl
 again words following (Store (changes.Psw psw)) h = rw (h.spelled, h.read, h.left_read, h.right_read, h.joined) refl
 again words following (Store (changes.General register contents)) h = rw (h.spelled, h.read, h.digits_read) refl
 again words following (Store (changes.Storage address bytes)) h = rw (h.spelled, h.read, h.digits_read) refl
-again words following (Device (Ipl device)) h = rw (h.spelled, h.read) refl
+again words following (Ipl device) h = rw (h.spelled, h.read) refl
 again words following (Device QueryFiles) h = rw h refl
 again words following (Device QueryUsers) h = rw h refl
 again words following (Device (Spool device name)) h = rw (h.spelled, h.read) refl

@@ -5,14 +5,14 @@ use Rattle.text_words.specs.Words.{after_first_word, unindented}
 use Rattle.cp_console.specs.Operands.{device_of, file_of}
 use Rattle.cp_console.specs.Reading.{operand, ended, keyword}
 use Rattle.cp_console.specs.declared.commands.Command.{Command}
-use Rattle.cp_console.specs.declared.commands.Command.TheVariants.{Device}
+use Rattle.cp_console.specs.declared.commands.Command.TheVariants.{Ipl, Device}
 use Rattle.cp_console.specs.declared.commands.CommandError.{CommandError}
 use Rattle.cp_console.specs.declared.commands.CommandError.TheVariants.{Unknown, Operand}
-use Rattle.cp_console.specs.declared.device_commands.DeviceCommand.TheVariants.{Ipl, QueryFiles, QueryUsers, Spool, Close, Purge, Message}
+use Rattle.cp_console.specs.declared.device_commands.DeviceCommand.TheVariants.{QueryFiles, QueryUsers, Spool, Close, Purge, Message}
 
 -- `IPL` and a device
 abbrev pub ipl_of : List (List ℕ) → Result Command CommandError
-ipl_of words = operand 1 device_of words (λ device. ended 2 (Device (Ipl device)))
+ipl_of words = operand 1 device_of words (λ device. ended 2 (Ipl device))
 
 -- `QUERY FILES` or `QUERY USERS`
 abbrev pub query_of : List (List ℕ) → Result Command CommandError

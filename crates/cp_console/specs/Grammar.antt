@@ -8,8 +8,8 @@ use Rattle.cp_console.specs.declared.commands.Place.{Place}
 use Rattle.cp_console.specs.declared.commands.Place.TheVariants as places
 use Rattle.cp_console.specs.declared.commands.Change.TheVariants as changes
 use Rattle.cp_console.specs.declared.commands.Command.{Command}
-use Rattle.cp_console.specs.declared.commands.Command.TheVariants.{Nothing, Logon, Logoff, Begin, SystemReset, External, Display, Store, Device}
-use Rattle.cp_console.specs.declared.device_commands.DeviceCommand.TheVariants.{Ipl, QueryFiles, QueryUsers, Spool, Close, Purge, Message}
+use Rattle.cp_console.specs.declared.commands.Command.TheVariants.{Nothing, Logon, Logoff, Begin, SystemReset, External, Display, Store, Ipl, Device}
+use Rattle.cp_console.specs.declared.device_commands.DeviceCommand.TheVariants.{QueryFiles, QueryUsers, Spool, Close, Purge, Message}
 use Rattle.cp_console.specs.declared.commands.CommandError.{CommandError}
 use Rattle.cp_console.specs.declared.commands.CommandError.TheVariants.{Memory, Unknown, Operand}
 
@@ -78,7 +78,7 @@ Spells words following (Display place) = SpellsDisplay words place
 Spells words following (Store (changes.Psw psw)) = SpellsPsw words psw
 Spells words following (Store (changes.General register contents)) = SpellsStore contents_of words (places.General register) contents
 Spells words following (Store (changes.Storage address bytes)) = SpellsStore bytes_of words (places.Storage address) bytes
-Spells words following (Device (Ipl device)) = SpellsOperand (codes "IPL") device_of words device
+Spells words following (Ipl device) = SpellsOperand (codes "IPL") device_of words device
 Spells words following (Device QueryFiles) = words ≡ codes "QUERY" ∷ codes "FILES" ∷ []
 Spells words following (Device QueryUsers) = words ≡ codes "QUERY" ∷ codes "USERS" ∷ []
 Spells words following (Device (Spool device name)) = SpellsSpool words device name

@@ -8,7 +8,7 @@ ghost use Rattle.text_words.specs.Words.{words_of};
 use crate::device_commands::{DeviceCommand, read_device_named};
 use crate::operands::{StoredBytes, address_of, bytes_of, contents_of, register_of};
 use crate::reading::{ended, operand};
-use s370_num::{Addr24, Register, Word};
+use s370_num::{Addr24, DevAddr, Register, Word};
 use text_words::words::next_word;
 use thiserror::Error;
 
@@ -57,7 +57,9 @@ pub enum Command<'a> {
     Display(Place),
     /// `STORE`.
     Store(Change),
-    /// A command that concerns devices or other users.
+    /// `IPL`: the machine is loaded from the device of this address.
+    Ipl(DevAddr),
+    /// A command that concerns devices' files or other users.
     Device(DeviceCommand<'a>),
 }
 

@@ -10,11 +10,9 @@ use crate::reading::{ended, operand};
 use s370_num::DevAddr;
 use text_words::words::unindented;
 
-/// A command that no machine obeys by itself: it concerns devices, their files or other users.
+/// A command that no machine obeys by itself: it concerns devices' files or other users.
 #[derive(Debug, PartialEq, Eq, Drop)]
 pub enum DeviceCommand<'a> {
-    /// `IPL`: the machine is loaded from the device of this address.
-    Ipl(DevAddr),
     /// `QUERY FILES`.
     QueryFiles,
     /// `QUERY USERS`.
@@ -59,7 +57,7 @@ fn read_ipl(operands: &[u8]) -> Result<Command<'_>, CommandError>
 {
     let (word, rest) = operand(1, operands)?;
     let device = device_of(word).ok_or(CommandError::Operand(1))?;
-    ended(2, Command::Device(DeviceCommand::Ipl(device)), rest)
+    ended(2, Command::Ipl(device), rest)
 }
 
 /// `QUERY FILES` or `QUERY USERS`.

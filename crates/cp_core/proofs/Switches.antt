@@ -1,14 +1,14 @@
 -- A line that switches the machine on or off needs no page.
-use Rattle.std.proofs.Common.{◌≡◌, ℕ, List, [], ◌∷◌, true, Option, Some, subst, sym, inl, inr}
+use Rattle.std.proofs.Common.{◌≡◌, ℕ, List, [], ◌∷◌, true, inl, inr}
 use Rattle.s370_store.specs.Access.{Touches}
 use Rattle.s370_intr.specs.Run.{AllNeeded}
 use Rattle.machine_devices.specs.declared.request.Request.{Request}
-use Rattle.machine_devices.specs.declared.request.Request.TheVariants.{LogsOn, LogsOff, Resets, Types, Asks, Alone}
-use Rattle.machine_devices.specs.Comes.{asks_to_load, is_ipl}
+use Rattle.machine_devices.specs.declared.request.Request.TheVariants.{LogsOn, LogsOff, Resets, Types, Loads, Asks, Alone}
+use Rattle.machine_devices.specs.Comes.{LoadWants, is_ipl}
 use Rattle.machine_devices.specs.Equipped.{Equipped}
-use Rattle.machine_devices.specs.Lines.{IplNeeds, requested}
+use Rattle.machine_devices.specs.Lines.{requested}
 use Rattle.machine_devices.specs.Requests.{needs_of, switches}
-use Rattle.cp_core.specs.Wants.{LineWants, LoadWants}
+use Rattle.cp_core.specs.Wants.{LineWants}
 
 -- it is no IPL
 no_ipl : (q : Request) → is_ipl q ≡ true → switches q ≡ true → ⊥
@@ -16,6 +16,7 @@ no_ipl LogsOn ipl on = cc
 no_ipl LogsOff ipl on = cc
 no_ipl Resets ipl on = cc
 no_ipl Types ipl on = cc
+no_ipl (Loads device) ipl on = cc
 no_ipl (Asks command) ipl on = cc
 no_ipl (Alone asked) ipl on = cc
 
@@ -27,14 +28,16 @@ wants_none LogsOn e page on need = need
 wants_none LogsOff e page on need = need
 wants_none Resets e page on need = cc
 wants_none Types e page on need = cc
+wants_none (Loads device) e page on need = cc
 wants_none (Asks command) e page on need = cc
 wants_none (Alone asked) e page on need = cc
 
-loads_none : (q : Request) (e : Equipped) (page : ℕ) → switches q ≡ true → LoadWants (asks_to_load q) e page → ⊥
+loads_none : (q : Request) (e : Equipped) (page : ℕ) → switches q ≡ true → LoadWants q e page → ⊥
 loads_none LogsOn e page on want = want
 loads_none LogsOff e page on want = want
 loads_none Resets e page on want = cc
 loads_none Types e page on want = cc
+loads_none (Loads device) e page on want = cc
 loads_none (Asks command) e page on want = cc
 loads_none (Alone asked) e page on want = cc
 
@@ -49,8 +52,8 @@ switch_wants_none typed e page on want = elim want [
 pub wanted : (typed : List ℕ) (e : Equipped) (page : ℕ) → Touches (needs_of (requested typed e)) page → LineWants typed e page
 wanted typed e page need = inl need
 
-pub load_wanted : (typed : List ℕ) (e : Equipped) (device page : ℕ) → asks_to_load (requested typed e) ≡ Some device → IplNeeds device e page → LineWants typed e page
-load_wanted typed e device page asked need = inr (subst (λ (o : Option ℕ). LoadWants o e page) (sym asked) need)
+pub load_wanted : (typed : List ℕ) (e : Equipped) (page : ℕ) → LoadWants (requested typed e) e page → LineWants typed e page
+load_wanted typed e page need = inr need
 
 -- ---- lists of pages
 

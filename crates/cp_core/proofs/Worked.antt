@@ -22,13 +22,13 @@ use Rattle.machine_devices.specs.Requests.{needs_of, switches}
 use Rattle.machine_channels.specs.Channels.{Brings, LacksRoom, NoRoom}
 use Rattle.machine_devices.specs.declared.line.Told.{Told}
 use Rattle.machine_devices.specs.Equipped.{Equipped}
-use Rattle.machine_devices.specs.Lines.{IplNeeds, IsWholeLine, requested}
+use Rattle.machine_devices.specs.Lines.{IsLine, requested}
 use Rattle.machine_devices.specs.Serve.{IsServedAt}
 use Rattle.machine_devices.specs.World.{World}
 use Rattle.cp_resident.specs.Resident.{CameIn, IsFilled}
 use Rattle.cp_core.specs.Supply.{IsGivenBack, IsShort, LineBrings, NeedsAll}
 use Rattle.cp_core.specs.Typed.{IsLineLent}
-use Rattle.machine_devices.specs.Comes.{LineMay, asks_to_load, is_ipl}
+use Rattle.machine_devices.specs.Comes.{LineMay, LoadWants, is_ipl}
 use Rattle.cp_core.specs.Wants.{DeviceNeeds, LineWants}
 use Rattle.cp_core.specs.Work.{HasServed, HasTyped, LineGivesBack, LineLeaves, ServeLeaves}
 use Rattle.cp_core.proofs.Switches.{all_wanted, load_wanted, switch_no_ipl, wanted}
@@ -83,10 +83,6 @@ such_for P Q more (page ∷ pages) all = (more page all.0, such_for P Q more pag
 each_for : (P Q : ℕ → Type 0) → ((page : ℕ) → P page → Q page) → (units : List (List ℕ)) → EachSuch P units → EachSuch Q units
 each_for P Q more [] all = tt
 each_for P Q more (pages ∷ units) all = (such_for P Q more pages all.0, each_for P Q more units all.1)
-
-each_on : (P : ℕ → Type 0) (first second : List (List ℕ)) → EachSuch P first → EachSuch P second → EachSuch P (first ++ second)
-each_on P [] second a b = b
-each_on P (pages ∷ first) second a b = (a.0, each_on P first second a.1 b)
 
 one_brings : (b : Bool) (needs : ℕ → Type 0) (pages : List ℕ) → AllNeeded needs pages → LineBrings b needs (pages ∷ [])
 one_brings true needs pages all = (such_all needs pages all, tt)
@@ -150,40 +146,46 @@ plainly_lent typed before old between new r rest taken frames cleared not_cleare
       between = between_again (lent_pool old).supply (lent_pool between).supply (lent_pool new).supply rest owners pins taken.supply;
     }
 
--- and so does a loading, after its line
-pub loading_lent : (typed : List ℕ) (before : Equipped) (device : ℕ) (old middle new : Dat) (first r : Result Told LineError) → is_ipl (requested typed before) ≡ true → asks_to_load (requested typed before) ≡ Some device
-    → IsLineLent typed before old middle first → length (lent_bytes middle) ≡ length before.machine.core.processor.bytes
-    → (r ≡ Err errors.FramesOut → LacksRoom (length (lent_bytes middle)) (IplNeeds device before) (no_room new (IplNeeds device before)))
-    → Brings CameIn middle (IplNeeds device before) new → IsBetweenUnits (lent_pool new).supply
+-- and so does a line that loads the machine: it is ready then, so there are no pins to take away
+pub loading_lent : (typed : List ℕ) (before : Equipped) (old middle new : Dat) (r : Result Told LineError) → is_ipl (requested typed before) ≡ true
+    → length (lent_bytes old) ≡ length before.machine.core.processor.bytes → IsBetweenUnits (lent_pool middle).supply → TakesPins middle new
+    → (r ≡ Err errors.FramesOut → LacksRoom (length (lent_bytes old)) (LoadWants (requested typed before) before) (no_room middle (LoadWants (requested typed before) before)))
+    → Brings CameIn old (LoadWants (requested typed before) before) middle
     → IsLineLent typed before old new r
-loading_lent typed before device old middle new first r ipl asked lent size out brought between =
+loading_lent typed before old middle new r ipl size between taken out brought =
+    let loads : ℕ → Type 0 = LoadWants (requested typed before) before in
     let needs : ℕ → Type 0 = LineWants typed before in
-    let more : (page : ℕ) → IplNeeds device before page → needs page = λ page need. load_wanted typed before device page asked need in
-    let kept : KeepsFrames old new = keeps_frames_on old middle new lent.kept brought.1.came.kept in
+    let more : (page : ℕ) → loads page → needs page = load_wanted typed before in
+    let same : (lent_pool new).supply ≡ (lent_pool middle).supply = taken.supply ∙ still (lent_pool middle).supply between in
+    let came = brought.1.came in
     record {
-      kept = kept;
-      frames = λ failed. (let l = out failed in record {
-        page = l.page;
-        inside = subst (λ (n : ℕ). l.page * 4096 < n) size l.inside;
-        needed = more l.page l.needed;
-        short = subst (λ (n : ℕ). IsShort (lent_pool new).supply n needs l.page) kept.same_user
-            (short_for (lent_pool new).supply (user_of new) (IplNeeds device before) needs l.page more (room_short new (IplNeeds device before) l.page l.out));
-      });
+      kept = keeps_frames_on old middle new came.kept taken.kept;
+      frames = λ failed. (let l = out failed in
+          let short : IsShort (lent_pool middle).supply (user_of old) needs l.page = subst (λ (n : ℕ). IsShort (lent_pool middle).supply n needs l.page) came.kept.same_user
+              (short_for (lent_pool middle).supply (user_of middle) loads needs l.page more (room_short middle loads l.page l.out)) in
+          record {
+            page = l.page;
+            inside = subst (λ (n : ℕ). l.page * 4096 < n) size l.inside;
+            needed = more l.page l.needed;
+            short = subst (λ (s : FrameSupply). IsShort s (user_of old) needs l.page) (sym same) short;
+          });
       cleared = λ on. absurd (switch_no_ipl typed before ipl on);
       not_cleared = λ on. absurd (switch_no_ipl typed before ipl on);
-      supply = λ off. (let s = lent.supply off in (
-        s.0 ++ brought.0,
-        came_on old middle new s.0 brought.0 s.1 brought.1.came,
-        subst (λ (b : Bool). LineBrings b needs (s.0 ++ brought.0)) (sym ipl)
-            (each_on needs s.0 brought.0 (subst (λ (b : Bool). LineBrings b needs s.0) ipl s.2) (each_for (IplNeeds device before) needs more brought.0 brought.2)),
-      ));
-      between = between;
+      supply = λ off. (
+          brought.0,
+          record {
+            kept = keeps_frames_on old middle new came.kept taken.kept;
+            brought = subst (λ (s : FrameSupply). IsBroughtInUnits (user_of old) brought.0 (lent_pool old).supply s) (sym same) came.brought;
+          },
+          subst (λ (b : Bool). LineBrings b needs brought.0) (sym ipl) (each_for loads needs more brought.0 brought.2),
+      );
+      between = subst (λ (s : FrameSupply). IsBetweenUnits s) (sym same) between;
     }
 
 -- ---- what a line leaves
 
 leaves_where : (world : World) (user : ℕ) (typed : List ℕ) (before after : Equipped) (r : Result Told LineError) (supply : FrameSupply)
-    → IfOk r (λ told. IsWholeLine world typed before told after) → (r ≡ Err errors.FramesOut → after ≡ before) → (r ≡ Err errors.Memory → is_ipl (requested typed before) ≡ false → after ≡ before) → (r ≡ Err errors.Memory → LineMay typed before)
+    → IfOk r (λ told. IsLine world typed before told after) → (r ≡ Err errors.FramesOut → after ≡ before) → (r ≡ Err errors.Memory → is_ipl (requested typed before) ≡ false → after ≡ before) → (r ≡ Err errors.Memory → LineMay typed before)
     → (r ≡ Err errors.FramesOut → IsLacking (LineWants typed before) (length before.machine.core.processor.bytes) (IsShort supply user (LineWants typed before)))
     → LineLeaves world user typed before r after supply
 leaves_where world user typed before after (Ok told) supply ok same kept memory frames = ok
@@ -196,7 +198,7 @@ gives_where user before after (Err error) given same = same
 
 pub typed_work : (world : World) (user : ℕ) (typed : List ℕ) (before after : Equipped) (old new : Dat) (r : Result Told LineError)
     → user_of old ≡ user → IsLineLent typed before old new r
-    → IfOk r (λ told. IsWholeLine world typed before told after) → (r ≡ Err errors.FramesOut → after ≡ before) → (r ≡ Err errors.Memory → is_ipl (requested typed before) ≡ false → after ≡ before) → (r ≡ Err errors.Memory → LineMay typed before)
+    → IfOk r (λ told. IsLine world typed before told after) → (r ≡ Err errors.FramesOut → after ≡ before) → (r ≡ Err errors.Memory → is_ipl (requested typed before) ≡ false → after ≡ before) → (r ≡ Err errors.Memory → LineMay typed before)
     → HasTyped world user typed before (lent_pool old).supply r after (lent_pool new).supply
 typed_work world user typed before after old new r u lent ok out kept memory =
     let needs : ℕ → Type 0 = LineWants typed before in

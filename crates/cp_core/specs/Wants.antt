@@ -1,10 +1,10 @@
 -- Which pages an event with a channel program needs: what it asks of the devices is told by the line that asks for it.
-use Rattle.std.specs.Prelude.{◌⊎◌, ℕ, List, Option, Some, None}
+use Rattle.std.specs.Prelude.{◌⊎◌, ℕ, List}
 use Rattle.s370_store.specs.Access.{Touches}
 use Rattle.cp_hold.specs.Holding.{HoldNeeds}
 use Rattle.machine_devices.specs.Equipped.{Equipped}
-use Rattle.machine_devices.specs.Comes.{asks_to_load}
-use Rattle.machine_devices.specs.Lines.{IplNeeds, requested}
+use Rattle.machine_devices.specs.Comes.{LoadWants}
+use Rattle.machine_devices.specs.Lines.{requested}
 use Rattle.machine_devices.specs.Requests.{needs_of}
 use Rattle.machine_devices.specs.Serve.{ServeNeeds}
 
@@ -14,12 +14,7 @@ use Rattle.machine_devices.specs.Serve.{ServeNeeds}
 abbrev pub DeviceNeeds : ℕ → Equipped → ℕ → Type 0
 DeviceNeeds device e page = ServeNeeds HoldNeeds device e page
 
--- a loading needs page 0, and the pages that its program touches
-abbrev pub LoadWants : Option ℕ → Equipped → ℕ → Type 0
-LoadWants (Some device) e page = IplNeeds device e page
-LoadWants None e page = ⊥
-
 -- a line needs the pages of the bytes that it shows or changes, and those of the loading for which it asks
 abbrev pub LineWants : List ℕ → Equipped → ℕ → Type 0
 LineWants typed e page =
-    Touches (needs_of (requested typed e)) page ⊎ LoadWants (asks_to_load (requested typed e)) e page
+    Touches (needs_of (requested typed e)) page ⊎ LoadWants (requested typed e) e page

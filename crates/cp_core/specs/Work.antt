@@ -16,7 +16,7 @@ use Rattle.machine_panel.specs.Run.{TellsRun, notice_of}
 use Rattle.machine_panel.specs.Tick.{TickNeeds, ticked}
 use Rattle.machine_devices.specs.declared.line.Told.{Told}
 use Rattle.machine_devices.specs.Equipped.{Equipped}
-use Rattle.machine_devices.specs.Lines.{IsWholeLine, requested}
+use Rattle.machine_devices.specs.Lines.{IsLine, requested}
 use Rattle.machine_devices.specs.Requests.{switches}
 use Rattle.machine_devices.specs.Serve.{IsServedAt}
 use Rattle.machine_devices.specs.World.{World}
@@ -48,7 +48,7 @@ pub record HasTicked (user : ℕ) (old : Equipped) (before : FrameSupply) (resul
 -- ---- a line
 
 abbrev pub LineLeaves : World → ℕ → List ℕ → Equipped → Result Told LineError → Equipped → FrameSupply → Type 0
-LineLeaves world user typed old (Ok told) new after = IsWholeLine world typed old told new
+LineLeaves world user typed old (Ok told) new after = IsLine world typed old told new
 LineLeaves world user typed old (Err errors.Memory) new after = (is_ipl (requested typed old) ≡ false → new ≡ old) × LineMay typed old
 LineLeaves world user typed old (Err errors.FramesOut) new after =
     (new ≡ old) × IsLacking (LineWants typed old) (length old.machine.core.processor.bytes) (IsShort after user (LineWants typed old))

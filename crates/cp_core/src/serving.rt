@@ -1,5 +1,5 @@
-//! A device of a user is served, and a line is typed, with the loading for which it asks.
-ghost use Rattle.std.specs.Prelude.{◌≡◌, ◌<◌, ◌≤◌, Err, IfOk, IsSome, OnErr, false, length, true};
+//! A device of a user is served, and a line is typed.
+ghost use Rattle.std.specs.Prelude.{◌≡◌, ◌<◌, ◌≤◌, Err, IfOk, IsSome, false, length, true};
 ghost use Rattle.s370_subchannels.specs.Programs.{program_of};
 ghost use Rattle.machine_channels.specs.Channels.{Brings, LacksRoom, NoRoom};
 ghost use Rattle.machine_devices.specs.Equipped.{equipped};
@@ -8,7 +8,7 @@ ghost use Rattle.machine_devices.specs.Serve.{IsServedAt, ServeNeeds};
 ghost use Rattle.machine_panel.specs.declared.line.LineError.TheVariants as errors;
 ghost use Rattle.cp_dat.specs.Lent.{lent_bytes, lent_keys, lent_pool};
 ghost use Rattle.cp_dat.specs.Supplied.{IsBetweenUnits};
-ghost use Rattle.machine_devices.specs.Lines.{IsLine, IsWholeLine, MayTakeMemory, requested};
+ghost use Rattle.machine_devices.specs.Lines.{IsLine, requested};
 ghost use Rattle.cp_resident.specs.Resident.{KeepsHung, disks_on};
 ghost use Rattle.cp_core.specs.Typed.{IsLineLent};
 ghost use Rattle.machine_devices.specs.Comes.{LineMay, is_ipl};
@@ -69,7 +69,7 @@ pub(crate) fn serve_supplied<S: Storage, C: Channels<S>>(
     }
 }
 
-/// A line that a user types, and the loading of his machine, where the line asks for it.
+/// A line that a user types. It holds what it brings until it ends.
 pub(crate) fn type_supplied<W: World>(
     alloc: Global,
     devices: &mut Devices,
@@ -87,7 +87,7 @@ pub(crate) fn type_supplied<W: World>(
         (lent_keys storage.old) in
         let after = equipped machine.new (devices_on devices.new queues.new) (disks_on channels.new) (lent_bytes storage.new)
         (lent_keys storage.new) in
-        IfOk result (λ told. IsWholeLine (W.known world.now) typed.now before told after) }
+        IfOk result (λ told. IsLine (W.known world.now) typed.now before told after) }
     ensures same { let before = equipped machine.old (devices_on devices.old queues.old) (disks_on channels.old) (lent_bytes storage.old)
         (lent_keys storage.old) in
         let after = equipped machine.new (devices_on devices.new queues.new) (disks_on channels.new) (lent_bytes storage.new)
@@ -101,51 +101,6 @@ pub(crate) fn type_supplied<W: World>(
     ensures memory { let before = equipped machine.old (devices_on devices.old queues.old) (disks_on channels.old) (lent_bytes storage.old)
         (lent_keys storage.old) in
         result ≡ Err errors.Memory → LineMay typed.now before }
-    ensures lent { let before = equipped machine.old (devices_on devices.old queues.old) (disks_on channels.old) (lent_bytes storage.old)
-        (lent_keys storage.old) in
-        IsLineLent typed.now before storage.old storage.new result }
-    ensures size { length (lent_bytes storage.new) ≡ length (lent_bytes storage.old) }
-    ensures others { KeepsHung channels.old channels.new }
-    ensures beside { KeepsBeside devices.old queues.old devices.new queues.new }
-{
-    match type_line(
-        alloc, devices, queues, machine, storage, channels, world, typed,
-    ) {
-        Ok(first) => match first.loads_from() {
-            Some(device) => devices.ipl(queues, machine, storage, channels, device),
-            None => Ok(first),
-        },
-        Err(error) => Err(error),
-    }
-}
-
-/// A line that a user types, without the loading of his machine. It holds what it brings until it ends.
-fn type_line<W: World>(
-    alloc: Global,
-    devices: &mut Devices,
-    queues: &mut Queues,
-    machine: &mut Machine,
-    storage: &mut Dat<'_>,
-    channels: &mut Resident,
-    world: &W,
-    typed: &[u8],
-) -> Result<Told, LineError>
-    requires size { 8192 ≤ length (lent_bytes storage.old) }
-    requires owner { devices.old.user < length queues.old.users }
-    requires between { IsBetweenUnits (lent_pool storage.old).supply }
-    ensures ok { let before = equipped machine.old (devices_on devices.old queues.old) (disks_on channels.old) (lent_bytes storage.old)
-        (lent_keys storage.old) in
-        let after = equipped machine.new (devices_on devices.new queues.new) (disks_on channels.new) (lent_bytes storage.new)
-        (lent_keys storage.new) in
-        IfOk result (λ told. IsLine (W.known world.now) typed.now before told after) }
-    ensures err { let before = equipped machine.old (devices_on devices.old queues.old) (disks_on channels.old) (lent_bytes storage.old)
-        (lent_keys storage.old) in
-        let after = equipped machine.new (devices_on devices.new queues.new) (disks_on channels.new) (lent_bytes storage.new)
-        (lent_keys storage.new) in
-        OnErr result (after ≡ before) }
-    ensures memory { let before = equipped machine.old (devices_on devices.old queues.old) (disks_on channels.old) (lent_bytes storage.old)
-        (lent_keys storage.old) in
-        result ≡ Err errors.Memory → MayTakeMemory (requested typed.now before) }
     ensures lent { let before = equipped machine.old (devices_on devices.old queues.old) (disks_on channels.old) (lent_bytes storage.old)
         (lent_keys storage.old) in
         IsLineLent typed.now before storage.old storage.new result }

@@ -29,17 +29,17 @@ use Rattle.machine_panel.specs.Panel.{answered, line}
 use Rattle.machine_panel.specs.Run.{halted, run, run_in}
 use Rattle.machine_panel.specs.Tick.{ticked_in}
 use Rattle.machine_devices.specs.declared.line.Told.{Told}
-use Rattle.machine_devices.specs.declared.line.Told.TheVariants.{Silent, Said, Files, Sent, Loads, Closed}
+use Rattle.machine_devices.specs.declared.line.Told.TheVariants.{Said}
 use Rattle.machine_devices.specs.declared.places.Kind.{Kind}
 use Rattle.machine_devices.specs.declared.places.Kind.TheVariants as kinds
 use Rattle.machine_devices.specs.declared.places.Places.{Places}
 use Rattle.machine_devices.specs.declared.request.Request.{Request}
-use Rattle.machine_devices.specs.declared.request.Request.TheVariants.{LogsOn, LogsOff, Resets, Types, Asks, Alone}
+use Rattle.machine_devices.specs.declared.request.Request.TheVariants.{LogsOn, LogsOff, Resets, Types, Loads, Asks, Alone}
 use Rattle.machine_devices.specs.Attention.{AttentionAgrees, AttentionAgreesAtFirst, AttentionGoesOnAgreeing, waits_at}
 use Rattle.machine_devices.specs.Devices.{DevicesValue, is_there, kind_at, part_at, part_or_disk}
 use Rattle.machine_devices.specs.Equipped.{Equipped}
 use Rattle.machine_devices.specs.Life.{Event, Units, Serve, Line, Tick, Deck, Message, Leaves}
-use Rattle.machine_devices.specs.Lines.{IsAnswered, IsFollowed, IsObeyed, IsWholeLine, LoadsDisk, LoadsKind, LoadsReader, LoadsUnit, Outcome, close_answered, closed_where, loads_from, logged_off, logged_on, outcome, requested, spool_answered, spooled_to, target_of, typed_at, typed_where, was_reset, with_closed}
+use Rattle.machine_devices.specs.Lines.{IsAnswered, IsObeyed, LoadsDisk, LoadsKind, LoadsReader, LoadsUnit, Outcome, close_answered, closed_where, logged_off, logged_on, outcome, requested, spool_answered, spooled_to, target_of, typed_at, typed_where, was_reset, with_closed}
 use Rattle.machine_devices.specs.Loading.{is_good, left_by}
 use Rattle.machine_devices.specs.Serve.{IsServedAt, RunsConsole, Serves, program_over}
 use Rattle.machine_devices.specs.Spooling.{is_punch, output_of}
@@ -264,7 +264,6 @@ closes (Some false) kind e h = h
 closes (Some true) kind e h = closed_at kind e h
 
 obeys : (w : World) (command : DeviceCommand) (old : Equipped) (told : Told) (new : Equipped) → IsObeyed w command old told new → AttentionAgrees old → AttentionAgrees new
-obeys w (commands.Ipl device) old told new o h = left_alone old new told _ o h
 obeys w commands.QueryFiles old told new o h = left_alone old new told _ o h
 obeys w commands.QueryUsers old told new o h = left_alone old new told _ o h
 obeys w (commands.Spool device name) old told new o h =
@@ -282,21 +281,10 @@ answers LogsOff w typed old told new a h = left_alone old new told (logged_off o
 answers Resets w typed old told new a h = left_alone old new told (was_reset old) a (afresh old (was_reset old).equipped refl refl refl)
 answers Types w typed old told new a h =
     left_alone old new told (typed_at old.devices.places.console (cleaned typed) old) a (types old.devices.places.console (cleaned typed) old refl h)
+answers (Loads device) w typed old told new a h = loaded (kind_at old.devices old.disks device) device old told new a h
 answers (Asks command) w typed old told new a h = obeys w command old told new a h
 answers (Alone asked) w typed old told new a h =
     left_alone old new told _ a (same old (record old { machine = (line asked old.machine).machine }) refl refl (line_same asked old.machine) h)
-
-follows : (first : Told) (old : Equipped) (told : Told) (new : Equipped) → IsFollowed (loads_from first) first old told new → AttentionAgrees old → AttentionAgrees new
-follows (Loads device) old told new f h = loaded (kind_at old.devices old.disks device) device old told new f h
-follows Silent old told new f h = left_alone old new told _ f h
-follows (Said response) old told new f h = left_alone old new told _ f h
-follows Files old told new f h = left_alone old new told _ f h
-follows (Sent user line) old told new f h = left_alone old new told _ f h
-follows Closed old told new f h = left_alone old new told _ f h
-
-typed_agrees : (w : World) (typed : List ℕ) (old : Equipped) (told : Told) (new : Equipped) → IsWholeLine w typed old told new → AttentionAgrees old → AttentionAgrees new
-typed_agrees w typed old told new l h =
-    follows l.first l.next told new l.followed (answers (requested typed old) w typed old l.first l.next l.line h)
 
 -- ---- events
 
@@ -306,7 +294,7 @@ leaves reads (Units count) old new l h =
     runs_in old.machine.mode count old.machine (waits_at old.devices.places.console old.devices.console) h in
     agrees_as new old.devices.places old.devices.console (run count old.machine).machine.core.subchannels (ap (λ (d : DevicesValue). d.places) l.1) (ap (λ (d : DevicesValue). d.console) l.1) (ap (λ (m : Machine). m.core.subchannels) l.0) kept
 leaves reads (Serve device) old new l h = serve_agrees reads device old l.0 new l.1 h
-leaves reads (Line world typed) old new l h = typed_agrees world typed old l.0 new l.1 h
+leaves reads (Line world typed) old new l h = answers (requested typed old) world typed old l.0 new l.1 h
 leaves reads Tick old new l h =
     same old new (ap (λ (d : DevicesValue). d.places) l.1) (ap (λ (d : DevicesValue). d.console) l.1) (ap (λ (m : Machine). m.core.subchannels) l.0 ∙ ticked_same old.machine.mode old.machine) h
 leaves reads (Deck deck) old new l h = subst AttentionAgrees (sym l) h

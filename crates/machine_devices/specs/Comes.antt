@@ -1,42 +1,39 @@
 -- What comes of a line besides what it says: a loading, files that are closed, a message; and where that takes memory.
-use Rattle.std.specs.Prelude.{◌≡◌, ℕ, ◌<◌, ◌⊎◌, ◌||◌, Bool, true, false, List, length, Option, Some, None, is_some}
+use Rattle.std.specs.Prelude.{◌≡◌, ℕ, ◌<◌, ◌⊎◌, ◌||◌, Bool, true, false, List, length}
 use Rattle.cp_console.specs.declared.device_commands.DeviceCommand.{DeviceCommand}
 use Rattle.cp_console.specs.declared.device_commands.DeviceCommand.TheVariants as commands
 use Rattle.machine_devices.specs.declared.line.Told.{Told}
-use Rattle.machine_devices.specs.declared.line.Told.TheVariants.{Silent, Said, Files, Sent, Loads, Closed}
+use Rattle.machine_devices.specs.declared.line.Told.TheVariants.{Silent, Said, Files, Sent, Closed}
 use Rattle.machine_devices.specs.declared.request.Request.{Request}
-use Rattle.machine_devices.specs.declared.request.Request.TheVariants.{LogsOn, LogsOff, Resets, Types, Asks, Alone}
+use Rattle.machine_devices.specs.declared.request.Request.TheVariants.{LogsOn, LogsOff, Resets, Types, Loads, Asks, Alone}
 use Rattle.machine_devices.specs.Equipped.{Equipped}
-use Rattle.machine_devices.specs.Lines.{MayTakeMemory, requested}
+use Rattle.machine_devices.specs.Lines.{IplNeeds, MayTakeMemory, requested}
 
 -- ---- what a line asks for
 
--- the device from which a line asks to load the machine
-abbrev pub command_loads : DeviceCommand → Option ℕ
-command_loads (commands.Ipl device) = Some device
-command_loads commands.QueryFiles = None
-command_loads commands.QueryUsers = None
-command_loads (commands.Spool device name) = None
-command_loads (commands.Close device) = None
-command_loads (commands.Purge file) = None
-command_loads (commands.Message name text) = None
-
-abbrev pub asks_to_load : Request → Option ℕ
-asks_to_load (Asks command) = command_loads command
-asks_to_load LogsOn = None
-asks_to_load LogsOff = None
-asks_to_load Resets = None
-asks_to_load Types = None
-asks_to_load (Alone asked) = None
-
--- whether it asks for that
+-- whether it asks to load the machine
 abbrev pub is_ipl : Request → Bool
-is_ipl q = is_some (asks_to_load q)
+is_ipl (Loads device) = true
+is_ipl LogsOn = false
+is_ipl LogsOff = false
+is_ipl Resets = false
+is_ipl Types = false
+is_ipl (Asks command) = false
+is_ipl (Alone asked) = false
+
+-- which pages that loading needs: page 0, and those that its program touches
+abbrev pub LoadWants : Request → Equipped → ℕ → Type 0
+LoadWants (Loads device) e = IplNeeds device e
+LoadWants LogsOn e = λ page. ⊥
+LoadWants LogsOff e = λ page. ⊥
+LoadWants Resets e = λ page. ⊥
+LoadWants Types e = λ page. ⊥
+LoadWants (Asks command) e = λ page. ⊥
+LoadWants (Alone asked) e = λ page. ⊥
 
 -- CLOSE closes a file
 abbrev pub command_closes : DeviceCommand → Bool
 command_closes (commands.Close device) = true
-command_closes (commands.Ipl device) = false
 command_closes commands.QueryFiles = false
 command_closes commands.QueryUsers = false
 command_closes (commands.Spool device name) = false
@@ -50,6 +47,7 @@ closes (Asks command) = command_closes command
 closes LogsOn = false
 closes Resets = false
 closes Types = false
+closes (Loads device) = false
 closes (Alone asked) = false
 
 -- such a line, or an IPL, is cut short where memory is refused meanwhile
@@ -68,13 +66,12 @@ is_sent (Sent user line) = true
 is_sent Silent = false
 is_sent (Said response) = false
 is_sent Files = false
-is_sent (Loads device) = false
 is_sent Closed = false
 
 -- and what comes of a line that was answered so takes memory only for a message and for files that it closed
 abbrev pub NeedsMemory : ℕ → ℕ → Told → Equipped → Type 0
 NeedsMemory punched printed told e = (is_sent told ≡ true) ⊎ HasClosed punched printed e
 
--- the lines that may take memory: those of a machine with devices, and an IPL, which makes room for a notice
+-- the lines that may take memory
 abbrev pub LineMay : List ℕ → Equipped → Type 0
-LineMay typed e = MayTakeMemory (requested typed e) ⊎ (is_ipl (requested typed e) ≡ true)
+LineMay typed e = MayTakeMemory (requested typed e) e

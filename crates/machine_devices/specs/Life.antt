@@ -7,7 +7,7 @@ use Rattle.machine_panel.specs.Run.{run}
 use Rattle.machine_panel.specs.Tick.{ticked}
 use Rattle.machine_devices.specs.declared.line.Told.{Told}
 use Rattle.machine_devices.specs.Equipped.{Equipped}
-use Rattle.machine_devices.specs.Lines.{IsWholeLine}
+use Rattle.machine_devices.specs.Lines.{IsLine}
 use Rattle.machine_devices.specs.Serve.{IsServedAt}
 use Rattle.machine_devices.specs.Spooling.{with_deck_queued}
 use Rattle.machine_devices.specs.World.{World}
@@ -31,7 +31,7 @@ pub data Event : Type 0 where
 abbrev pub Leaves : Reading → Event → Equipped → Equipped → Type 0
 Leaves reads (Units count) old new = (new.machine ≡ (run count old.machine).machine) × (new.devices ≡ old.devices) × (new.disks ≡ old.disks)
 Leaves reads (Serve device) old new = (done : Bool) × IsServedAt reads device old done new
-Leaves reads (Line world typed) old new = (told : Told) × IsWholeLine world typed old told new
+Leaves reads (Line world typed) old new = (told : Told) × IsLine world typed old told new
 Leaves reads Tick old new = (new.machine ≡ ticked old.machine) × (new.devices ≡ old.devices) × (new.disks ≡ old.disks)
 Leaves reads (Deck deck) old new = new ≡ record old { devices = with_deck_queued old.devices deck }
 Leaves reads (Message text) old new = new ≡ record old { machine = printed old.machine text }

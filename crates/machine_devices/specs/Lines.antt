@@ -19,11 +19,11 @@ use Rattle.machine_panel.specs.Machine.{cleared, printed, reset, switched_off}
 use Rattle.machine_panel.specs.declared.line.PanelLine.{PanelLine}
 use Rattle.machine_panel.specs.Panel.{line, line_room}
 use Rattle.machine_devices.specs.declared.line.Told.{Told}
-use Rattle.machine_devices.specs.declared.line.Told.TheVariants.{Silent, Said, Files, Sent, Loads, Closed}
+use Rattle.machine_devices.specs.declared.line.Told.TheVariants.{Silent, Said, Files, Sent, Closed}
 use Rattle.machine_devices.specs.declared.places.Kind.{Kind}
 use Rattle.machine_devices.specs.declared.places.Kind.TheVariants as kinds
 use Rattle.machine_devices.specs.declared.request.Request.{Request}
-use Rattle.machine_devices.specs.declared.request.Request.TheVariants.{LogsOn, LogsOff, Resets, Types, Asks, Alone}
+use Rattle.machine_devices.specs.declared.request.Request.TheVariants.{LogsOn, LogsOff, Resets, Types, Loads, Asks, Alone}
 use Rattle.machine_channels.specs.Channels.{DiskLoads, LoadNeeds}
 use Rattle.machine_channels.specs.Disks.{DiskAt, cleared_disk, reset_disk}
 use Rattle.machine_devices.specs.Devices.{DevicesValue, kind_at, part_at}
@@ -195,14 +195,13 @@ KindLoads None e = λ page. ⊥
 abbrev pub IplNeeds : ℕ → Equipped → ℕ → Type 0
 IplNeeds device e = KindLoads (kind_at e.devices e.disks device) e
 
--- an IPL from the device of this address, which the owner of the machine does
+-- an IPL from the device of this address
 abbrev pub IsIpl : ℕ → Equipped → Told → Equipped → Type 0
 IsIpl device old told new = LoadsKind (kind_at old.devices old.disks device) device old told new
 
--- ---- a command that concerns devices, their files or other users
+-- ---- a command that concerns devices' files or other users
 
 abbrev pub IsObeyed : World → DeviceCommand → Equipped → Told → Equipped → Type 0
-IsObeyed w (commands.Ipl device) old told new = outcome new told ≡ outcome old (Loads device)
 IsObeyed w commands.QueryFiles old told new = outcome new told ≡ outcome old (files_told old.devices.reader.decks)
 IsObeyed w commands.QueryUsers old told new = outcome new told ≡ outcome old (Said (responses.Users (users_on w)))
 IsObeyed w (commands.Spool device name) old told new = outcome new told ≡ spool_answered w device name old
@@ -217,6 +216,7 @@ IsAnswered LogsOn w typed old told new = outcome new told ≡ logged_on old
 IsAnswered LogsOff w typed old told new = outcome new told ≡ logged_off old
 IsAnswered Resets w typed old told new = outcome new told ≡ was_reset old
 IsAnswered Types w typed old told new = outcome new told ≡ typed_at old.devices.places.console (cleaned typed) old
+IsAnswered (Loads device) w typed old told new = IsIpl device old told new
 IsAnswered (Asks command) w typed old told new = IsObeyed w command old told new
 IsAnswered (Alone asked) w typed old told new = outcome new told ≡ answered_alone asked old
 
@@ -228,45 +228,24 @@ requested typed e = request_in e.machine.mode (is_some e.devices.places.console)
 abbrev pub IsLine : World → List ℕ → Equipped → Told → Equipped → Type 0
 IsLine w typed old told new = IsAnswered (requested typed old) w typed old told new
 
--- the device from which the owner is to load the machine
-abbrev pub loads_from : Told → Option ℕ
-loads_from (Loads device) = Some device
-loads_from Silent = None
-loads_from (Said response) = None
-loads_from Files = None
-loads_from (Sent user line) = None
-loads_from Closed = None
-
--- where a line tells of an IPL, the owner does that at once
-abbrev pub IsFollowed : Option ℕ → Told → Equipped → Told → Equipped → Type 0
-IsFollowed (Some device) first old told new = IsIpl device old told new
-IsFollowed None first old told new = outcome new told ≡ outcome old first
-
--- a line with what follows it
-pub record IsWholeLine (w : World) (typed : List ℕ) (old : Equipped) (told : Told) (new : Equipped) : Type 0 where
-  pub first : Told
-  pub next : Equipped
-  pub line : IsLine w typed old first next
-  pub followed : IsFollowed (loads_from first) first next told new
-
 -- ---- where memory may be refused
 
 -- a file that is closed and a message that is sent take memory
 abbrev pub CommandMayTakeMemory : DeviceCommand → Type 0
 CommandMayTakeMemory (commands.Close device) = Unit {0}
 CommandMayTakeMemory (commands.Message name text) = Unit {0}
-CommandMayTakeMemory (commands.Ipl device) = ⊥
 CommandMayTakeMemory commands.QueryFiles = ⊥
 CommandMayTakeMemory commands.QueryUsers = ⊥
 CommandMayTakeMemory (commands.Spool device name) = ⊥
 CommandMayTakeMemory (commands.Purge file) = ⊥
 
--- and so do the files that LOGOFF closes, the answer to a reset, a line that waits for the console, and what a machine alone
--- makes room for
-abbrev pub MayTakeMemory : Request → Type 0
-MayTakeMemory LogsOn = ⊥
-MayTakeMemory LogsOff = Unit {0}
-MayTakeMemory Resets = Unit {0}
-MayTakeMemory Types = Unit {0}
-MayTakeMemory (Asks command) = CommandMayTakeMemory command
-MayTakeMemory (Alone asked) = 0 < line_room asked
+-- and so do the files that LOGOFF closes, the answer to a reset, a line that waits for the console, a loading from a device that
+-- can be loaded from, and what a machine alone makes room for
+abbrev pub MayTakeMemory : Request → Equipped → Type 0
+MayTakeMemory LogsOn e = ⊥
+MayTakeMemory LogsOff e = Unit {0}
+MayTakeMemory Resets e = Unit {0}
+MayTakeMemory Types e = Unit {0}
+MayTakeMemory (Loads device) e = can_load (kind_at e.devices e.disks device) ≡ true
+MayTakeMemory (Asks command) e = CommandMayTakeMemory command
+MayTakeMemory (Alone asked) e = 0 < line_room asked

@@ -5,14 +5,14 @@ use Rattle.unit_record.specs.declared.output.Target.TheVariants as targets
 use Rattle.unit_record.specs.Output.{FileValue}
 use Rattle.cp_console.specs.declared.responses.Response.TheVariants as responses
 use Rattle.machine_devices.specs.declared.line.Told.{Told}
-use Rattle.machine_devices.specs.declared.line.Told.TheVariants.{Silent, Said, Files, Sent, Loads, Closed}
+use Rattle.machine_devices.specs.declared.line.Told.TheVariants.{Silent, Said, Files, Sent, Closed}
 use Rattle.machine_devices.specs.declared.reply.Delivered.{Delivered}
 use Rattle.machine_devices.specs.declared.reply.Delivery.{Delivery}
 use Rattle.machine_devices.specs.declared.reply.Delivery.TheVariants as deliveries
 use Rattle.machine_devices.specs.declared.reply.Ended.{Ended}
 use Rattle.machine_devices.specs.declared.reply.Reply.{Reply}
 use Rattle.machine_devices.specs.Equipped.{Equipped}
-use Rattle.machine_devices.specs.Lines.{IsWholeLine}
+use Rattle.machine_devices.specs.Lines.{IsLine}
 use Rattle.machine_devices.specs.World.{World}
 
 -- it tells no more than how the event ended
@@ -21,14 +21,12 @@ silent ended = record { ended = ended; said = Silent; lines = 0; delivered = Non
 
 -- ---- a line
 
--- a message is sent to its receiver, and a file that was closed has this number; that a machine is loaded is told by what the
--- loading tells
+-- a message is sent to its receiver, and a file that was closed has this number
 abbrev pub said_to_line : ℕ → Told → Told
 said_to_line number Silent = Silent
 said_to_line number (Said response) = Said response
 said_to_line number Files = Files
 said_to_line number (Sent user line) = Said responses.Sent
-said_to_line number (Loads device) = Loads device
 said_to_line number Closed = Said (responses.FileClosed number)
 
 -- what is for a user of whom there are fewer comes to nobody
@@ -63,14 +61,13 @@ delivered_by users number before (Sent user line) answered = delivery_to users u
 delivered_by users number before Silent answered = punched users number before answered
 delivered_by users number before (Said response) answered = punched users number before answered
 delivered_by users number before Files answered = punched users number before answered
-delivered_by users number before (Loads device) answered = punched users number before answered
 delivered_by users number before Closed answered = punched users number before answered
 
 -- the machine answers as one with devices does in this world, where there are so many users and the next file has this number
 pub record IsLineTold (world : World) (users number : ℕ) (typed : List ℕ) (old : Equipped) (reply : Reply) : Type 0 where
   pub told : Told
   pub answered : Equipped
-  pub line : IsWholeLine world typed old told answered
+  pub line : IsLine world typed old told answered
   pub said : reply.said ≡ said_to_line number told
   pub delivered : reply.delivered ≡ delivered_by users number (length old.devices.punched) told answered
 

@@ -13,7 +13,7 @@ use Rattle.machine_panel.specs.declared.machine.Mode.{Mode}
 use Rattle.machine_panel.specs.declared.machine.Mode.TheVariants.{Off, Stopped, Running}
 use Rattle.machine_panel.specs.Panel.{line_needs}
 use Rattle.machine_devices.specs.declared.request.Request.{Request}
-use Rattle.machine_devices.specs.declared.request.Request.TheVariants.{LogsOn, LogsOff, Resets, Types, Asks, Alone}
+use Rattle.machine_devices.specs.declared.request.Request.TheVariants.{LogsOn, LogsOff, Resets, Types, Loads, Asks, Alone}
 
 -- ---- how it is read
 
@@ -32,6 +32,7 @@ command_request (Ok commands.SystemReset) = Resets
 command_request (Ok commands.External) = Alone lines.External
 command_request (Ok (commands.Display place)) = Alone (lines.Display place)
 command_request (Ok (commands.Store change)) = Alone (lines.Store change)
+command_request (Ok (commands.Ipl device)) = Loads device
 command_request (Ok (commands.Device command)) = Asks command
 command_request (Err wrong.Unknown) = Alone (lines.Says responses.UnknownCommand)
 command_request (Err (wrong.Operand place)) = Alone (lines.Says (responses.BadOperand place))
@@ -63,14 +64,16 @@ switches LogsOn = true
 switches LogsOff = true
 switches Resets = false
 switches Types = false
+switches (Loads device) = false
 switches (Asks command) = false
 switches (Alone asked) = false
 
--- the ranges of storage that it has to access
+-- the ranges of storage that it has to access; what a loading needs is said with it
 abbrev pub needs_of : Request → List Test
 needs_of (Alone asked) = line_needs asked
 needs_of LogsOn = []
 needs_of LogsOff = []
 needs_of Resets = []
 needs_of Types = []
+needs_of (Loads device) = []
 needs_of (Asks command) = []

@@ -1,13 +1,15 @@
 //! Lines that are typed to a machine with devices.
 ghost use Rattle.std.specs.Prelude.{◌≡◌, ◌<◌, ◌≤◌, ℕ, List, [], IfOk, OnErr, OnOk, Err, false, true, length};
-ghost use Rattle.s370_store.specs.Access.{Touches};
+ghost use Rattle.s370_store.specs.Access.{IsAway, Touches};
+ghost use Rattle.machine_channels.specs.Channels.{Brings, LacksRoom, NoRoom};
 ghost use Rattle.machine_channels.specs.Disks.{DiskAt};
 ghost use Rattle.s370_intr.specs.Run.{AllNeeded, IsLacking};
 ghost use Rattle.cp_spool.specs.Queues.{UserFiles};
 ghost use Rattle.machine_devices.specs.Equipped.{equipped};
 ghost use Rattle.machine_devices.specs.Lent.{KeepsBeside, devices_on, devices_with};
 ghost use Rattle.machine_devices.specs.Requests.{needs_of, switches};
-ghost use Rattle.machine_devices.specs.Lines.{IsLine, MayTakeMemory, loads_from, logged_off, outcome, said, requested, typed_at, was_reset};
+ghost use Rattle.machine_devices.specs.Comes.{LineMay, LoadWants, is_ipl};
+ghost use Rattle.machine_devices.specs.Lines.{IsLine, logged_off, outcome, said, requested, typed_at, was_reset};
 
 use crate::devices::Devices;
 use crate::request::{Request, request_of};
@@ -16,9 +18,8 @@ use cp_console::console_line::ConsoleLine;
 use cp_console::lines::ConsoleText;
 use cp_console::responses::Response;
 use cp_spool::Queues;
-use machine_channels::Disks;
+use machine_channels::{Channels, Disks};
 use machine_panel::{LineError, Machine};
-use s370_num::DevAddr;
 use s370_store::Supply;
 use std::alloc::Global;
 use unit_record::Arrival;
@@ -34,8 +35,6 @@ pub enum Told {
     Files,
     /// That the line was sent to the user of this number, whose console is to print it.
     Sent(u8, ConsoleLine),
-    /// That the machine is to be loaded from the device of this address: its owner does it.
-    Loads(DevAddr),
     /// That a file was closed, the last of its device: its owner gives it a number.
     Closed,
 }
@@ -51,63 +50,74 @@ impl Told {
             Some(response) => Told::Said(response),
         }
     }
-
-    /// The device from which its owner is to load the machine, where that is told.
-    pub fn loads_from(&self) -> Option<DevAddr>
-        ensures { result ≡ loads_from self.now }
-    {
-        match self {
-            Told::Loads(device) => Some(*device),
-            Told::Silent | Told::Said(_) | Told::Files | Told::Sent(_, _) | Told::Closed => None,
-        }
-    }
 }
 
 impl Devices {
     /// A line that is typed to a machine with these devices, and what is told. Where it is not obeyed, nothing has
-    /// happened.
-    pub fn line<S: Supply, D: Disks, W: World>(
+    /// happened; but of a machine whose loading is not obeyed nothing is said, where the channels are not whole or memory
+    /// is refused.
+    pub fn line<S: Supply, C: Channels<S>, W: World>(
         &mut self,
         alloc: Global,
         queues: &mut Queues,
         machine: &mut Machine,
         storage: &mut S,
-        disks: &mut D,
+        channels: &mut C,
         world: &W,
         typed: &[u8],
     ) -> Result<Told, LineError>
         requires size { 8192 ≤ length (S.Storage.bytes storage.old) }
         requires user { self.old.user < length queues.old.users }
-        ensures ok { let before = equipped machine.old (devices_on self.old queues.old) (D.disks disks.old) (S.Storage.bytes storage.old)
+        requires ready { C.IsReady storage.old }
+        ensures ok { let before = equipped machine.old (devices_on self.old queues.old) (C.disks channels.old) (S.Storage.bytes storage.old)
             (S.Storage.keys storage.old) in
-            let after = equipped machine.new (devices_on self.new queues.new) (D.disks disks.new) (S.Storage.bytes storage.new)
+            let after = equipped machine.new (devices_on self.new queues.new) (C.disks channels.new) (S.Storage.bytes storage.new)
             (S.Storage.keys storage.new) in
             IfOk result (λ told. IsLine (W.known world.now) typed.now before told after) }
-        ensures err { let before = equipped machine.old (devices_on self.old queues.old) (D.disks disks.old) (S.Storage.bytes storage.old)
+        ensures err { let before = equipped machine.old (devices_on self.old queues.old) (C.disks channels.old) (S.Storage.bytes storage.old)
             (S.Storage.keys storage.old) in
-            let after = equipped machine.new (devices_on self.new queues.new) (D.disks disks.new) (S.Storage.bytes storage.new)
+            let after = equipped machine.new (devices_on self.new queues.new) (C.disks channels.new) (S.Storage.bytes storage.new)
             (S.Storage.keys storage.new) in
-            OnErr result (after ≡ before) }
-        ensures memory { let before = equipped machine.old (devices_on self.old queues.old) (D.disks disks.old) (S.Storage.bytes storage.old)
+            is_ipl (requested typed.now before) ≡ false → OnErr result (after ≡ before) }
+        ensures same { let before = equipped machine.old (devices_on self.old queues.old) (C.disks channels.old) (S.Storage.bytes storage.old)
             (S.Storage.keys storage.old) in
-            result ≡ Err LineError.Memory → MayTakeMemory (requested typed.now before) }
-        ensures frames { let before = equipped machine.old (devices_on self.old queues.old) (D.disks disks.old) (S.Storage.bytes storage.old)
+            let after = equipped machine.new (devices_on self.new queues.new) (C.disks channels.new) (S.Storage.bytes storage.new)
+            (S.Storage.keys storage.new) in
+            C.is_whole ≡ true → result ≡ Err LineError.FramesOut → after ≡ before }
+        ensures memory { let before = equipped machine.old (devices_on self.old queues.old) (C.disks channels.old) (S.Storage.bytes storage.old)
             (S.Storage.keys storage.old) in
-            result ≡ Err LineError.FramesOut
-            → IsLacking (Touches (needs_of (requested typed.now before))) (length (S.Storage.bytes storage.old))
-            (S.IsShort storage.new) }
-        ensures cleared { let before = equipped machine.old (devices_on self.old queues.old) (D.disks disks.old) (S.Storage.bytes storage.old)
+            result ≡ Err LineError.Memory → LineMay typed.now before }
+        ensures frames { let before = equipped machine.old (devices_on self.old queues.old) (C.disks channels.old) (S.Storage.bytes storage.old)
+            (S.Storage.keys storage.old) in
+            let asked = requested typed.now before in
+            is_ipl asked ≡ false → result ≡ Err LineError.FramesOut
+            → IsLacking (Touches (needs_of asked)) (length (S.Storage.bytes storage.old)) (S.IsShort storage.new) }
+        ensures lacks { let before = equipped machine.old (devices_on self.old queues.old) (C.disks channels.old) (S.Storage.bytes storage.old)
+            (S.Storage.keys storage.old) in
+            is_ipl (requested typed.now before) ≡ true → C.is_whole ≡ false → result ≡ Err LineError.FramesOut
+            → ((page : ℕ) × IsAway (length (S.Storage.bytes storage.old)) (S.Storage.present storage.old) page) }
+        ensures out { let before = equipped machine.old (devices_on self.old queues.old) (C.disks channels.old) (S.Storage.bytes storage.old)
+            (S.Storage.keys storage.old) in
+            let needs = LoadWants (requested typed.now before) before in
+            is_ipl (requested typed.now before) ≡ true → C.is_whole ≡ true → result ≡ Err LineError.FramesOut
+            → LacksRoom (length (S.Storage.bytes storage.old)) needs (NoRoom C.IsOut C.IsFilled S.Storage.present storage.new needs) }
+        ensures cleared { let before = equipped machine.old (devices_on self.old queues.old) (C.disks channels.old) (S.Storage.bytes storage.old)
             (S.Storage.keys storage.old) in
             switches (requested typed.now before) ≡ true → OnOk result (S.Cleared storage.old storage.new) }
-        ensures not_cleared { let before = equipped machine.old (devices_on self.old queues.old) (D.disks disks.old)
+        ensures not_cleared { let before = equipped machine.old (devices_on self.old queues.old) (C.disks channels.old)
             (S.Storage.bytes storage.old) (S.Storage.keys storage.old) in
             switches (requested typed.now before) ≡ true → OnErr result (S.Brought storage.old [] storage.new) }
-        ensures supply { let before = equipped machine.old (devices_on self.old queues.old) (D.disks disks.old) (S.Storage.bytes storage.old)
+        ensures supply { let before = equipped machine.old (devices_on self.old queues.old) (C.disks channels.old) (S.Storage.bytes storage.old)
             (S.Storage.keys storage.old) in
-            switches (requested typed.now before) ≡ false
-            → ((pages : List ℕ) × S.Brought storage.old pages storage.new
-            × AllNeeded (Touches (needs_of (requested typed.now before))) pages) }
-        ensures others { D.KeepsOthers disks.old disks.new }
+            let asked = requested typed.now before in
+            switches asked ≡ false → is_ipl asked ≡ false
+            → ((pages : List ℕ) × S.Brought storage.old pages storage.new × AllNeeded (Touches (needs_of asked)) pages) }
+        ensures came { let before = equipped machine.old (devices_on self.old queues.old) (C.disks channels.old) (S.Storage.bytes storage.old)
+            (S.Storage.keys storage.old) in
+            let asked = requested typed.now before in
+            is_ipl asked ≡ true
+            → Brings C.Came storage.old (LoadWants asked before) storage.new × C.IsReady storage.new }
+        ensures others { C.KeepsOthers channels.old channels.new }
         ensures beside { KeepsBeside self.old queues.old self.new queues.new }
         ensures size { length (S.Storage.bytes storage.new) ≡ length (S.Storage.bytes storage.old) }
     {
@@ -117,12 +127,13 @@ impl Devices {
             Request::LogsOn => {
                 machine.clear(storage);
                 self.reset();
-                disks.clear_disks();
+                channels.clear_disks();
                 Ok(Told::Said(Response::LogonOk))
             }
-            Request::LogsOff => self.leave(alloc, queues, machine, storage, disks),
-            Request::Resets => self.reset_machine(machine, disks),
+            Request::LogsOff => self.leave(alloc, queues, machine, storage, channels),
+            Request::Resets => self.reset_machine(machine, channels),
             Request::Types => self.type_line(machine, text.as_slice()),
+            Request::Loads(device) => self.ipl(queues, machine, storage, channels, device),
             Request::Asks(command) => self.obey(alloc, queues, world, &command),
             Request::Alone(asked) => match machine.answer(storage, asked) {
                 Ok(response) => Ok(Told::of(response)),

@@ -1,4 +1,4 @@
-//! The commands that concern the devices of a machine, their files and other users.
+//! The commands that concern the files of a machine's devices, and other users.
 ghost use Rattle.std.specs.Prelude.{◌≡◌, ◌<◌, List, is_some, if◌then◌else◌, length, IfOk, OnErr, OnOk, Err};
 ghost use Rattle.user_names.specs.Users.{user_of};
 ghost use Rattle.cp_console.specs.declared.responses.Response.TheVariants as responses;
@@ -76,7 +76,6 @@ impl Devices {
         ensures beside { KeepsBeside self.old queues.old self.new queues.new }
     {
         match command {
-            DeviceCommand::Ipl(device) => Ok(Told::Loads(*device)),
             DeviceCommand::QueryFiles => Ok(self.tell_files(queues)),
             DeviceCommand::QueryUsers => Ok(Told::Said(Response::Users(world.users_on()))),
             DeviceCommand::Spool(device, name) => {

@@ -74,6 +74,6 @@ pub fn said_to_line(number: u64, told: &Told) -> Told
     match told {
         Told::Sent(_, _) => Told::Said(Response::Sent),
         Told::Closed => Told::Said(Response::FileClosed(number)),
-        Told::Silent | Told::Said(_) | Told::Files | Told::Loads(_) => *told,
+        Told::Silent | Told::Said(_) | Told::Files => *told,
     }
 }

@@ -9,6 +9,7 @@ use cp_console::device_commands::DeviceCommand;
 use cp_console::lines::{Asked, asked_of};
 use cp_console::responses::Response;
 use machine_panel::{Mode, PanelLine};
+use s370_num::DevAddr;
 
 /// What a line asks of a machine with devices.
 #[derive(PartialEq, Eq, Drop)]
@@ -21,7 +22,9 @@ pub enum Request<'a> {
     Resets,
     /// A line for the console of a machine that runs.
     Types,
-    /// A command that concerns devices, their files or other users.
+    /// IPL: the machine is loaded from the device of this address.
+    Loads(DevAddr),
+    /// A command that concerns devices' files or other users.
     Asks(DeviceCommand<'a>),
     /// What the machine alone answers.
     Alone(PanelLine),
@@ -88,6 +91,7 @@ fn command_request(text: &[u8]) -> Request<'_>
         Ok(Command::External) => Request::Alone(PanelLine::External),
         Ok(Command::Display(place)) => Request::Alone(PanelLine::Display(place)),
         Ok(Command::Store(change)) => Request::Alone(PanelLine::Store(change)),
+        Ok(Command::Ipl(device)) => Request::Loads(device),
         Ok(Command::Device(command)) => Request::Asks(command),
         Err(CommandError::Unknown) => Request::Alone(PanelLine::Says(Response::UnknownCommand)),
         Err(CommandError::Operand(place)) => {

@@ -5,7 +5,7 @@ use Rattle.machine_devices.specs.declared.reply.Delivered.{Delivered}
 use Rattle.machine_devices.specs.Comes.{NeedsMemory}
 use Rattle.machine_devices.specs.Coming.{comes_by_line, coming_of}
 use Rattle.machine_devices.specs.Life.{Lives}
-use Rattle.machine_devices.specs.Lines.{IsWholeLine}
+use Rattle.machine_devices.specs.Lines.{IsLine}
 use Rattle.machine_devices.specs.Notes.{closed_since, next_file}
 use Rattle.machine_devices.specs.Replies.{delivered_by, said_to_line}
 use Rattle.machine_devices.specs.World.{World}
@@ -19,7 +19,7 @@ on_err X (Err error) x = x
 pub returns-in_err-delivered-clause-memory : goal.returns-in_err-delivered-clause-memory
 returns-in_err-delivered-clause-memory c =
     let old = c.args.self.now.equipped in
-    let middle = c.answer_whole.new.self.equipped in
+    let middle = c.answer.new.self.equipped in
     let told = c.in_ok-told.told in
     let needs : NeedsMemory (length old.devices.punched) (length old.devices.printed) told middle =
     subst (λ (n : ℕ). NeedsMemory (length old.devices.punched) n told middle) c.printed_files-printer_files.ensures
@@ -29,7 +29,7 @@ returns-in_err-delivered-clause-memory c =
 pub returns-clause-typed : goal.returns-clause-typed
 returns-clause-typed c =
     let old = c.args.self.now in
-    let middle = c.answer_whole.new.self in
+    let middle = c.answer.new.self in
     let told = c.in_ok-told.told in
     let delivered = c.in_ok-delivered.delivered in
     let punched = c.punched-punch_files.result in
@@ -40,7 +40,7 @@ returns-clause-typed c =
       tells = record {
         told = told;
         answered = middle.equipped;
-        line = subst (λ (w : World). IsWholeLine w c.args.typed.now old.equipped told middle.equipped) c.world-world.ensures c.in_ok-told.ensures.line;
+        line = subst (λ (w : World). IsLine w c.args.typed.now old.equipped told middle.equipped) c.world-world.ensures c.in_ok-told.ensures.line;
         said = c.said_to_line.ensures ∙ ap (λ (n : ℕ). said_to_line n told) c.next_file-number.ensures.value;
         delivered = f.delivered ∙ ap (λ (xs : List FileNote). delivered_by 1 (next_file xs) punched told middle.equipped) files
             ∙ ap (λ (n : ℕ). delivered_by 1 (next_file old.files) n told middle.equipped) c.punched-punch_files.ensures;

@@ -3,7 +3,7 @@ use Rattle.std.specs.Prelude.{IfOk}
 use Rattle.cp_dat.specs.Lent.{lent_bytes, lent_keys, user_of}
 use Rattle.machine_devices.specs.Equipped.{Equipped, equipped}
 use Rattle.machine_devices.specs.Lent.{devices_on}
-use Rattle.machine_devices.specs.Lines.{IsWholeLine, requested}
+use Rattle.machine_devices.specs.Lines.{IsLine, requested}
 use Rattle.machine_panel.specs.declared.line.LineError.TheVariants as errors
 use Rattle.cp_volumes.specs.Shared.{DisksValue, KeepsNeighbours, SharedMinidisk, seen}
 use Rattle.ckd_volume.specs.Volume.{VolumeFormat}
@@ -38,7 +38,7 @@ returns-clause-does c =
     let world = world_among c.users.result.now c.args.self.now.user c.as_slice.result.now in
     let Facts : DisksValue → Type 0 = λ d.
     IsLineLent typed (from d) c.args.storage.now told.new.storage r
-    × IfOk r (λ t. IsWholeLine world typed (from d) t after)
+    × IfOk r (λ t. IsLine world typed (from d) t after)
     × (r ≡ Err errors.FramesOut → after ≡ from d)
     × (r ≡ Err errors.Memory → is_ipl (requested typed (from d)) ≡ false → after ≡ from d)
     × (r ≡ Err errors.Memory → LineMay typed (from d)) in
