@@ -122,10 +122,10 @@ impl Bare {
         ensures memory { OnErr result (HasClosed punch_files printer_files self.old.equipped) }
     {
         if self.punched() > punch_files {
-            self.note(FileKind::Punch)?;
+            self.note(FileKind::Punch(punch_files))?;
         }
         if self.printed_files() > printer_files {
-            self.note(FileKind::Printer)?;
+            self.note(FileKind::Printer(printer_files))?;
         }
         Ok(())
     }

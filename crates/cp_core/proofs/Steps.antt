@@ -164,8 +164,8 @@ come_same old middle seen user punched typed reply at same (deliveries.Message l
 noted_same : (user a a' b b' : ℕ) (e e' : Equipped) → a ≡ a' → b ≡ b' → e.devices.punched ≡ e'.devices.punched → e.devices.printed ≡ e'.devices.printed → closed_since user a b e ≡ closed_since user a' b' e'
 noted_same user a a' b b' e e' p q r s =
     ap (λ (n : ℕ). closed_since user n b e) p ∙ ap (λ (n : ℕ). closed_since user a' n e) q
-    ∙ ap (λ (x : List FileValue). note_where (nat_lt a' (length x)) user kinds.Punch ++ note_where (nat_lt b' (length e.devices.printed)) user kinds.Printer) r
-    ∙ ap (λ (x : List FileValue). note_where (nat_lt a' (length e'.devices.punched)) user kinds.Punch ++ note_where (nat_lt b' (length x)) user kinds.Printer) s
+    ∙ ap (λ (x : List FileValue). note_where (nat_lt a' (length x)) user (kinds.Punch a') ++ note_where (nat_lt b' (length e.devices.printed)) user (kinds.Printer b')) r
+    ∙ ap (λ (x : List FileValue). note_where (nat_lt a' (length e'.devices.punched)) user (kinds.Punch a') ++ note_where (nat_lt b' (length x)) user (kinds.Printer b')) s
 
 delivered_same : (d : Option Delivered) (s t : SystemView) → s.deliveries ≡ t.deliveries → with_delivered d s ≡ with_delivered d t
 delivered_same None s t h = h

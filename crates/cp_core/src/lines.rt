@@ -171,10 +171,10 @@ impl System {
         let now = self.closed_by(user);
         let number = self.number_of(user);
         if now.punched > closed.punched {
-            self.note(number, FileKind::Punch)?;
+            self.note(number, FileKind::Punch(closed.punched))?;
         }
         if now.printed > closed.printed {
-            self.note(number, FileKind::Printer)?;
+            self.note(number, FileKind::Printer(closed.printed))?;
         }
         Ok(())
     }

@@ -13,11 +13,12 @@ abbrev pub note_where : Bool → ℕ → FileKind → List FileNote
 note_where false user kind = []
 note_where true user kind = record { user = user; kind = kind } ∷ []
 
--- the files that a user's punch and printer, which had closed so many, have closed since, that of the punch first
+-- the files that a user's punch and printer, which had closed so many, have closed since, that of the punch first: its place is the
+-- one after theirs
 abbrev pub closed_since : ℕ → ℕ → ℕ → Equipped → List FileNote
 closed_since user punched printed new =
-    note_where (nat_lt punched (length new.devices.punched)) user kinds.Punch
-    ++ note_where (nat_lt printed (length new.devices.printed)) user kinds.Printer
+    note_where (nat_lt punched (length new.devices.punched)) user (kinds.Punch punched)
+    ++ note_where (nat_lt printed (length new.devices.printed)) user (kinds.Printer printed)
 
 abbrev pub closed_by : ℕ → Equipped → Equipped → List FileNote
 closed_by user old new = closed_since user (length old.devices.punched) (length old.devices.printed) new

@@ -8,15 +8,16 @@ use std::alloc::{AllocError, Global};
 use unit_record::Sender;
 use user_names::{Named, UserNo};
 
-/// What a file was when it got its number.
+/// What a file was when it got its number; and of one that a device closed its place among all that this device has
+/// closed, from 0.
 #[derive(Clone, Copy, Debug, PartialEq, Eq)]
 pub enum FileKind {
     /// A deck that the operator gave.
     Deck,
     /// A file of the punch.
-    Punch,
+    Punch(usize),
     /// A file of the printer.
-    Printer,
+    Printer(usize),
 }
 
 /// Whose a file was when it got its number, and what.

@@ -1,5 +1,5 @@
 -- The lines of the files that were closed for the operator, by their numbers.
-use Rattle.std.specs.Prelude.{ℕ, ◌+◌, ◌==◌, ◌&&◌, Bool, true, false, if◌then◌else◌, List, [], ◌∷◌, ◌++◌, codes, drop, length, map, slice_get, take, Option, Some, None}
+use Rattle.std.specs.Prelude.{ℕ, ◌+◌, List, [], ◌∷◌, ◌++◌, codes, drop, map, slice_get, Option, Some, None}
 use Rattle.s370_num.specs.Address.{two_digits}
 use Rattle.s370_num.specs.Ebcdic.{printable_of}
 use Rattle.unit_record.specs.Output.{EntryValue, FileValue}
@@ -22,13 +22,13 @@ printed_text bytes = map printable_of bytes
 
 -- a card; of a printer the code of the command, and what it printed
 abbrev pub entry_line : FileKind → EntryValue → List ℕ
-entry_line kinds.Printer entry = two_digits entry.code ++ 32 ∷ printed_text entry.bytes
-entry_line kinds.Punch entry = printed_text entry.bytes
+entry_line (kinds.Printer place) entry = two_digits entry.code ++ 32 ∷ printed_text entry.bytes
+entry_line (kinds.Punch place) entry = printed_text entry.bytes
 entry_line kinds.Deck entry = printed_text entry.bytes
 
 abbrev pub kind_word : FileKind → List ℕ
-kind_word kinds.Printer = codes "PRT"
-kind_word kinds.Punch = codes "PUN"
+kind_word (kinds.Printer place) = codes "PRT"
+kind_word (kinds.Punch place) = codes "PUN"
 kind_word kinds.Deck = []
 
 -- `== PRT 0001 A`, or `== PUN 0001 A`
@@ -65,53 +65,25 @@ found_lines telling kind number name (Some file) = file_lines telling kind numbe
 
 -- ---- the files of all users
 
-abbrev pub is_punch : FileKind → Bool
-is_punch kinds.Punch = true
-is_punch kinds.Printer = false
-is_punch kinds.Deck = false
+-- the closed file that a note is of: the one at its place among those that the user's device has closed
+abbrev pub closed_in : Installed → ℕ → FileKind → Option FileValue
+closed_in s user (kinds.Punch place) = slice_get (user_at s user).devices.punched place
+closed_in s user (kinds.Printer place) = slice_get (user_at s user).devices.printed place
+closed_in s user kinds.Deck = None
 
-abbrev pub is_printer : FileKind → Bool
-is_printer kinds.Printer = true
-is_printer kinds.Punch = false
-is_printer kinds.Deck = false
+-- the lines of the file with this number that was noted so
+abbrev pub note_lines : Telling → Installed → ℕ → FileNote → List (List ℕ)
+note_lines telling s number note =
+    found_lines telling note.kind number (name_of (names_of s) note.user) (closed_in s note.user note.kind)
 
--- whether a file was closed by the punch of this user, or by his printer
-abbrev pub is_punched : ℕ → FileNote → Bool
-is_punched user note = (note.user == user) && is_punch note.kind
-
-abbrev pub is_printed : ℕ → FileNote → Bool
-is_printed user note = (note.user == user) && is_printer note.kind
-
--- how many are such
-abbrev pub count_of : {X : Type 0} → (X → Bool) → List X → ℕ
-count_of is_such [] = 0
-count_of is_such (x ∷ xs) = if is_such x then count_of is_such xs + 1 else count_of is_such xs
-
--- the closed file that this note is of, where these were noted before it: of the files that a punch has closed the one after as many as
--- it has closed before, and so of a printer
-abbrev pub closed_in : Installed → List FileNote → ℕ → FileKind → Option FileValue
-closed_in s before user kinds.Punch = slice_get (user_at s user).devices.punched (count_of (is_punched user) before)
-closed_in s before user kinds.Printer = slice_get (user_at s user).devices.printed (count_of (is_printed user) before)
-closed_in s before user kinds.Deck = None
-
--- the lines of a file that was noted so, after these: its number is one more than theirs
-abbrev pub note_lines : Telling → Installed → List FileNote → FileNote → List (List ℕ)
-note_lines telling s before note =
-    found_lines telling note.kind (length before + 1) (name_of (names_of s) note.user) (closed_in s before note.user note.kind)
-
--- where there is one
-abbrev pub place_lines : Telling → Installed → List FileNote → Option FileNote → List (List ℕ)
-place_lines telling s before None = []
-place_lines telling s before (Some note) = note_lines telling s before note
-
--- those of files that were noted one after another, after these
-abbrev pub lines_after : Telling → Installed → List FileNote → List FileNote → List (List ℕ)
-lines_after telling s before [] = []
-lines_after telling s before (note ∷ notes) = note_lines telling s before note ++ lines_after telling s (before ++ note ∷ []) notes
+-- those of files that were noted one after another, of which the first has this number
+abbrev pub lines_from : Telling → Installed → ℕ → List FileNote → List (List ℕ)
+lines_from telling s number [] = []
+lines_from telling s number (note ∷ notes) = note_lines telling s number note ++ lines_from telling s (number + 1) notes
 
 -- those of all files but the first so many
 abbrev pub lines_since : Telling → ℕ → Installed → List (List ℕ)
-lines_since telling count s = lines_after telling s (take count s.files) (drop count s.files)
+lines_since telling count s = lines_from telling s (count + 1) (drop count s.files)
 
 -- those of all files end a transcript
 abbrev pub closing_lines : Installed → List (List ℕ)

@@ -1,13 +1,13 @@
 //! The files that were closed for the operator, by their numbers: the last part of a transcript, and what a part of a
 //! script has closed.
-ghost use Rattle.std.specs.Prelude.{◌≡◌, ◌++◌, ◌∷◌, ◌<◌, [], IfOk, OnOk, Some, length, map, slice_get, take};
+ghost use Rattle.std.specs.Prelude.{◌≡◌, ◌++◌, ◌∷◌, [], IfOk, OnOk, map};
 ghost use Rattle.std.specs.Option.{option_copied, option_map};
 ghost use Rattle.cp_spool.specs.File.{closed_file};
 ghost use Rattle.user_names.specs.Users.{name_of};
 ghost use Rattle.std.specs.String.{string_bytes};
 ghost use Rattle.cp_console.specs.Responses.{file_number};
 ghost use Rattle.s370_num.specs.Address.{two_digits};
-ghost use Rattle.sessions.specs.Files.{closed_in, count_of, entry_line, entry_mark, file_lines, found_lines, heading_line, heading_mark, is_printed, is_printer, is_punch, is_punched, kind_word, lines_since, marked_entry, note_lines, place_lines, printed_text};
+ghost use Rattle.sessions.specs.Files.{closed_in, entry_line, entry_mark, file_lines, found_lines, heading_line, heading_mark, kind_word, lines_since, marked_entry, note_lines, printed_text};
 ghost use Rattle.sessions.specs.Installed.{names_of};
 ghost use Rattle.sessions.specs.Transcript.{ended};
 
@@ -38,75 +38,34 @@ pub(crate) fn print_files<I: Installation>(
     ensures { IfOk result (λ text. text.items ≡ ended (lines_since telling since (I.goes.seen installation.now))) }
 {
     let mut text = Vec::new(alloc);
-    let notes = notes(alloc, installation)?;
-    for place in since..notes.len() {
-        print_note(alloc, &mut text, installation, telling, &notes, place)?;
+    for place in since..installation.files() {
+        let Some(note) = installation.file(place) else {
+            unreachable!();
+        };
+        print_noted(
+            alloc,
+            &mut text,
+            installation,
+            telling,
+            place as u64 + 1,
+            note,
+        )?;
     }
     Ok(text)
 }
 
-/// What each file was and whose, when it got its number.
-fn notes<I: Installation>(alloc: Global, installation: &I) -> Result<Vec<FileNote>, AllocError>
-    ensures { IfOk result (λ notes. notes.items ≡ (I.goes.seen installation.now).files) }
-{
-    let mut notes = Vec::new(alloc);
-    for place in 0..installation.files() {
-        let Some(note) = installation.file(place) else {
-            unreachable!();
-        };
-        notes.push(note)?;
-    }
-    Ok(notes)
-}
-
-/// Adds the lines of the file that was noted at this place among all.
-fn print_note<I: Installation>(
-    alloc: Global,
-    out: &mut Vec<u8>,
-    installation: &I,
-    telling: Telling,
-    notes: &[FileNote],
-    place: usize,
-) -> Result<(), AllocError>
-    requires { place < length notes.now }
-    ensures { OnOk result (out.new.items ≡ out.old.items
-        ++ ended (place_lines telling (I.goes.seen installation.now) (take place notes.now) (slice_get notes.now place))) }
-{
-    let note = note_at(notes, place);
-    let before = notes_before(notes, place);
-    print_noted(alloc, out, installation, telling, before, note)
-}
-
-/// What the file at this place was when it got its number.
-fn note_at(notes: &[FileNote], place: usize) -> FileNote
-    requires { place < length notes.now }
-    ensures { Some result ≡ slice_get notes.now place }
-{
-    notes[place]
-}
-
-/// The files before this place.
-fn notes_before(notes: &[FileNote], place: usize) -> &[FileNote]
-    requires { place < length notes.now }
-    ensures { result.now ≡ take place notes.now }
-{
-    &notes[..place]
-}
-
-/// Adds the lines of the file that was noted so, after these.
+/// Adds the lines of the file with this number that was noted so.
 fn print_noted<I: Installation>(
     alloc: Global,
     out: &mut Vec<u8>,
     installation: &I,
     telling: Telling,
-    before: &[FileNote],
+    number: u64,
     note: FileNote,
 ) -> Result<(), AllocError>
     ensures { OnOk result (out.new.items ≡ out.old.items
-        ++ ended (note_lines telling (I.goes.seen installation.now) before.now note)) }
+        ++ ended (note_lines telling (I.goes.seen installation.now) number note)) }
 {
-    let number = before.len() as u64 + 1;
-    let file = closed_file(installation, before, note.user, note.kind);
     print_found(
         alloc,
         out,
@@ -114,7 +73,7 @@ fn print_noted<I: Installation>(
         note.kind,
         number,
         installation.name(note.user),
-        file,
+        closed_file(installation, note.user, note.kind),
     )
 }
 
@@ -137,65 +96,22 @@ fn print_found(
     }
 }
 
-/// The file of this kind that a user has closed, where these were noted before it.
-fn closed_file<'a, I: Installation>(
-    installation: &'a I,
-    before: &[FileNote],
+/// The file that a user's device has closed at its place, where it is none of the operator's decks.
+fn closed_file<I: Installation>(
+    installation: &I,
     user: UserNo,
     kind: FileKind,
-) -> Option<&'a SpoolFile>
-    ensures { option_map closed_file (option_copied result) ≡ closed_in (I.goes.seen installation.now) before.now user kind }
+) -> Option<&SpoolFile>
+    ensures { option_map closed_file (option_copied result) ≡ closed_in (I.goes.seen installation.now) user kind }
 {
     if user.index() >= installation.users() {
         return None;
     }
     let devices = installation.devices(user);
     match kind {
-        FileKind::Punch => devices.punched(punched_by(before, user)),
-        FileKind::Printer => devices.printed(printed_by(before, user)),
+        FileKind::Punch(place) => devices.punched(place),
+        FileKind::Printer(place) => devices.printed(place),
         FileKind::Deck => None,
-    }
-}
-
-/// How many of these files the punch of a user has closed.
-fn punched_by(files: &[FileNote], user: UserNo) -> usize
-    ensures { result ≡ count_of (is_punched user) files.now }
-{
-    let mut count = 0;
-    for file in files {
-        count += usize::from(file.user == user && is_punch(file.kind));
-    }
-    count
-}
-
-/// How many of these files the printer of a user has closed.
-fn printed_by(files: &[FileNote], user: UserNo) -> usize
-    ensures { result ≡ count_of (is_printed user) files.now }
-{
-    let mut count = 0;
-    for file in files {
-        count += usize::from(file.user == user && is_printer(file.kind));
-    }
-    count
-}
-
-/// Whether a punch has closed a file of this kind.
-fn is_punch(kind: FileKind) -> bool
-    ensures { result ≡ is_punch kind }
-{
-    match kind {
-        FileKind::Punch => true,
-        FileKind::Printer | FileKind::Deck => false,
-    }
-}
-
-/// Whether a printer has closed a file of this kind.
-fn is_printer(kind: FileKind) -> bool
-    ensures { result ≡ is_printer kind }
-{
-    match kind {
-        FileKind::Printer => true,
-        FileKind::Punch | FileKind::Deck => false,
     }
 }
 
@@ -276,8 +192,8 @@ fn kind_word(kind: FileKind) -> &'static [u8]
     ensures { result.now ≡ kind_word kind }
 {
     match kind {
-        FileKind::Printer => b"PRT",
-        FileKind::Punch => b"PUN",
+        FileKind::Printer(_) => b"PRT",
+        FileKind::Punch(_) => b"PUN",
         FileKind::Deck => &[],
     }
 }
@@ -310,8 +226,8 @@ fn print_entry(
 {
     out.extend_from_slice(entry_mark(telling))?;
     match kind {
-        FileKind::Printer => print_code(alloc, out, entry.code())?,
-        FileKind::Punch | FileKind::Deck => {}
+        FileKind::Printer(_) => print_code(alloc, out, entry.code())?,
+        FileKind::Punch(_) | FileKind::Deck => {}
     }
     print_bytes(out, entry.bytes())?;
     out.push(b'\n')?;
