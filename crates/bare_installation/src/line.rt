@@ -1,11 +1,11 @@
 //! A line that is typed, and what comes of it.
-ghost use Rattle.std.specs.Prelude.{◌++◌, ◌∷◌, [], ◌≡◌, ◌<◌, ◌-◌, ℕ, IfOk, OnErr, OnOk, length, slice_get};
+ghost use Rattle.std.specs.Prelude.{◌++◌, ◌∷◌, [], ◌≡◌, ◌<◌, ◌-◌, ℕ, IfOk, IsSome, OnErr, OnOk, length, slice_get};
 ghost use Rattle.s370_channel.specs.Reading.{as_reached};
 ghost use Rattle.machine_devices.specs.Comes.{HasClosed, LineMay, NeedsMemory};
 ghost use Rattle.machine_devices.specs.Coming.{comes_by_line, coming_of};
 ghost use Rattle.machine_devices.specs.Life.{Leaves, Lives};
-ghost use Rattle.machine_devices.specs.Lines.{IsLine};
-ghost use Rattle.machine_devices.specs.Notes.{closed_since, next_file};
+ghost use Rattle.machine_devices.specs.Lines.{IsLine, files_closed};
+ghost use Rattle.machine_devices.specs.Notes.{next_file, noted, stands_in};
 ghost use Rattle.machine_devices.specs.Replies.{delivered_by, delivery_to, punched, receiver_of};
 ghost use Rattle.bare_installation.specs.Bare.{IsTyped, alone, world_of};
 
@@ -13,7 +13,8 @@ use crate::alone::Alone;
 use crate::bare::Bare;
 use cp_console::console_line::ConsoleLine;
 use machine_devices::{
-    Delivered, Delivery, Ended, FileKind, FileNote, Reply, Told, World, is_logged_on, said_to_line,
+    ClosedFiles, Delivered, Delivery, Ended, FileKind, FileNote, Reply, Told, World, is_logged_on,
+    said_to_line,
 };
 use machine_panel::LineError;
 use std::alloc::{AllocError, Global};
@@ -36,12 +37,10 @@ impl Bare {
         ensures memory { OnErr result (LineMay typed.now self.old.equipped) }
     {
         let printed = self.printed();
-        let punch_files = self.punched();
-        let printer_files = self.printed_files();
         let number = self.next_file();
         let world = self.world();
         let told = self.answer(alloc, &world, typed)?;
-        let delivered = self.follow(punch_files, printer_files, &told)?;
+        let delivered = self.follow(&told)?;
         Ok(Reply {
             ended: Ended::Done,
             said: said_to_line(number, &told),
@@ -88,44 +87,36 @@ impl Bare {
         }
     }
 
-    /// What a line that was answered so, where the punch and the printer had closed so many files before, brings about:
-    /// each file that it closed has the next number, and the deck or the message that is for its user comes.
-    fn follow(
-        &mut self,
-        punch_files: usize,
-        printer_files: usize,
-        told: &Told,
-    ) -> Result<Option<Delivered>, AllocError>
-        ensures delivered { IfOk result
-            (λ delivered. delivered
-            ≡ delivered_by 1 (next_file self.old.files) punch_files told.now self.old.equipped) }
-        ensures come { IfOk result
-            (λ delivered. Lives as_reached (coming_of (comes_by_line 0 punch_files self.old.equipped) delivered)
+    /// What a line that was answered so brings about: each file that it closed has the next number, and the deck or the
+    /// message that is for its user comes.
+    fn follow(&mut self, told: &Told) -> Result<Option<Delivered>, AllocError>
+        ensures delivered { let before = stands_in (files_closed told.now).punched self.old.equipped.devices.punched in
+            IfOk result (λ delivered. delivered ≡ delivered_by 1 (next_file self.old.files) before told.now self.old.equipped) }
+        ensures come { let before = stands_in (files_closed told.now).punched self.old.equipped.devices.punched in
+            IfOk result (λ delivered. Lives as_reached (coming_of (comes_by_line 0 before self.old.equipped) delivered)
             self.old.equipped self.new.equipped) }
-        ensures files { OnOk result (self.new.files
-            ≡ self.old.files ++ closed_since 0 punch_files printer_files self.old.equipped) }
-        ensures memory { OnErr result (NeedsMemory punch_files printer_files told.now self.old.equipped) }
+        ensures files { OnOk result (self.new.files ≡ self.old.files ++ noted 0 (files_closed told.now)) }
+        ensures memory { OnErr result (NeedsMemory told.now) }
     {
         let number = self.next_file();
-        self.note_closed(punch_files, printer_files)?;
+        let closed = told.closed();
+        self.note_closed(closed)?;
         match told {
             Told::Sent(to, line) => self.send(*to, *line),
-            _ => self.deliver_punched(punch_files, number),
+            _ => self.deliver_punched(closed.punched, number),
         }
     }
 
-    /// Each file that was closed, of so many punched and printed ones before, has the next number, the punched one first.
-    fn note_closed(&mut self, punch_files: usize, printer_files: usize) -> Result<(), AllocError>
-        ensures ok { OnOk result (self.new ≡ record self.old {
-          files = self.old.files ++ closed_since 0 punch_files printer_files self.old.equipped;
-        }) }
-        ensures memory { OnErr result (HasClosed punch_files printer_files self.old.equipped) }
+    /// Each of these files has the next number, the punched one first.
+    fn note_closed(&mut self, closed: ClosedFiles) -> Result<(), AllocError>
+        ensures ok { OnOk result (self.new ≡ record self.old { files = self.old.files ++ noted 0 closed }) }
+        ensures memory { OnErr result (HasClosed closed) }
     {
-        if self.punched() > punch_files {
-            self.note(FileKind::Punch(punch_files))?;
+        if let Some(place) = closed.punched {
+            self.note(FileKind::Punch(place))?;
         }
-        if self.printed_files() > printer_files {
-            self.note(FileKind::Printer(printer_files))?;
+        if let Some(place) = closed.printed {
+            self.note(FileKind::Printer(place))?;
         }
         Ok(())
     }
@@ -161,20 +152,24 @@ impl Bare {
         }))
     }
 
-    /// The punch's closed file of this index comes to the reader as a deck with this number, where it is there and for
-    /// the user who is.
+    /// The punch's closed file of this place, where there is one that is for the user who is there, comes to the reader as
+    /// a deck with this number.
     fn deliver_punched(
         &mut self,
-        index: usize,
+        place: Option<usize>,
         number: u64,
     ) -> Result<Option<Delivered>, AllocError>
-        ensures delivered { IfOk result (λ delivered. delivered ≡ punched 1 number index self.old.equipped) }
-        ensures come { IfOk result
-            (λ delivered. Lives as_reached (coming_of (comes_by_line 0 index self.old.equipped) delivered)
+        ensures delivered { let index = stands_in place self.old.equipped.devices.punched in
+            IfOk result (λ delivered. delivered ≡ punched 1 number index self.old.equipped) }
+        ensures come { let index = stands_in place self.old.equipped.devices.punched in
+            IfOk result (λ delivered. Lives as_reached (coming_of (comes_by_line 0 index self.old.equipped) delivered)
             self.old.equipped self.new.equipped) }
         ensures files { self.new.files ≡ self.old.files }
-        ensures memory { OnErr result (index < length self.old.equipped.devices.punched) }
+        ensures memory { OnErr result (IsSome place) }
     {
+        let Some(index) = place else {
+            return Ok(None);
+        };
         match self.receiver_of(index) {
             Some(to) if to < USERS => {
                 self.deliver(index, number)?;
@@ -215,19 +210,5 @@ impl Bare {
             Ok(()) => Ok(()),
             Err(_) => Err(AllocError),
         }
-    }
-
-    /// How many files the punch closed.
-    fn punched(&self) -> usize
-        ensures { result ≡ length self.now.equipped.devices.punched }
-    {
-        self.queues.punched_count(self.devices.user())
-    }
-
-    /// How many files the printer closed.
-    fn printed_files(&self) -> usize
-        ensures { result ≡ length self.now.equipped.devices.printed }
-    {
-        self.queues.printed_count(self.devices.user())
     }
 }

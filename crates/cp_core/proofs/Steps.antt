@@ -27,12 +27,12 @@ use Rattle.machine_devices.specs.declared.line.Told.TheVariants.{Silent}
 use Rattle.machine_devices.specs.declared.files.FileKind.TheVariants as kinds
 use Rattle.machine_devices.specs.Equipped.{Equipped}
 use Rattle.machine_devices.specs.Life.{Event as Local, Units, Serve as Serves, Line as Types, Tick as Ticks, Deck as Gets, Leaves, Lives}
-use Rattle.machine_devices.specs.Lines.{requested, said}
+use Rattle.machine_devices.specs.Lines.{files_closed, requested, said}
 use Rattle.cp_spool.specs.Queues.{cards_of}
 use Rattle.machine_devices.specs.Comes.{NeedsMemory, closes, is_cut, is_ipl}
 use Rattle.cp_core.specs.Come.{HasCome}
 use Rattle.machine_devices.specs.Coming.{comes_by_line, comes_from_operator}
-use Rattle.machine_devices.specs.Notes.{closed_by, closed_since, next_file, note_where}
+use Rattle.machine_devices.specs.Notes.{closed_by, next_file, note_where, noted, stands_in}
 use Rattle.cp_core.specs.Histories.{IsStep}
 use Rattle.cp_core.specs.Local.{Step, coming, run_of, units_of}
 use Rattle.cp_core.specs.Memory.{IsCutShort}
@@ -51,7 +51,7 @@ use Rattle.machine_devices.specs.declared.reply.Ended.TheVariants.{Ran, Served, 
 use Rattle.cp_core.specs.declared.events.Event.TheVariants.{Run, Line, Tick, Deck, Serve}
 use Rattle.machine_devices.specs.declared.reply.Reply.{Reply}
 use Rattle.machine_devices.specs.declared.files.FileNote.{FileNote}
-use Rattle.machine_devices.proofs.Answered.{follow_may, follow_same}
+use Rattle.machine_devices.proofs.Answered.{follow_may, follow_same, line_stands}
 use Rattle.cp_core.proofs.Kept.{nine_each}
 use Rattle.cp_core.proofs.Led.{come_led, led_alone, lives_on, others_stay, printer_stays, punch_stays, stays_each}
 use Rattle.cp_core.proofs.Switches.{switch_wants_none}
@@ -161,29 +161,33 @@ come_same old middle seen user punched typed reply at same (deliveries.Deck numb
     ap (λ (p : List FileValue). deck_from number user p punched) (sym same) ∙ ap (deck_from number user (user_at seen user).devices.punched) at
 come_same old middle seen user punched typed reply at same (deliveries.Message line) = refl
 
-noted_same : (user a a' b b' : ℕ) (e e' : Equipped) → a ≡ a' → b ≡ b' → e.devices.punched ≡ e'.devices.punched → e.devices.printed ≡ e'.devices.printed → closed_since user a b e ≡ closed_since user a' b' e'
-noted_same user a a' b b' e e' p q r s =
-    ap (λ (n : ℕ). closed_since user n b e) p ∙ ap (λ (n : ℕ). closed_since user a' n e) q
-    ∙ ap (λ (x : List FileValue). note_where (nat_lt a' (length x)) user (kinds.Punch a') ++ note_where (nat_lt b' (length e.devices.printed)) user (kinds.Printer b')) r
-    ∙ ap (λ (x : List FileValue). note_where (nat_lt a' (length e'.devices.punched)) user (kinds.Punch a') ++ note_where (nat_lt b' (length x)) user (kinds.Printer b')) s
+-- what was closed is closed while its files stay
+noted_same : (user : ℕ) (old e e' : Equipped) → e.devices.punched ≡ e'.devices.punched → e.devices.printed ≡ e'.devices.printed → closed_by user old e ≡ closed_by user old e'
+noted_same user old e e' r s =
+    let a = length old.devices.punched in
+    let b = length old.devices.printed in
+    ap (λ (x : List FileValue). note_where (nat_lt a (length x)) user (kinds.Punch a) ++ note_where (nat_lt b (length e.devices.printed)) user (kinds.Printer b)) r
+    ∙ ap (λ (x : List FileValue). note_where (nat_lt a (length e'.devices.punched)) user (kinds.Punch a) ++ note_where (nat_lt b (length x)) user (kinds.Printer b)) s
 
 delivered_same : (d : Option Delivered) (s t : SystemView) → s.deliveries ≡ t.deliveries → with_delivered d s ≡ with_delivered d t
 delivered_same None s t h = h
 delivered_same (Some d) s t h = ap (λ (ds : List (List Delivery)). set ds d.to (get_or ds d.to [] ++ d.what ∷ [])) h
 
-pub line_done : (old middle new : SystemView) (user : ℕ) (typed : Bor (List ℕ)) (told said' : Told) (lines : ℕ) (delivered : Option Delivered) (punched printed : ℕ)
+pub line_done : (old middle new : SystemView) (user : ℕ) (typed : Bor (List ℕ)) (told said' : Told) (lines : ℕ) (delivered : Option Delivered)
     → HasTyped (world_of old user) user typed.now (user_at old user) old.supply (Ok told) (user_at middle user) middle.supply
     → IsLent old user middle → IsBetweenUnits old.supply → IsBetweenUnits middle.supply
-    → punched ≡ length (user_at old user).devices.punched → printed ≡ length (user_at old user).devices.printed
-    → delivered ≡ delivered_by (length middle.users) (next_file middle.files) punched told (user_at middle user)
-    → new.files ≡ middle.files ++ closed_since user punched printed (user_at middle user)
-    → HasCome (comes_by_line user punched (user_at middle user)) delivered middle new
+    → delivered ≡ delivered_by (length middle.users) (next_file middle.files) (stands_in (files_closed told).punched (user_at middle user).devices.punched) told (user_at middle user)
+    → new.files ≡ middle.files ++ noted user (files_closed told)
+    → HasCome (comes_by_line user (stands_in (files_closed told).punched (user_at middle user).devices.punched) (user_at middle user)) delivered middle new
     → new.deliveries ≡ with_delivered delivered middle
     → new.supply ≡ middle.supply
     → said' ≡ said_to_line (next_file old.files) told
     → lines ≡ length (machine_at new user).output - length (machine_at old user).output
     → IsStep old (record { event = Line user typed; reply = record { ended = Done; said = said'; lines = lines; delivered = delivered }; seen = new })
-line_done old middle new user typed told said' lines delivered punched printed h lent rest between at_punch at_printer d f come ds supply s l =
+line_done old middle new user typed told said' lines delivered h lent rest between d f come ds supply s l =
+    let closed = files_closed told in
+    let punched = stands_in closed.punched (user_at middle user).devices.punched in
+    let stands = line_stands (world_of old user) typed.now (user_at old user) told (user_at middle user) h.leaves in
     let step : Step = record { event = Line user typed; reply = record { ended = Done; said = said'; lines = lines; delivered = delivered }; seen = new } in
     let many : length middle.users ≡ length old.users = ap (λ (x : SystemView). length x.users) lent ∙ length-set old.users user (user_at middle user) in
     let files : middle.files ≡ old.files = ap (λ (x : SystemView). x.files) lent in
@@ -192,18 +196,18 @@ line_done old middle new user typed told said' lines delivered punched printed h
     record {
       applied = λ u. lives_on as_reached _ _ (user_at old u) (user_at middle u) (user_at new u)
           (led_alone user (Types (world_of old user) typed.now ∷ []) old.users middle.users (ap (λ (x : SystemView). x.users) lent) (user_at middle user, (told, h.leaves), refl) u)
-          (come_led old step (comes_by_line user punched (user_at middle user)) delivered middle new come (come_same old middle new user punched typed step.reply at_punch punch) u);
+          (come_led old step (comes_by_line user punched (user_at middle user)) delivered middle new come (come_same old middle new user punched typed step.reply stands.punched punch) u);
       told = record {
         tells = record {
           told = told;
           answered = user_at middle user;
           line = h.leaves;
           said = s;
-          delivered = d ∙ ap (λ (n : ℕ). delivered_by n (next_file middle.files) punched told (user_at middle user)) many ∙ ap (λ (xs : List FileNote). delivered_by (length old.users) (next_file xs) punched told (user_at middle user)) files ∙ ap (λ (n : ℕ). delivered_by (length old.users) (next_file old.files) n told (user_at middle user)) at_punch;
+          delivered = d ∙ ap (λ (n : ℕ). delivered_by n (next_file middle.files) punched told (user_at middle user)) many ∙ ap (λ (xs : List FileNote). delivered_by (length old.users) (next_file xs) punched told (user_at middle user)) files ∙ ap (λ (n : ℕ). delivered_by (length old.users) (next_file old.files) n told (user_at middle user)) stands.punched;
         };
         lines = l;
-        files = f ∙ ap (λ (xs : List FileNote). xs ++ closed_since user punched printed (user_at middle user)) files
-            ∙ ap (λ (xs : List FileNote). old.files ++ xs) (noted_same user punched _ printed _ (user_at middle user) (user_at new user) at_punch at_printer (sym punch) (sym printer));
+        files = f ∙ ap (λ (xs : List FileNote). xs ++ noted user closed) files
+            ∙ ap (λ (xs : List FileNote). old.files ++ xs) (stands.notes user ∙ noted_same user (user_at old user) (user_at middle user) (user_at new user) (sym punch) (sym printer));
         deliveries = ds ∙ delivered_same delivered middle old (ap (λ (x : SystemView). x.deliveries) lent);
       };
       supplied = record {
@@ -270,28 +274,25 @@ line_refused old new user typed h lent rest between = record {
 }
 
 -- where what comes of it was
-pub line_cut : (old middle new : SystemView) (user : ℕ) (typed : Bor (List ℕ)) (told : Told) (punched printed : ℕ)
+pub line_cut : (old middle new : SystemView) (user : ℕ) (typed : Bor (List ℕ)) (told : Told)
     → HasTyped (world_of old user) user typed.now (user_at old user) old.supply (Ok told) (user_at middle user) middle.supply
     → IsLent old user middle → IsBetweenUnits old.supply → IsBetweenUnits middle.supply
-    → punched ≡ length (user_at old user).devices.punched → printed ≡ length (user_at old user).devices.printed
-    → NeedsMemory punched printed told (user_at middle user)
+    → NeedsMemory told
     → new.users ≡ middle.users → new.supply ≡ middle.supply
     → IsCutShort old (Line user typed) new
-line_cut old middle new user typed told punched printed h lent rest between at_punch at_printer needs users supply =
+line_cut old middle new user typed told h lent rest between needs users supply =
     let e = user_at old user in
     let w = world_of old user in
     let q = requested typed.now e in
-    let now : NeedsMemory (length e.devices.punched) (length e.devices.printed) told (user_at middle user) =
-    subst (λ (n : ℕ). NeedsMemory n (length e.devices.printed) told (user_at middle user)) at_punch (subst (λ (n : ℕ). NeedsMemory punched n told (user_at middle user)) at_printer needs) in
     record {
-      may = follow_may w typed.now e told (user_at middle user) h.leaves now;
+      may = follow_may w typed.now e told (user_at middle user) h.leaves needs;
       supplied = record {
         between_before = rest;
         between = subst IsBetweenUnits (sym supply) between;
         given_back = λ on. inl (subst (λ (x : FrameSupply). IsGivenBack user old.supply x) (sym supply) (h.given_back on));
         brought = λ off. (let b = h.brought off in (b.0, subst (λ (x : FrameSupply). IsBroughtInUnits user b.0 old.supply x) (sym supply) b.1, b.2));
       };
-      others = λ u not. ap (λ (us : List Equipped). get_or us u nobody) users ∙ follow_others old middle user u (user == u) (is_cut q) lent (λ none. follow_same w typed.now e told (user_at middle user) none h.leaves now) refl (and_if (user == u) (is_cut q) not);
+      others = λ u not. ap (λ (us : List Equipped). get_or us u nobody) users ∙ follow_others old middle user u (user == u) (is_cut q) lent (λ none. follow_same w typed.now e told (user_at middle user) none h.leaves needs) refl (and_if (user == u) (is_cut q) not);
     }
 
 -- ---- a serve

@@ -162,7 +162,7 @@ loading_lent typed before old middle new r ipl size between taken out brought =
       kept = keeps_frames_on old middle new came.kept taken.kept;
       frames = λ failed. (let l = out failed in
           let short : IsShort (lent_pool middle).supply (user_of old) needs l.page = subst (λ (n : ℕ). IsShort (lent_pool middle).supply n needs l.page) came.kept.same_user
-              (short_for (lent_pool middle).supply (user_of middle) loads needs l.page more (room_short middle loads l.page l.out)) in
+          (short_for (lent_pool middle).supply (user_of middle) loads needs l.page more (room_short middle loads l.page l.out)) in
           record {
             page = l.page;
             inside = subst (λ (n : ℕ). l.page * 4096 < n) size l.inside;
@@ -172,12 +172,12 @@ loading_lent typed before old middle new r ipl size between taken out brought =
       cleared = λ on. absurd (switch_no_ipl typed before ipl on);
       not_cleared = λ on. absurd (switch_no_ipl typed before ipl on);
       supply = λ off. (
-          brought.0,
-          record {
-            kept = keeps_frames_on old middle new came.kept taken.kept;
-            brought = subst (λ (s : FrameSupply). IsBroughtInUnits (user_of old) brought.0 (lent_pool old).supply s) (sym same) came.brought;
-          },
-          subst (λ (b : Bool). LineBrings b needs brought.0) (sym ipl) (each_for loads needs more brought.0 brought.2),
+        brought.0,
+        record {
+          kept = keeps_frames_on old middle new came.kept taken.kept;
+          brought = subst (λ (s : FrameSupply). IsBroughtInUnits (user_of old) brought.0 (lent_pool old).supply s) (sym same) came.brought;
+        },
+        subst (λ (b : Bool). LineBrings b needs brought.0) (sym ipl) (each_for loads needs more brought.0 brought.2),
       );
       between = subst (λ (s : FrameSupply). IsBetweenUnits s) (sym same) between;
     }

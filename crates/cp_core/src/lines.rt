@@ -1,12 +1,13 @@
 //! Lines of users, and decks of the operator: what comes of them for the files of all, and for others.
-ghost use Rattle.std.specs.Prelude.{◌≡◌, ◌<◌, ◌≤◌, ◌++◌, [], ◌∷◌, None, Some, IfOk, OnErr, OnOk, length, map, nat_lt, if◌then◌else◌, slice_get, slice_set};
+ghost use Rattle.std.specs.Prelude.{◌≡◌, ◌<◌, ◌≤◌, ◌++◌, [], ◌∷◌, None, Some, IfOk, IsSome, OnErr, OnOk, length, map, nat_lt, if◌then◌else◌, slice_get, slice_set};
 ghost use Rattle.cp_dat.specs.Supplied.{IsBetweenUnits};
 ghost use Rattle.machine_devices.specs.World.{is_logged_on};
 ghost use Rattle.cp_core.specs.declared.events.Event.TheVariants as happening;
 ghost use Rattle.machine_devices.specs.Comes.{HasClosed, NeedsMemory};
 ghost use Rattle.cp_core.specs.Come.{HasCome};
 ghost use Rattle.machine_devices.specs.Coming.{comes_by_line, comes_from_operator};
-ghost use Rattle.machine_devices.specs.Notes.{closed_since, next_file};
+ghost use Rattle.machine_devices.specs.Lines.{files_closed};
+ghost use Rattle.machine_devices.specs.Notes.{next_file, noted, stands_in};
 ghost use Rattle.cp_core.specs.Histories.{IsStep};
 ghost use Rattle.cp_core.specs.Memory.{IsCutShort};
 ghost use Rattle.cp_core.specs.Parcels.{IsThere, contents, note_of};
@@ -22,19 +23,13 @@ use crate::user_machine::UserMachine;
 use crate::work::Line;
 use arrayvec::ArrayVec;
 use machine_devices::{
-    Delivered, Delivery, Ended, FileKind, Reply, Told, copy_of, is_logged_on, said_to_line,
+    ClosedFiles, Delivered, Delivery, Ended, FileKind, Reply, Told, copy_of, is_logged_on,
+    said_to_line,
 };
 use machine_panel::LineError;
 use std::alloc::AllocError;
 use unit_record::{Card, Target};
 use user_names::UserNo;
-
-/// How many files the punch and the printer of a user have closed.
-#[derive(Clone, Copy)]
-struct Closed {
-    punched: usize,
-    printed: usize,
-}
 
 /// Of each of these users, whether he is logged on.
 fn logged_on_among(users: &[UserMachine]) -> ArrayVec<bool, 64>
@@ -62,11 +57,10 @@ impl System {
         ensures spent { self.new.is_spent ≡ self.old.is_spent }
     {
         let printed = self.printed_by(user);
-        let closed = self.closed_by(user);
         let number = self.next_file();
         match self.type_line(user, typed) {
             Ok(told) => {
-                let delivered = self.follow(user, closed, &told)?;
+                let delivered = self.follow(user, &told)?;
                 Ok(Reply {
                     ended: Ended::Done,
                     said: said_to_line(number, &told),
@@ -76,19 +70,6 @@ impl System {
             }
             Err(LineError::FramesOut) => Ok(Reply::silent(Ended::FramesOut)),
             Err(LineError::Memory) => Err(AllocError),
-        }
-    }
-
-    /// How many files the punch and the printer of a user have closed.
-    fn closed_by(&self, user: usize) -> Closed
-        requires { user < length self.now.users }
-        ensures punched { result.punched ≡ length (user_at self.now user).devices.punched }
-        ensures printed { result.printed ≡ length (user_at self.now user).devices.printed }
-    {
-        let devices = self.devices_of(user);
-        Closed {
-            punched: devices.punched_count(),
-            printed: devices.printed_count(),
         }
     }
 
@@ -122,27 +103,19 @@ impl System {
         self.lend(user, &line)
     }
 
-    /// What a line that was answered so, where so many files had been closed before, brings about: each file that it
-    /// closed has the next number, and the deck or the message that is for a user comes to him.
-    fn follow(
-        &mut self,
-        user: usize,
-        closed: Closed,
-        told: &Told,
-    ) -> Result<Option<Delivered>, AllocError>
+    /// What a line that was answered so brings about: each file that it closed has the next number, and the deck or the
+    /// message that is for a user comes to him.
+    fn follow(&mut self, user: usize, told: &Told) -> Result<Option<Delivered>, AllocError>
         requires { user < length self.old.users }
-        ensures delivered { IfOk result
-            (λ delivered. delivered ≡ delivered_by (length self.old.users)
-            (next_file self.old.files) closed.punched told.now (user_at self.old user)) }
-        ensures files { OnOk result
-            (self.new.files ≡ self.old.files
-            ++ closed_since user closed.punched closed.printed (user_at self.old user)) }
-        ensures come { IfOk result
-            (λ delivered. HasCome (comes_by_line user closed.punched
-            (user_at self.old user)) delivered self.old self.new) }
+        ensures delivered { let before = stands_in (files_closed told.now).punched (user_at self.old user).devices.punched in
+            IfOk result (λ delivered. delivered ≡ delivered_by (length self.old.users)
+            (next_file self.old.files) before told.now (user_at self.old user)) }
+        ensures files { OnOk result (self.new.files ≡ self.old.files ++ noted user (files_closed told.now)) }
+        ensures come { let before = stands_in (files_closed told.now).punched (user_at self.old user).devices.punched in
+            IfOk result (λ delivered. HasCome (comes_by_line user before (user_at self.old user)) delivered self.old self.new) }
         ensures deliveries { IfOk result (λ delivered. self.new.deliveries ≡ with_delivered delivered self.old) }
         ensures err { OnErr result (self.new.users ≡ self.old.users) }
-        ensures memory { OnErr result (NeedsMemory closed.punched closed.printed told.now (user_at self.old user)) }
+        ensures memory { OnErr result (NeedsMemory told.now) }
         ensures supply { self.new.supply ≡ self.old.supply }
         ensures volumes { self.new.volumes ≡ self.old.volumes }
         ensures stands { self.new.stands ≡ self.old.stands }
@@ -150,6 +123,7 @@ impl System {
         ensures spent { self.new.is_spent ≡ self.old.is_spent }
     {
         let number = self.next_file();
+        let closed = told.closed();
         self.note_closed(user, closed)?;
         match told {
             Told::Sent(to, line) => self.deliver_to(*to, Parcel::Message(*line)),
@@ -157,49 +131,48 @@ impl System {
         }
     }
 
-    /// Each file that a user's punch and printer have closed since has the next number, that of the punch first.
-    fn note_closed(&mut self, user: usize, closed: Closed) -> Result<(), AllocError>
+    /// Each of these files of a user has the next number, that of the punch first.
+    fn note_closed(&mut self, user: usize, closed: ClosedFiles) -> Result<(), AllocError>
         requires { user < length self.old.users }
         ensures ok { OnOk result (self.new
-            ≡ record self.old {
-              files = self.old.files
-                  ++ closed_since user closed.punched closed.printed (user_at self.old user);
-            }) }
+            ≡ record self.old { files = self.old.files ++ noted user closed }) }
         ensures err { OnErr result (self.new ≡ record self.old { files = self.new.files }) }
-        ensures memory { OnErr result (HasClosed closed.punched closed.printed (user_at self.old user)) }
+        ensures memory { OnErr result (HasClosed closed) }
     {
-        let now = self.closed_by(user);
         let number = self.number_of(user);
-        if now.punched > closed.punched {
-            self.note(number, FileKind::Punch(closed.punched))?;
+        if let Some(place) = closed.punched {
+            self.note(number, FileKind::Punch(place))?;
         }
-        if now.printed > closed.printed {
-            self.note(number, FileKind::Printer(closed.printed))?;
+        if let Some(place) = closed.printed {
+            self.note(number, FileKind::Printer(place))?;
         }
         Ok(())
     }
 
-    /// The punch's closed file of this index, where there is one that is for a user, comes to him as a deck with this
+    /// The punch's closed file of this place, where there is one that is for a user, comes to him as a deck with this
     /// number.
     fn deliver_punched(
         &mut self,
         user: usize,
-        index: usize,
+        place: Option<usize>,
         number: u64,
     ) -> Result<Option<Delivered>, AllocError>
         requires { user < length self.old.users }
-        ensures delivered { IfOk result
-            (λ delivered. delivered ≡ punched (length self.old.users) number index (user_at self.old user)) }
-        ensures come { IfOk result
-            (λ delivered. HasCome (comes_by_line user index (user_at self.old user)) delivered self.old self.new) }
+        ensures delivered { let index = stands_in place (user_at self.old user).devices.punched in
+            IfOk result (λ delivered. delivered ≡ punched (length self.old.users) number index (user_at self.old user)) }
+        ensures come { let index = stands_in place (user_at self.old user).devices.punched in
+            IfOk result (λ delivered. HasCome (comes_by_line user index (user_at self.old user)) delivered self.old self.new) }
         ensures rest { IfOk result
             (λ delivered. self.new ≡ record self.old {
               users = self.new.users;
               deliveries = with_delivered delivered self.old;
             }) }
         ensures err { OnErr result (self.new ≡ record self.old { deliveries = self.new.deliveries }) }
-        ensures memory { OnErr result (index < length (user_at self.old user).devices.punched) }
+        ensures memory { OnErr result (IsSome place) }
     {
+        let Some(index) = place else {
+            return Ok(None);
+        };
         let Some(to) = self.receiver_of(user, index) else {
             return Ok(None);
         };

@@ -1,7 +1,12 @@
 -- What an answer to a line leaves alone.
-use Rattle.std.proofs.Common.{◌≡◌, ◌⊎◌, ℕ, ◌<◌, Bool, true, false, List, [], ◌∷◌, length, Option, Some, None, refl, sym, ◌∙◌, ap, subst, inl, inr, arith}
-use Rattle.std.specs.Prelude.{◌||◌, if◌then◌else◌, map, slice_get}
+use Rattle.std.proofs.Common.{◌≡◌, ◌⊎◌, ℕ, ◌+◌, ◌<◌, length-append, Bool, true, false, List, [], ◌∷◌, length, Option, Some, None, refl, sym, ◌∙◌, ap, subst, inl, inr, arith}
+use Rattle.std.specs.Prelude.{◌||◌, ◌++◌, if◌then◌else◌, map, nat_lt, slice_get}
+use Rattle.std.proofs.lemmas.Bool.{lt-ltb}
+use Rattle.std.proofs.lemmas.Bool.Decides.{nat_tests}
 use Rattle.unit_record.specs.declared.output.Target.{Target}
+use Rattle.unit_record.specs.declared.output.Target.TheVariants.{System}
+use Rattle.unit_record.specs.Output.{EntryValue, FileValue, closed_with}
+use Rattle.user_names.specs.Users.{user_of}
 use Rattle.unit_record.specs.Reader.{DeckValue}
 use Rattle.unit_record.specs.Console.{has_room}
 use Rattle.cp_console.specs.Lines.{cleaned}
@@ -14,15 +19,21 @@ use Rattle.machine_panel.specs.declared.line.PanelLine.{PanelLine}
 use Rattle.machine_panel.specs.Panel.{line}
 use Rattle.machine_channels.specs.Disks.{DiskAt, reset_disk}
 use Rattle.machine_devices.specs.declared.line.Told.{Told}
-use Rattle.machine_devices.specs.declared.line.Told.TheVariants.{Silent, Said, Files, Sent, Closed}
+use Rattle.machine_devices.specs.declared.line.Told.TheVariants.{Silent, Said, Files, Sent, Closed, LoggedOff}
 use Rattle.machine_devices.specs.declared.places.Kind.{Kind}
+use Rattle.machine_devices.specs.declared.places.Kind.TheVariants as kinds
 use Rattle.machine_devices.specs.declared.request.Request.{Request}
 use Rattle.machine_devices.specs.declared.request.Request.TheVariants.{LogsOn, LogsOff, Resets, Types, Loads, Asks, Alone}
 use Rattle.machine_devices.specs.Devices.{DevicesValue, kind_at, part_at}
 use Rattle.machine_devices.specs.Equipped.{Equipped}
-use Rattle.machine_devices.specs.Lines.{IsAnswered, IsLine, IsObeyed, LoadsDisk, LoadsKind, MayTakeMemory, Outcome, answered_alone, close_answered, closed_where, files_told, ipl_told, logged_off, logged_on, outcome, purge_answered, requested, said, spool_answered, spooled_to, target_of, typed_at, typed_where, was_reset}
-use Rattle.machine_devices.specs.Spooling.{is_punch, output_of, spooled}
-use Rattle.machine_devices.specs.World.{World}
+use Rattle.machine_devices.specs.Lines.{IsAnswered, IsLine, IsObeyed, LoadsDisk, LoadsKind, MayTakeMemory, Outcome, SendsTo, SendsWhere, answered_alone, close_answered, closed_at, files_closed, files_told, ipl_told, logged_off, none_closed, printer_answered, punch_answered, logged_on, outcome, purge_answered, requested, said, spool_answered, spooled_to, target_of, typed_at, typed_where, was_reset}
+use Rattle.machine_devices.specs.Spooling.{is_punch, open_files, place_of, spooled, with_printer_closed, with_punch_closed}
+use Rattle.machine_devices.specs.World.{World, is_on}
+use Rattle.machine_devices.specs.Notes.{closed_by, note_at, note_where, noted, stands_in}
+use Rattle.machine_devices.specs.declared.files.FileKind.{FileKind}
+use Rattle.machine_devices.specs.declared.files.FileKind.TheVariants as of_files
+use Rattle.machine_devices.specs.declared.files.FileNote.{FileNote}
+use Rattle.machine_devices.specs.declared.files.ClosedFiles.{ClosedFiles}
 use Rattle.machine_devices.specs.Comes.{HasClosed, NeedsMemory, is_sent, closes, command_closes, is_cut, LineMay, is_ipl}
 
 -- a message that is sent leaves its sender's machine
@@ -31,12 +42,14 @@ SentSame old (Sent user line) new = new ≡ old
 SentSame old Silent new = Unit {0}
 SentSame old (Said response) new = Unit {0}
 SentSame old Files new = Unit {0}
-SentSame old Closed new = Unit {0}
+SentSame old (Closed files) new = Unit {0}
+SentSame old (LoggedOff files) new = Unit {0}
 
 -- what is sent leaves the machine, and no file is closed where the line closes none
 pub record IsMild (closing sends : Bool) (old : Equipped) (o : Outcome) : Type 0 where
   pub sent : SentSame old o.told o.equipped
   pub unsent : sends ≡ false → is_sent o.told ≡ false
+  pub none : closing ≡ false → files_closed o.told ≡ none_closed
   pub punched : closing ≡ false → o.equipped.devices.punched ≡ old.devices.punched
   pub printed : closing ≡ false → o.equipped.devices.printed ≡ old.devices.printed
 
@@ -48,39 +61,44 @@ said_unsent : (r : Option Response) → is_sent (said r) ≡ false
 said_unsent None = refl
 said_unsent (Some response) = refl
 
+said_no_file : (r : Option Response) → files_closed (said r) ≡ none_closed
+said_no_file None = refl
+said_no_file (Some response) = refl
+
 alone_mild : (asked : PanelLine) (e : Equipped) → IsMild false false e (answered_alone asked e)
 alone_mild asked e = record {
   sent = said_sent (line asked e.machine).reply e (answered_alone asked e).equipped;
   unsent = λ none. said_unsent (line asked e.machine).reply;
+  none = λ none. said_no_file (line asked e.machine).reply;
   punched = λ none. refl;
   printed = λ none. refl;
 }
 
 typed_where_mild : (room : Bool) (device : ℕ) (text : List ℕ) (e : Equipped) → IsMild false false e (typed_where room device text e)
-typed_where_mild true device text e = record { sent = tt; unsent = λ none. refl; punched = λ none. refl; printed = λ none. refl }
-typed_where_mild false device text e = record { sent = tt; unsent = λ none. refl; punched = λ none. refl; printed = λ none. refl }
+typed_where_mild true device text e = record { sent = tt; unsent = λ none. refl; none = λ none. refl; punched = λ none. refl; printed = λ none. refl }
+typed_where_mild false device text e = record { sent = tt; unsent = λ none. refl; none = λ none. refl; punched = λ none. refl; printed = λ none. refl }
 
 typed_mild : (place : Option ℕ) (text : List ℕ) (e : Equipped) → IsMild false false e (typed_at place text e)
-typed_mild None text e = record { sent = tt; unsent = λ none. refl; punched = λ none. refl; printed = λ none. refl }
+typed_mild None text e = record { sent = tt; unsent = λ none. refl; none = λ none. refl; punched = λ none. refl; printed = λ none. refl }
 typed_mild (Some device) text e = typed_where_mild (has_room e.devices.console) device text e
 
 logon_mild : (e : Equipped) → IsMild false false e (logged_on e)
-logon_mild e = record { sent = tt; unsent = λ none. refl; punched = λ none. refl; printed = λ none. refl }
+logon_mild e = record { sent = tt; unsent = λ none. refl; none = λ none. refl; punched = λ none. refl; printed = λ none. refl }
 
 reset_mild : (e : Equipped) → IsMild false false e (was_reset e)
-reset_mild e = record { sent = tt; unsent = λ none. refl; punched = λ none. refl; printed = λ none. refl }
+reset_mild e = record { sent = tt; unsent = λ none. refl; none = λ none. refl; punched = λ none. refl; printed = λ none. refl }
 
 logoff_mild : (e : Equipped) → IsMild true false e (logged_off e)
-logoff_mild e = record { sent = tt; unsent = λ none. refl; punched = λ none. cc; printed = λ none. cc }
+logoff_mild e = record { sent = tt; unsent = λ none. refl; none = λ none. cc; punched = λ none. cc; printed = λ none. cc }
 
 -- ---- commands
 
 files_mild : (decks : List DeckValue) (e : Equipped) → IsMild false false e (outcome e (files_told decks))
-files_mild [] e = record { sent = tt; unsent = λ none. refl; punched = λ none. refl; printed = λ none. refl }
-files_mild (deck ∷ decks) e = record { sent = tt; unsent = λ none. refl; punched = λ none. refl; printed = λ none. refl }
+files_mild [] e = record { sent = tt; unsent = λ none. refl; none = λ none. refl; punched = λ none. refl; printed = λ none. refl }
+files_mild (deck ∷ decks) e = record { sent = tt; unsent = λ none. refl; none = λ none. refl; punched = λ none. refl; printed = λ none. refl }
 
 said_mild : (response : Response) (e : Equipped) → IsMild false false e (outcome e (Said response))
-said_mild response e = record { sent = tt; unsent = λ none. refl; punched = λ none. refl; printed = λ none. refl }
+said_mild response e = record { sent = tt; unsent = λ none. refl; none = λ none. refl; punched = λ none. refl; printed = λ none. refl }
 
 spooled_punched : (b : Bool) (d : DevicesValue) (target : Target) → (if b then record d { target = target } else d).punched ≡ d.punched
 spooled_punched true d target = refl
@@ -91,10 +109,11 @@ spooled_printed true d target = refl
 spooled_printed false d target = refl
 
 spooled_mild : (target : Option Target) (device : ℕ) (e : Equipped) → IsMild false false e (spooled_to target device e)
-spooled_mild None device e = record { sent = tt; unsent = λ none. refl; punched = λ none. refl; printed = λ none. refl }
+spooled_mild None device e = record { sent = tt; unsent = λ none. refl; none = λ none. refl; punched = λ none. refl; printed = λ none. refl }
 spooled_mild (Some target) device e = record {
   sent = tt;
   unsent = λ none. refl;
+  none = λ none. refl;
   punched = λ none. spooled_punched (is_punch (part_at e.devices device)) e.devices target;
   printed = λ none. spooled_printed (is_punch (part_at e.devices device)) e.devices target;
 }
@@ -103,20 +122,44 @@ spool_where : (b : Bool) (target : Option Target) (device : ℕ) (e : Equipped) 
 spool_where true target device e = spooled_mild target device e
 spool_where false target device e = said_mild responses.DeviceNotFound e
 
-close_mild : (output : Option Bool) (kind : Option Kind) (e : Equipped) → IsMild true false e (closed_where output kind e)
-close_mild None kind e = record { sent = tt; unsent = λ none. refl; punched = λ none. cc; printed = λ none. cc }
-close_mild (Some false) kind e = record { sent = tt; unsent = λ none. refl; punched = λ none. cc; printed = λ none. cc }
-close_mild (Some true) kind e = record { sent = tt; unsent = λ none. refl; punched = λ none. cc; printed = λ none. cc }
+punch_mild : (place : Option ℕ) (e : Equipped) → IsMild true false e (punch_answered place e)
+punch_mild None e = record { sent = tt; unsent = λ none. refl; none = λ none. cc; punched = λ none. cc; printed = λ none. cc }
+punch_mild (Some place) e = record { sent = tt; unsent = λ none. refl; none = λ none. cc; punched = λ none. cc; printed = λ none. cc }
+
+printer_mild : (place : Option ℕ) (e : Equipped) → IsMild true false e (printer_answered place e)
+printer_mild None e = record { sent = tt; unsent = λ none. refl; none = λ none. cc; punched = λ none. cc; printed = λ none. cc }
+printer_mild (Some place) e = record { sent = tt; unsent = λ none. refl; none = λ none. cc; punched = λ none. cc; printed = λ none. cc }
+
+no_device_mild : (e : Equipped) → IsMild true false e (outcome e (Said responses.DeviceNotFound))
+no_device_mild e = record { sent = tt; unsent = λ none. refl; none = λ none. cc; punched = λ none. cc; printed = λ none. cc }
+
+close_mild : (kind : Option Kind) (e : Equipped) → IsMild true false e (closed_at kind e)
+close_mild (Some kinds.Punch) e = punch_mild (open_files e.devices).punched e
+close_mild (Some kinds.Printer) e = printer_mild (open_files e.devices).printed e
+close_mild (Some kinds.Console) e = no_device_mild e
+close_mild (Some kinds.Reader) e = no_device_mild e
+close_mild (Some (kinds.Disk index)) e = no_device_mild e
+close_mild None e = no_device_mild e
 
 purge_mild : (file : ℕ) (e : Equipped) → IsMild false false e (purge_answered file e)
-purge_mild file e = record { sent = tt; unsent = λ none. refl; punched = λ none. refl; printed = λ none. refl }
+purge_mild file e = record { sent = tt; unsent = λ none. refl; none = λ none. refl; punched = λ none. refl; printed = λ none. refl }
 
-message_mild : (told : Told) (e : Equipped) → IsMild false true e (outcome e told)
-message_mild Silent e = record { sent = tt; unsent = λ sends. cc; punched = λ closing. refl; printed = λ closing. refl }
-message_mild (Said response) e = record { sent = tt; unsent = λ sends. cc; punched = λ closing. refl; printed = λ closing. refl }
-message_mild Files e = record { sent = tt; unsent = λ sends. cc; punched = λ closing. refl; printed = λ closing. refl }
-message_mild (Sent user line) e = record { sent = refl; unsent = λ sends. cc; punched = λ closing. refl; printed = λ closing. refl }
-message_mild Closed e = record { sent = tt; unsent = λ sends. cc; punched = λ closing. refl; printed = λ closing. refl }
+sent_mild : (user : ℕ) (line : ConsoleLine) (e : Equipped) → IsMild false true e (outcome e (Sent user line))
+sent_mild user line e = record { sent = refl; unsent = λ sends. cc; none = λ closing. refl; punched = λ closing. refl; printed = λ closing. refl }
+
+unsent_mild : (response : Response) (e : Equipped) → IsMild false true e (outcome e (Said response))
+unsent_mild response e = record { sent = tt; unsent = λ sends. cc; none = λ closing. refl; punched = λ closing. refl; printed = λ closing. refl }
+
+told_mild : (told told' : Told) (e : Equipped) → told ≡ told' → IsMild false true e (outcome e told') → IsMild false true e (outcome e told)
+told_mild told told' e is mild = subst (λ (t : Told). IsMild false true e (outcome e t)) (sym is) mild
+
+sends_where : (on : Bool) (user : ℕ) (w : World) (text : List ℕ) (told : Told) (e : Equipped) → SendsWhere on user w text told → IsMild false true e (outcome e told)
+sends_where true user w text told e h = told_mild told _ e h.2 (sent_mild user h.0 e)
+sends_where false user w text told e h = told_mild told _ e h (unsent_mild responses.UserNotLoggedOn e)
+
+message_mild : (found : Option ℕ) (w : World) (text : List ℕ) (told : Told) (e : Equipped) → SendsTo found w text told → IsMild false true e (outcome e told)
+message_mild None w text told e h = told_mild told _ e h (unsent_mild responses.UserNotFound e)
+message_mild (Some user) w text told e h = sends_where (is_on w user) user w text told e h
 
 -- ---- a loading
 
@@ -128,11 +171,16 @@ ipl_unsent : (well : Bool) → is_sent (ipl_told well) ≡ false
 ipl_unsent true = refl
 ipl_unsent false = refl
 
+ipl_no_file : (well : Bool) → files_closed (ipl_told well) ≡ none_closed
+ipl_no_file true = refl
+ipl_no_file false = refl
+
 -- it tells only how it ended, and the files stay
 ipl_mild : (well : Bool) (old : Equipped) (told : Told) (new : Equipped) → told ≡ ipl_told well → new.devices.punched ≡ old.devices.punched → new.devices.printed ≡ old.devices.printed → IsMild false false old (outcome new told)
 ipl_mild well old told new says punched printed = record {
   sent = subst (λ (t : Told). SentSame old t new) (sym says) (ipl_sent well old new);
   unsent = λ none. ap is_sent says ∙ ipl_unsent well;
+  none = λ none. ap files_closed says ∙ ipl_no_file well;
   punched = λ none. punched;
   printed = λ none. printed;
 }
@@ -178,10 +226,10 @@ obeyed_mild : (w : World) (command : DeviceCommand) (old : Equipped) (told : Tol
 obeyed_mild w commands.QueryFiles old told new h = from false false old new told _ h (files_mild old.devices.reader.decks old)
 obeyed_mild w commands.QueryUsers old told new h = from false false old new told _ h (said_mild _ old)
 obeyed_mild w (commands.Spool device name) old told new h = from false false old new told _ h (spool_where (is_punch (part_at old.devices device)) (target_of w name) device old)
-obeyed_mild w (commands.Close device) old told new h = from true false old new told _ h (close_mild (output_of old.devices (part_at old.devices device)) (part_at old.devices device) old)
+obeyed_mild w (commands.Close device) old told new h = from true false old new told _ h (close_mild (part_at old.devices device) old)
 obeyed_mild w (commands.Purge file) old told new h = from false false old new told _ h (purge_mild file old)
 obeyed_mild w (commands.Message name text) old told new h =
-    from false true old new told (outcome old told) (ap (λ (e : Equipped). outcome e told) h.0) (message_mild told old)
+    from false true old new told (outcome old told) (ap (λ (e : Equipped). outcome e told) h.0) (message_mild (user_of w.names name) w text told old h.1)
 
 pub mild : (q : Request) (w : World) (typed : List ℕ) (old : Equipped) (told : Told) (new : Equipped) → IsAnswered q w typed old told new → IsMild (closes q) (sends q) old (outcome new told)
 mild LogsOn w typed old told new h = from false false old new told _ h (logon_mild old)
@@ -204,14 +252,11 @@ sent_is old (Sent user line) new is same = same
 sent_is old Silent new is same = cc
 sent_is old (Said response) new is same = cc
 sent_is old Files new is same = cc
-sent_is old Closed new is same = cc
+sent_is old (Closed files) new is same = cc
+sent_is old (LoggedOff files) new is same = cc
 
--- nothing was closed where both lists are as long
-none_closed : {A B : Type 0} (xs xs' : List A) (ys ys' : List B) → xs' ≡ xs → ys' ≡ ys → (length xs < length xs') ⊎ (length ys < length ys') → ⊥
-none_closed xs xs' ys ys' p q h = elim h [ inl more ↦ omega (arith, more, ap length p) | inr more ↦ omega (arith, more, ap length q) ]
-
-not_closed : (old new : Equipped) → new.devices.punched ≡ old.devices.punched → new.devices.printed ≡ old.devices.printed → HasClosed (length old.devices.punched) (length old.devices.printed) new → ⊥
-not_closed old new p q h = none_closed old.devices.punched new.devices.punched old.devices.printed new.devices.printed p q h
+not_closed : (files : ClosedFiles) → files ≡ none_closed → HasClosed files → ⊥
+not_closed files none h = elim (subst HasClosed none h) [ inl punched ↦ cc | inr printed ↦ cc ]
 
 -- such a line may take memory
 closing_may : (q : Request) (e : Equipped) → closes q ≡ true → MayTakeMemory q e
@@ -245,26 +290,26 @@ sending_may (Alone asked) e is = cc
 not_both : {b : Bool} → b ≡ false → b ≡ true → ⊥
 not_both off on = cc
 
-may_mild : (q : Request) (typed : List ℕ) (old : Equipped) (told : Told) (new : Equipped) → IsMild (closes q) (sends q) old (outcome new told) → NeedsMemory (length old.devices.punched) (length old.devices.printed) told new → MayTakeMemory q old
+may_mild : (q : Request) (typed : List ℕ) (old : Equipped) (told : Told) (new : Equipped) → IsMild (closes q) (sends q) old (outcome new told) → NeedsMemory told → MayTakeMemory q old
 may_mild q typed old told new mild h = elim (true_or_false (closes q)) [
   | inl closing ↦ closing_may q old closing
   | inr none ↦ elim (true_or_false (sends q)) [
     | inl sending ↦ sending_may q old sending
     | inr silent ↦ absurd (elim h [
       | inl sent ↦ not_both (mild.unsent silent) sent
-      | inr closed ↦ not_closed old new (mild.punched none) (mild.printed none) closed
+      | inr closed ↦ not_closed (files_closed told) (mild.none none) closed
     ])
   ]
 ]
 
-same_mild : (q : Request) (old : Equipped) (told : Told) (new : Equipped) → closes q ≡ false → IsMild (closes q) (sends q) old (outcome new told) → NeedsMemory (length old.devices.punched) (length old.devices.printed) told new → new ≡ old
+same_mild : (q : Request) (old : Equipped) (told : Told) (new : Equipped) → closes q ≡ false → IsMild (closes q) (sends q) old (outcome new told) → NeedsMemory told → new ≡ old
 same_mild q old told new none mild h = elim h [
   | inl sent ↦ sent_is old told new sent mild.sent
-  | inr closed ↦ absurd (not_closed old new (mild.punched none) (mild.printed none) closed)
+  | inr closed ↦ absurd (not_closed (files_closed told) (mild.none none) closed)
 ]
 
 -- what comes of a line takes memory only where the line may
-pub follow_may : (w : World) (typed : List ℕ) (old : Equipped) (told : Told) (new : Equipped) → IsLine w typed old told new → NeedsMemory (length old.devices.punched) (length old.devices.printed) told new → LineMay typed old
+pub follow_may : (w : World) (typed : List ℕ) (old : Equipped) (told : Told) (new : Equipped) → IsLine w typed old told new → NeedsMemory told → LineMay typed old
 follow_may w typed old told new h needs =
     let q = requested typed old in may_mild q typed old told new (mild q w typed old told new h) needs
 
@@ -273,7 +318,91 @@ is_cut_parts true c h = cc
 is_cut_parts false c h = refl
 
 -- and a line that is not cut short has changed nothing then
-pub follow_same : (w : World) (typed : List ℕ) (old : Equipped) (told : Told) (new : Equipped) → is_cut (requested typed old) ≡ false → IsLine w typed old told new → NeedsMemory (length old.devices.punched) (length old.devices.printed) told new → new ≡ old
+pub follow_same : (w : World) (typed : List ℕ) (old : Equipped) (told : Told) (new : Equipped) → is_cut (requested typed old) ≡ false → IsLine w typed old told new → NeedsMemory told → new ≡ old
 follow_same w typed old told new none h needs =
     let q = requested typed old in
     same_mild q old told new (is_cut_parts (closes q) (is_ipl q) none) (mild q w typed old told new h) needs
+
+-- ---- which files were closed
+
+-- a device has closed one file at this place, or none
+abbrev Gains : Option ℕ → List FileValue → List FileValue → Type 0
+Gains None old new = new ≡ old
+Gains (Some place) old new = (place ≡ length old) × (length new ≡ length old + 1)
+
+record ClosesAs (old : Equipped) (o : Outcome) : Type 0 where
+  pub punched : Gains (files_closed o.told).punched old.devices.punched o.equipped.devices.punched
+  pub printed : Gains (files_closed o.told).printed old.devices.printed o.equipped.devices.printed
+
+gains : (entries : List EntryValue) (closed : List FileValue) (target : Target) → Gains (place_of entries (length closed)) closed (closed_with closed target entries)
+gains [] closed target = refl
+gains (entry ∷ entries) closed target = (refl, length-append closed _)
+
+punch_closes : (place : Option ℕ) (e : Equipped) → Gains place e.devices.punched (with_punch_closed e.devices).punched → ClosesAs e (punch_answered place e)
+punch_closes None e h = record { punched = refl; printed = refl }
+punch_closes (Some place) e h = record { punched = h; printed = refl }
+
+printer_closes : (place : Option ℕ) (e : Equipped) → Gains place e.devices.printed (with_printer_closed e.devices).printed → ClosesAs e (printer_answered place e)
+printer_closes None e h = record { punched = refl; printed = refl }
+printer_closes (Some place) e h = record { punched = refl; printed = h }
+
+close_closes : (kind : Option Kind) (e : Equipped) → ClosesAs e (closed_at kind e)
+close_closes (Some kinds.Punch) e = punch_closes (open_files e.devices).punched e (gains e.devices.punch.entries e.devices.punched e.devices.target)
+close_closes (Some kinds.Printer) e = printer_closes (open_files e.devices).printed e (gains e.devices.printer.entries e.devices.printed System)
+close_closes (Some kinds.Console) e = record { punched = refl; printed = refl }
+close_closes (Some kinds.Reader) e = record { punched = refl; printed = refl }
+close_closes (Some (kinds.Disk index)) e = record { punched = refl; printed = refl }
+close_closes None e = record { punched = refl; printed = refl }
+
+logoff_closes : (e : Equipped) → ClosesAs e (logged_off e)
+logoff_closes e = record { punched = gains e.devices.punch.entries e.devices.punched e.devices.target; printed = gains e.devices.printer.entries e.devices.printed System }
+
+mild_closes : (sends : Bool) (old : Equipped) (o : Outcome) → IsMild false sends old o → ClosesAs old o
+mild_closes sends old o mild = record {
+  punched = subst (λ (files : ClosedFiles). Gains files.punched old.devices.punched o.equipped.devices.punched) (sym (mild.none refl)) (mild.punched refl);
+  printed = subst (λ (files : ClosedFiles). Gains files.printed old.devices.printed o.equipped.devices.printed) (sym (mild.none refl)) (mild.printed refl);
+}
+
+from_closes : (old : Equipped) (o o' : Outcome) → o ≡ o' → ClosesAs old o' → ClosesAs old o
+from_closes old o o' is h = subst (λ (x : Outcome). ClosesAs old x) (sym is) h
+
+closes_as : (q : Request) (w : World) (typed : List ℕ) (old : Equipped) (told : Told) (new : Equipped) → IsAnswered q w typed old told new → ClosesAs old (outcome new told)
+closes_as LogsOff w typed old told new h = from_closes old (outcome new told) (logged_off old) h (logoff_closes old)
+closes_as (Asks (commands.Close device)) w typed old told new h = from_closes old (outcome new told) (close_answered device old) h (close_closes (part_at old.devices device) old)
+closes_as (Asks commands.QueryFiles) w typed old told new h = mild_closes false old (outcome new told) (mild (Asks commands.QueryFiles) w typed old told new h)
+closes_as (Asks commands.QueryUsers) w typed old told new h = mild_closes false old (outcome new told) (mild (Asks commands.QueryUsers) w typed old told new h)
+closes_as (Asks (commands.Spool device name)) w typed old told new h = mild_closes false old (outcome new told) (mild (Asks (commands.Spool device name)) w typed old told new h)
+closes_as (Asks (commands.Purge file)) w typed old told new h = mild_closes false old (outcome new told) (mild (Asks (commands.Purge file)) w typed old told new h)
+closes_as (Asks (commands.Message name text)) w typed old told new h = mild_closes true old (outcome new told) (mild (Asks (commands.Message name text)) w typed old told new h)
+closes_as LogsOn w typed old told new h = mild_closes false old (outcome new told) (mild LogsOn w typed old told new h)
+closes_as Resets w typed old told new h = mild_closes false old (outcome new told) (mild Resets w typed old told new h)
+closes_as Types w typed old told new h = mild_closes false old (outcome new told) (mild Types w typed old told new h)
+closes_as (Loads device) w typed old told new h = mild_closes false old (outcome new told) (mild (Loads device) w typed old told new h)
+closes_as (Alone asked) w typed old told new h = mild_closes false old (outcome new told) (mild (Alone asked) w typed old told new h)
+
+stands_as : (place : Option ℕ) (old new : List FileValue) → Gains place old new → stands_in place new ≡ length old
+stands_as None old new h = ap (λ (files : List FileValue). length files) h
+stands_as (Some place) old new h = h.0
+
+-- the place of a file that was closed is noted as that of one that has joined those of before
+note_gained : (place : Option ℕ) (old new : List FileValue) (user : ℕ) (kind : ℕ → FileKind) → Gains place old new → note_at place user kind ≡ note_where (nat_lt (length old) (length new)) user (kind (length old))
+note_gained None old new user kind h =
+    let same : nat_lt (length old) (length new) ≡ false = grind (arith, nat_tests, ap (λ (files : List FileValue). length files) h) in rw same refl
+note_gained (Some place) old new user kind h =
+    let more : nat_lt (length old) (length new) ≡ true = lt-ltb (length old) (length new) (omega (arith, h.1)) in rw (more, h.0) refl
+
+-- the files that a line tells as closed: that of the punch stands behind those of before, and they are noted as what has joined them
+pub record Stands (old : Equipped) (files : ClosedFiles) (new : Equipped) : Type 0 where
+  pub punched : stands_in files.punched new.devices.punched ≡ length old.devices.punched
+  pub notes : (user : ℕ) → noted user files ≡ closed_by user old new
+
+pub line_stands : (w : World) (typed : List ℕ) (old : Equipped) (told : Told) (new : Equipped) → IsLine w typed old told new → Stands old (files_closed told) new
+line_stands w typed old told new h =
+    let c = closes_as (requested typed old) w typed old told new h in
+    let files = files_closed told in
+    record {
+      punched = stands_as files.punched old.devices.punched new.devices.punched c.punched;
+      notes = λ user.
+          ap (λ (notes : List FileNote). notes ++ note_at files.printed user of_files.Printer) (note_gained files.punched old.devices.punched new.devices.punched user of_files.Punch c.punched)
+          ∙ ap (λ (notes : List FileNote). note_where (nat_lt (length old.devices.punched) (length new.devices.punched)) user (of_files.Punch (length old.devices.punched)) ++ notes) (note_gained files.printed old.devices.printed new.devices.printed user of_files.Printer c.printed);
+    }

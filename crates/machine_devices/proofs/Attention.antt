@@ -39,10 +39,10 @@ use Rattle.machine_devices.specs.Attention.{AttentionAgrees, AttentionAgreesAtFi
 use Rattle.machine_devices.specs.Devices.{DevicesValue, is_there, kind_at, part_at, part_or_disk}
 use Rattle.machine_devices.specs.Equipped.{Equipped}
 use Rattle.machine_devices.specs.Life.{Event, Units, Serve, Line, Tick, Deck, Message, Leaves}
-use Rattle.machine_devices.specs.Lines.{IsAnswered, IsObeyed, LoadsDisk, LoadsKind, LoadsReader, LoadsUnit, Outcome, close_answered, closed_where, logged_off, logged_on, outcome, requested, spool_answered, spooled_to, target_of, typed_at, typed_where, was_reset, with_closed}
+use Rattle.machine_devices.specs.Lines.{IsAnswered, IsObeyed, LoadsDisk, LoadsKind, LoadsReader, LoadsUnit, Outcome, close_answered, closed_at, logged_off, logged_on, outcome, requested, printer_answered, punch_answered, spool_answered, spooled_to, target_of, typed_at, typed_where, was_reset}
 use Rattle.machine_devices.specs.Loading.{is_good, left_by}
 use Rattle.machine_devices.specs.Serve.{IsServedAt, RunsConsole, Serves, program_over}
-use Rattle.machine_devices.specs.Spooling.{is_punch, output_of}
+use Rattle.machine_devices.specs.Spooling.{is_punch, open_files}
 use Rattle.machine_devices.specs.World.{World}
 use Rattle.machine_devices.proofs.Marks.{AgreeElse, Keeps, Marks, attends_and_ends, ended_keeps, marked, reset_marks, run_keeps, same_number}
 
@@ -250,18 +250,21 @@ spools_where : (b : Bool) (w : World) (device : ℕ) (name : List ℕ) (e : Equi
 spools_where true w device name e other h = spooled_for (target_of w name) device e h
 spools_where false w device name e other h = h
 
-closed_at : (kind : Option Kind) (e : Equipped) → AttentionAgrees e → AttentionAgrees (record e { devices = with_closed kind e.devices })
-closed_at (Some kinds.Console) e h = h
-closed_at (Some kinds.Reader) e h = h
-closed_at (Some kinds.Punch) e h = h
-closed_at (Some kinds.Printer) e h = h
-closed_at (Some (kinds.Disk index)) e h = h
-closed_at None e h = h
+closes_punch : (place : Option ℕ) (e : Equipped) → AttentionAgrees e → AttentionAgrees (punch_answered place e).equipped
+closes_punch None e h = h
+closes_punch (Some place) e h = h
 
-closes : (o : Option Bool) (kind : Option Kind) (e : Equipped) → AttentionAgrees e → AttentionAgrees (closed_where o kind e).equipped
-closes None kind e h = h
-closes (Some false) kind e h = h
-closes (Some true) kind e h = closed_at kind e h
+closes_printer : (place : Option ℕ) (e : Equipped) → AttentionAgrees e → AttentionAgrees (printer_answered place e).equipped
+closes_printer None e h = h
+closes_printer (Some place) e h = h
+
+closes : (kind : Option Kind) (e : Equipped) → AttentionAgrees e → AttentionAgrees (closed_at kind e).equipped
+closes (Some kinds.Console) e h = h
+closes (Some kinds.Reader) e h = h
+closes (Some kinds.Punch) e h = closes_punch (open_files e.devices).punched e h
+closes (Some kinds.Printer) e h = closes_printer (open_files e.devices).printed e h
+closes (Some (kinds.Disk index)) e h = h
+closes None e h = h
 
 obeys : (w : World) (command : DeviceCommand) (old : Equipped) (told : Told) (new : Equipped) → IsObeyed w command old told new → AttentionAgrees old → AttentionAgrees new
 obeys w commands.QueryFiles old told new o h = left_alone old new told _ o h
@@ -269,7 +272,7 @@ obeys w commands.QueryUsers old told new o h = left_alone old new told _ o h
 obeys w (commands.Spool device name) old told new o h =
     left_alone old new told (spool_answered w device name old) o (spools_where (is_punch (part_at old.devices device)) w device name old (Said responses.DeviceNotFound) h)
 obeys w (commands.Close device) old told new o h =
-    left_alone old new told (close_answered device old) o (closes (output_of old.devices (part_at old.devices device)) (part_at old.devices device) old h)
+    left_alone old new told (close_answered device old) o (closes (part_at old.devices device) old h)
 obeys w (commands.Purge file) old told new o h = left_alone old new told _ o h
 obeys w (commands.Message name text) old told new o h = subst AttentionAgrees (sym o.0) h
 

@@ -1,13 +1,14 @@
 -- What comes of a line besides what it says: a loading, files that are closed, a message; and where that takes memory.
-use Rattle.std.specs.Prelude.{◌≡◌, ℕ, ◌<◌, ◌⊎◌, ◌||◌, Bool, true, false, List, length}
+use Rattle.std.specs.Prelude.{◌≡◌, ℕ, ◌⊎◌, ◌||◌, Bool, true, false, List, IsSome}
 use Rattle.cp_console.specs.declared.device_commands.DeviceCommand.{DeviceCommand}
 use Rattle.cp_console.specs.declared.device_commands.DeviceCommand.TheVariants as commands
+use Rattle.machine_devices.specs.declared.files.ClosedFiles.{ClosedFiles}
 use Rattle.machine_devices.specs.declared.line.Told.{Told}
-use Rattle.machine_devices.specs.declared.line.Told.TheVariants.{Silent, Said, Files, Sent, Closed}
+use Rattle.machine_devices.specs.declared.line.Told.TheVariants.{Silent, Said, Files, Sent, Closed, LoggedOff}
 use Rattle.machine_devices.specs.declared.request.Request.{Request}
 use Rattle.machine_devices.specs.declared.request.Request.TheVariants.{LogsOn, LogsOff, Resets, Types, Loads, Asks, Alone}
 use Rattle.machine_devices.specs.Equipped.{Equipped}
-use Rattle.machine_devices.specs.Lines.{IplNeeds, MayTakeMemory, requested}
+use Rattle.machine_devices.specs.Lines.{IplNeeds, MayTakeMemory, files_closed, requested}
 
 -- ---- what a line asks for
 
@@ -56,9 +57,9 @@ is_cut q = closes q || is_ipl q
 
 -- ---- what takes memory
 
--- the punch or the printer, which had closed so many files, has closed one since
-abbrev pub HasClosed : ℕ → ℕ → Equipped → Type 0
-HasClosed punched printed e = (punched < length e.devices.punched) ⊎ (printed < length e.devices.printed)
+-- a file was closed
+abbrev pub HasClosed : ClosedFiles → Type 0
+HasClosed files = IsSome files.punched ⊎ IsSome files.printed
 
 -- a message is to be sent
 abbrev pub is_sent : Told → Bool
@@ -66,11 +67,12 @@ is_sent (Sent user line) = true
 is_sent Silent = false
 is_sent (Said response) = false
 is_sent Files = false
-is_sent Closed = false
+is_sent (Closed files) = false
+is_sent (LoggedOff files) = false
 
 -- and what comes of a line that was answered so takes memory only for a message and for files that it closed
-abbrev pub NeedsMemory : ℕ → ℕ → Told → Equipped → Type 0
-NeedsMemory punched printed told e = (is_sent told ≡ true) ⊎ HasClosed punched printed e
+abbrev pub NeedsMemory : Told → Type 0
+NeedsMemory told = (is_sent told ≡ true) ⊎ HasClosed (files_closed told)
 
 -- the lines that may take memory
 abbrev pub LineMay : List ℕ → Equipped → Type 0

@@ -18,8 +18,9 @@ use Rattle.ckd_volume.specs.Unit.{Disk, disk_machine, rested}
 use Rattle.machine_panel.specs.Machine.{cleared, printed, reset, switched_off}
 use Rattle.machine_panel.specs.declared.line.PanelLine.{PanelLine}
 use Rattle.machine_panel.specs.Panel.{line, line_room}
+use Rattle.machine_devices.specs.declared.files.ClosedFiles.{ClosedFiles}
 use Rattle.machine_devices.specs.declared.line.Told.{Told}
-use Rattle.machine_devices.specs.declared.line.Told.TheVariants.{Silent, Said, Files, Sent, Closed}
+use Rattle.machine_devices.specs.declared.line.Told.TheVariants.{Silent, Said, Files, Sent, Closed, LoggedOff}
 use Rattle.machine_devices.specs.declared.places.Kind.{Kind}
 use Rattle.machine_devices.specs.declared.places.Kind.TheVariants as kinds
 use Rattle.machine_devices.specs.declared.request.Request.{Request}
@@ -31,7 +32,7 @@ use Rattle.machine_devices.specs.Equipped.{Equipped, storage_in, with_attended}
 use Rattle.machine_devices.specs.Loading.{IsLoaded}
 use Rattle.machine_devices.specs.Requests.{request_in}
 use Rattle.machine_devices.specs.Resets.{devices_reset}
-use Rattle.machine_devices.specs.Spooling.{devices_logged_off, is_punch, output_of, spooled, with_deck_purged, with_printer_closed, with_punch_closed}
+use Rattle.machine_devices.specs.Spooling.{devices_logged_off, is_punch, open_files, spooled, with_deck_purged, with_printer_closed, with_punch_closed}
 use Rattle.machine_devices.specs.World.{World, is_on, users_on}
 
 -- the machine and its devices after a line, and what is told
@@ -41,6 +42,9 @@ pub record Outcome : Type 0 where
 
 abbrev pub outcome : Equipped → Told → Outcome
 outcome e told = record { equipped = e; told = told }
+
+abbrev pub none_closed : ClosedFiles
+none_closed = record { punched = None; printed = None }
 
 abbrev pub said : Option Response → Told
 said None = Silent
@@ -54,7 +58,7 @@ logged_on e = outcome (record { machine = cleared e.machine; devices = devices_r
 -- LOGOFF closes the open files of punch and printer first
 abbrev pub logged_off : Equipped → Outcome
 logged_off e =
-    outcome (record { machine = switched_off e.machine; devices = devices_reset (devices_logged_off e.devices); disks = map cleared_disk e.disks }) (Said responses.LogoffOk)
+    outcome (record { machine = switched_off e.machine; devices = devices_reset (devices_logged_off e.devices); disks = map cleared_disk e.disks }) (LoggedOff (open_files e.devices))
 
 abbrev pub was_reset : Equipped → Outcome
 was_reset e =
@@ -98,22 +102,35 @@ spool_answered w device name e =
 
 -- ---- CLOSE: the owner of all files has a number for the one that is closed
 
-abbrev pub with_closed : Option Kind → DevicesValue → DevicesValue
-with_closed (Some kinds.Punch) d = with_punch_closed d
-with_closed (Some kinds.Printer) d = with_printer_closed d
-with_closed (Some kinds.Console) d = d
-with_closed (Some kinds.Reader) d = d
-with_closed (Some (kinds.Disk index)) d = d
-with_closed None d = d
+abbrev pub punch_answered : Option ℕ → Equipped → Outcome
+punch_answered None e = outcome e (Said responses.NoFile)
+punch_answered (Some place) e =
+    outcome (record e { devices = with_punch_closed e.devices }) (Closed (record { punched = Some place; printed = None }))
 
-abbrev pub closed_where : Option Bool → Option Kind → Equipped → Outcome
-closed_where None kind e = outcome e (Said responses.DeviceNotFound)
-closed_where (Some false) kind e = outcome e (Said responses.NoFile)
-closed_where (Some true) kind e =
-    outcome (record e { devices = with_closed kind e.devices }) Closed
+abbrev pub printer_answered : Option ℕ → Equipped → Outcome
+printer_answered None e = outcome e (Said responses.NoFile)
+printer_answered (Some place) e =
+    outcome (record e { devices = with_printer_closed e.devices }) (Closed (record { punched = None; printed = Some place }))
+
+abbrev pub closed_at : Option Kind → Equipped → Outcome
+closed_at (Some kinds.Punch) e = punch_answered (open_files e.devices).punched e
+closed_at (Some kinds.Printer) e = printer_answered (open_files e.devices).printed e
+closed_at (Some kinds.Console) e = outcome e (Said responses.DeviceNotFound)
+closed_at (Some kinds.Reader) e = outcome e (Said responses.DeviceNotFound)
+closed_at (Some (kinds.Disk index)) e = outcome e (Said responses.DeviceNotFound)
+closed_at None e = outcome e (Said responses.DeviceNotFound)
 
 abbrev pub close_answered : ℕ → Equipped → Outcome
-close_answered device e = let kind = part_at e.devices device in closed_where (output_of e.devices kind) kind e
+close_answered device e = closed_at (part_at e.devices device) e
+
+-- which files a line closed
+abbrev pub files_closed : Told → ClosedFiles
+files_closed (Closed files) = files
+files_closed (LoggedOff files) = files
+files_closed Silent = none_closed
+files_closed (Said response) = none_closed
+files_closed Files = none_closed
+files_closed (Sent user line) = none_closed
 
 -- ---- PURGE and QUERY
 

@@ -1,5 +1,7 @@
 -- The files of all users, by number: the first has number 1, and each the number after the last.
-use Rattle.std.specs.Prelude.{ℕ, ◌+◌, Bool, true, false, nat_lt, List, [], ◌∷◌, ◌++◌, length}
+use Rattle.std.specs.Prelude.{ℕ, ◌+◌, Bool, true, false, nat_lt, List, [], ◌∷◌, ◌++◌, length, Option, Some, None}
+use Rattle.unit_record.specs.Output.{FileValue}
+use Rattle.machine_devices.specs.declared.files.ClosedFiles.{ClosedFiles}
 use Rattle.machine_devices.specs.declared.files.FileKind.{FileKind}
 use Rattle.machine_devices.specs.declared.files.FileKind.TheVariants as kinds
 use Rattle.machine_devices.specs.declared.files.FileNote.{FileNote}
@@ -27,3 +29,18 @@ closed_by user old new = closed_since user (length old.devices.punched) (length 
 abbrev pub deck_noted : ℕ → List (List ℕ) → List FileNote
 deck_noted user [] = []
 deck_noted user (card ∷ cards) = record { user = user; kind = kinds.Deck } ∷ []
+
+-- ---- by what a line tells
+
+-- where the file stands that was closed, or where the next would stand
+abbrev pub stands_in : Option ℕ → List FileValue → ℕ
+stands_in None files = length files
+stands_in (Some place) files = place
+
+abbrev pub note_at : Option ℕ → ℕ → (ℕ → FileKind) → List FileNote
+note_at None user kind = []
+note_at (Some place) user kind = record { user = user; kind = kind place } ∷ []
+
+-- the files of this user that were closed at these places, that of the punch first
+abbrev pub noted : ℕ → ClosedFiles → List FileNote
+noted user files = note_at files.punched user kinds.Punch ++ note_at files.printed user kinds.Printer

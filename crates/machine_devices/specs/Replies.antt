@@ -5,7 +5,7 @@ use Rattle.unit_record.specs.declared.output.Target.TheVariants as targets
 use Rattle.unit_record.specs.Output.{FileValue}
 use Rattle.cp_console.specs.declared.responses.Response.TheVariants as responses
 use Rattle.machine_devices.specs.declared.line.Told.{Told}
-use Rattle.machine_devices.specs.declared.line.Told.TheVariants.{Silent, Said, Files, Sent, Closed}
+use Rattle.machine_devices.specs.declared.line.Told.TheVariants.{Silent, Said, Files, Sent, Closed, LoggedOff}
 use Rattle.machine_devices.specs.declared.reply.Delivered.{Delivered}
 use Rattle.machine_devices.specs.declared.reply.Delivery.{Delivery}
 use Rattle.machine_devices.specs.declared.reply.Delivery.TheVariants as deliveries
@@ -27,7 +27,8 @@ said_to_line number Silent = Silent
 said_to_line number (Said response) = Said response
 said_to_line number Files = Files
 said_to_line number (Sent user line) = Said responses.Sent
-said_to_line number Closed = Said (responses.FileClosed number)
+said_to_line number (Closed files) = Said (responses.FileClosed number)
+said_to_line number (LoggedOff files) = Said responses.LogoffOk
 
 -- what is for a user of whom there are fewer comes to nobody
 abbrev pub delivery_to : ℕ → ℕ → Delivery → Option Delivered
@@ -61,7 +62,8 @@ delivered_by users number before (Sent user line) answered = delivery_to users u
 delivered_by users number before Silent answered = punched users number before answered
 delivered_by users number before (Said response) answered = punched users number before answered
 delivered_by users number before Files answered = punched users number before answered
-delivered_by users number before Closed answered = punched users number before answered
+delivered_by users number before (Closed files) answered = punched users number before answered
+delivered_by users number before (LoggedOff files) answered = punched users number before answered
 
 -- the machine answers as one with devices does in this world, where there are so many users and the next file has this number
 pub record IsLineTold (world : World) (users number : ℕ) (typed : List ℕ) (old : Equipped) (reply : Reply) : Type 0 where

@@ -1,13 +1,14 @@
 -- What the control program does with the files and decks of a machine.
-use Rattle.std.specs.Prelude.{ℕ, Bool, true, false, if◌then◌else◌, slice_get, Option, Some, None}
+use Rattle.std.specs.Prelude.{ℕ, Bool, true, false, if◌then◌else◌, List, [], ◌∷◌, length, slice_get, Option, Some, None}
 use Rattle.unit_record.specs.declared.output.Target.{Target}
 use Rattle.unit_record.specs.declared.output.Target.TheVariants.{System}
 use Rattle.unit_record.specs.declared.reader.Sender.{Sender}
-use Rattle.unit_record.specs.Output.{closed_with, has_entries}
+use Rattle.unit_record.specs.Output.{EntryValue, closed_with}
 use Rattle.unit_record.specs.Reader.{DeckValue, with_deck, with_deck_back, queued_at, purged}
 use Rattle.unit_record.specs.Punch.{punch_emptied}
 use Rattle.unit_record.specs.Printer.{printer_emptied}
 use Rattle.cp_spool.specs.Queues.{cards_of}
+use Rattle.machine_devices.specs.declared.files.ClosedFiles.{ClosedFiles}
 use Rattle.machine_devices.specs.declared.places.Kind.{Kind}
 use Rattle.machine_devices.specs.declared.places.Kind.TheVariants as kinds
 use Rattle.machine_devices.specs.Devices.{DevicesValue, part_at}
@@ -28,14 +29,14 @@ spooled d device to = if is_punch (part_at d device) then record d { target = to
 
 -- ---- CLOSE and LOGOFF
 
--- Whether the open file of the punch or printer with this address has an entry; None where there is neither.
-abbrev pub output_of : DevicesValue → Option Kind → Option Bool
-output_of d (Some kinds.Punch) = Some (has_entries d.punch.entries)
-output_of d (Some kinds.Printer) = Some (has_entries d.printer.entries)
-output_of d (Some kinds.Console) = None
-output_of d (Some kinds.Reader) = None
-output_of d (Some (kinds.Disk index)) = None
-output_of d None = None
+-- The place that an open file of these entries will have, where so many were closed before; one without an entry is none.
+abbrev pub place_of : List EntryValue → ℕ → Option ℕ
+place_of [] closed = None
+place_of (entry ∷ entries) closed = Some closed
+
+-- Which files LOGOFF closes.
+abbrev pub open_files : DevicesValue → ClosedFiles
+open_files d = record { punched = place_of d.punch.entries (length d.punched); printed = place_of d.printer.entries (length d.printed) }
 
 abbrev pub with_punch_closed : DevicesValue → DevicesValue
 with_punch_closed d = record d { punch = punch_emptied d.punch; punched = closed_with d.punched d.target d.punch.entries }

@@ -29,6 +29,24 @@ pub struct FileNote {
     pub kind: FileKind,
 }
 
+/// The files that a line closed: of the punch and of the printer the place of its file among all that it has closed, from
+/// 0.
+#[derive(Clone, Copy, Debug, PartialEq, Eq)]
+pub struct ClosedFiles {
+    /// That of the punch.
+    pub punched: Option<usize>,
+    /// That of the printer.
+    pub printed: Option<usize>,
+}
+
+impl ClosedFiles {
+    /// None at all.
+    pub const NONE: ClosedFiles = ClosedFiles {
+        punched: None,
+        printed: None,
+    };
+}
+
 /// The line that tells of a deck of the reader, where these are all users: its number, from whom it comes, and how many
 /// cards it has. Only want of memory is an error.
 ///

@@ -41,7 +41,7 @@ mod world;
 
 pub use attaching::AttachError;
 pub use devices::Devices;
-pub use files::{FileKind, FileNote, deck_line};
+pub use files::{ClosedFiles, FileKind, FileNote, deck_line};
 pub use laws::attention_agrees;
 pub use line::Told;
 pub use places::{Kind, Places};

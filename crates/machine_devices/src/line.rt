@@ -9,9 +9,10 @@ ghost use Rattle.machine_devices.specs.Equipped.{equipped};
 ghost use Rattle.machine_devices.specs.Lent.{KeepsBeside, devices_on, devices_with};
 ghost use Rattle.machine_devices.specs.Requests.{needs_of, switches};
 ghost use Rattle.machine_devices.specs.Comes.{LineMay, LoadWants, is_ipl};
-ghost use Rattle.machine_devices.specs.Lines.{IsLine, logged_off, outcome, said, requested, typed_at, was_reset};
+ghost use Rattle.machine_devices.specs.Lines.{IsLine, files_closed, logged_off, outcome, said, requested, typed_at, was_reset};
 
 use crate::devices::Devices;
+use crate::files::ClosedFiles;
 use crate::request::{Request, request_of};
 use crate::world::World;
 use cp_console::console_line::ConsoleLine;
@@ -35,8 +36,10 @@ pub enum Told {
     Files,
     /// That the line was sent to the user of this number, whose console is to print it.
     Sent(u8, ConsoleLine),
-    /// That a file was closed, the last of its device: its owner gives it a number.
-    Closed,
+    /// That this file was closed: its owner gives it a number.
+    Closed(ClosedFiles),
+    /// That the machine was switched off, and these files were closed: their owner gives them numbers.
+    LoggedOff(ClosedFiles),
 }
 
 impl Told {
@@ -48,6 +51,16 @@ impl Told {
         match response {
             None => Told::Silent,
             Some(response) => Told::Said(response),
+        }
+    }
+
+    /// The files that were closed.
+    pub fn closed(&self) -> ClosedFiles
+        ensures { result ≡ files_closed self.now }
+    {
+        match self {
+            Told::Closed(files) | Told::LoggedOff(files) => *files,
+            Told::Silent | Told::Said(_) | Told::Files | Told::Sent(_, _) => ClosedFiles::NONE,
         }
     }
 }
@@ -169,6 +182,7 @@ impl Devices {
         ensures beside { KeepsBeside self.old queues.old self.new queues.new }
         ensures size { length (S.Storage.bytes storage.new) ≡ length (S.Storage.bytes storage.old) }
     {
+        let closed = self.open_files(queues);
         match self.log_off(alloc, queues) {
             Ok(()) => {}
             Err(_) => return Err(LineError::Memory),
@@ -176,7 +190,7 @@ impl Devices {
         machine.switch_off(storage);
         self.reset();
         disks.clear_disks();
-        Ok(Told::Said(Response::LogoffOk))
+        Ok(Told::LoggedOff(closed))
     }
 
     /// SYSTEM RESET.

@@ -1,17 +1,17 @@
 //! The commands that concern the files of a machine's devices, and other users.
-ghost use Rattle.std.specs.Prelude.{◌≡◌, ◌<◌, List, is_some, if◌then◌else◌, length, IfOk, OnErr, OnOk, Err};
+ghost use Rattle.std.specs.Prelude.{◌≡◌, ◌<◌, List, is_some, if◌then◌else◌, length, IfOk, OnErr, Err};
 ghost use Rattle.user_names.specs.Users.{user_of};
 ghost use Rattle.cp_console.specs.declared.responses.Response.TheVariants as responses;
 ghost use Rattle.machine_panel.specs.Machine.{Machine as WholeMachine};
 ghost use Rattle.unit_record.specs.Reader.{queued_at};
 ghost use Rattle.machine_channels.specs.Disks.{DiskAt};
 ghost use Rattle.cp_spool.specs.Queues.{UserFiles};
-ghost use Rattle.machine_devices.specs.Devices.{place_at};
 ghost use Rattle.machine_devices.specs.Lent.{KeepsBeside, devices_on, devices_with};
-ghost use Rattle.machine_devices.specs.Lines.{CommandMayTakeMemory, IsObeyed, SendsTo, close_answered, files_told, outcome, spool_answered, target_of, with_closed};
+ghost use Rattle.machine_devices.specs.Lines.{CommandMayTakeMemory, IsObeyed, SendsTo, close_answered, files_told, outcome, printer_answered, punch_answered, spool_answered, target_of};
 ghost use Rattle.machine_devices.specs.Spooling.{with_deck_purged};
 
 use crate::devices::Devices;
+use crate::files::ClosedFiles;
 use crate::line::Told;
 use crate::places::Kind;
 use crate::world::World;
@@ -22,7 +22,7 @@ use cp_console::responses::Response;
 use cp_spool::Queues;
 use machine_panel::LineError;
 use s370_num::DevAddr;
-use std::alloc::{AllocError, Global};
+use std::alloc::Global;
 use unit_record::Target;
 
 /// The target that a name says: `SYSTEM` is the operator, another name is a user's.
@@ -150,34 +150,65 @@ impl Devices {
         ensures memory { result ≡ Err LineError.FramesOut → ⊥ }
         ensures beside { KeepsBeside self.old queues.old self.new queues.new }
     {
-        match self.has_output(device.get()) {
-            None => return Ok(Told::Said(Response::DeviceNotFound)),
-            Some(false) => return Ok(Told::Said(Response::NoFile)),
-            Some(true) => {}
+        let open = self.open_files(queues);
+        match self.part_at(device.get()) {
+            Some(Kind::Punch) => self.close_punched(alloc, queues, open.punched),
+            Some(Kind::Printer) => self.close_printed(alloc, queues, open.printed),
+            _ => Ok(Told::Said(Response::DeviceNotFound)),
         }
-        match self.close_at(alloc, queues, device) {
-            Ok(()) => Ok(Told::Closed),
+    }
+
+    /// Closes the open file of the punch, which will have this place, if there is one.
+    fn close_punched(
+        &mut self,
+        alloc: Global,
+        queues: &mut Queues,
+        place: Option<usize>,
+    ) -> Result<Told, LineError>
+        requires { self.old.user < length queues.old.users }
+        ensures ok { (m : WholeMachine) (disks : List DiskAt)
+            → IfOk result (λ told. outcome (record { machine = m; devices = devices_on self.new queues.new; disks = disks }) told
+            ≡ punch_answered place (record { machine = m; devices = devices_on self.old queues.old; disks = disks })) }
+        ensures err { OnErr result (devices_on self.new queues.new ≡ devices_on self.old queues.old) }
+        ensures memory { result ≡ Err LineError.FramesOut → ⊥ }
+        ensures beside { KeepsBeside self.old queues.old self.new queues.new }
+    {
+        if place.is_none() {
+            return Ok(Told::Said(Response::NoFile));
+        }
+        match self.close_punch(alloc, queues) {
+            Ok(()) => Ok(Told::Closed(ClosedFiles {
+                punched: place,
+                printed: None,
+            })),
             Err(_) => Err(LineError::Memory),
         }
     }
 
-    /// Closes the open file of the punch or printer at this address.
-    fn close_at(
+    /// The same of the printer.
+    fn close_printed(
         &mut self,
         alloc: Global,
         queues: &mut Queues,
-        device: DevAddr,
-    ) -> Result<(), AllocError>
+        place: Option<usize>,
+    ) -> Result<Told, LineError>
         requires { self.old.user < length queues.old.users }
-        ensures ok { OnOk result (devices_on self.new queues.new
-            ≡ with_closed (place_at self.old.places device) (devices_on self.old queues.old)) }
+        ensures ok { (m : WholeMachine) (disks : List DiskAt)
+            → IfOk result (λ told. outcome (record { machine = m; devices = devices_on self.new queues.new; disks = disks }) told
+            ≡ printer_answered place (record { machine = m; devices = devices_on self.old queues.old; disks = disks })) }
         ensures err { OnErr result (devices_on self.new queues.new ≡ devices_on self.old queues.old) }
+        ensures memory { result ≡ Err LineError.FramesOut → ⊥ }
         ensures beside { KeepsBeside self.old queues.old self.new queues.new }
     {
-        match self.part_at(device.get()) {
-            Some(Kind::Punch) => self.close_punch(alloc, queues),
-            Some(Kind::Printer) => self.close_printer(alloc, queues),
-            _ => Ok(()),
+        if place.is_none() {
+            return Ok(Told::Said(Response::NoFile));
+        }
+        match self.close_printer(alloc, queues) {
+            Ok(()) => Ok(Told::Closed(ClosedFiles {
+                punched: None,
+                printed: place,
+            })),
+            Err(_) => Err(LineError::Memory),
         }
     }
 }

@@ -73,7 +73,8 @@ pub fn said_to_line(number: u64, told: &Told) -> Told
 {
     match told {
         Told::Sent(_, _) => Told::Said(Response::Sent),
-        Told::Closed => Told::Said(Response::FileClosed(number)),
+        Told::Closed(_) => Told::Said(Response::FileClosed(number)),
+        Told::LoggedOff(_) => Told::Said(Response::LogoffOk),
         Told::Silent | Told::Said(_) | Told::Files => *told,
     }
 }

@@ -1,16 +1,15 @@
 //! Files and decks: what SPOOL, CLOSE, PURGE and LOGOFF do with the devices.
 ghost use Rattle.std.specs.Prelude.{◌≡◌, ◌+◌, ◌<◌, ◌≤◌, is_some, length, slice_index, IfOk, OnOk, OnErr};
 ghost use Rattle.unit_record.specs.Reader.{queued_at};
-ghost use Rattle.cp_spool.specs.Queues.{UserFiles, deck_of, files_of};
-ghost use Rattle.machine_devices.specs.Devices.{place_at};
-ghost use Rattle.machine_devices.specs.Lent.{KeepsBeside, devices_on, devices_with};
-ghost use Rattle.machine_devices.specs.Spooling.{devices_logged_off, output_of, with_deck_purged, with_deck_put_back, with_deck_queued, with_printer_closed, with_punch_closed};
+ghost use Rattle.cp_spool.specs.Queues.{deck_of, files_of};
+ghost use Rattle.machine_devices.specs.Lent.{KeepsBeside, devices_on};
+ghost use Rattle.machine_devices.specs.Spooling.{devices_logged_off, open_files, place_of, with_deck_purged, with_deck_put_back, with_deck_queued, with_printer_closed, with_punch_closed};
 
 use crate::devices::Devices;
-use crate::places::Kind;
+use crate::files::ClosedFiles;
 use cp_spool::Queues;
 use std::alloc::{AllocError, Global};
-use unit_record::{Card, Sender, Target};
+use unit_record::{Card, Entry, Sender, Target};
 use user_names::UserNo;
 
 impl Devices {
@@ -21,16 +20,13 @@ impl Devices {
         self.target = to;
     }
 
-    /// Whether the open file of the punch or printer with this address has an entry; None where neither has this
-    /// address.
-    pub fn has_output(&self, device: u16) -> Option<bool>
-        ensures { (files : UserFiles)
-            → result ≡ output_of (devices_with self.now files) (place_at self.now.places device) }
+    /// Which files LOGOFF closes.
+    pub(crate) fn open_files(&self, queues: &Queues) -> ClosedFiles
+        ensures { result ≡ open_files (devices_on self.now queues.now) }
     {
-        match self.part_at(device) {
-            Some(Kind::Punch) => Some(!self.punch.entries().is_empty()),
-            Some(Kind::Printer) => Some(!self.printer.entries().is_empty()),
-            _ => None,
+        ClosedFiles {
+            punched: place_of(self.punch.entries(), queues.punched_count(self.user)),
+            printed: place_of(self.printer.entries(), queues.printed_count(self.user)),
         }
     }
 
@@ -171,6 +167,17 @@ impl Devices {
         ensures beside { KeepsBeside self.now queues.old self.now queues.new }
     {
         queues.put_back(self.user);
+    }
+}
+
+/// The place that an open file of these entries will have, where so many were closed before; one without an entry is none.
+fn place_of(entries: &[Entry], closed: usize) -> Option<usize>
+    ensures { result ≡ place_of entries.now closed }
+{
+    if entries.is_empty() {
+        None
+    } else {
+        Some(closed)
     }
 }
 

@@ -11,7 +11,7 @@ use Rattle.cp_console.specs.Responses.{text_of}
 use Rattle.cp_console.specs.ConsoleLine.{characters_of}
 use Rattle.unit_record.specs.Reader.{DeckValue}
 use Rattle.machine_devices.specs.declared.line.Told.{Told}
-use Rattle.machine_devices.specs.declared.line.Told.TheVariants.{Silent, Said, Files, Sent, Closed}
+use Rattle.machine_devices.specs.declared.line.Told.TheVariants.{Silent, Said, Files, Sent, Closed, LoggedOff}
 use Rattle.machine_devices.specs.Files.{file_lines}
 use Rattle.machine_devices.specs.declared.reply.Ended.{Ended}
 use Rattle.machine_devices.specs.declared.reply.Ended.TheVariants.{Ran, Served, Done, FramesOut}
@@ -40,7 +40,8 @@ said_lines names name decks Silent = []
 said_lines names name decks (Said response) = told_line name (text_of response) ∷ []
 said_lines names name decks Files = queue_lines names name decks
 said_lines names name decks (Sent user line) = []
-said_lines names name decks Closed = []
+said_lines names name decks (Closed files) = []
+said_lines names name decks (LoggedOff files) = []
 
 -- a message stands at its receiver's terminal, and a deck at nobody's
 abbrev pub delivery_lines : List (List ℕ) → ℕ → Delivery → List (List ℕ)

@@ -68,7 +68,7 @@ fn print_said<I: Installation>(
             let names = names(alloc, installation)?;
             print_queue(alloc, out, installation, &names, user)
         }
-        Told::Silent | Told::Sent(_, _) | Told::Closed => Ok(()),
+        Told::Silent | Told::Sent(_, _) | Told::Closed(_) | Told::LoggedOff(_) => Ok(()),
     }
 }
 

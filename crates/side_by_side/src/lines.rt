@@ -43,7 +43,8 @@ fn response_of(told: &Told) -> Option<Response> {
 fn said(told: Told, number: u64) -> Told {
     match told {
         Told::Sent(_, _) => Told::Said(Response::Sent),
-        Told::Closed => Told::Said(Response::FileClosed(number)),
+        Told::Closed(_) => Told::Said(Response::FileClosed(number)),
+        Told::LoggedOff(_) => Told::Said(Response::LogoffOk),
         other => other,
     }
 }

@@ -1,15 +1,13 @@
-use Rattle.std.proofs.Common.{◌≡◌, ◌∙◌, ◌++◌, ℕ, Err, List, Ok, OnErr, Option, Result, ap, length, subst}
+use Rattle.std.proofs.Common.{◌≡◌, ◌∙◌, ◌++◌, ℕ, Err, List, Ok, OnErr, Result, ap, subst}
 use Rattle.s370_channel.specs.Reading.{as_reached}
 use Rattle.machine_devices.specs.declared.files.FileNote.{FileNote}
-use Rattle.machine_devices.specs.declared.reply.Delivered.{Delivered}
-use Rattle.machine_devices.specs.Comes.{NeedsMemory}
 use Rattle.machine_devices.specs.Coming.{comes_by_line, coming_of}
 use Rattle.machine_devices.specs.Life.{Lives}
-use Rattle.machine_devices.specs.Lines.{IsLine}
-use Rattle.machine_devices.specs.Notes.{closed_since, next_file}
+use Rattle.machine_devices.specs.Lines.{IsLine, files_closed}
+use Rattle.machine_devices.specs.Notes.{next_file, noted, stands_in}
 use Rattle.machine_devices.specs.Replies.{delivered_by, said_to_line}
 use Rattle.machine_devices.specs.World.{World}
-use Rattle.machine_devices.proofs.Answered.{follow_may}
+use Rattle.machine_devices.proofs.Answered.{follow_may, line_stands}
 use Rattle.bare_installation.proofs.bare.Bare.line.Goals as goal
 
 on_err : {T E : Type 0} (X : Type 0) (result : Result T E) → X → OnErr result X
@@ -18,13 +16,7 @@ on_err X (Err error) x = x
 
 pub returns-in_err-delivered-clause-memory : goal.returns-in_err-delivered-clause-memory
 returns-in_err-delivered-clause-memory c =
-    let old = c.args.self.now.equipped in
-    let middle = c.answer.new.self.equipped in
-    let told = c.in_ok-told.told in
-    let needs : NeedsMemory (length old.devices.punched) (length old.devices.printed) told middle =
-    subst (λ (n : ℕ). NeedsMemory (length old.devices.punched) n told middle) c.printed_files-printer_files.ensures
-    (subst (λ (n : ℕ). NeedsMemory n c.printed_files-printer_files.result told middle) c.punched-punch_files.ensures c.in_err-delivered.ensures.memory) in
-    on_err _ c.from_residual-in_err-delivered.result (follow_may _ c.args.typed.now old told middle c.in_ok-told.ensures.line needs)
+    on_err _ c.from_residual-in_err-delivered.result (follow_may _ c.args.typed.now c.args.self.now.equipped c.in_ok-told.told c.answer.new.self.equipped c.in_ok-told.ensures.line c.in_err-delivered.ensures.memory)
 
 pub returns-clause-typed : goal.returns-clause-typed
 returns-clause-typed c =
@@ -32,21 +24,19 @@ returns-clause-typed c =
     let middle = c.answer.new.self in
     let told = c.in_ok-told.told in
     let delivered = c.in_ok-delivered.delivered in
-    let punched = c.punched-punch_files.result in
-    let printed = c.printed_files-printer_files.result in
+    let closed = files_closed told in
     let f = c.in_ok-delivered.ensures in
     let files : middle.files ≡ old.files = c.in_ok-told.ensures.files in
+    let stands = line_stands _ c.args.typed.now old.equipped told middle.equipped c.in_ok-told.ensures.line in
     record {
       tells = record {
         told = told;
         answered = middle.equipped;
         line = subst (λ (w : World). IsLine w c.args.typed.now old.equipped told middle.equipped) c.world-world.ensures c.in_ok-told.ensures.line;
         said = c.said_to_line.ensures ∙ ap (λ (n : ℕ). said_to_line n told) c.next_file-number.ensures.value;
-        delivered = f.delivered ∙ ap (λ (xs : List FileNote). delivered_by 1 (next_file xs) punched told middle.equipped) files
-            ∙ ap (λ (n : ℕ). delivered_by 1 (next_file old.files) n told middle.equipped) c.punched-punch_files.ensures;
+        delivered = f.delivered ∙ ap (λ (xs : List FileNote). delivered_by 1 (next_file xs) (stands_in closed.punched middle.equipped.devices.punched) told middle.equipped) files
+            ∙ ap (λ (n : ℕ). delivered_by 1 (next_file old.files) n told middle.equipped) stands.punched;
       };
-      come = subst (λ (n : ℕ). Lives as_reached (coming_of (comes_by_line 0 n middle.equipped) delivered) middle.equipped c.follow.new.self.equipped) c.punched-punch_files.ensures f.come;
-      files = f.files ∙ ap (λ (xs : List FileNote). xs ++ closed_since 0 punched printed middle.equipped) files
-          ∙ ap (λ (n : ℕ). old.files ++ closed_since 0 n printed middle.equipped) c.punched-punch_files.ensures
-          ∙ ap (λ (n : ℕ). old.files ++ closed_since 0 (length old.equipped.devices.punched) n middle.equipped) c.printed_files-printer_files.ensures;
+      come = subst (λ (n : ℕ). Lives as_reached (coming_of (comes_by_line 0 n middle.equipped) delivered) middle.equipped c.follow.new.self.equipped) stands.punched f.come;
+      files = f.files ∙ ap (λ (xs : List FileNote). xs ++ noted 0 closed) files ∙ ap (λ (xs : List FileNote). old.files ++ xs) (stands.notes 0);
     }

@@ -13,13 +13,13 @@ pub returns-in_err-delivered-in-Ok-clause-cut : goal.returns-in_err-delivered-in
 returns-in_err-delivered-in-Ok-clause-cut c =
     let t = c.type_line.ensures in
     let f = c.in_err-delivered-in-Ok.ensures in
-    if_err c.from_residual.result _ (line_cut c.args.self.now c.type_line.new.self c.follow.new.self c.args.user c.args.typed c.in-Ok.told c.closed_by-closed.result.punched c.closed_by-closed.result.printed c.in-Ok.ensures.typed t.rest t.between_before t.between c.closed_by-closed.ensures.punched c.closed_by-closed.ensures.printed f.memory f.err c.follow.ensures.supply)
+    if_err c.from_residual.result _ (line_cut c.args.self.now c.type_line.new.self c.follow.new.self c.args.user c.args.typed c.in-Ok.told c.in-Ok.ensures.typed t.rest t.between_before t.between f.memory f.err c.follow.ensures.supply)
 
 pub returns-in_ok-delivered-in-Ok-clause-step : goal.returns-in_ok-delivered-in-Ok-clause-step
 returns-in_ok-delivered-in-Ok-clause-step c =
     let t = c.type_line.ensures in
     let f = c.in_ok-delivered-in-Ok.ensures in
-    line_done c.args.self.now c.type_line.new.self c.follow.new.self c.args.user c.args.typed c.in-Ok.told c.said_to_line.result c.saturating_sub.result c.in_ok-delivered-in-Ok.delivered c.closed_by-closed.result.punched c.closed_by-closed.result.printed c.in-Ok.ensures.typed t.rest t.between_before t.between c.closed_by-closed.ensures.punched c.closed_by-closed.ensures.printed
+    line_done c.args.self.now c.type_line.new.self c.follow.new.self c.args.user c.args.typed c.in-Ok.told c.said_to_line.result c.saturating_sub.result c.in_ok-delivered-in-Ok.delivered c.in-Ok.ensures.typed t.rest t.between_before t.between
     f.delivered f.files f.come f.deliveries c.follow.ensures.supply
     (c.said_to_line.ensures ∙ ap (λ (n : ℕ). said_to_line n c.in-Ok.told) c.next_file-number.ensures.value)
     (omega (arith, c.saturating_sub.ensures, c.printed_by.ensures, c.printed_by-printed.ensures))
