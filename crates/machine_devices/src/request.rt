@@ -1,5 +1,5 @@
 //! What a line asks of a machine with devices.
-ghost use Rattle.std.specs.Prelude.{◌≡◌};
+ghost use Rattle.std.specs.Prelude.{◌≡◌, Ok};
 ghost use Rattle.cp_console.specs.Asked.{asked_of};
 ghost use Rattle.cp_console.specs.Commands.{command_of};
 ghost use Rattle.machine_devices.specs.Requests.{asked_request, command_request, off_request, plain_request, request_in};
@@ -83,21 +83,30 @@ fn command_request(text: &[u8]) -> Request<'_>
     ensures { result ≡ command_request (command_of text.now) }
 {
     match read_command(text) {
-        Ok(Command::Nothing) => Request::Alone(PanelLine::Nothing),
-        Ok(Command::Logon) => Request::Alone(PanelLine::Says(Response::AlreadyLoggedOn)),
-        Ok(Command::Logoff) => Request::LogsOff,
-        Ok(Command::Begin(address)) => Request::Alone(PanelLine::Begin(address)),
-        Ok(Command::SystemReset) => Request::Resets,
-        Ok(Command::External) => Request::Alone(PanelLine::External),
-        Ok(Command::Display(place)) => Request::Alone(PanelLine::Display(place)),
-        Ok(Command::Store(change)) => Request::Alone(PanelLine::Store(change)),
-        Ok(Command::Ipl(device)) => Request::Loads(device),
-        Ok(Command::Device(command)) => Request::Asks(command),
+        Ok(command) => request_by(command),
         Err(CommandError::Unknown) => Request::Alone(PanelLine::Says(Response::UnknownCommand)),
         Err(CommandError::Operand(place)) => {
             Request::Alone(PanelLine::Says(Response::BadOperand(place)))
         }
         // No command takes memory to be read.
         Err(CommandError::Memory) => Request::Alone(PanelLine::Nothing),
+    }
+}
+
+/// Of a command.
+fn request_by(command: Command<'_>) -> Request<'_>
+    ensures { result ≡ command_request (Ok command.entry) }
+{
+    match command {
+        Command::Nothing => Request::Alone(PanelLine::Nothing),
+        Command::Logon => Request::Alone(PanelLine::Says(Response::AlreadyLoggedOn)),
+        Command::Logoff => Request::LogsOff,
+        Command::Begin(address) => Request::Alone(PanelLine::Begin(address)),
+        Command::SystemReset => Request::Resets,
+        Command::External => Request::Alone(PanelLine::External),
+        Command::Display(place) => Request::Alone(PanelLine::Display(place)),
+        Command::Store(change) => Request::Alone(PanelLine::Store(change)),
+        Command::Ipl(device) => Request::Loads(device),
+        Command::Device(command) => Request::Asks(command),
     }
 }
