@@ -4,11 +4,10 @@
  *     memory   malloc, calloc, realloc and their like: there is no memory
  *     file     open, read, write, sync, rename and the other calls of a file: the device fails
  *     short    read and write: they move at most one byte, which is no failure
- * REFUSE_REPORT=PATH       the file to which the calls are told when the program ends: how many of memory, how often the program
- *                          itself had all memory refused, how many were refused then, and each call of a file in one letter.
+ * REFUSE_REPORT=PATH       the file to which the calls are told when the program ends: how many of memory, and each call of a
+ *                          file in one letter.
  *
  * What goes to standard error is neither counted nor refused: it tells of the failure. Nor is what the loader does before.
- * Between a line "refuse" and a line "grant" that the program itself writes to standard output, all memory is refused.
  */
 #define _GNU_SOURCE
 #include <dlfcn.h>
@@ -28,8 +27,6 @@ static enum kind kind;
 static unsigned long first, last;
 static unsigned long allocations, calls;
 static const char *report;
-static int refuses_all;
-static unsigned long marks, refused_between;
 static char told[1 << 16];
 
 static int is_refused(enum kind of, unsigned long number) {
@@ -40,8 +37,7 @@ static int is_refused(enum kind of, unsigned long number) {
 
 static int is_out(void) {
     allocations++;
-    refused_between += refuses_all;
-    if (!refuses_all && !is_refused(MEMORY, allocations))
+    if (!is_refused(MEMORY, allocations))
         return 0;
     errno = ENOMEM;
     return 1;
@@ -95,10 +91,6 @@ ssize_t read(int fd, void *to, size_t size) {
 ssize_t write(int fd, const void *from, size_t size) {
     if (fd == 2)
         return syscall(SYS_write, fd, from, size);
-    if (fd == 1 && size == 7 && memcmp(from, "refuse\n", 7) == 0)
-        marks += refuses_all = 1;
-    if (fd == 1 && size == 6 && memcmp(from, "grant\n", 6) == 0)
-        refuses_all = 0;
     return fails('w') ? -1 : syscall(SYS_write, fd, from, moved(size));
 }
 
@@ -145,7 +137,7 @@ __attribute__((destructor)) static void end(void) {
     if (!report)
         return;
     kind = NOTHING;
-    int size = snprintf(line, sizeof line, "%lu %lu %lu ", allocations, marks, refused_between);
+    int size = snprintf(line, sizeof line, "%lu ", allocations);
     int to = (int)syscall(SYS_openat, AT_FDCWD, report, O_WRONLY | O_CREAT | O_TRUNC, 0666);
     syscall(SYS_write, to, line, size);
     syscall(SYS_write, to, told, calls < sizeof told ? calls : sizeof told);
