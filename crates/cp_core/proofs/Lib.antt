@@ -8,3 +8,4 @@ pub mod Steps
 pub mod Histories
 pub mod Loans
 pub mod Owned
+pub mod Lending

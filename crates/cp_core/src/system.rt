@@ -19,7 +19,7 @@ ghost use Rattle.cp_core.specs.Told.{IsTold};
 use crate::delivery::Parcel;
 use crate::events::{CpError, Event};
 use crate::user_machine::UserMachine;
-use crate::work::{Service, Tick, Units, Work};
+use crate::work::{Service, Tick, Units, Work, lend};
 use ckd_volume::Volume;
 use cp_directory::Directory;
 use cp_frames::Frames;
@@ -234,11 +234,25 @@ impl System {
         ensures between { IsBetweenUnits self.new.supply }
     {
         let number = self.number_of(user);
-        let machine = &mut self.users[user];
-        machine.lend(
-            &mut self.frames,
-            &mut self.volumes,
+        let seat = &mut self.users[user];
+        // All its fields: what is added to them is seen here.
+        let UserMachine {
+            machine,
+            devices,
+            minidisks,
+            keys,
+            deliveries: _,
+            reuse,
+        } = seat;
+        lend(
+            machine,
+            devices,
             &mut self.queues,
+            &mut self.volumes,
+            minidisks,
+            reuse,
+            &mut self.frames,
+            keys,
             number,
             &self.directory,
             work,

@@ -1,27 +1,20 @@
 //! A user's machine with its devices, of which the storage stands in frames.
-ghost use Rattle.std.specs.Prelude.{◌≡◌, ◌<◌, ◌≤◌, ◌*◌, ◌++◌, ◌∷◌, [], ℕ, List, Err, IfOk, OnErr, OnOk, false, length, map, replicate, slice_set};
+ghost use Rattle.std.specs.Prelude.{◌≡◌, ◌<◌, ◌≤◌, ◌*◌, ◌++◌, ◌∷◌, [], ℕ, List, Err, IfOk, OnErr, OnOk, false, length, map, replicate};
 ghost use Rattle.s370_channel.specs.Reading.{as_reached};
-ghost use Rattle.cp_frames.specs.Layout.{bytes_of};
-ghost use Rattle.cp_dat.specs.Supplied.{IsBetweenUnits};
 ghost use Rattle.machine_devices.specs.Devices.{can_attach, devices_new, places_of};
 ghost use Rattle.machine_devices.specs.declared.attaching.AttachError.TheVariants as attaching;
-ghost use Rattle.machine_devices.specs.Equipped.{equipped};
 ghost use Rattle.machine_devices.specs.Life.{Leaves};
-ghost use Rattle.machine_devices.specs.Lent.{KeepsBeside, devices_on, parts_new};
+ghost use Rattle.machine_devices.specs.Lent.{KeepsBeside, parts_new};
 ghost use Rattle.cp_core.specs.Parcels.{IsThereIn, contents_in, note_of};
-ghost use Rattle.cp_core.specs.UserMachines.{Fits, IsUnused, seat_on, user_with};
+ghost use Rattle.cp_core.specs.UserMachines.{IsUnused, seat_on, user_with};
 ghost use Rattle.ckd_volume.specs.Volume.{VolumeFormat};
-ghost use Rattle.cp_volumes.specs.Shared.{IsUsers, KeepsNeighbours, disks_on, stands_of};
+ghost use Rattle.cp_volumes.specs.Shared.{disks_on};
 
 use crate::delivery::Parcel;
-use crate::work::Work;
 use cp_console::responses::Response;
-use cp_dat::Dat;
-use cp_directory::Directory;
-use cp_frames::Frames;
 use cp_resident::Reuse;
 use cp_spool::Queues;
-use cp_volumes::{SharedDisk, Volumes};
+use cp_volumes::SharedDisk;
 use machine_devices::{AttachError, Delivery, Devices, Places};
 use machine_panel::Machine;
 use s370_num::{DevAddr, StorageKey};
@@ -99,47 +92,6 @@ impl UserMachine {
         }
     }
 
-    /// Does a work with the machine, whose storage is lent from frames.
-    #[inline(always)]
-    pub(crate) fn lend<W: Work>(
-        &mut self,
-        frames: &mut Frames,
-        volumes: &mut Volumes,
-        queues: &mut Queues,
-        user: UserNo,
-        directory: &Directory,
-        work: &W,
-    ) -> W::Answer
-        requires fits { Fits (seat_on queues.old self.old) (bytes_of frames.old user) }
-        requires owner { self.old.devices.user < length queues.old.users }
-        requires between { IsBetweenUnits frames.old.supply }
-        requires users { IsUsers volumes.old (stands_of self.old.minidisks) }
-        ensures does { let before = user_with (seat_on queues.old self.old) volumes.old (bytes_of frames.old user) in
-            let after = user_with (seat_on queues.new self.new) volumes.new (bytes_of frames.new user) in
-            W.Does work.now directory.now user before frames.old.supply result after frames.new.supply }
-        ensures others { frames.new.storages ≡ slice_set frames.old.storages user (bytes_of frames.new user) }
-        ensures fits { Fits (seat_on queues.new self.new) (bytes_of frames.new user) }
-        ensures between { IsBetweenUnits frames.new.supply }
-        ensures beside { KeepsBeside self.old.devices queues.old self.new.devices queues.new }
-        ensures deliveries { self.new.deliveries ≡ self.old.deliveries }
-        ensures neighbours { KeepsNeighbours (record { volumes = volumes.old; minidisks = self.old.minidisks })
-            (record { volumes = volumes.new; minidisks = self.new.minidisks }) }
-    {
-        // All its fields: what is added to them is seen here.
-        let UserMachine {
-            machine,
-            devices,
-            minidisks,
-            keys,
-            deliveries: _,
-            reuse,
-        } = self;
-        lend_over(
-            machine, devices, queues, volumes, minidisks, reuse, frames, keys, user, directory,
-            work,
-        )
-    }
-
     /// A parcel comes to the user. Where memory is refused, his machine stays.
     pub(crate) fn receive(&mut self, queues: &mut Queues, parcel: Parcel) -> Result<(), AllocError>
         requires owner { self.old.devices.user < length queues.old.users }
@@ -180,49 +132,4 @@ fn addresses_of(alloc: Global, minidisks: &[SharedDisk]) -> Result<Vec<DevAddr>,
         made.push(disk.address())?;
     }
     Ok(made)
-}
-
-/// Does a work with a machine, whose storage is lent from frames, with these keys.
-#[inline(always)]
-fn lend_over<W: Work>(
-    machine: &mut Machine,
-    devices: &mut Devices,
-    queues: &mut Queues,
-    volumes: &mut Volumes,
-    minidisks: &mut Vec<SharedDisk>,
-    reuse: &mut Reuse,
-    frames: &mut Frames,
-    keys: &mut [StorageKey],
-    user: UserNo,
-    directory: &Directory,
-    work: &W,
-) -> W::Answer
-    requires large { 8192 ≤ length (bytes_of frames.old user) }
-    requires keyed { length (bytes_of frames.old user) ≤ 2048 * length keys.old }
-    requires between { IsBetweenUnits frames.old.supply }
-    requires users { IsUsers volumes.old (stands_of minidisks.old.items) }
-    requires owner { devices.old.user < length queues.old.users }
-    ensures does { let before = equipped machine.old (devices_on devices.old queues.old) (disks_on volumes.old minidisks.old.items)
-        (bytes_of frames.old user) keys.old in
-        let after = equipped machine.new (devices_on devices.new queues.new) (disks_on volumes.new minidisks.new.items)
-        (bytes_of frames.new user) keys.new in
-        W.Does work.now directory.now user before frames.old.supply result after frames.new.supply }
-    ensures others { frames.new.storages ≡ slice_set frames.old.storages user (bytes_of frames.new user) }
-    ensures size { length (bytes_of frames.new user) ≡ length (bytes_of frames.old user) }
-    ensures between { IsBetweenUnits frames.new.supply }
-    ensures beside { KeepsBeside devices.old queues.old devices.new queues.new }
-    ensures neighbours { KeepsNeighbours (record { volumes = volumes.old; minidisks = minidisks.old.items })
-        (record { volumes = volumes.new; minidisks = minidisks.new.items }) }
-{
-    let mut storage = Dat::new(frames, keys, user);
-    work.work(
-        directory,
-        machine,
-        devices,
-        queues,
-        volumes,
-        minidisks,
-        reuse,
-        &mut storage,
-    )
 }

@@ -1,8 +1,8 @@
 //! What is done with the machine of one user while its storage is lent from frames: a run, a tick, a line,
 //! a serve.
-ghost use Rattle.std.specs.Prelude.{◌≡◌, ℕ, ◌<◌, ◌≤◌, List, length};
+ghost use Rattle.std.specs.Prelude.{◌≡◌, ◌*◌, ℕ, ◌<◌, ◌≤◌, List, length, slice_set};
 ghost use Rattle.cp_directory.specs.Users.{DirectoryUser};
-ghost use Rattle.cp_frames.specs.Layout.{FrameSupply};
+ghost use Rattle.cp_frames.specs.Layout.{FrameSupply, bytes_of};
 ghost use Rattle.cp_dat.specs.Lent.{KeepsFrames, lent_bytes, lent_keys, lent_pool, user_of};
 ghost use Rattle.cp_dat.specs.Supplied.{IsBetweenUnits};
 ghost use Rattle.machine_devices.specs.Equipped.{Equipped, equipped};
@@ -14,6 +14,7 @@ use crate::world::Among;
 use arrayvec::ArrayVec;
 use cp_dat::Dat;
 use cp_directory::Directory;
+use cp_frames::Frames;
 use cp_resident::{Resident, Reuse};
 use cp_spool::Queues;
 use cp_trap::VirtualCpu;
@@ -21,7 +22,7 @@ use cp_volumes::{SharedDisk, Volumes};
 use machine_devices::{Devices, Told};
 use machine_panel::{LineError, Machine};
 use s370_intr::Ran;
-use s370_num::DevAddr;
+use s370_num::{DevAddr, StorageKey};
 use s370_store::FramesOut;
 use std::alloc::Global;
 use user_names::UserNo;
@@ -62,6 +63,51 @@ pub(crate) trait Work {
         ensures beside { KeepsBeside devices.old queues.old devices.new queues.new }
         ensures neighbours { KeepsNeighbours (record { volumes = volumes.old; minidisks = minidisks.old.items })
             (record { volumes = volumes.new; minidisks = minidisks.new.items }) };
+}
+
+/// Does a work with a machine, whose storage is lent from frames, with these keys.
+#[inline(always)]
+pub(crate) fn lend<W: Work>(
+    machine: &mut Machine,
+    devices: &mut Devices,
+    queues: &mut Queues,
+    volumes: &mut Volumes,
+    minidisks: &mut Vec<SharedDisk>,
+    reuse: &mut Reuse,
+    frames: &mut Frames,
+    keys: &mut [StorageKey],
+    user: UserNo,
+    directory: &Directory,
+    work: &W,
+) -> W::Answer
+    requires large { 8192 ≤ length (bytes_of frames.old user) }
+    requires keyed { length (bytes_of frames.old user) ≤ 2048 * length keys.old }
+    requires between { IsBetweenUnits frames.old.supply }
+    requires users { IsUsers volumes.old (stands_of minidisks.old.items) }
+    requires owner { devices.old.user < length queues.old.users }
+    ensures does { let before = equipped machine.old (devices_on devices.old queues.old) (disks_on volumes.old minidisks.old.items)
+        (bytes_of frames.old user) keys.old in
+        let after = equipped machine.new (devices_on devices.new queues.new) (disks_on volumes.new minidisks.new.items)
+        (bytes_of frames.new user) keys.new in
+        W.Does work.now directory.now user before frames.old.supply result after frames.new.supply }
+    ensures others { frames.new.storages ≡ slice_set frames.old.storages user (bytes_of frames.new user) }
+    ensures size { length (bytes_of frames.new user) ≡ length (bytes_of frames.old user) }
+    ensures between { IsBetweenUnits frames.new.supply }
+    ensures beside { KeepsBeside devices.old queues.old devices.new queues.new }
+    ensures neighbours { KeepsNeighbours (record { volumes = volumes.old; minidisks = minidisks.old.items })
+        (record { volumes = volumes.new; minidisks = minidisks.new.items }) }
+{
+    let mut storage = Dat::new(frames, keys, user);
+    work.work(
+        directory,
+        machine,
+        devices,
+        queues,
+        volumes,
+        minidisks,
+        reuse,
+        &mut storage,
+    )
 }
 
 /// The machine is let run for at most so many units. This takes no memory.

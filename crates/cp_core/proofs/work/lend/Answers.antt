@@ -4,7 +4,7 @@ use Rattle.cp_frames.specs.Layout.{Pool, bytes_of}
 use Rattle.cp_dat.specs.Lent.{user_of, lent_pool, lent_keys}
 use Rattle.machine_devices.specs.Equipped.{equipped}
 use Rattle.machine_devices.specs.Lent.{devices_on}
-use Rattle.cp_core.proofs.user_machine.lend_over.Goals as goal
+use Rattle.cp_core.proofs.work.lend.Goals as goal
 
 pub returns-clause-does : goal.returns-clause-does
 returns-clause-does g c =
