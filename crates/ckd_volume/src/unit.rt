@@ -89,14 +89,6 @@ impl Unit {
         volume
     }
 
-    /// The volume, which is taken off.
-    pub fn into_volume(self) -> Volume
-        ensures volser { result.volser ≡ self.volser }
-        ensures cylinders { result.cylinders ≡ self.cylinders }
-    {
-        self.volume
-    }
-
     /// Where the arm stands, and what else outlasts a channel program.
     pub fn arm(&self) -> Arm
         ensures cylinder { result.cylinder ≡ self.now.cylinder }

@@ -52,13 +52,6 @@ impl AttachedDisk {
         &self.unit
     }
 
-    /// The unit, which is taken off its address.
-    pub fn into_unit(self) -> Unit
-        ensures { result ≡ self.unit }
-    {
-        self.unit
-    }
-
     /// The program with this start runs on the unit, each word read when it is reached; the unit is then at rest.
     pub(crate) fn run<S: Storage>(
         &mut self,

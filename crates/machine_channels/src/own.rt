@@ -32,13 +32,6 @@ impl Own {
         self.disks.as_slice()
     }
 
-    /// The disks, of which the channels are taken off.
-    pub fn into_disks(self) -> Vec<AttachedDisk>
-        ensures { result.items ≡ disks_of self }
-    {
-        self.disks
-    }
-
     /// A system reset of the disks: the arms stay.
     pub fn reset(&mut self)
         ensures { disks_of self.new ≡ map reset_disk (disks_of self.old) }
