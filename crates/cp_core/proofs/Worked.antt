@@ -1,5 +1,5 @@
 -- What is done with a machine while its storage is lent, by what its own calls leave.
-use Rattle.std.proofs.Common.{◌≡◌, ◌∙◌, ap, sym, subst, ℕ, Bool, true, false, List, [], ◌∷◌, ◌++◌, ◌*◌, ◌<◌, length, replicate, refl, Option, None, Some, Result, Ok, Err, inl, inr}
+use Rattle.std.proofs.Common.{◌≡◌, ◌∙◌, MutBor, ap, sym, subst, ℕ, Bool, true, false, List, [], ◌∷◌, ◌++◌, ◌*◌, ◌<◌, length, replicate, refl, Option, None, Some, Result, Ok, Err, inl, inr}
 use Rattle.std.specs.Prelude.{All, IfOk, IsSome, OnErr, OnOk, is_some}
 use Rattle.std.proofs.lemmas.List.{get_or_default, length-replicate}
 use Rattle.s370_store.specs.Access.{Touches}
@@ -26,6 +26,11 @@ use Rattle.machine_devices.specs.Lines.{IsLine, requested}
 use Rattle.machine_devices.specs.Serve.{IsServedAt}
 use Rattle.machine_devices.specs.World.{World}
 use Rattle.cp_resident.specs.Resident.{CameIn, IsFilled}
+use Rattle.cp_volumes.specs.Keeping.{neighbours_same}
+use Rattle.machine_devices.proofs.Beside.{beside_same}
+use Rattle.machine_panel.specs.Machine.{Parts}
+use Rattle.cp_core.specs.Lending.{KeepsLent, disks_of}
+use Rattle.cp_core.specs.declared.work.Lent.{Lent}
 use Rattle.cp_core.specs.Supply.{IsGivenBack, IsShort, LineBrings, NeedsAll}
 use Rattle.cp_core.specs.Typed.{IsLineLent}
 use Rattle.machine_devices.specs.Comes.{LineMay, LoadWants, is_ipl}
@@ -241,3 +246,17 @@ serve_work device user before after old new r u brought ok same out memory =
       leaves = serve_leaves device user before after r (lent_pool new).supply ok same lacking memory;
       brought = (brought.0, subst (λ (n : ℕ). IsBroughtInUnits n brought.0 (lent_pool old).supply (lent_pool new).supply) u brought.1.came.brought, brought.2);
     }
+
+-- ---- what is lent beside the storage
+
+-- a work on the machine alone
+pub lent_still : (lent : Lent) (machine : MutBor Parts) → machine.ghost_name ≡ lent.machine.ghost_name → KeepsLent lent (record lent { machine = machine })
+lent_still lent machine same = record {
+  same_machine = same;
+  same_devices = refl;
+  same_queues = refl;
+  same_volumes = refl;
+  same_minidisks = refl;
+  beside = beside_same lent.devices.now lent.queues.now lent.queues.now refl;
+  neighbours = neighbours_same (disks_of lent);
+}

@@ -18,3 +18,4 @@ pub mod Loan
 pub mod Whole
 pub mod Sizes
 pub mod Owners
+pub mod Lending

@@ -7,6 +7,7 @@ ghost use Rattle.cp_dat.specs.Lent.{KeepsFrames, lent_bytes, lent_keys, lent_poo
 ghost use Rattle.cp_dat.specs.Supplied.{IsBetweenUnits};
 ghost use Rattle.machine_devices.specs.Equipped.{Equipped, equipped};
 ghost use Rattle.machine_devices.specs.Lent.{KeepsBeside, devices_on};
+ghost use Rattle.cp_core.specs.Lending.{KeepsLent, MayBeLent, machine_of};
 ghost use Rattle.cp_volumes.specs.Shared.{IsUsers, KeepsNeighbours, disks_on, stands_of};
 
 use crate::serving::{serve_supplied, type_supplied};
@@ -27,6 +28,18 @@ use s370_store::FramesOut;
 use std::alloc::Global;
 use user_names::UserNo;
 
+/// What is lent to a work beside the storage: the machine with its devices, and what users share.
+#[derive(Drop)]
+pub(crate) struct Lent<'a> {
+    pub(crate) machine: &'a mut Machine,
+    pub(crate) devices: &'a mut Devices,
+    pub(crate) queues: &'a mut Queues,
+    pub(crate) volumes: &'a mut Volumes,
+    pub(crate) minidisks: &'a mut Vec<SharedDisk>,
+    /// The programs of the devices that are kept.
+    pub(crate) reuse: &'a mut Reuse,
+}
+
 /// What is done with the machine of one user.
 pub(crate) trait Work {
     /// What it tells.
@@ -36,33 +49,21 @@ pub(crate) trait Work {
     ghost Does: { Self → List DirectoryUser → ℕ → Equipped → FrameSupply → Self.Answer → Equipped → FrameSupply
         → Type 0 };
 
-    /// Does it, with these minidisks on volumes that others share, and these programs of the devices that are kept. No frame is pinned before and after.
+    /// Does it. No frame is pinned before and after.
     fn work(
         &self,
         directory: &Directory,
-        machine: &mut Machine,
-        devices: &mut Devices,
-        queues: &mut Queues,
-        volumes: &mut Volumes,
-        minidisks: &mut Vec<SharedDisk>,
-        reuse: &mut Reuse,
+        lent: &mut Lent<'_>,
         storage: &mut Dat<'_>,
     ) -> Self::Answer
-        requires large { 8192 ≤ length (lent_bytes storage.old) }
-        requires between { IsBetweenUnits (lent_pool storage.old).supply }
-        requires users { IsUsers volumes.old (stands_of minidisks.old.items) }
-        requires owner { devices.old.user < length queues.old.users }
-        ensures does { let before = equipped machine.old (devices_on devices.old queues.old) (disks_on volumes.old minidisks.old.items)
-            (lent_bytes storage.old) (lent_keys storage.old) in
-            let after = equipped machine.new (devices_on devices.new queues.new) (disks_on volumes.new minidisks.new.items)
-            (lent_bytes storage.new) (lent_keys storage.new) in
+        requires { MayBeLent lent.old (lent_bytes storage.old) (lent_pool storage.old).supply }
+        ensures does { let before = machine_of lent.old (lent_bytes storage.old) (lent_keys storage.old) in
+            let after = machine_of lent.new (lent_bytes storage.new) (lent_keys storage.new) in
             Does self.now directory.now (user_of storage.old) before (lent_pool storage.old).supply result after (lent_pool storage.new).supply }
+        ensures lent { KeepsLent lent.old lent.new }
         ensures kept { KeepsFrames storage.old storage.new }
         ensures size { length (lent_bytes storage.new) ≡ length (lent_bytes storage.old) }
-        ensures between { IsBetweenUnits (lent_pool storage.new).supply }
-        ensures beside { KeepsBeside devices.old queues.old devices.new queues.new }
-        ensures neighbours { KeepsNeighbours (record { volumes = volumes.old; minidisks = minidisks.old.items })
-            (record { volumes = volumes.new; minidisks = minidisks.new.items }) };
+        ensures between { IsBetweenUnits (lent_pool storage.new).supply };
 }
 
 /// Does a work with a machine, whose storage is lent from frames, with these keys.
@@ -97,17 +98,16 @@ pub(crate) fn lend<W: Work>(
     ensures neighbours { KeepsNeighbours (record { volumes = volumes.old; minidisks = minidisks.old.items })
         (record { volumes = volumes.new; minidisks = minidisks.new.items }) }
 {
-    let mut storage = Dat::new(frames, keys, user);
-    work.work(
-        directory,
+    let mut lent = Lent {
         machine,
         devices,
         queues,
         volumes,
         minidisks,
         reuse,
-        &mut storage,
-    )
+    };
+    let mut storage = Dat::new(frames, keys, user);
+    work.work(directory, &mut lent, &mut storage)
 }
 
 /// The machine is let run for at most so many units. This takes no memory.
@@ -122,18 +122,8 @@ impl Work for Units {
     ghost Does = { λ units directory. HasRun units.0 };
 
     #[inline(always)]
-    fn work(
-        &self,
-        _directory: &Directory,
-        machine: &mut Machine,
-        _devices: &mut Devices,
-        _queues: &mut Queues,
-        _volumes: &mut Volumes,
-        _minidisks: &mut Vec<SharedDisk>,
-        _reuse: &mut Reuse,
-        storage: &mut Dat<'_>,
-    ) -> Ran {
-        machine.run::<VirtualCpu, Dat<'_>>(storage, self.0)
+    fn work(&self, _directory: &Directory, lent: &mut Lent<'_>, storage: &mut Dat<'_>) -> Ran {
+        lent.machine.run::<VirtualCpu, Dat<'_>>(storage, self.0)
     }
 }
 
@@ -151,15 +141,10 @@ impl Work for Tick {
     fn work(
         &self,
         _directory: &Directory,
-        machine: &mut Machine,
-        _devices: &mut Devices,
-        _queues: &mut Queues,
-        _volumes: &mut Volumes,
-        _minidisks: &mut Vec<SharedDisk>,
-        _reuse: &mut Reuse,
+        lent: &mut Lent<'_>,
         storage: &mut Dat<'_>,
     ) -> Result<(), FramesOut> {
-        machine.tick(storage)
+        lent.machine.tick(storage)
     }
 }
 
@@ -185,12 +170,7 @@ impl<'a> Work for Line<'a> {
     fn work(
         &self,
         directory: &Directory,
-        machine: &mut Machine,
-        devices: &mut Devices,
-        queues: &mut Queues,
-        volumes: &mut Volumes,
-        minidisks: &mut Vec<SharedDisk>,
-        reuse: &mut Reuse,
+        lent: &mut Lent<'_>,
         storage: &mut Dat<'_>,
     ) -> Result<Told, LineError> {
         let world = Among {
@@ -198,18 +178,18 @@ impl<'a> Work for Line<'a> {
             own: self.user,
             on: self.on.as_slice(),
         };
-        let mut channels = Resident::take(self.alloc, volumes, minidisks, reuse);
+        let mut channels = Resident::take(self.alloc, lent.volumes, lent.minidisks, lent.reuse);
         let told = type_supplied(
             self.alloc,
-            devices,
-            queues,
-            machine,
+            lent.devices,
+            lent.queues,
+            lent.machine,
             storage,
             &mut channels,
             &world,
             self.typed,
         );
-        channels.give(volumes, minidisks, reuse);
+        channels.give(lent.volumes, lent.minidisks, lent.reuse);
         told
     }
 }
@@ -231,24 +211,19 @@ impl Work for Service {
     fn work(
         &self,
         _directory: &Directory,
-        machine: &mut Machine,
-        devices: &mut Devices,
-        queues: &mut Queues,
-        volumes: &mut Volumes,
-        minidisks: &mut Vec<SharedDisk>,
-        reuse: &mut Reuse,
+        lent: &mut Lent<'_>,
         storage: &mut Dat<'_>,
     ) -> Result<bool, LineError> {
-        let mut channels = Resident::take(self.alloc, volumes, minidisks, reuse);
+        let mut channels = Resident::take(self.alloc, lent.volumes, lent.minidisks, lent.reuse);
         let served = serve_supplied(
-            devices,
-            queues,
-            machine,
+            lent.devices,
+            lent.queues,
+            lent.machine,
             storage,
             &mut channels,
             self.device,
         );
-        channels.give(volumes, minidisks, reuse);
+        channels.give(lent.volumes, lent.minidisks, lent.reuse);
         served
     }
 }

@@ -11,6 +11,7 @@ use Rattle.cp_resident.specs.Resident.{disks_on, hung_on}
 use Rattle.cp_core.specs.System.{world_among}
 use Rattle.cp_core.specs.Typed.{IsLineLent}
 use Rattle.machine_devices.specs.Comes.{LineMay, is_ipl}
+use Rattle.cp_core.specs.Lending.{disks_of}
 use Rattle.cp_core.proofs.Worked.{typed_work}
 use Rattle.cp_core.proofs.work.LineWork.work.Goals as goal
 
@@ -20,19 +21,28 @@ returns-clause-kept c = c.type_supplied-told.ensures.lent.kept
 pub returns-clause-between : goal.returns-clause-between
 returns-clause-between c = c.type_supplied-told.ensures.lent.between
 
-pub returns-clause-neighbours : goal.returns-clause-neighbours
-returns-clause-neighbours c =
+pub returns-clause-lent : goal.returns-clause-lent
+returns-clause-lent c =
     let told = c.type_supplied-told in
-    let first : KeepsNeighbours (record { volumes = c.args.volumes.now; minidisks = c.args.minidisks.now.items }) (hung_on told.new.channels) =
+    let first : KeepsNeighbours (disks_of c.args.lent.now) (hung_on told.new.channels) =
     subst (λ (d : DisksValue). KeepsNeighbours d (hung_on told.new.channels)) c.take-channels.ensures told.ensures.others in
-    rw (c.give.ensures.volumes, c.give.ensures.minidisks) first
+    record {
+      same_machine = refl;
+      same_devices = refl;
+      same_queues = refl;
+      same_volumes = refl;
+      same_minidisks = refl;
+      beside = told.ensures.beside;
+      neighbours = rw (c.give.ensures.volumes, c.give.ensures.minidisks) first;
+    }
 
 pub returns-clause-does : goal.returns-clause-does
 returns-clause-does c =
+    let lent = c.args.lent.now in
     let told = c.type_supplied-told in
     let r = told.result in
-    let start : DisksValue = record { volumes = c.args.volumes.now; minidisks = c.args.minidisks.now.items } in
-    let from : DisksValue → Equipped = λ d. equipped c.args.machine.now (devices_on c.args.devices.now c.args.queues.now) (seen d) (lent_bytes c.args.storage.now) (lent_keys c.args.storage.now) in
+    let start : DisksValue = disks_of lent in
+    let from : DisksValue → Equipped = λ d. equipped lent.machine.now (devices_on lent.devices.now lent.queues.now) (seen d) (lent_bytes c.args.storage.now) (lent_keys c.args.storage.now) in
     let after = equipped told.new.machine (devices_on told.new.devices told.new.queues) (disks_on told.new.channels) (lent_bytes told.new.storage) (lent_keys told.new.storage) in
     let typed = c.args.self.now.typed.now in
     let world = world_among c.users.result.now c.args.self.now.user c.as_slice.result.now in

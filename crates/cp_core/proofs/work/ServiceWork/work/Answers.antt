@@ -10,6 +10,7 @@ use Rattle.cp_volumes.specs.Shared.{DisksValue, KeepsNeighbours, seen}
 use Rattle.cp_resident.specs.Resident.{CameIn, disks_on, hung_on}
 use Rattle.machine_channels.specs.Channels.{Brings, LacksRoom}
 use Rattle.cp_core.specs.Wants.{DeviceNeeds}
+use Rattle.cp_core.specs.Lending.{disks_of}
 use Rattle.cp_core.proofs.Worked.{no_room, serve_work}
 use Rattle.cp_core.proofs.work.ServiceWork.work.Goals as goal
 
@@ -22,19 +23,28 @@ returns-clause-size c = c.serve_supplied-served.ensures.came.1.size
 pub returns-clause-between : goal.returns-clause-between
 returns-clause-between c = c.serve_supplied-served.ensures.ready
 
-pub returns-clause-neighbours : goal.returns-clause-neighbours
-returns-clause-neighbours c =
+pub returns-clause-lent : goal.returns-clause-lent
+returns-clause-lent c =
     let served = c.serve_supplied-served in
-    let first : KeepsNeighbours (record { volumes = c.args.volumes.now; minidisks = c.args.minidisks.now.items }) (hung_on served.new.channels) =
+    let first : KeepsNeighbours (disks_of c.args.lent.now) (hung_on served.new.channels) =
     subst (λ (d : DisksValue). KeepsNeighbours d (hung_on served.new.channels)) c.take-channels.ensures served.ensures.others in
-    rw (c.give.ensures.volumes, c.give.ensures.minidisks) first
+    record {
+      same_machine = refl;
+      same_devices = refl;
+      same_queues = refl;
+      same_volumes = refl;
+      same_minidisks = refl;
+      beside = served.ensures.beside;
+      neighbours = rw (c.give.ensures.volumes, c.give.ensures.minidisks) first;
+    }
 
 pub returns-clause-does : goal.returns-clause-does
 returns-clause-does c =
+    let lent = c.args.lent.now in
     let served = c.serve_supplied-served in
     let r = served.result in
-    let start : DisksValue = record { volumes = c.args.volumes.now; minidisks = c.args.minidisks.now.items } in
-    let from : DisksValue → Equipped = λ d. equipped c.args.machine.now (devices_on c.args.devices.now c.args.queues.now) (seen d) (lent_bytes c.args.storage.now) (lent_keys c.args.storage.now) in
+    let start : DisksValue = disks_of lent in
+    let from : DisksValue → Equipped = λ d. equipped lent.machine.now (devices_on lent.devices.now lent.queues.now) (seen d) (lent_bytes c.args.storage.now) (lent_keys c.args.storage.now) in
     let after = equipped served.new.machine (devices_on served.new.devices served.new.queues) (disks_on served.new.channels) (lent_bytes served.new.storage) (lent_keys served.new.storage) in
     let Facts : DisksValue → Type 0 = λ d.
     IfOk r (λ done. IsServedAt as_reached c.args.self.now.device (from d) done after)

@@ -1,0 +1,33 @@
+-- What is lent to a work, what has to be so of it, and what stays.
+use Rattle.std.specs.Prelude.{◌≡◌, ℕ, ◌<◌, ◌≤◌, List, length}
+use Rattle.cp_frames.specs.Layout.{FrameSupply}
+use Rattle.cp_dat.specs.Supplied.{IsBetweenUnits}
+use Rattle.machine_devices.specs.Equipped.{Equipped, equipped}
+use Rattle.machine_devices.specs.Lent.{KeepsBeside, devices_on}
+use Rattle.cp_volumes.specs.Shared.{DisksValue, IsUsers, KeepsNeighbours, disks_on, stands_of}
+use Rattle.cp_core.specs.declared.work.Lent.{Lent}
+
+-- the machine with its devices, where its storage has these bytes and keys
+abbrev pub machine_of : Lent → List ℕ → List ℕ → Equipped
+machine_of l bytes keys = equipped l.machine.now (devices_on l.devices.now l.queues.now) (disks_on l.volumes.now l.minidisks.now.items) bytes keys
+
+-- its minidisks, on the volumes that users share
+abbrev pub disks_of : Lent → DisksValue
+disks_of l = record { volumes = l.volumes.now; minidisks = l.minidisks.now.items }
+
+-- a storage of 8K at least, no frame pinned, and devices and minidisks that are a user's
+pub record MayBeLent (l : Lent) (bytes : List ℕ) (supply : FrameSupply) : Type 0 where
+  pub large : 8192 ≤ length bytes
+  pub between : IsBetweenUnits supply
+  pub users : IsUsers l.volumes.now (stands_of l.minidisks.now.items)
+  pub owner : l.devices.now.user < length l.queues.now.users
+
+-- the same is lent still, and what other users have is as it was
+pub record KeepsLent (old new : Lent) : Type 0 where
+  pub same_machine : new.machine.ghost_name ≡ old.machine.ghost_name
+  pub same_devices : new.devices.ghost_name ≡ old.devices.ghost_name
+  pub same_queues : new.queues.ghost_name ≡ old.queues.ghost_name
+  pub same_volumes : new.volumes.ghost_name ≡ old.volumes.ghost_name
+  pub same_minidisks : new.minidisks.ghost_name ≡ old.minidisks.ghost_name
+  pub beside : KeepsBeside old.devices.now old.queues.now new.devices.now new.queues.now
+  pub neighbours : KeepsNeighbours (disks_of old) (disks_of new)
