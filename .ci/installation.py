@@ -161,23 +161,35 @@ async def person(where):
     return await Person(where).come()
 
 
+def sizes_of(record):
+    """The words for the frames and slots of a recording."""
+    with open(record) as file:
+        return re.search(r"^\* SIZES (\d+) (\d+)$", file.read(), re.M).expand(r"--frames \1 --slots \2").split()
+
+
 def replayed(program, directory, record, volumes=()):
     """What the program itself makes of a recording: what each user was shown, and all of it."""
-    with open(record) as file:
-        frames, slots = re.search(r"^\* SIZES (\d+) (\d+)$", file.read(), re.M).groups()
-    words = [program, "--frames", frames, "--slots", slots, "--", directory, record, *volumes]
+    words = [program, *sizes_of(record), "--", directory, record, *volumes]
     shown, is_over = {}, False
-    # line by line: of minutes of computing there are millions that say how turns ended
     with tempfile.TemporaryFile() as errors, subprocess.Popen(words, stdout=subprocess.PIPE, stderr=errors) as run_again:
-        for line in run_again.stdout:
+        for line in told_lines(run_again.stdout):
             is_over = is_over or line.startswith(b"== ")
-            name, colon, text = line.removesuffix(b"\n").decode("latin-1").partition(": ")
-            if colon and not is_over and not line.startswith(b"= "):
+            name, colon, text = line.decode("latin-1").partition(": ")
+            if colon and not is_over:
                 shown.setdefault(name, []).append(text)
         status = run_again.wait()
         errors.seek(0)
         done = subprocess.CompletedProcess(words, status, stderr=errors.read())
     return done, shown
+
+
+def told_lines(stream):
+    """The lines of a transcript but for those that say how turns ended, of which minutes of computing have a billion."""
+    left = b""
+    while data := stream.read1(1 << 16):
+        whole, _, left = (left + data).rpartition(b"\n")
+        if b": " in whole or b"== " in whole:
+            yield from (it for it in whole.split(b"\n") if not it.startswith(b"= "))
 
 
 run = asyncio.run
