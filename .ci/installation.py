@@ -664,10 +664,7 @@ def try_computing(check, site):
         while not (await alice.line()).startswith("GPR 1 = "):
             pass
         check("turns are dealt to who computes", int(alice.lines[-1].split()[-1], 16) > 0, *alice.lines)
-        await asyncio.sleep(0.5)
-        before = processor_ticks(site)
-        await asyncio.sleep(1.5)
-        took = processor_ticks(site) - before
+        took = await idle_ticks(site)
         check("no processor time where all wait", took <= 1, f"{took} ticks of the host")
         alice.go()
         bob.go()
@@ -693,6 +690,18 @@ def processor_ticks(site):
             fields = file.read().rpartition(")")[2].split()
         total += int(fields[11]) + int(fields[12])
     return total
+
+
+async def idle_ticks(site):
+    """The processor time that they take in 1.5 seconds; a loaded host may need another try until all that was typed is done."""
+    for _ in range(3):
+        await asyncio.sleep(0.5)
+        before = processor_ticks(site)
+        await asyncio.sleep(1.5)
+        took = processor_ticks(site) - before
+        if took <= 1:
+            break
+    return took
 
 
 def memory_of(process):
