@@ -32,10 +32,11 @@ mod supply;
 mod unit_supply;
 mod words;
 
-ghost use Rattle.std.specs.Prelude.{◌≡◌, ℕ, ◌+◌, ◌*◌, ◌/◌, ◌<◌, ◌≤◌, List, [], ◌∷◌, Bool, true, false, Ok, IfSome, length, slice_index, slice_range, slice_set};
-ghost use Rattle.s370_store.specs.Access.{tested, test_of, IsVerdict, IsGranted, put};
+ghost use Rattle.std.specs.Prelude.{◌≡◌, ℕ, ◌+◌, ◌*◌, ◌/◌, ◌<◌, ◌≤◌, [], ◌∷◌, Bool, true, false, Ok, IfSome, length, slice_index, slice_range};
+ghost use Rattle.s370_store.specs.Access.{tested, test_of, IsVerdict, IsGranted};
 ghost use Rattle.s370_store.specs.declared.Access.TheVariants.{Fetch, Store};
 ghost use Rattle.s370_store.specs.Blocks.{MayAccess};
+ghost use Rattle.s370_store.specs.Memory.{Memory, with_key, with_stored};
 ghost use Rattle.s370_store.specs.declared.block.Block.{Block};
 
 pub use block::Block;
@@ -112,27 +113,25 @@ pub enum Fault {
 /// A body that is lent from a larger whole says by `Keeps` what of that whole stays: code written over any storage
 /// promises `Keeps`, and so whoever lent it knows that nobody else's bytes or keys were touched.
 pub trait Storage {
-    /// The bytes, also those of pages that are absent.
-    ghost bytes: { Self → List ℕ };
-
-    /// The key in storage of each block of 2048 bytes: four bits of access control and a last bit of fetch protection.
-    ghost keys: { Self → List ℕ };
+    /// Storage as it is: the bytes, also those of pages that are absent, and the key in storage of each block of 2048
+    /// bytes, four bits of access control and a last bit of fetch protection.
+    ghost memory: { Self → Memory };
 
     /// Which pages are present.
     ghost present: { Self → ℕ → Bool };
 
-    /// What a change leaves of all that this storage is lent from.
+    /// What a store leaves: the keys, which pages are present, and all else that this storage is lent from.
     ghost Keeps: { Self → Self → Type 0 };
 
     /// How many bytes there are.
     fn size(&self) -> u32
-        ensures bytes { result ≡ length (bytes self.now) }
-        ensures keyed { length (bytes self.now) ≤ 2048 * length (keys self.now) };
+        ensures bytes { result ≡ length (memory self.now).bytes }
+        ensures keyed { length (memory self.now).bytes ≤ 2048 * length (memory self.now).keys };
 
     /// Tests an access to at most 256 bytes, with this protection key.
     fn check(&self, range: Range, access: Access, key: AccessKey) -> Result<(), Fault>
         requires { range.count ≤ 256 }
-        ensures { IsVerdict (length (bytes self.now)) (keys self.now) (present self.now) key
+        ensures { IsVerdict (length (memory self.now).bytes) (memory self.now).keys (present self.now) key
             (tested access range ∷ []) result };
 
     /// A block stands where it says.
@@ -143,7 +142,8 @@ pub trait Storage {
     fn find_block(&self, start: u32, access: Access, key: AccessKey) -> Option<Block>
         ensures first { IfSome result (λ block. block.first ≡ start / 2048 * 2048) }
         ensures may_access { IfSome result
-            (λ block. MayAccess access (length (bytes self.now)) (keys self.now) (present self.now) key block.first) }
+            (λ block. MayAccess access (length (memory self.now).bytes) (memory self.now).keys (present self.now) key
+            block.first) }
         ensures placed { IfSome result (λ block. IsPlaced self.now block) };
 
     /// Copies bytes out of a block that was found, one at least.
@@ -152,7 +152,7 @@ pub trait Storage {
         requires some { 0 < length into.old }
         requires begins { block.first ≤ start }
         requires ends { start + length into.old ≤ block.first + 2048 }
-        ensures { into.new ≡ slice_range (bytes self.now) start (start + length into.old) };
+        ensures { into.new ≡ slice_range (memory self.now).bytes start (start + length into.old) };
 
     /// Copies bytes into a block that was found, one at least.
     fn store_in(&mut self, block: Block, start: u32, from: &[u8])
@@ -160,8 +160,7 @@ pub trait Storage {
         requires some { 0 < length from.now }
         requires begins { block.first ≤ start }
         requires ends { start + length from.now ≤ block.first + 2048 }
-        ensures bytes { bytes self.new ≡ put (bytes self.old) start from.now }
-        ensures keys { keys self.new ≡ keys self.old }
+        ensures stored { memory self.new ≡ with_stored (memory self.old) start from.now }
         ensures rest { Keeps self.old self.new };
 
     /// Copies at most 256 bytes, one at least, from one block that was found into another or the same, as if all were
@@ -176,8 +175,8 @@ pub trait Storage {
         requires source_ends { from + count ≤ source.first + 2048 }
         requires target_begins { target.first ≤ to }
         requires target_ends { to + count ≤ target.first + 2048 }
-        ensures bytes { bytes self.new ≡ put (bytes self.old) to (slice_range (bytes self.old) from (from + count)) }
-        ensures keys { keys self.new ≡ keys self.old }
+        ensures stored { memory self.new
+            ≡ with_stored (memory self.old) to (slice_range (memory self.old).bytes from (from + count)) }
         ensures rest { Keeps self.old self.new }
     {
         let mut buffer = [0u8; 256];
@@ -188,26 +187,25 @@ pub trait Storage {
 
     /// Copies at most 256 bytes out, which `check` has granted.
     fn load(&self, start: u32, into: &mut [u8])
-        requires granted { IsGranted (length (bytes self.now)) (present self.now) start (length into.old) }
+        requires granted { IsGranted (length (memory self.now).bytes) (present self.now) start (length into.old) }
         requires short { length into.old ≤ 256 }
-        ensures { into.new ≡ slice_range (bytes self.now) start (start + length into.old) };
+        ensures { into.new ≡ slice_range (memory self.now).bytes start (start + length into.old) };
 
     /// Copies at most 256 bytes in, which `check` has granted.
     fn store(&mut self, start: u32, from: &[u8])
-        requires granted { IsGranted (length (bytes self.old)) (present self.old) start (length from.now) }
+        requires granted { IsGranted (length (memory self.old).bytes) (present self.old) start (length from.now) }
         requires short { length from.now ≤ 256 }
-        ensures bytes { bytes self.new ≡ put (bytes self.old) start from.now }
-        ensures keys { keys self.new ≡ keys self.old }
+        ensures stored { memory self.new ≡ with_stored (memory self.old) start from.now }
         ensures rest { Keeps self.old self.new };
 
     /// Copies at most 256 bytes from one place to another, which `check` has granted, as if all were read before any is
     /// written.
     fn copy(&mut self, from: u32, to: u32, count: u32)
-        requires source { IsGranted (length (bytes self.old)) (present self.old) from count }
-        requires target { IsGranted (length (bytes self.old)) (present self.old) to count }
+        requires source { IsGranted (length (memory self.old).bytes) (present self.old) from count }
+        requires target { IsGranted (length (memory self.old).bytes) (present self.old) to count }
         requires short { count ≤ 256 }
-        ensures bytes { bytes self.new ≡ put (bytes self.old) to (slice_range (bytes self.old) from (from + count)) }
-        ensures keys { keys self.new ≡ keys self.old }
+        ensures stored { memory self.new
+            ≡ with_stored (memory self.old) to (slice_range (memory self.old).bytes from (from + count)) }
         ensures rest { Keeps self.old self.new }
     {
         let mut buffer = [0u8; 256];
@@ -222,12 +220,12 @@ pub trait Storage {
     fn copy_at_once(&mut self, from: u32, to: u32, count: u32, key: AccessKey) -> bool
         requires { count ≤ 2048 }
         ensures granted { result ≡ true
-            → IsVerdict (length (bytes self.old)) (keys self.old) (present self.old) key
+            → IsVerdict (length (memory self.old).bytes) (memory self.old).keys (present self.old) key
             (test_of Store to count ∷ test_of Fetch from count ∷ []) (Ok tt) }
         ensures moved { result ≡ true
-            → bytes self.new ≡ put (bytes self.old) to (slice_range (bytes self.old) from (from + count)) }
-        ensures still { result ≡ false → bytes self.new ≡ bytes self.old }
-        ensures keys { keys self.new ≡ keys self.old }
+            → memory self.new
+            ≡ with_stored (memory self.old) to (slice_range (memory self.old).bytes from (from + count)) }
+        ensures still { result ≡ false → memory self.new ≡ memory self.old }
         ensures rest { Keeps self.old self.new }
     {
         if count == 0 || count > 256 {
@@ -253,7 +251,10 @@ pub trait Storage {
     ghost keeps_same: { (s : Self) → Keeps s s };
 
     /// What is kept has as many bytes.
-    ghost keeps_size: { (s t : Self) → Keeps s t → length (bytes t) ≡ length (bytes s) };
+    ghost keeps_size: { (s t : Self) → Keeps s t → length (memory t).bytes ≡ length (memory s).bytes };
+
+    /// What is kept has the same keys.
+    ghost keeps_keys: { (s t : Self) → Keeps s t → (memory t).keys ≡ (memory s).keys };
 
     /// What is kept has the same pages present.
     ghost keeps_present: { (s t : Self) → Keeps s t → present t ≡ present s };
@@ -267,15 +268,29 @@ pub trait Storage {
 
 /// A storage whose keys can be read and set one by one, as a storage with fixed keys can't.
 pub trait Keyed: Storage {
+    /// What a store leaves or a key that is set: which pages are present, and all else that this storage is lent from.
+    ghost KeepsRest: { Self → Self → Type 0 };
+
     /// The key in storage of a block of 2048 bytes.
     fn key_of(&self, block: u32) -> StorageKey
-        requires { block < length (Self.keys self.now) }
-        ensures { result ≡ slice_index (Self.keys self.now) block };
+        requires { block < length (Self.memory self.now).keys }
+        ensures { result ≡ slice_index (Self.memory self.now).keys block };
 
     /// Sets the key in storage of a block.
     fn set_key(&mut self, block: u32, key: StorageKey)
-        requires { block < length (Self.keys self.old) }
-        ensures bytes { Self.bytes self.new ≡ Self.bytes self.old }
-        ensures keys { Self.keys self.new ≡ slice_set (Self.keys self.old) block key }
-        ensures rest { Self.Keeps self.old self.new };
+        requires { block < length (Self.memory self.old).keys }
+        ensures keyed { Self.memory self.new ≡ with_key (Self.memory self.old) block key }
+        ensures rest { KeepsRest self.old self.new };
+
+    /// What is kept by a store is kept.
+    ghost rest_kept: { (s t : Self) → Self.Keeps s t → KeepsRest s t };
+
+    /// What is kept has as many bytes.
+    ghost rest_size: { (s t : Self) → KeepsRest s t → length (Self.memory t).bytes ≡ length (Self.memory s).bytes };
+
+    /// What is kept has the same pages present.
+    ghost rest_present: { (s t : Self) → KeepsRest s t → Self.present t ≡ Self.present s };
+
+    /// What is kept twice is kept.
+    ghost rest_on: { (s t u : Self) → KeepsRest s t → KeepsRest t u → KeepsRest s u };
 }

@@ -54,11 +54,9 @@ impl PagedStorage {
 
 impl Storage for PagedStorage {
     ghost use Rattle.std.specs.Prelude.{refl};
-    ghost use Rattle.s370_store.specs.Paged.{paged_bytes, paged_keys, is_present, PagedKeeps, paged_keeps_on, paged_keeps_present, paged_placed_kept};
+    ghost use Rattle.s370_store.specs.Paged.{paged_bytes, paged_memory, is_present, PagedKeeps, paged_keeps_on, paged_rest_present, paged_placed_kept};
 
-    ghost bytes = { paged_bytes };
-
-    ghost keys = { paged_keys };
+    ghost memory = { paged_memory };
 
     ghost present = { is_present };
 
@@ -123,11 +121,13 @@ impl Storage for PagedStorage {
         put_at(&mut self.bytes, start as usize, from);
     }
 
-    ghost keeps_same = { λ s. record { size = refl; flags = refl } };
+    ghost keeps_same = { λ s. record { rest = record { size = refl; flags = refl }; keys = refl } };
 
-    ghost keeps_size = { λ s t kept. kept.size };
+    ghost keeps_size = { λ s t kept. kept.rest.size };
 
-    ghost keeps_present = { paged_keeps_present };
+    ghost keeps_keys = { λ s t kept. kept.keys };
+
+    ghost keeps_present = { λ s t kept. paged_rest_present s t kept.rest };
 
     ghost keeps_on = { paged_keeps_on };
 
@@ -135,6 +135,10 @@ impl Storage for PagedStorage {
 }
 
 impl Keyed for PagedStorage {
+    ghost use Rattle.s370_store.specs.Paged.{PagedRest, paged_rest_on, paged_rest_present};
+
+    ghost KeepsRest = { PagedRest };
+
     fn key_of(&self, block: u32) -> StorageKey {
         self.keys[block as usize]
     }
@@ -142,6 +146,14 @@ impl Keyed for PagedStorage {
     fn set_key(&mut self, block: u32, key: StorageKey) {
         self.keys[block as usize] = key;
     }
+
+    ghost rest_kept = { λ s t kept. kept.rest };
+
+    ghost rest_size = { λ s t rest. rest.size };
+
+    ghost rest_present = { paged_rest_present };
+
+    ghost rest_on = { paged_rest_on };
 }
 
 /// A flag of a list.

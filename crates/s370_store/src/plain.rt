@@ -19,7 +19,8 @@ pub struct PlainStorage {
 }
 
 impl PlainStorage {
-    ghost use Rattle.s370_store.specs.Plain.{plain_bytes, plain_keys};
+    ghost use Rattle.s370_store.specs.Memory.{cleared_memory};
+    ghost use Rattle.s370_store.specs.Plain.{plain_bytes, plain_keys, plain_memory};
 
     /// A storage of this many blocks of 2048 bytes, all zero, with keys that are all zero.
     pub fn new(alloc: Global, blocks: u32) -> Result<PlainStorage, AllocError>
@@ -48,8 +49,7 @@ impl PlainStorage {
 
     /// Makes all its bytes and keys zero.
     pub(crate) fn zero(&mut self)
-        ensures bytes { plain_bytes self.new ≡ replicate (length (plain_bytes self.old)) 0 }
-        ensures keys { plain_keys self.new ≡ replicate (length (plain_keys self.old)) 0 }
+        ensures { plain_memory self.new ≡ cleared_memory (plain_memory self.old) }
     {
         self.bytes.fill(0);
         self.keys.fill(StorageKey::ZERO);
@@ -58,11 +58,9 @@ impl PlainStorage {
 
 impl Storage for PlainStorage {
     ghost use Rattle.std.specs.Prelude.{refl};
-    ghost use Rattle.s370_store.specs.Plain.{plain_bytes, plain_keys, PlainKeeps, plain_keeps_on, plain_placed_kept};
+    ghost use Rattle.s370_store.specs.Plain.{plain_bytes, plain_memory, PlainKeeps, plain_keeps_on, plain_placed_kept};
 
-    ghost bytes = { plain_bytes };
-
-    ghost keys = { plain_keys };
+    ghost memory = { plain_memory };
 
     ghost present = { λ _ _. true };
 
@@ -152,9 +150,11 @@ impl Storage for PlainStorage {
         copy_at(&mut self.bytes, from as usize, to as usize, count as usize);
     }
 
-    ghost keeps_same = { λ s. refl };
+    ghost keeps_same = { λ s. record { size = refl; keys = refl } };
 
-    ghost keeps_size = { λ s t kept. kept };
+    ghost keeps_size = { λ s t kept. kept.size };
+
+    ghost keeps_keys = { λ s t kept. kept.keys };
 
     ghost keeps_present = { λ s t kept. refl };
 
@@ -164,6 +164,11 @@ impl Storage for PlainStorage {
 }
 
 impl Keyed for PlainStorage {
+    ghost use Rattle.std.specs.Prelude.{refl};
+    ghost use Rattle.s370_store.specs.Plain.{PlainRest, plain_rest_on};
+
+    ghost KeepsRest = { PlainRest };
+
     #[inline]
     fn key_of(&self, block: u32) -> StorageKey {
         self.keys[block as usize]
@@ -173,4 +178,12 @@ impl Keyed for PlainStorage {
     fn set_key(&mut self, block: u32, key: StorageKey) {
         self.keys[block as usize] = key;
     }
+
+    ghost rest_kept = { λ s t kept. kept.size };
+
+    ghost rest_size = { λ s t rest. rest };
+
+    ghost rest_present = { λ s t rest. refl };
+
+    ghost rest_on = { plain_rest_on };
 }

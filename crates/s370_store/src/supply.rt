@@ -1,6 +1,7 @@
 //! A storage that brings its absent pages.
-ghost use Rattle.std.specs.Prelude.{◌≡◌, ℕ, ◌<◌, List, [], ◌∷◌, ◌++◌, OnOk, OnErr, length, replicate};
+ghost use Rattle.std.specs.Prelude.{◌≡◌, ℕ, ◌<◌, List, [], ◌∷◌, ◌++◌, OnOk, OnErr, length};
 ghost use Rattle.s370_store.specs.Access.{IsAway};
+ghost use Rattle.s370_store.specs.Memory.{cleared_memory};
 
 use crate::{Keyed, Page, PlainStorage};
 use thiserror::Error;
@@ -38,41 +39,39 @@ pub trait Supply: Keyed {
 
     /// Makes all bytes and keys zero, as they are in a machine that is switched on. No page has to be present for that.
     fn clear(&mut self)
-        ensures bytes { Self.bytes self.new ≡ replicate (length (Self.bytes self.old)) 0 }
-        ensures keys { Self.keys self.new ≡ replicate (length (Self.keys self.old)) 0 }
+        ensures memory { Self.memory self.new ≡ cleared_memory (Self.memory self.old) }
         ensures cleared { Cleared self.old self.new };
 
     /// Brings a page that is absent. No byte changes, and no key.
     fn bring(&mut self, page: Page) -> Result<(), FramesOut>
-        requires { IsAway (length (Self.bytes self.old)) (Self.present self.old) page.0 }
-        ensures bytes { Self.bytes self.new ≡ Self.bytes self.old }
-        ensures keys { Self.keys self.new ≡ Self.keys self.old }
+        requires { IsAway (length (Self.memory self.old).bytes) (Self.present self.old) page.0 }
+        ensures memory { Self.memory self.new ≡ Self.memory self.old }
         ensures fewer { OnOk result (spare self.new < spare self.old) }
         ensures brought { OnOk result (Brought self.old (page.0 ∷ []) self.new) }
         ensures refused { OnErr result (Brought self.old [] self.new) }
         ensures short { OnErr result (IsShort self.new page.0) };
 
     /// What an access keeps brings nothing.
-    ghost brought_none: { (s t : Self) → Self.Keeps s t → Brought s [] t };
+    ghost brought_none: { (s t : Self) → Self.Keyed.KeepsRest s t → Brought s [] t };
 
     /// What is brought twice is brought.
     ghost brought_on: { (s t u : Self) (before after : List ℕ) → Brought s before t → Brought t after u
         → Brought s (before ++ after) u };
 
     /// An access takes no room.
-    ghost spare_kept: { (s t : Self) → Self.Keeps s t → spare t ≡ spare s };
+    ghost spare_kept: { (s t : Self) → Self.Keyed.KeepsRest s t → spare t ≡ spare s };
 }
 
 /// All of it is there, so nothing is ever brought: `bring` does nothing, whatever it is asked for.
 impl Supply for PlainStorage {
     ghost use Rattle.std.specs.Prelude.{refl};
-    ghost use Rattle.s370_store.specs.Plain.{plain_bytes, plain_keys};
+    ghost use Rattle.s370_store.specs.Plain.{PlainRest, plain_memory, plain_rest_on};
 
     ghost spare = { λ _. 0 };
 
     ghost IsShort = { λ _ _. ⊥ };
 
-    ghost Brought = { λ _ _ _. Unit {0} };
+    ghost Brought = { λ s _ t. PlainRest s t };
 
     ghost Cleared = { λ _ _. Unit {0} };
 
@@ -81,16 +80,15 @@ impl Supply for PlainStorage {
     }
 
     fn bring(&mut self, _page: Page) -> Result<(), FramesOut>
-        ensures bytes { plain_bytes self.new ≡ plain_bytes self.old }
-        ensures keys { plain_keys self.new ≡ plain_keys self.old }
+        ensures memory { plain_memory self.new ≡ plain_memory self.old }
         ensures done { result ≡ Ok tt }
     {
         Ok(())
     }
 
-    ghost brought_none = { λ s t k. tt };
+    ghost brought_none = { λ s t rest. rest };
 
-    ghost brought_on = { λ s t u before after a b. tt };
+    ghost brought_on = { λ s t u before after a b. plain_rest_on s t u a b };
 
     ghost spare_kept = { λ s t k. refl };
 }

@@ -38,8 +38,7 @@ pub trait UnitSupply: Supply {
 
     /// Lets go of what was brought. No byte changes, and no key.
     fn let_go(&mut self)
-        ensures bytes { Self.bytes self.new ≡ Self.bytes self.old }
-        ensures keys { Self.keys self.new ≡ Self.keys self.old }
+        ensures memory { Self.memory self.new ≡ Self.memory self.old }
         ensures let_go { LetsGo self.old self.new };
 
     /// What was brought is present, whatever was brought after it.
@@ -59,10 +58,14 @@ pub trait UnitSupply: Supply {
         → length pages ≤ 9 → Self.IsShort t page → LetsGo t u → IsOut u page };
 
     /// An access holds nothing.
-    ghost between_kept: { (s t : Self) → Self.Keeps s t → IsBetween s → IsBetween t };
+    ghost between_kept: { (s t : Self) → Self.KeepsRest s t → IsBetween s → IsBetween t };
 
     /// No page comes by an access, for so many units.
-    ghost came_none: { (s t : Self) (units : ℕ) → IsBetween s → Self.Keeps s t → Came s (replicate units []) t };
+    ghost came_none: { (s t : Self) (units : ℕ) → IsBetween s → Self.KeepsRest s t → Came s (replicate units []) t };
+
+    /// What has come has as many bytes.
+    ghost came_size: { (s t : Self) (units : List (List ℕ)) → Came s units t
+        → length (Self.memory t).bytes ≡ length (Self.memory s).bytes };
 
     /// What comes for some units and then for others comes for all of them.
     ghost came_on: { (s t u : Self) (before after : List (List ℕ)) → Came s before t → Came t after u
@@ -72,34 +75,35 @@ pub trait UnitSupply: Supply {
 /// All of it is there, so nothing is ever held.
 impl UnitSupply for PlainStorage {
     ghost use Rattle.std.specs.Prelude.{refl};
-    ghost use Rattle.s370_store.specs.Plain.{plain_bytes, plain_keys};
+    ghost use Rattle.s370_store.specs.Plain.{PlainRest, plain_memory, plain_rest_on};
 
     ghost IsBetween = { λ _. Unit {0} };
 
     ghost IsOut = { λ _ _. ⊥ };
 
-    ghost Came = { λ _ _ _. Unit {0} };
+    ghost Came = { λ s _ t. PlainRest s t };
 
-    ghost LetsGo = { λ _ _. Unit {0} };
+    ghost LetsGo = { PlainRest };
 
     #[inline]
     fn let_go(&mut self)
-        ensures bytes { plain_bytes self.new ≡ plain_bytes self.old }
-        ensures keys { plain_keys self.new ≡ plain_keys self.old }
-        ensures let_go { Unit {0} }
+        ensures memory { plain_memory self.new ≡ plain_memory self.old }
+        ensures let_go { PlainRest self.old self.new }
     {}
 
     ghost held = { λ s t pages page brought listed. refl };
 
     ghost let_go_between = { λ s t u pages between brought let_go. tt };
 
-    ghost let_go_came = { λ s t u pages brought let_go. tt };
+    ghost let_go_came = { λ s t u pages brought let_go. plain_rest_on s t u brought let_go };
 
     ghost let_go_out = { λ s t u pages page between brought few short let_go. short };
 
     ghost between_kept = { λ s t kept between. tt };
 
-    ghost came_none = { λ s t units between kept. tt };
+    ghost came_none = { λ s t units between rest. rest };
 
-    ghost came_on = { λ s t u before after a b. tt };
+    ghost came_size = { λ s t units came. came };
+
+    ghost came_on = { λ s t u before after a b. plain_rest_on s t u a b };
 }

@@ -4,7 +4,8 @@
 //! `load` or `store`, so what they require is that `check` granted the range.
 ghost use Rattle.std.specs.Prelude.{◌≡◌, ◌+◌, ◌≤◌, [], ◌∷◌, length, slice_index, slice_range};
 ghost use Rattle.std.specs.Int.{w16, w32, w64, from_be_bytes, to_be_bytes};
-ghost use Rattle.s370_store.specs.Access.{tested, IsVerdict, join_of, IsGranted, put};
+ghost use Rattle.s370_store.specs.Access.{tested, IsVerdict, join_of, IsGranted};
+ghost use Rattle.s370_store.specs.Memory.{with_stored};
 
 use crate::{Access, Block, Fault, Range, Storage};
 use s370_num::AccessKey;
@@ -12,8 +13,8 @@ use s370_num::AccessKey;
 /// The byte at an address.
 #[inline(always)]
 pub fn load_byte<S: Storage>(storage: &S, start: u32) -> u8
-    requires { IsGranted (length (S.bytes storage.now)) (S.present storage.now) start 1 }
-    ensures { result ≡ slice_index (S.bytes storage.now) start }
+    requires { IsGranted (length (S.memory storage.now).bytes) (S.present storage.now) start 1 }
+    ensures { result ≡ slice_index (S.memory storage.now).bytes start }
 {
     let mut into = [0u8; 1];
     storage.load(start, &mut into);
@@ -26,7 +27,7 @@ pub fn load_byte_in<S: Storage>(storage: &S, block: Block, start: u32) -> u8
     requires placed { S.IsPlaced storage.now block }
     requires begins { block.first ≤ start }
     requires ends { start + 1 ≤ block.first + 2048 }
-    ensures { result ≡ slice_index (S.bytes storage.now) start }
+    ensures { result ≡ slice_index (S.memory storage.now).bytes start }
 {
     let mut into = [0u8; 1];
     storage.load_in(block, start, &mut into);
@@ -36,8 +37,8 @@ pub fn load_byte_in<S: Storage>(storage: &S, block: Block, start: u32) -> u8
 /// The halfword from an address on.
 #[inline(always)]
 pub fn load_halfword<S: Storage>(storage: &S, start: u32) -> u16
-    requires { IsGranted (length (S.bytes storage.now)) (S.present storage.now) start 2 }
-    ensures { result ≡ from_be_bytes w16 (slice_range (S.bytes storage.now) start (start + 2)) }
+    requires { IsGranted (length (S.memory storage.now).bytes) (S.present storage.now) start 2 }
+    ensures { result ≡ from_be_bytes w16 (slice_range (S.memory storage.now).bytes start (start + 2)) }
 {
     let mut into = [0u8; 2];
     storage.load(start, &mut into);
@@ -47,8 +48,8 @@ pub fn load_halfword<S: Storage>(storage: &S, start: u32) -> u16
 /// The word from an address on.
 #[inline(always)]
 pub fn load_word<S: Storage>(storage: &S, start: u32) -> u32
-    requires { IsGranted (length (S.bytes storage.now)) (S.present storage.now) start 4 }
-    ensures { result ≡ from_be_bytes w32 (slice_range (S.bytes storage.now) start (start + 4)) }
+    requires { IsGranted (length (S.memory storage.now).bytes) (S.present storage.now) start 4 }
+    ensures { result ≡ from_be_bytes w32 (slice_range (S.memory storage.now).bytes start (start + 4)) }
 {
     let mut into = [0u8; 4];
     storage.load(start, &mut into);
@@ -61,7 +62,7 @@ pub fn load_word_in<S: Storage>(storage: &S, block: Block, start: u32) -> u32
     requires placed { S.IsPlaced storage.now block }
     requires begins { block.first ≤ start }
     requires ends { start + 4 ≤ block.first + 2048 }
-    ensures { result ≡ from_be_bytes w32 (slice_range (S.bytes storage.now) start (start + 4)) }
+    ensures { result ≡ from_be_bytes w32 (slice_range (S.memory storage.now).bytes start (start + 4)) }
 {
     let mut into = [0u8; 4];
     storage.load_in(block, start, &mut into);
@@ -71,8 +72,8 @@ pub fn load_word_in<S: Storage>(storage: &S, block: Block, start: u32) -> u32
 /// The doubleword from an address on.
 #[inline(always)]
 pub fn load_doubleword<S: Storage>(storage: &S, start: u32) -> u64
-    requires { IsGranted (length (S.bytes storage.now)) (S.present storage.now) start 8 }
-    ensures { result ≡ from_be_bytes w64 (slice_range (S.bytes storage.now) start (start + 8)) }
+    requires { IsGranted (length (S.memory storage.now).bytes) (S.present storage.now) start 8 }
+    ensures { result ≡ from_be_bytes w64 (slice_range (S.memory storage.now).bytes start (start + 8)) }
 {
     let mut into = [0u8; 8];
     storage.load(start, &mut into);
@@ -82,9 +83,8 @@ pub fn load_doubleword<S: Storage>(storage: &S, start: u32) -> u64
 /// Stores a byte at an address.
 #[inline(always)]
 pub fn store_byte<S: Storage>(storage: &mut S, start: u32, byte: u8)
-    requires { IsGranted (length (S.bytes storage.old)) (S.present storage.old) start 1 }
-    ensures bytes { S.bytes storage.new ≡ put (S.bytes storage.old) start (byte ∷ []) }
-    ensures keys { S.keys storage.new ≡ S.keys storage.old }
+    requires { IsGranted (length (S.memory storage.old).bytes) (S.present storage.old) start 1 }
+    ensures stored { S.memory storage.new ≡ with_stored (S.memory storage.old) start (byte ∷ []) }
     ensures rest { S.Keeps storage.old storage.new }
 {
     storage.store(start, &[byte]);
@@ -93,9 +93,8 @@ pub fn store_byte<S: Storage>(storage: &mut S, start: u32, byte: u8)
 /// Stores a halfword from an address on.
 #[inline(always)]
 pub fn store_halfword<S: Storage>(storage: &mut S, start: u32, halfword: u16)
-    requires { IsGranted (length (S.bytes storage.old)) (S.present storage.old) start 2 }
-    ensures bytes { S.bytes storage.new ≡ put (S.bytes storage.old) start (to_be_bytes w16 halfword) }
-    ensures keys { S.keys storage.new ≡ S.keys storage.old }
+    requires { IsGranted (length (S.memory storage.old).bytes) (S.present storage.old) start 2 }
+    ensures stored { S.memory storage.new ≡ with_stored (S.memory storage.old) start (to_be_bytes w16 halfword) }
     ensures rest { S.Keeps storage.old storage.new }
 {
     storage.store(start, &halfword.to_be_bytes());
@@ -104,9 +103,8 @@ pub fn store_halfword<S: Storage>(storage: &mut S, start: u32, halfword: u16)
 /// Stores a word from an address on.
 #[inline(always)]
 pub fn store_word<S: Storage>(storage: &mut S, start: u32, word: u32)
-    requires { IsGranted (length (S.bytes storage.old)) (S.present storage.old) start 4 }
-    ensures bytes { S.bytes storage.new ≡ put (S.bytes storage.old) start (to_be_bytes w32 word) }
-    ensures keys { S.keys storage.new ≡ S.keys storage.old }
+    requires { IsGranted (length (S.memory storage.old).bytes) (S.present storage.old) start 4 }
+    ensures stored { S.memory storage.new ≡ with_stored (S.memory storage.old) start (to_be_bytes w32 word) }
     ensures rest { S.Keeps storage.old storage.new }
 {
     storage.store(start, &word.to_be_bytes());
@@ -118,8 +116,7 @@ pub fn store_word_in<S: Storage>(storage: &mut S, block: Block, start: u32, word
     requires placed { S.IsPlaced storage.old block }
     requires begins { block.first ≤ start }
     requires ends { start + 4 ≤ block.first + 2048 }
-    ensures bytes { S.bytes storage.new ≡ put (S.bytes storage.old) start (to_be_bytes w32 word) }
-    ensures keys { S.keys storage.new ≡ S.keys storage.old }
+    ensures stored { S.memory storage.new ≡ with_stored (S.memory storage.old) start (to_be_bytes w32 word) }
     ensures rest { S.Keeps storage.old storage.new }
 {
     storage.store_in(block, start, &word.to_be_bytes());
@@ -128,9 +125,8 @@ pub fn store_word_in<S: Storage>(storage: &mut S, block: Block, start: u32, word
 /// Stores a doubleword from an address on.
 #[inline(always)]
 pub fn store_doubleword<S: Storage>(storage: &mut S, start: u32, doubleword: u64)
-    requires { IsGranted (length (S.bytes storage.old)) (S.present storage.old) start 8 }
-    ensures bytes { S.bytes storage.new ≡ put (S.bytes storage.old) start (to_be_bytes w64 doubleword) }
-    ensures keys { S.keys storage.new ≡ S.keys storage.old }
+    requires { IsGranted (length (S.memory storage.old).bytes) (S.present storage.old) start 8 }
+    ensures stored { S.memory storage.new ≡ with_stored (S.memory storage.old) start (to_be_bytes w64 doubleword) }
     ensures rest { S.Keeps storage.old storage.new }
 {
     storage.store(start, &doubleword.to_be_bytes());
@@ -149,7 +145,7 @@ pub fn check_two<S: Storage>(
 ) -> Result<(), Fault>
     requires first { first.count ≤ 256 }
     requires second { second.count ≤ 256 }
-    ensures { IsVerdict (length (S.bytes storage.now)) (S.keys storage.now) (S.present storage.now) key
+    ensures { IsVerdict (length (S.memory storage.now).bytes) (S.memory storage.now).keys (S.present storage.now) key
         (tested first_access first ∷ tested second_access second ∷ []) result }
 {
     let one = storage.check(first, first_access, key);

@@ -8,7 +8,8 @@ use Rattle.s370_walk.specs.declared.parts.Position.{Position}
 use Rattle.s370_walk.specs.declared.parts.Kind.{Kind}
 use Rattle.s370_walk.specs.declared.parts.Kind.TheVariants.{Gives, Takes, TakesUpTo}
 use Rattle.s370_store.specs.declared.Access.TheVariants.{Fetch}
-use Rattle.s370_walk.specs.Hardware.{Memory, byte_at, fault_of, area}
+use Rattle.s370_store.specs.Memory.{Memory}
+use Rattle.s370_walk.specs.Hardware.{byte_at, fault_of, area}
 use Rattle.s370_walk.specs.Walk.{Form, Setting, State, Fetching, Moving, Over, Reaches, next, walk, fetched, moved, rest, byte_moved, given_to, taken_from, taken_at, stepped, skips}
 use Rattle.s370_walk.specs.Stuck.{is_skipped}
 use Rattle.s370_walk.specs.Frozen.{is_seek, frozen, IsSteady}

@@ -15,7 +15,8 @@ use Rattle.s370_walk.specs.declared.parts.Transfer.{Transfer}
 use Rattle.s370_walk.specs.declared.parts.Spot.{Spot}
 use Rattle.s370_walk.specs.declared.parts.Position.{Position}
 use Rattle.s370_walk.specs.declared.parts.Word.{Word}
-use Rattle.s370_walk.specs.Hardware.{Machine, Memory, area, fault_of}
+use Rattle.s370_store.specs.Memory.{Memory}
+use Rattle.s370_walk.specs.Hardware.{Machine, area, fault_of}
 use Rattle.s370_store.specs.declared.Access.TheVariants.{Fetch, Store}
 use Rattle.s370_walk.specs.Walk.{Written, live, stepped, Form, Setting, State, Fetching, Moving, Over, Verdict, Bad, Jump, Good, Reaches, next, walk, fetched, obeyed, entered, answered, judged, fails, stops, closed, closes, state_of, moved, counted_out, rest, tells_length, chains_data, order_of, byte_moved, given_to, given_at, taken_from, taken_at, skips}
 use Rattle.s370_walk.specs.Stuck.{IsAsked, is_skipped}

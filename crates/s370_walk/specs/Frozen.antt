@@ -2,7 +2,8 @@
 use Rattle.std.specs.Prelude.{ℕ, ◌≡◌, Bool, true, ◌==◌, if◌then◌else◌, Some}
 use Rattle.s370_walk.specs.declared.parts.Spot.{Spot}
 use Rattle.s370_walk.specs.declared.parts.Position.{Position}
-use Rattle.s370_walk.specs.Hardware.{Memory, byte_at}
+use Rattle.s370_store.specs.Memory.{Memory}
+use Rattle.s370_walk.specs.Hardware.{byte_at}
 use Rattle.s370_walk.specs.Walk.{Form, Setting, State, Fetching, Moving, walk}
 use Rattle.s370_walk.specs.Stuck.{moves}
 

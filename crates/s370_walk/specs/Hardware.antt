@@ -5,17 +5,10 @@ use Rattle.s370_store.specs.declared.Access.TheVariants.{Fetch}
 use Rattle.s370_store.specs.declared.Fault.{Fault}
 use Rattle.s370_store.specs.declared.Page.{Page}
 use Rattle.s370_store.specs.Access.{Test, first_fault, put, IsAway, Touches}
+use Rattle.s370_store.specs.Memory.{Memory}
 use Rattle.s370_walk.specs.declared.bits.UnitStatus.{UnitStatus}
 use Rattle.s370_walk.specs.declared.parts.Order.{Order}
 use Rattle.s370_walk.specs.declared.parts.Answer.{Answer}
-
--- the bytes, and the key of each block of 2048 of them
-pub record Memory : Type 0 where
-  pub bytes : List ℕ
-  pub keys : List ℕ
-
-abbrev pub memory_of : List ℕ → List ℕ → Memory
-memory_of bytes keys = record { bytes = bytes; keys = keys }
 
 abbrev pub byte_at : Memory → ℕ → ℕ
 byte_at m a = slice_index m.bytes a

@@ -21,7 +21,8 @@ use Rattle.s370_walk.specs.declared.parts.Progress.TheVariants.{At, Ended}
 use Rattle.s370_walk.specs.declared.parts.Word.{Word}
 use Rattle.s370_walk.specs.Bits.{has_bits, both}
 use Rattle.s370_walk.specs.Blocks.{served}
-use Rattle.s370_walk.specs.Hardware.{Memory, Machine, fault_of, area, put_byte, byte_at}
+use Rattle.s370_store.specs.Memory.{Memory}
+use Rattle.s370_walk.specs.Hardware.{Machine, fault_of, area, put_byte, byte_at}
 
 -- ---- What stays the same while a program runs, and where it stands
 

@@ -2,7 +2,8 @@
 ghost use Rattle.std.specs.Prelude.{ℕ, ◌≡◌};
 ghost use Rattle.s370_walk.specs.declared.parts.Ending.{Ending};
 ghost use Rattle.s370_walk.specs.Frozen.{IsSteady, frozen};
-ghost use Rattle.s370_walk.specs.Hardware.{Machine, Memory};
+ghost use Rattle.s370_store.specs.Memory.{Memory};
+ghost use Rattle.s370_walk.specs.Hardware.{Machine};
 ghost use Rattle.s370_walk.specs.Viewed.{IsViewed, setting_for, viewed};
 ghost use Rattle.s370_walk.specs.Stuck.{IsAsked};
 ghost use Rattle.s370_walk.specs.Walk.{Form, Written, live, Over, Reaches, Setting, State};

@@ -1,6 +1,6 @@
 //! Devices, and the forms in which channel programs are written.
 ghost use Rattle.std.specs.Prelude.{◌≡◌, ℕ, ◌<◌, ◌≤◌, ◌+◌, ◌-◌, ◌*◌, Bool, true, false, length, List, if◌then◌else◌, IfOk, OnOk, OnErr};
-ghost use Rattle.s370_walk.specs.Hardware.{Machine, FetchTells, memory_of, given, after_giving, after_taking};
+ghost use Rattle.s370_walk.specs.Hardware.{Machine, FetchTells, given, after_giving, after_taking};
 ghost use Rattle.s370_walk.specs.Walk.{Written};
 
 use crate::bits::UnitStatus;
@@ -87,8 +87,8 @@ pub trait WordForm {
 
     /// The word at an address, or None where none lies there. An error is a page that is not present.
     fn fetch<S: Storage>(&self, storage: &S, at: u32) -> Result<Option<Word>, Page>
-        ensures { FetchTells (length (S.bytes storage.now)) (S.present storage.now) ((written self.now).word_asks at)
-            ((written self.now).text (memory_of (S.bytes storage.now) (S.keys storage.now)) at) result };
+        ensures { FetchTells (length (S.memory storage.now).bytes) (S.present storage.now) ((written self.now).word_asks at)
+            ((written self.now).text (S.memory storage.now) at) result };
 
     /// Where the block of this number begins of the area of a word, or None where that cannot be found out: block 0 is
     /// where the area begins, the others are blocks of 2048 bytes.
@@ -99,8 +99,8 @@ pub trait WordForm {
         number: u32,
     ) -> Result<Option<u32>, Page>
         requires { number ≤ 32 }
-        ensures { FetchTells (length (S.bytes storage.now)) (S.present storage.now)
+        ensures { FetchTells (length (S.memory storage.now).bytes) (S.present storage.now)
             ((written self.now).block_asks position.now number)
             ((written self.now).block
-            (memory_of (S.bytes storage.now) (S.keys storage.now)) position.now number) result };
+            (S.memory storage.now) position.now number) result };
 }
