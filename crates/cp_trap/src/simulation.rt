@@ -35,12 +35,12 @@ pub fn simulate<S: Keyed>(
     ilc: Ilc,
 ) -> Simulated
     requires { is_supervised (opcode_at instruction.opcode) ≡ true }
-    ensures simulated { let before = state_of cpu.old (S.Storage.bytes storage.old) (S.Storage.keys storage.old) in
-        let after = state_of cpu.new (S.Storage.bytes storage.new) (S.Storage.keys storage.new) in
+    ensures simulated { let before = state_of cpu.old (S.Storage.memory storage.old) in
+        let after = state_of cpu.new (S.Storage.memory storage.new) in
         MeetsUnit (supervised before instruction ilc)
         (S.Storage.present storage.old) before (stop_of result ilc) after }
     ensures refused { (result ≡ Simulated.Refused ProgramCode.PrivilegedOperation) ↔ IsTrue cpu.old.psw.problem }
-    ensures rest { S.Storage.Keeps storage.old storage.new }
+    ensures rest { S.KeepsRest storage.old storage.new }
 {
     match supervise(cpu, storage, instruction, ilc) {
         Stop::Done => Simulated::Done,

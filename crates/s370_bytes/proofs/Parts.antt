@@ -11,6 +11,7 @@ use Rattle.s370_store.specs.declared.Access.TheVariants.{Fetch, Store}
 use Rattle.s370_store.specs.declared.Fault.{Fault}
 use Rattle.s370_store.specs.declared.Fault.TheVariants.{Addressing, Protection}
 use Rattle.s370_store.proofs.Verdicts.{part_fine}
+use Rattle.s370_store.specs.Memory.{memory_of}
 use Rattle.s370_rows.specs.declared.cpu.Cpu.{Cpu}
 use Rattle.s370_rows.specs.declared.instruction.Instruction.{Instruction}
 use Rattle.s370_rows.specs.declared.ending.Ending.TheVariants.{Again}
@@ -306,7 +307,7 @@ moved_on start m r1 r2 n p l l2 full low low2 w =
     let apart = apart_of o1 o2 (256 + n) w.intact (omega (arith, low)) (omega (arith, low2)) (omega (arith, w.more)) w.whole in
     let bytes : put m1.bytes (operand_of m1.cpu r1).address (slice_range m1.bytes (operand_of m1.cpu r2).address ((operand_of m1.cpu r2).address + n)) ≡ put m.bytes o1.address (slice_range m.bytes o2.address (o2.address + (256 + n))) =
     rw (a1, a2) (put_on m.bytes o1.address o2.address 256 n w.target w.source apart) in
-    ap (λ (x : Cpu). state_of x (moved_by m1 r1 r2 n).bytes m.keys) cpu ∙ ap (λ (x : List ℕ). state_of (left_of m.cpu r1 r2 (256 + n)) x m.keys) bytes
+    ap (λ (x : Cpu). state_of x (memory_of (moved_by m1 r1 r2 n).bytes m.keys)) cpu ∙ ap (λ (x : List ℕ). state_of (left_of m.cpu r1 r2 (256 + n)) (memory_of x m.keys)) bytes
 
 -- where there is more than one, they lie in one block at each place
 abbrev pub InBlocks : ℕ → State → ℕ → ℕ → Type 0

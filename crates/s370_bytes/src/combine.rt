@@ -1,6 +1,7 @@
 //! Strings that are changed from left to right.
 ghost use Rattle.std.specs.Prelude.{◌≡◌, ℕ, ◌+◌, ◌==◌, ◌<◌, ◌≤◌, length, slice_index, slice_range};
-ghost use Rattle.s370_store.specs.Access.{IsGranted, put};
+ghost use Rattle.s370_store.specs.Access.{IsGranted};
+ghost use Rattle.s370_store.specs.Memory.{with_stored};
 ghost use Rattle.s370_rows.specs.Arithmetic.{zero_code};
 ghost use Rattle.s370_rows.specs.State.{state_of};
 ghost use Rattle.s370_rows.specs.Rows.{MeetsRow};
@@ -138,12 +139,12 @@ fn combine_at<S: Storage>(
     requires some { 0 < length made.old }
     requires short { length made.old ≤ 256 }
     requires same { length made.old ≡ length source.old }
-    requires target { IsGranted (length (S.bytes storage.old)) (S.present storage.old) to (length made.old) }
-    requires source { IsGranted (length (S.bytes storage.old)) (S.present storage.old) from (length made.old) }
-    ensures bytes { S.bytes storage.new
-        ≡ put (S.bytes storage.old) to (made_of operation (S.bytes storage.old) to from (length made.old)) }
-    ensures made { made.new ≡ made_of operation (S.bytes storage.old) to from (length made.old) }
-    ensures keys { S.keys storage.new ≡ S.keys storage.old }
+    requires target { IsGranted (length (S.memory storage.old).bytes) (S.present storage.old) to (length made.old) }
+    requires source { IsGranted (length (S.memory storage.old).bytes) (S.present storage.old) from (length made.old) }
+    ensures stored { S.memory storage.new
+        ≡ with_stored (S.memory storage.old) to
+        (made_of operation (S.memory storage.old).bytes to from (length made.old)) }
+    ensures made { made.new ≡ made_of operation (S.memory storage.old).bytes to from (length made.old) }
     ensures rest { S.Keeps storage.old storage.new }
 {
     storage.load(to, made);
@@ -160,8 +161,8 @@ pub fn combine_row<S: Storage>(
     storage: &mut S,
     i: Instruction,
 ) -> Result<Ending, Refusal>
-    ensures row { let before = state_of cpu.old (S.bytes storage.old) (S.keys storage.old) in
-        let after = state_of cpu.new (S.bytes storage.new) (S.keys storage.new) in
+    ensures row { let before = state_of cpu.old (S.memory storage.old) in
+        let after = state_of cpu.new (S.memory storage.new) in
         MeetsRow (string_combined operation before i) (S.present storage.old) before result after }
     ensures rest { S.Keeps storage.old storage.new }
 {
@@ -191,11 +192,11 @@ pub fn combine_row<S: Storage>(
 fn move_through<S: Storage>(storage: &mut S, to: u32, from: u32, bytes: &mut [u8])
     requires some { 0 < length bytes.old }
     requires short { length bytes.old ≤ 256 }
-    requires target { IsGranted (length (S.bytes storage.old)) (S.present storage.old) to (length bytes.old) }
-    requires source { IsGranted (length (S.bytes storage.old)) (S.present storage.old) from (length bytes.old) }
-    ensures bytes { S.bytes storage.new
-        ≡ put (S.bytes storage.old) to (made_of Combine.Move (S.bytes storage.old) to from (length bytes.old)) }
-    ensures keys { S.keys storage.new ≡ S.keys storage.old }
+    requires target { IsGranted (length (S.memory storage.old).bytes) (S.present storage.old) to (length bytes.old) }
+    requires source { IsGranted (length (S.memory storage.old).bytes) (S.present storage.old) from (length bytes.old) }
+    ensures stored { S.memory storage.new
+        ≡ with_stored (S.memory storage.old) to
+        (made_of Combine.Move (S.memory storage.old).bytes to from (length bytes.old)) }
     ensures rest { S.Keeps storage.old storage.new }
 {
     storage.load(from, bytes);
@@ -209,11 +210,10 @@ fn move_through<S: Storage>(storage: &mut S, to: u32, from: u32, bytes: &mut [u8
 fn move_near<S: Storage>(storage: &mut S, to: u32, from: u32, count: u32)
     requires some { 0 < count }
     requires short { count ≤ 256 }
-    requires target { IsGranted (length (S.bytes storage.old)) (S.present storage.old) to count }
-    requires source { IsGranted (length (S.bytes storage.old)) (S.present storage.old) from count }
-    ensures bytes { S.bytes storage.new
-        ≡ put (S.bytes storage.old) to (made_of Combine.Move (S.bytes storage.old) to from count) }
-    ensures keys { S.keys storage.new ≡ S.keys storage.old }
+    requires target { IsGranted (length (S.memory storage.old).bytes) (S.present storage.old) to count }
+    requires source { IsGranted (length (S.memory storage.old).bytes) (S.present storage.old) from count }
+    ensures stored { S.memory storage.new
+        ≡ with_stored (S.memory storage.old) to (made_of Combine.Move (S.memory storage.old).bytes to from count) }
     ensures rest { S.Keeps storage.old storage.new }
 {
     let mut bytes = [0u8; 256];
@@ -225,11 +225,10 @@ fn move_near<S: Storage>(storage: &mut S, to: u32, from: u32, count: u32)
 fn move_at<S: Storage>(storage: &mut S, to: u32, from: u32, count: u32)
     requires some { 0 < count }
     requires short { count ≤ 256 }
-    requires target { IsGranted (length (S.bytes storage.old)) (S.present storage.old) to count }
-    requires source { IsGranted (length (S.bytes storage.old)) (S.present storage.old) from count }
-    ensures bytes { S.bytes storage.new
-        ≡ put (S.bytes storage.old) to (made_of Combine.Move (S.bytes storage.old) to from count) }
-    ensures keys { S.keys storage.new ≡ S.keys storage.old }
+    requires target { IsGranted (length (S.memory storage.old).bytes) (S.present storage.old) to count }
+    requires source { IsGranted (length (S.memory storage.old).bytes) (S.present storage.old) from count }
+    ensures stored { S.memory storage.new
+        ≡ with_stored (S.memory storage.old) to (made_of Combine.Move (S.memory storage.old).bytes to from count) }
     ensures rest { S.Keeps storage.old storage.new }
 {
     if lag_of(to, from, count) < count {
@@ -247,8 +246,8 @@ pub fn move_row<S: Storage>(
     storage: &mut S,
     i: Instruction,
 ) -> Result<Ending, Refusal>
-    ensures row { let before = state_of cpu.old (S.bytes storage.old) (S.keys storage.old) in
-        let after = state_of cpu.new (S.bytes storage.new) (S.keys storage.new) in
+    ensures row { let before = state_of cpu.old (S.memory storage.old) in
+        let after = state_of cpu.new (S.memory storage.new) in
         MeetsRow (string_combined Combine.Move before i) (S.present storage.old) before result after }
     ensures rest { S.Keeps storage.old storage.new }
 {

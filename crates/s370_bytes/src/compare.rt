@@ -44,8 +44,8 @@ pub fn compare_row<S: Storage>(
     storage: &S,
     i: Instruction,
 ) -> Result<Ending, Refusal>
-    ensures { let before = state_of cpu.old (S.bytes storage.now) (S.keys storage.now) in
-        let after = state_of cpu.new (S.bytes storage.now) (S.keys storage.now) in
+    ensures { let before = state_of cpu.old (S.memory storage.now) in
+        let after = state_of cpu.new (S.memory storage.now) in
         MeetsRow (strings_compared before i) (S.present storage.now) before result after }
 {
     let first = cpu.based(i.second_half).get();

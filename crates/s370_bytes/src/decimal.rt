@@ -66,8 +66,8 @@ fn load_binary(cpu: &mut Cpu, register: Register, doubleword: u64) -> Result<End
 
 /// 4F CVB: convert 15 decimal digits and a sign to binary.
 pub fn binary_row<S: Storage>(cpu: &mut Cpu, storage: &S, i: Instruction) -> Result<Ending, Refusal>
-    ensures { let before = state_of cpu.old (S.bytes storage.now) (S.keys storage.now) in
-        let after = state_of cpu.new (S.bytes storage.now) (S.keys storage.now) in
+    ensures { let before = state_of cpu.old (S.memory storage.now) in
+        let after = state_of cpu.new (S.memory storage.now) in
         MeetsRow (binary_loaded before i) (S.present storage.now) before result after }
 {
     let at = cpu.indexed(i.r2(), i.second_half).get();
@@ -120,8 +120,8 @@ pub fn decimal_row<S: Storage>(
     storage: &mut S,
     i: Instruction,
 ) -> Result<Ending, Refusal>
-    ensures row { let before = state_of cpu.now (S.bytes storage.old) (S.keys storage.old) in
-        let after = state_of cpu.now (S.bytes storage.new) (S.keys storage.new) in
+    ensures row { let before = state_of cpu.now (S.memory storage.old) in
+        let after = state_of cpu.now (S.memory storage.new) in
         MeetsRow (decimal_stored before i) (S.present storage.old) before result after }
     ensures rest { S.Keeps storage.old storage.new }
 {

@@ -1,6 +1,7 @@
 //! Strings of decimal digits, zoned and packed.
 ghost use Rattle.std.specs.Prelude.{◌≡◌, ℕ, ◌+◌, ◌<◌, ◌≤◌, length, slice_range};
-ghost use Rattle.s370_store.specs.Access.{IsGranted, put};
+ghost use Rattle.s370_store.specs.Access.{IsGranted};
+ghost use Rattle.s370_store.specs.Memory.{with_stored};
 ghost use Rattle.s370_rows.specs.State.{state_of};
 ghost use Rattle.s370_rows.specs.Rows.{MeetsRow};
 ghost use Rattle.s370_bytes.specs.Digits.{from_right, digit, exchanged, laid_out, string_of, digits_laid_out};
@@ -104,14 +105,12 @@ fn lay_out_at<S: Storage>(
     requires same { length made.old ≡ length target.old }
     requires short { length target.old ≤ 16 }
     requires source_short { length source.old ≤ 16 }
-    requires target { IsGranted (length (S.bytes storage.old)) (S.present storage.old) to (length target.old) }
-    requires source { IsGranted (length (S.bytes storage.old)) (S.present storage.old) from (length source.old) }
-    ensures bytes { S.bytes storage.new
-        ≡ put (S.bytes storage.old) to
+    requires target { IsGranted (length (S.memory storage.old).bytes) (S.present storage.old) to (length target.old) }
+    requires source { IsGranted (length (S.memory storage.old).bytes) (S.present storage.old) from (length source.old) }
+    ensures stored { S.memory storage.new ≡ with_stored (S.memory storage.old) to
         (string_of (length target.old)
-        (laid_out layout (slice_range (S.bytes storage.old) to (to + length target.old))
-        (slice_range (S.bytes storage.old) from (from + length source.old)))) }
-    ensures keys { S.keys storage.new ≡ S.keys storage.old }
+        (laid_out layout (slice_range (S.memory storage.old).bytes to (to + length target.old))
+        (slice_range (S.memory storage.old).bytes from (from + length source.old)))) }
     ensures rest { S.Keeps storage.old storage.new }
 {
     storage.load(to, target);
@@ -127,8 +126,8 @@ pub fn layout_row<S: Storage>(
     storage: &mut S,
     i: Instruction,
 ) -> Result<Ending, Refusal>
-    ensures row { let before = state_of cpu.now (S.bytes storage.old) (S.keys storage.old) in
-        let after = state_of cpu.now (S.bytes storage.new) (S.keys storage.new) in
+    ensures row { let before = state_of cpu.now (S.memory storage.old) in
+        let after = state_of cpu.now (S.memory storage.new) in
         MeetsRow (digits_laid_out layout before i) (S.present storage.old) before result after }
     ensures rest { S.Keeps storage.old storage.new }
 {

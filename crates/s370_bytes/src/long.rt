@@ -1,7 +1,8 @@
 //! The long move and the long comparison, a part of at most 256 bytes at a time.
 ghost use Rattle.std.specs.Prelude.{◌≡◌, ℕ, ◌+◌, ◌*◌, ◌%◌, ◌^◌, ◌<◌, ◌≤◌, ◌⊎◌, true, false, length, min, slice_range, replicate};
 ghost use Rattle.s370_rows.specs.declared.instruction.Instruction.{Instruction};
-ghost use Rattle.s370_store.specs.Access.{IsGranted, put};
+ghost use Rattle.s370_store.specs.Access.{IsGranted};
+ghost use Rattle.s370_store.specs.Memory.{with_stored};
 ghost use Rattle.s370_rows.specs.Formats.{r1_of, r2_of};
 ghost use Rattle.s370_rows.specs.State.{state_of};
 ghost use Rattle.s370_rows.specs.Rows.{MeetsRow};
@@ -115,8 +116,8 @@ fn set_all(bytes: &mut [u8], pad: u8)
 fn load_padded<S: Storage>(storage: &S, from: u32, pad: u8, into: &mut [u8], count: u32)
     requires within { count ≤ length into.old }
     requires short { length into.old ≤ 256 }
-    requires source { 0 < count → IsGranted (length (S.bytes storage.now)) (S.present storage.now) from count }
-    ensures { into.new ≡ padded (slice_range (S.bytes storage.now) from (from + count)) pad (length into.old) }
+    requires source { 0 < count → IsGranted (length (S.memory storage.now).bytes) (S.present storage.now) from count }
+    ensures { into.new ≡ padded (slice_range (S.memory storage.now).bytes from (from + count)) pad (length into.old) }
 {
     set_all(into, pad);
     if count > 0 {
@@ -136,12 +137,10 @@ fn move_through<S: Storage>(
 )
     requires within { count ≤ length made.old }
     requires short { length made.old ≤ 256 }
-    requires target { IsGranted (length (S.bytes storage.old)) (S.present storage.old) to (length made.old) }
-    requires source { 0 < count → IsGranted (length (S.bytes storage.old)) (S.present storage.old) from count }
-    ensures bytes { S.bytes storage.new
-        ≡ put (S.bytes storage.old) to
-        (padded (slice_range (S.bytes storage.old) from (from + count)) pad (length made.old)) }
-    ensures keys { S.keys storage.new ≡ S.keys storage.old }
+    requires target { IsGranted (length (S.memory storage.old).bytes) (S.present storage.old) to (length made.old) }
+    requires source { 0 < count → IsGranted (length (S.memory storage.old).bytes) (S.present storage.old) from count }
+    ensures stored { S.memory storage.new ≡ with_stored (S.memory storage.old) to
+        (padded (slice_range (S.memory storage.old).bytes from (from + count)) pad (length made.old)) }
     ensures rest { S.Keeps storage.old storage.new }
 {
     load_padded(storage, from, pad, made, count);
@@ -153,11 +152,11 @@ fn move_through<S: Storage>(
 fn move_pads<S: Storage>(storage: &mut S, to: u32, from: u32, pad: u8, count: u32, moved: u32)
     requires within { moved ≤ count }
     requires short { count ≤ 256 }
-    requires target { IsGranted (length (S.bytes storage.old)) (S.present storage.old) to count }
-    requires source { 0 < moved → IsGranted (length (S.bytes storage.old)) (S.present storage.old) from moved }
-    ensures bytes { S.bytes storage.new
-        ≡ put (S.bytes storage.old) to (padded (slice_range (S.bytes storage.old) from (from + moved)) pad count) }
-    ensures keys { S.keys storage.new ≡ S.keys storage.old }
+    requires target { IsGranted (length (S.memory storage.old).bytes) (S.present storage.old) to count }
+    requires source { 0 < moved → IsGranted (length (S.memory storage.old).bytes) (S.present storage.old) from moved }
+    ensures stored { S.memory storage.new
+        ≡ with_stored (S.memory storage.old) to
+        (padded (slice_range (S.memory storage.old).bytes from (from + moved)) pad count) }
     ensures rest { S.Keeps storage.old storage.new }
 {
     let mut made = [0u8; 256];
@@ -170,11 +169,11 @@ fn move_padded<S: Storage>(storage: &mut S, to: u32, from: u32, pad: u8, count: 
     requires some { 0 < count }
     requires within { moved ≤ count }
     requires short { count ≤ 256 }
-    requires target { IsGranted (length (S.bytes storage.old)) (S.present storage.old) to count }
-    requires source { 0 < moved → IsGranted (length (S.bytes storage.old)) (S.present storage.old) from moved }
-    ensures bytes { S.bytes storage.new
-        ≡ put (S.bytes storage.old) to (padded (slice_range (S.bytes storage.old) from (from + moved)) pad count) }
-    ensures keys { S.keys storage.new ≡ S.keys storage.old }
+    requires target { IsGranted (length (S.memory storage.old).bytes) (S.present storage.old) to count }
+    requires source { 0 < moved → IsGranted (length (S.memory storage.old).bytes) (S.present storage.old) from moved }
+    ensures stored { S.memory storage.new
+        ≡ with_stored (S.memory storage.old) to
+        (padded (slice_range (S.memory storage.old).bytes from (from + moved)) pad count) }
     ensures rest { S.Keeps storage.old storage.new }
 {
     if moved < count {
@@ -194,8 +193,8 @@ fn move_part<S: Storage>(
     requires first { r1 < 15 }
     requires second { r2 < 15 }
     requires some { 0 < (operand_of cpu.old r1).count }
-    ensures row { let before = state_of cpu.old (S.bytes storage.old) (S.keys storage.old) in
-        let after = state_of cpu.new (S.bytes storage.new) (S.keys storage.new) in
+    ensures row { let before = state_of cpu.old (S.memory storage.old) in
+        let after = state_of cpu.new (S.memory storage.new) in
         MeetsRow (part_moved before r1 r2) (S.present storage.old) before result after }
     ensures rest { S.Keeps storage.old storage.new }
 {
@@ -228,8 +227,8 @@ pub fn move_long_row<S: Storage>(
     storage: &mut S,
     i: Instruction,
 ) -> Result<Ending, Refusal>
-    ensures row { let before = state_of cpu.old (S.bytes storage.old) (S.keys storage.old) in
-        let after = state_of cpu.new (S.bytes storage.new) (S.keys storage.new) in
+    ensures row { let before = state_of cpu.old (S.memory storage.old) in
+        let after = state_of cpu.new (S.memory storage.new) in
         MeetsRow (long_moved before i) (S.present storage.old) before result after }
     ensures rest { S.Keeps storage.old storage.new }
 {
@@ -315,8 +314,8 @@ fn move_whole_parts<S: Storage>(
     requires block { 1 < parts → (operand_of cpu.old r1).address % 2048 + 256 * parts ≤ 2048 }
     requires block_2 { 1 < parts → (operand_of cpu.old r2).address % 2048 + 256 * parts ≤ 2048 }
     requires intact { destroys (operand_of cpu.old r1) (operand_of cpu.old r2) ≡ false }
-    ensures parts { let before = state_of cpu.old (S.bytes storage.old) (S.keys storage.old) in
-        let after = state_of cpu.new (S.bytes storage.new) (S.keys storage.new) in
+    ensures parts { let before = state_of cpu.old (S.memory storage.old) in
+        let after = state_of cpu.new (S.memory storage.new) in
         (i : Instruction) → r1_of i ≡ r1 → r2_of i ≡ r2 → AreParts result start (S.present storage.old) i before after }
     ensures within { result ≤ parts }
     ensures rest { S.Keeps storage.old storage.new }
@@ -355,8 +354,8 @@ pub fn move_long_quickly<S: Storage>(
       second_half = 0;
       third_half = 0;
     } in
-        let before = state_of cpu.old (S.bytes storage.old) (S.keys storage.old) in
-        let after = state_of cpu.new (S.bytes storage.new) (S.keys storage.new) in
+        let before = state_of cpu.old (S.memory storage.old) in
+        let after = state_of cpu.new (S.memory storage.new) in
         AreParts result start (S.present storage.old) i before after }
     ensures within { result ≤ limit }
     ensures rest { S.Keeps storage.old storage.new }
@@ -464,12 +463,13 @@ fn compare_at<S: Storage>(
     requires left { length left.old ≡ count }
     requires right { length right.old ≡ count }
     requires source { 0 < min count (operand_of cpu.old r1).count
-        → IsGranted (length (S.bytes storage.now)) (S.present storage.now) (operand_of cpu.old r1).address
+        → IsGranted (length (S.memory storage.now).bytes) (S.present storage.now) (operand_of cpu.old r1).address
         (min count (operand_of cpu.old r1).count) }
     requires source_2 { 0 < min count (operand_of cpu.old r2).count
-        → IsGranted (length (S.bytes storage.now)) (S.present storage.now) (operand_of cpu.old r2).address
+        → IsGranted (length (S.memory storage.now).bytes) (S.present storage.now) (operand_of cpu.old r2).address
         (min count (operand_of cpu.old r2).count) }
-    ensures { pairs_ordered (S.bytes storage.now) cpu.old r1 r2 count ≡ record { ending = result; cpu = cpu.new } }
+    ensures { pairs_ordered (S.memory storage.now).bytes cpu.old r1 r2 count
+        ≡ record { ending = result; cpu = cpu.new } }
 {
     let first = Operand::of(cpu, r1);
     let second = Operand::of(cpu, r2);
@@ -489,8 +489,8 @@ fn compare_part<S: Storage>(
 ) -> Result<Ending, Refusal>
     requires first { r1 < 15 }
     requires second { r2 < 15 }
-    ensures { let before = state_of cpu.old (S.bytes storage.now) (S.keys storage.now) in
-        let after = state_of cpu.new (S.bytes storage.now) (S.keys storage.now) in
+    ensures { let before = state_of cpu.old (S.memory storage.now) in
+        let after = state_of cpu.new (S.memory storage.now) in
         MeetsRow (part_compared before r1 r2) (S.present storage.now) before result after }
 {
     let first = Operand::of(cpu, r1);
@@ -524,8 +524,8 @@ pub fn compare_long_row<S: Storage>(
     storage: &S,
     i: Instruction,
 ) -> Result<Ending, Refusal>
-    ensures { let before = state_of cpu.old (S.bytes storage.now) (S.keys storage.now) in
-        let after = state_of cpu.new (S.bytes storage.now) (S.keys storage.now) in
+    ensures { let before = state_of cpu.old (S.memory storage.now) in
+        let after = state_of cpu.new (S.memory storage.now) in
         MeetsRow (long_compared before i) (S.present storage.now) before result after }
 {
     let r1 = i.r1();

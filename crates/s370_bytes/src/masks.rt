@@ -1,6 +1,6 @@
 //! Characters of a register that a mask chooses.
 ghost use Rattle.std.specs.Prelude.{◌≡◌, ℕ, ◌+◌, ◌<◌, ◌≤◌, length, slice_range, take};
-ghost use Rattle.s370_store.specs.Access.{IsGranted, put};
+ghost use Rattle.s370_store.specs.Access.{IsGranted};
 ghost use Rattle.s370_rows.specs.State.{state_of};
 ghost use Rattle.s370_rows.specs.Rows.{MeetsRow};
 ghost use Rattle.s370_bytes.specs.Compare.{string_order};
@@ -100,9 +100,9 @@ fn insert_at<S: Storage>(
 )
     requires count { length from.old ≡ chosen_count mask }
     requires short { length from.old ≤ 4 }
-    requires granted { IsGranted (length (S.bytes storage.now)) (S.present storage.now) start (length from.old) }
+    requires granted { IsGranted (length (S.memory storage.now).bytes) (S.present storage.now) start (length from.old) }
     ensures { cpu.new ≡ with_inserted cpu.old register mask
-        (slice_range (S.bytes storage.now) start (start + length from.old)) }
+        (slice_range (S.memory storage.now).bytes start (start + length from.old)) }
 {
     storage.load(start, from);
     let mut bytes = cpu.general[register.index()].to_be_bytes();
@@ -117,8 +117,8 @@ pub fn insert_characters_row<S: Storage>(
     storage: &S,
     i: Instruction,
 ) -> Result<Ending, Refusal>
-    ensures { let before = state_of cpu.old (S.bytes storage.now) (S.keys storage.now) in
-        let after = state_of cpu.new (S.bytes storage.now) (S.keys storage.now) in
+    ensures { let before = state_of cpu.old (S.memory storage.now) in
+        let after = state_of cpu.new (S.memory storage.now) in
         MeetsRow (characters_inserted before i) (S.present storage.now) before result after }
 {
     let start = cpu.based(i.second_half).get();
@@ -147,8 +147,8 @@ pub fn store_characters_row<S: Storage>(
     storage: &mut S,
     i: Instruction,
 ) -> Result<Ending, Refusal>
-    ensures row { let before = state_of cpu.now (S.bytes storage.old) (S.keys storage.old) in
-        let after = state_of cpu.now (S.bytes storage.new) (S.keys storage.new) in
+    ensures row { let before = state_of cpu.now (S.memory storage.old) in
+        let after = state_of cpu.now (S.memory storage.new) in
         MeetsRow (characters_stored before i) (S.present storage.old) before result after }
     ensures rest { S.Keeps storage.old storage.new }
 {
@@ -178,9 +178,10 @@ fn order_at<S: Storage>(
 ) -> ConditionCode
     requires count { length right.old ≡ chosen_count mask }
     requires short { length right.old ≤ 4 }
-    requires granted { IsGranted (length (S.bytes storage.now)) (S.present storage.now) start (length right.old) }
+    requires granted { IsGranted (length (S.memory storage.now).bytes) (S.present storage.now) start
+        (length right.old) }
     ensures { result ≡ string_order (chosen mask (bytes_of cpu.now register))
-        (slice_range (S.bytes storage.now) start (start + length right.old)) }
+        (slice_range (S.memory storage.now).bytes start (start + length right.old)) }
 {
     let mut left = [0u8; 4];
     gather(
@@ -198,8 +199,8 @@ pub fn compare_characters_row<S: Storage>(
     storage: &S,
     i: Instruction,
 ) -> Result<Ending, Refusal>
-    ensures { let before = state_of cpu.old (S.bytes storage.now) (S.keys storage.now) in
-        let after = state_of cpu.new (S.bytes storage.now) (S.keys storage.now) in
+    ensures { let before = state_of cpu.old (S.memory storage.now) in
+        let after = state_of cpu.new (S.memory storage.now) in
         MeetsRow (characters_compared before i) (S.present storage.now) before result after }
 {
     let start = cpu.based(i.second_half).get();

@@ -1,6 +1,7 @@
 //! Several registers, loaded from or stored into the words of a storage.
 ghost use Rattle.std.specs.Prelude.{◌≡◌, ℕ, ◌*◌, ◌<◌, ◌≤◌, length, take};
-ghost use Rattle.s370_store.specs.Access.{IsGranted, put};
+ghost use Rattle.s370_store.specs.Access.{IsGranted};
+ghost use Rattle.s370_store.specs.Memory.{with_stored};
 ghost use Rattle.s370_rows.specs.Formats.{r1_of, r2_of};
 ghost use Rattle.s370_rows.specs.State.{state_of};
 ghost use Rattle.s370_rows.specs.Rows.{MeetsRow};
@@ -53,11 +54,11 @@ pub fn store_registers<S: Storage>(
     address: Addr24,
     i: Instruction,
 )
-    requires { IsGranted (length (S.bytes storage.old)) (S.present storage.old) address
+    requires { IsGranted (length (S.memory storage.old).bytes) (S.present storage.old) address
         (4 * register_count (r1_of i) (r2_of i)) }
-    ensures bytes { S.bytes storage.new
-        ≡ put (S.bytes storage.old) address (words_from registers.now (r1_of i) (register_count (r1_of i) (r2_of i))) }
-    ensures keys { S.keys storage.new ≡ S.keys storage.old }
+    ensures stored { S.memory storage.new
+        ≡ with_stored (S.memory storage.old) address
+        (words_from registers.now (r1_of i) (register_count (r1_of i) (r2_of i))) }
     ensures rest { S.Keeps storage.old storage.new }
 {
     let count = count_of(i.r1(), i.r2());
@@ -74,9 +75,9 @@ pub fn load_registers<S: Storage>(
     address: Addr24,
     i: Instruction,
 )
-    requires { IsGranted (length (S.bytes storage.now)) (S.present storage.now) address
+    requires { IsGranted (length (S.memory storage.now).bytes) (S.present storage.now) address
         (4 * register_count (r1_of i) (r2_of i)) }
-    ensures { registers.new ≡ loaded_from (S.bytes storage.now) registers.old address (r1_of i)
+    ensures { registers.new ≡ loaded_from (S.memory storage.now).bytes registers.old address (r1_of i)
         (register_count (r1_of i) (r2_of i)) }
 {
     let start = address.get();
@@ -93,8 +94,8 @@ pub fn store_multiple_row<S: Storage>(
     storage: &mut S,
     i: Instruction,
 ) -> Result<Ending, Refusal>
-    ensures row { let before = state_of cpu.now (S.bytes storage.old) (S.keys storage.old) in
-        let after = state_of cpu.now (S.bytes storage.new) (S.keys storage.new) in
+    ensures row { let before = state_of cpu.now (S.memory storage.old) in
+        let after = state_of cpu.now (S.memory storage.new) in
         MeetsRow (multiple_stored before i) (S.present storage.old) before result after }
     ensures rest { S.Keeps storage.old storage.new }
 {
@@ -110,8 +111,8 @@ pub fn load_multiple_row<S: Storage>(
     storage: &S,
     i: Instruction,
 ) -> Result<Ending, Refusal>
-    ensures { let before = state_of cpu.old (S.bytes storage.now) (S.keys storage.now) in
-        let after = state_of cpu.new (S.bytes storage.now) (S.keys storage.now) in
+    ensures { let before = state_of cpu.old (S.memory storage.now) in
+        let after = state_of cpu.new (S.memory storage.now) in
         MeetsRow (multiple_loaded before i) (S.present storage.now) before result after }
 {
     let address = cpu.based(i.second_half);

@@ -1,7 +1,7 @@
 //! A move of characters that is one copy: each operand lies in a block that was found, and no byte is read after it was
 //! written.
 ghost use Rattle.std.specs.Prelude.{◌≡◌, ◌<◌, ◌≤◌, ◌+◌, true, false, length};
-ghost use Rattle.s370_store.specs.Access.{put};
+ghost use Rattle.s370_store.specs.Memory.{with_stored};
 ghost use Rattle.s370_bytes.specs.declared.combine.Combine.TheVariants as combines;
 ghost use Rattle.s370_bytes.specs.Combine.{made_of};
 
@@ -21,18 +21,17 @@ pub fn move_straight<S: Storage>(
     requires some { 0 < count }
     requires short { count ≤ 256 }
     requires source_placed { S.IsPlaced storage.old source }
-    requires source_inside { from + count ≤ length (S.bytes storage.old) }
+    requires source_inside { from + count ≤ length (S.memory storage.old).bytes }
     requires source_begins { source.first ≤ from }
     requires source_ends { from + count ≤ source.first + 2048 }
     requires target_placed { S.IsPlaced storage.old target }
-    requires target_inside { to + count ≤ length (S.bytes storage.old) }
+    requires target_inside { to + count ≤ length (S.memory storage.old).bytes }
     requires target_begins { target.first ≤ to }
     requires target_ends { to + count ≤ target.first + 2048 }
     ensures moved { result ≡ true
-        → S.bytes storage.new ≡ put (S.bytes storage.old) to
-        (made_of combines.Move (S.bytes storage.old) to from count) }
-    ensures still { result ≡ false → S.bytes storage.new ≡ S.bytes storage.old }
-    ensures keys { S.keys storage.new ≡ S.keys storage.old }
+        → S.memory storage.new
+        ≡ with_stored (S.memory storage.old) to (made_of combines.Move (S.memory storage.old).bytes to from count) }
+    ensures still { result ≡ false → S.memory storage.new ≡ S.memory storage.old }
     ensures rest { S.Keeps storage.old storage.new }
 {
     if lag_of(to, from, count) < count {

@@ -1,6 +1,7 @@
 //! Strings that are translated or tested by a table.
 ghost use Rattle.std.specs.Prelude.{◌≡◌, ◌≢◌, ℕ, ◌+◌, ◌^◌, ◌<◌, ◌≤◌, true, length, slice_index, slice_range};
-ghost use Rattle.s370_store.specs.Access.{IsGranted, put};
+ghost use Rattle.s370_store.specs.Access.{IsGranted};
+ghost use Rattle.s370_store.specs.Memory.{with_stored};
 ghost use Rattle.s370_rows.specs.State.{state_of};
 ghost use Rattle.s370_rows.specs.Rows.{MeetsRow};
 ghost use Rattle.s370_bytes.specs.Translate.{is_apart, translation, string_translated, zeros, scanned, string_scanned};
@@ -53,11 +54,10 @@ fn translate_apart<S: Storage>(
     requires short { length bytes.old ≤ 256 }
     requires whole { length table.old ≡ 256 }
     requires apart { is_apart to (length bytes.old) from ≡ true }
-    requires target { IsGranted (length (S.bytes storage.old)) (S.present storage.old) to (length bytes.old) }
-    requires table { IsGranted (length (S.bytes storage.old)) (S.present storage.old) from 256 }
-    ensures bytes { S.bytes storage.new
-        ≡ put (S.bytes storage.old) to (translation (S.bytes storage.old) to from (length bytes.old)) }
-    ensures keys { S.keys storage.new ≡ S.keys storage.old }
+    requires target { IsGranted (length (S.memory storage.old).bytes) (S.present storage.old) to (length bytes.old) }
+    requires table { IsGranted (length (S.memory storage.old).bytes) (S.present storage.old) from 256 }
+    ensures stored { S.memory storage.new
+        ≡ with_stored (S.memory storage.old) to (translation (S.memory storage.old).bytes to from (length bytes.old)) }
     ensures rest { S.Keeps storage.old storage.new }
 {
     storage.load(to, bytes);
@@ -71,11 +71,10 @@ fn translate_each<S: Storage>(storage: &mut S, to: u32, table: u32, count: u32)
     requires to { to < 2 ^ 24 }
     requires from { table < 2 ^ 24 }
     requires short { count ≤ 256 }
-    requires target { IsGranted (length (S.bytes storage.old)) (S.present storage.old) to count }
-    requires table { IsGranted (length (S.bytes storage.old)) (S.present storage.old) table 256 }
-    ensures bytes { S.bytes storage.new
-        ≡ put (S.bytes storage.old) to (translation (S.bytes storage.old) to table count) }
-    ensures keys { S.keys storage.new ≡ S.keys storage.old }
+    requires target { IsGranted (length (S.memory storage.old).bytes) (S.present storage.old) to count }
+    requires table { IsGranted (length (S.memory storage.old).bytes) (S.present storage.old) table 256 }
+    ensures stored { S.memory storage.new
+        ≡ with_stored (S.memory storage.old) to (translation (S.memory storage.old).bytes to table count) }
     ensures rest { S.Keeps storage.old storage.new }
 {
     for k in 0..count {
@@ -91,8 +90,8 @@ pub fn translate_row<S: Storage>(
     storage: &mut S,
     i: Instruction,
 ) -> Result<Ending, Refusal>
-    ensures row { let before = state_of cpu.now (S.bytes storage.old) (S.keys storage.old) in
-        let after = state_of cpu.now (S.bytes storage.new) (S.keys storage.new) in
+    ensures row { let before = state_of cpu.now (S.memory storage.old) in
+        let after = state_of cpu.now (S.memory storage.new) in
         MeetsRow (string_translated before i) (S.present storage.old) before result after }
     ensures rest { S.Keeps storage.old storage.new }
 {
@@ -156,8 +155,8 @@ pub fn translate_test_row<S: Storage>(
     storage: &S,
     i: Instruction,
 ) -> Result<Ending, Refusal>
-    ensures { let before = state_of cpu.old (S.bytes storage.now) (S.keys storage.now) in
-        let after = state_of cpu.new (S.bytes storage.now) (S.keys storage.now) in
+    ensures { let before = state_of cpu.old (S.memory storage.now) in
+        let after = state_of cpu.new (S.memory storage.now) in
         MeetsRow (string_scanned before i) (S.present storage.now) before result after }
 {
     let first = cpu.based(i.second_half);

@@ -21,7 +21,7 @@ use s370_store::{Access, Range, Storage, load_byte, load_halfword, load_word};
 /// The word at the address of a second operand with an index.
 #[inline(always)]
 fn fetched_word<S: Storage>(cpu: &Cpu, storage: &S, i: Instruction) -> Result<u32, Refusal>
-    ensures { let m = state_of cpu.now (S.bytes storage.now) (S.keys storage.now) in
+    ensures { let m = state_of cpu.now (S.memory storage.now) in
         MeetsOperand m (S.present storage.now) (fetch_test (operand_of m i) 4) (word_of m i) result }
 {
     let start = cpu.indexed(i.r2(), i.second_half).get();
@@ -32,7 +32,7 @@ fn fetched_word<S: Storage>(cpu: &Cpu, storage: &S, i: Instruction) -> Result<u3
 /// The signed halfword at the address of a second operand with an index.
 #[inline(always)]
 fn fetched_halfword<S: Storage>(cpu: &Cpu, storage: &S, i: Instruction) -> Result<u32, Refusal>
-    ensures { let m = state_of cpu.now (S.bytes storage.now) (S.keys storage.now) in
+    ensures { let m = state_of cpu.now (S.memory storage.now) in
         MeetsOperand m (S.present storage.now) (fetch_test (operand_of m i) 2) (half_of m i) result }
 {
     let start = cpu.indexed(i.r2(), i.second_half).get();
@@ -43,7 +43,7 @@ fn fetched_halfword<S: Storage>(cpu: &Cpu, storage: &S, i: Instruction) -> Resul
 /// The byte at an address.
 #[inline(always)]
 fn fetched_byte<S: Storage>(cpu: &Cpu, storage: &S, address: Addr24) -> Result<u8, Refusal>
-    ensures { let m = state_of cpu.now (S.bytes storage.now) (S.keys storage.now) in
+    ensures { let m = state_of cpu.now (S.memory storage.now) in
         MeetsOperand m (S.present storage.now) (fetch_test address 1) (slice_index m.bytes address) result }
 {
     let start = address.get();
@@ -59,8 +59,8 @@ pub fn word_row<S: Storage>(
     storage: &S,
     i: Instruction,
 ) -> Result<Ending, Refusal>
-    ensures { let before = state_of cpu.old (S.bytes storage.now) (S.keys storage.now) in
-        let after = state_of cpu.new (S.bytes storage.now) (S.keys storage.now) in
+    ensures { let before = state_of cpu.old (S.memory storage.now) in
+        let after = state_of cpu.new (S.memory storage.now) in
         MeetsRow (word_operation operation before i) (S.present storage.now) before result after }
 {
     let start = cpu.indexed(i.r2(), i.second_half).get();
@@ -77,8 +77,8 @@ pub fn word_row_at<S: Storage>(
     start: u32,
 ) -> Result<Ending, Refusal>
     requires { start ≡ indexed_address cpu.old (r2_of i) i.second_half }
-    ensures { let before = state_of cpu.old (S.bytes storage.now) (S.keys storage.now) in
-        let after = state_of cpu.new (S.bytes storage.now) (S.keys storage.now) in
+    ensures { let before = state_of cpu.old (S.memory storage.now) in
+        let after = state_of cpu.new (S.memory storage.now) in
         MeetsRow (word_operation operation before i) (S.present storage.now) before result after }
 {
     grant(cpu, storage, Range { start, count: 4 }, Access::Fetch)?;
@@ -94,8 +94,8 @@ fn halfword_row<S: Storage>(
     storage: &S,
     i: Instruction,
 ) -> Result<Ending, Refusal>
-    ensures { let before = state_of cpu.old (S.bytes storage.now) (S.keys storage.now) in
-        let after = state_of cpu.new (S.bytes storage.now) (S.keys storage.now) in
+    ensures { let before = state_of cpu.old (S.memory storage.now) in
+        let after = state_of cpu.new (S.memory storage.now) in
         MeetsRow (halfword_operation operation before i) (S.present storage.now) before result after }
 {
     let b = fetched_halfword(cpu, storage, i)?;
@@ -109,8 +109,8 @@ fn multiply_halfword<S: Storage>(
     storage: &S,
     i: Instruction,
 ) -> Result<Ending, Refusal>
-    ensures { let before = state_of cpu.old (S.bytes storage.now) (S.keys storage.now) in
-        let after = state_of cpu.new (S.bytes storage.now) (S.keys storage.now) in
+    ensures { let before = state_of cpu.old (S.memory storage.now) in
+        let after = state_of cpu.new (S.memory storage.now) in
         MeetsRow (halfword_multiplied before i) (S.present storage.now) before result after }
 {
     let b = fetched_halfword(cpu, storage, i)?;
@@ -120,8 +120,8 @@ fn multiply_halfword<S: Storage>(
 /// 5C M: a product with a word of storage.
 #[inline(always)]
 fn multiply_word<S: Storage>(cpu: &mut Cpu, storage: &S, i: Instruction) -> Result<Ending, Refusal>
-    ensures { let before = state_of cpu.old (S.bytes storage.now) (S.keys storage.now) in
-        let after = state_of cpu.new (S.bytes storage.now) (S.keys storage.now) in
+    ensures { let before = state_of cpu.old (S.memory storage.now) in
+        let after = state_of cpu.new (S.memory storage.now) in
         MeetsRow (word_multiplied before i) (S.present storage.now) before result after }
 {
     if i.r1().number() % 2 != 0 {
@@ -134,8 +134,8 @@ fn multiply_word<S: Storage>(cpu: &mut Cpu, storage: &S, i: Instruction) -> Resu
 /// 5D D: a quotient of a pair and a word of storage.
 #[inline(always)]
 fn divide_word<S: Storage>(cpu: &mut Cpu, storage: &S, i: Instruction) -> Result<Ending, Refusal>
-    ensures { let before = state_of cpu.old (S.bytes storage.now) (S.keys storage.now) in
-        let after = state_of cpu.new (S.bytes storage.now) (S.keys storage.now) in
+    ensures { let before = state_of cpu.old (S.memory storage.now) in
+        let after = state_of cpu.new (S.memory storage.now) in
         MeetsRow (word_divided before i) (S.present storage.now) before result after }
 {
     if i.r1().number() % 2 != 0 {
@@ -155,8 +155,8 @@ fn insert_character<S: Storage>(
     storage: &S,
     i: Instruction,
 ) -> Result<Ending, Refusal>
-    ensures { let before = state_of cpu.old (S.bytes storage.now) (S.keys storage.now) in
-        let after = state_of cpu.new (S.bytes storage.now) (S.keys storage.now) in
+    ensures { let before = state_of cpu.old (S.memory storage.now) in
+        let after = state_of cpu.new (S.memory storage.now) in
         MeetsRow (character_inserted before i) (S.present storage.now) before result after }
 {
     let byte = fetched_byte(cpu, storage, cpu.indexed(i.r2(), i.second_half))?;
@@ -171,8 +171,8 @@ pub fn test_byte_row<S: Storage>(
     storage: &S,
     i: Instruction,
 ) -> Result<Ending, Refusal>
-    ensures { let before = state_of cpu.old (S.bytes storage.now) (S.keys storage.now) in
-        let after = state_of cpu.new (S.bytes storage.now) (S.keys storage.now) in
+    ensures { let before = state_of cpu.old (S.memory storage.now) in
+        let after = state_of cpu.new (S.memory storage.now) in
         MeetsRow (byte_tested test before i) (S.present storage.now) before result after }
 {
     let byte = fetched_byte(cpu, storage, cpu.based(i.second_half))?;
@@ -188,8 +188,8 @@ pub fn fetch_row<S: Storage>(
     storage: &S,
     i: Instruction,
 ) -> Result<Ending, Refusal>
-    ensures { let before = state_of cpu.old (S.bytes storage.now) (S.keys storage.now) in
-        let after = state_of cpu.new (S.bytes storage.now) (S.keys storage.now) in
+    ensures { let before = state_of cpu.old (S.memory storage.now) in
+        let after = state_of cpu.new (S.memory storage.now) in
         MeetsRow (fetch_row row before i) (S.present storage.now) before result after }
 {
     match row {

@@ -33,9 +33,9 @@ fn instruction_in(bytes: &[u8; 6], opcode: u8) -> Instruction
 /// The instruction at an address from which six bytes may be loaded, of which the first, its operation code, is known.
 #[inline(always)]
 pub fn load_known<S: Storage>(storage: &S, start: u32, opcode: u8) -> Instruction
-    requires granted { IsGranted (length (S.bytes storage.now)) (S.present storage.now) start 6 }
-    requires known { opcode ≡ slice_index (S.bytes storage.now) start }
-    ensures instruction { result ≡ instruction_at (S.bytes storage.now) start }
+    requires granted { IsGranted (length (S.memory storage.now).bytes) (S.present storage.now) start 6 }
+    requires known { opcode ≡ slice_index (S.memory storage.now).bytes start }
+    ensures instruction { result ≡ instruction_at (S.memory storage.now).bytes start }
     ensures same { result.opcode ≡ opcode }
 {
     let mut bytes = [0u8; 6];
@@ -49,8 +49,8 @@ pub fn load_known_in<S: Storage>(storage: &S, block: Block, start: u32, opcode: 
     requires placed { S.IsPlaced storage.now block }
     requires begins { block.first ≤ start }
     requires ends { start ≤ block.first + 2042 }
-    requires known { opcode ≡ slice_index (S.bytes storage.now) start }
-    ensures instruction { result ≡ instruction_at (S.bytes storage.now) start }
+    requires known { opcode ≡ slice_index (S.memory storage.now).bytes start }
+    ensures instruction { result ≡ instruction_at (S.memory storage.now).bytes start }
     ensures same { result.opcode ≡ opcode }
 {
     let mut bytes = [0u8; 6];

@@ -32,8 +32,8 @@ fn perform<S: Storage>(
 ) -> Result<Ending, Refusal>
     requires same { i.opcode ≡ opcode }
     requires plain { is_supervised (opcode_at i.opcode) ≡ false }
-    ensures row { let before = state_of cpu.old (S.bytes storage.old) (S.keys storage.old) in
-        let after = state_of cpu.new (S.bytes storage.new) (S.keys storage.new) in
+    ensures row { let before = state_of cpu.old (S.memory storage.old) in
+        let after = state_of cpu.new (S.memory storage.new) in
         MeetsRow (row_of before place i) (S.present storage.old) before result after }
     ensures rest { S.Keeps storage.old storage.new }
 {
@@ -55,8 +55,8 @@ fn perform<S: Storage>(
 /// program status words. An instruction for the supervisor state is handed back, after its fetch, with nothing done.
 #[inline]
 pub fn step<S: Storage>(cpu: &mut Cpu, storage: &mut S) -> Stop
-    ensures unit { let before = state_of cpu.old (S.bytes storage.old) (S.keys storage.old) in
-        let after = state_of cpu.new (S.bytes storage.new) (S.keys storage.new) in
+    ensures unit { let before = state_of cpu.old (S.memory storage.old) in
+        let after = state_of cpu.new (S.memory storage.new) in
         MeetsStep (S.present storage.old) before result after }
     ensures rest { S.Keeps storage.old storage.new }
 {
@@ -71,8 +71,8 @@ pub fn step<S: Storage>(cpu: &mut Cpu, storage: &mut S) -> Stop
 /// As [`step`], where one look is not enough for the fetch.
 #[inline(never)]
 fn step_apart<S: Storage>(cpu: &mut Cpu, storage: &mut S) -> Stop
-    ensures unit { let before = state_of cpu.old (S.bytes storage.old) (S.keys storage.old) in
-        let after = state_of cpu.new (S.bytes storage.new) (S.keys storage.new) in
+    ensures unit { let before = state_of cpu.old (S.memory storage.old) in
+        let after = state_of cpu.new (S.memory storage.new) in
         MeetsStep (S.present storage.old) before result after }
     ensures rest { S.Keeps storage.old storage.new }
 {
@@ -88,12 +88,12 @@ fn step_apart<S: Storage>(cpu: &mut Cpu, storage: &mut S) -> Stop
 #[inline(always)]
 fn carry_known<S: Storage>(cpu: &mut Cpu, storage: &mut S, start: u32, opcode: u8) -> Stop
     requires here { start ≡ cpu.old.psw.address }
-    requires found { let m = state_of cpu.old (S.bytes storage.old) (S.keys storage.old) in
-        (fetched m start).result ≡ Ok (instruction_at (S.bytes storage.old) start) }
-    requires granted { IsGranted (length (S.bytes storage.old)) (S.present storage.old) start 6 }
-    requires known { opcode ≡ slice_index (S.bytes storage.old) start }
-    ensures unit { let before = state_of cpu.old (S.bytes storage.old) (S.keys storage.old) in
-        let after = state_of cpu.new (S.bytes storage.new) (S.keys storage.new) in
+    requires found { let m = state_of cpu.old (S.memory storage.old) in
+        (fetched m start).result ≡ Ok (instruction_at (S.memory storage.old).bytes start) }
+    requires granted { IsGranted (length (S.memory storage.old).bytes) (S.present storage.old) start 6 }
+    requires known { opcode ≡ slice_index (S.memory storage.old).bytes start }
+    ensures unit { let before = state_of cpu.old (S.memory storage.old) in
+        let after = state_of cpu.new (S.memory storage.new) in
         MeetsStep (S.present storage.old) before result after }
     ensures rest { S.Keeps storage.old storage.new }
 {
@@ -105,10 +105,10 @@ fn carry_known<S: Storage>(cpu: &mut Cpu, storage: &mut S, start: u32, opcode: u
 #[inline(always)]
 fn carry<S: Storage>(cpu: &mut Cpu, storage: &mut S, opcode: u8, first: Instruction) -> Stop
     requires same { first.opcode ≡ opcode }
-    requires found { let m = state_of cpu.old (S.bytes storage.old) (S.keys storage.old) in
+    requires found { let m = state_of cpu.old (S.memory storage.old) in
         (fetched m cpu.old.psw.address).result ≡ Ok first }
-    ensures unit { let before = state_of cpu.old (S.bytes storage.old) (S.keys storage.old) in
-        let after = state_of cpu.new (S.bytes storage.new) (S.keys storage.new) in
+    ensures unit { let before = state_of cpu.old (S.memory storage.old) in
+        let after = state_of cpu.new (S.memory storage.new) in
         MeetsStep (S.present storage.old) before result after }
     ensures rest { S.Keeps storage.old storage.new }
 {
@@ -128,13 +128,13 @@ fn carry_target<S: Storage>(
     place: Place,
     first: Instruction,
 ) -> Stop
-    requires found { let m = state_of cpu.old (S.bytes storage.old) (S.keys storage.old) in
+    requires found { let m = state_of cpu.old (S.memory storage.old) in
         (fetched m cpu.old.psw.address).result ≡ Ok first }
     requires length_code { place.ilc ≡ halfwords_of first.opcode }
-    requires next { let m = state_of cpu.old (S.bytes storage.old) (S.keys storage.old) in
+    requires next { let m = state_of cpu.old (S.memory storage.old) in
         place ≡ place_at m place.ilc }
-    ensures unit { let before = state_of cpu.old (S.bytes storage.old) (S.keys storage.old) in
-        let after = state_of cpu.new (S.bytes storage.new) (S.keys storage.new) in
+    ensures unit { let before = state_of cpu.old (S.memory storage.old) in
+        let after = state_of cpu.new (S.memory storage.new) in
         MeetsStep (S.present storage.old) before result after }
     ensures rest { S.Keeps storage.old storage.new }
 {
@@ -154,11 +154,11 @@ fn finish<S: Storage>(
     i: Instruction,
 ) -> Stop
     requires same { i.opcode ≡ opcode }
-    requires carried { Carries (state_of cpu.old (S.bytes storage.old) (S.keys storage.old)) place.ilc i }
-    requires next { let m = state_of cpu.old (S.bytes storage.old) (S.keys storage.old) in
+    requires carried { Carries (state_of cpu.old (S.memory storage.old)) place.ilc i }
+    requires next { let m = state_of cpu.old (S.memory storage.old) in
         place ≡ place_at m place.ilc }
-    ensures unit { let before = state_of cpu.old (S.bytes storage.old) (S.keys storage.old) in
-        let after = state_of cpu.new (S.bytes storage.new) (S.keys storage.new) in
+    ensures unit { let before = state_of cpu.old (S.memory storage.old) in
+        let after = state_of cpu.new (S.memory storage.new) in
         MeetsStep (S.present storage.old) before result after }
     ensures rest { S.Keeps storage.old storage.new }
 {

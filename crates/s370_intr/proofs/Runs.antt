@@ -13,6 +13,7 @@ use Rattle.s370_rows.specs.declared.cpu.Cpu.{Cpu}
 use Rattle.s370_rows.specs.State.{State}
 use Rattle.s370_subchannels.specs.declared.subchannel.Subchannel.{Subchannel}
 use Rattle.s370_store.specs.Blocks.{MayAccess}
+use Rattle.s370_store.specs.Memory.{Memory}
 use Rattle.s370_store.specs.declared.Access.{Access}
 use Rattle.s370_store.specs.declared.block.Block.{Block}
 use Rattle.s370_quick.specs.declared.held.Held.{Held}
@@ -216,7 +217,7 @@ still_accesses key first s k p h = record {
   here = rw p h.here;
 }
 
-held_still : {access : Access} {is_placed is_placed' : Block → Type 0} {size size' : ℕ} {keys keys' : List ℕ} {present present' : ℕ → Bool} (key : ℕ) (block : Block) → ((b : Block) → is_placed b → is_placed' b) → size' ≡ size → keys' ≡ keys → present' ≡ present → IsHeld access is_placed size keys present key block → IsHeld access is_placed' size' keys' present' key block
+held_still : {access : Access} {is_placed is_placed' : Block → Type 0} {m m' : Memory} {present present' : ℕ → Bool} (key : ℕ) (block : Block) → ((b : Block) → is_placed b → is_placed' b) → length m'.bytes ≡ length m.bytes → m'.keys ≡ m.keys → present' ≡ present → IsHeld access is_placed m present key block → IsHeld access is_placed' m' present' key block
 held_still key block moves s k p h = record {
   far = h.far;
   may_access = λ low. still_accesses key block.first s k p (h.may_access low);
@@ -224,7 +225,7 @@ held_still key block moves s k p h = record {
 }
 
 -- what is held for operands stays so, where no block moves and no key changes
-pub still_held : {is_placed is_placed' : Block → Type 0} {size size' : ℕ} {keys keys' : List ℕ} {present present' : ℕ → Bool} (key : ℕ) (held : Held) → ((b : Block) → is_placed b → is_placed' b) → size' ≡ size → keys' ≡ keys → present' ≡ present → AreHeld is_placed size keys present key held → AreHeld is_placed' size' keys' present' key held
+pub still_held : {is_placed is_placed' : Block → Type 0} {m m' : Memory} {present present' : ℕ → Bool} (key : ℕ) (held : Held) → ((b : Block) → is_placed b → is_placed' b) → length m'.bytes ≡ length m.bytes → m'.keys ≡ m.keys → present' ≡ present → AreHeld is_placed m present key held → AreHeld is_placed' m' present' key held
 still_held key held moves s k p h = record {
   fetched = held_still key held.fetched moves s k p h.fetched;
   stored = held_still key held.stored moves s k p h.stored;

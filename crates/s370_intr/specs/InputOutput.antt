@@ -3,6 +3,7 @@
 use Rattle.std.specs.Prelude.{ℕ, List}
 use Rattle.std.specs.Int.{w64, to_be_bytes}
 use Rattle.s370_store.specs.Access.{put}
+use Rattle.s370_store.specs.Memory.{memory_of}
 use Rattle.s370_rows.specs.declared.ending.IoOperation.{IoOperation}
 use Rattle.s370_rows.specs.State.{State, state_of}
 use Rattle.s370_rows.specs.Registers.{with_condition}
@@ -24,13 +25,13 @@ configuration_of processor subchannels = record { processor = processor; subchan
 
 -- what an answer works on
 abbrev pub devices_in : Configuration → Devices
-devices_in c = devices_of c.subchannels c.processor.bytes c.processor.keys
+devices_in c = devices_of c.subchannels (memory_of c.processor.bytes c.processor.keys)
 
 -- the answer sets the condition code, and what it stores is stored
 abbrev pub answered : IoOperation → ℕ → Configuration → Configuration
 answered operation device c =
     let a = device_answered operation device (devices_in c) in
-    configuration_of (state_of (with_condition c.processor.cpu a.condition) a.left.bytes a.left.keys) a.left.subchannels
+    configuration_of (state_of (with_condition c.processor.cpu a.condition) (memory_of a.left.bytes a.left.keys)) a.left.subchannels
 
 -- the pages that an answer needs
 abbrev pub AskNeeds : IoOperation → ℕ → Configuration → ℕ → Type 0

@@ -18,10 +18,10 @@ pub fn answer_asked<S: Storage>(
     operation: IoOperation,
     device: u16,
 ) -> Result<(), Page>
-    requires { 8192 ≤ length (S.bytes storage.old) }
+    requires { 8192 ≤ length (S.memory storage.old).bytes }
     ensures answer { let before = configuration_of
-        (state_of cpu.old (S.bytes storage.old) (S.keys storage.old)) subchannels.old in
-        let after = configuration_of (state_of cpu.new (S.bytes storage.new) (S.keys storage.new)) subchannels.new in
+        (state_of cpu.old (S.memory storage.old)) subchannels.old in
+        let after = configuration_of (state_of cpu.new (S.memory storage.new)) subchannels.new in
         Meets (answered operation device before) (AskNeeds operation device before)
         (S.present storage.old) before result after }
     ensures rest { S.Keeps storage.old storage.new }

@@ -1,5 +1,6 @@
 //! What a running processor does next.
-ghost use Rattle.std.specs.Prelude.{◌≡◌, ℕ, List, true};
+ghost use Rattle.std.specs.Prelude.{◌≡◌, true};
+ghost use Rattle.s370_store.specs.Memory.{Memory};
 ghost use Rattle.s370_rows.specs.State.{state_of};
 ghost use Rattle.s370_intr.specs.Units.{core_of, look, offered, waits};
 ghost use Rattle.s370_intr.specs.declared.next.Next.TheVariants.{Instructs};
@@ -43,8 +44,8 @@ pub enum Next {
 /// what comes next, which can be an instruction still.
 #[inline(always)]
 pub fn is_plain(cpu: &Cpu, pending: Pending, subchannels: &Subchannels) -> bool
-    ensures { (bytes keys : List ℕ) → result ≡ true
-        → look (core_of (state_of cpu.now bytes keys) pending subchannels.now) ≡ Instructs }
+    ensures { (m : Memory) → result ≡ true
+        → look (core_of (state_of cpu.now m) pending subchannels.now) ≡ Instructs }
 {
     if cpu.psw.is_ec() {
         return false;
@@ -61,9 +62,9 @@ pub fn is_plain(cpu: &Cpu, pending: Pending, subchannels: &Subchannels) -> bool
 /// What a running processor does next, of which it is known already whether it is an instruction with nothing pending.
 #[inline(always)]
 pub fn next_of(is_plain: bool, cpu: &Cpu, pending: Pending, subchannels: &Subchannels) -> Next
-    requires { (bytes keys : List ℕ) → is_plain ≡ true
-        → look (core_of (state_of cpu.now bytes keys) pending subchannels.now) ≡ Instructs }
-    ensures { (bytes keys : List ℕ) → result ≡ look (core_of (state_of cpu.now bytes keys) pending subchannels.now) }
+    requires { (m : Memory) → is_plain ≡ true
+        → look (core_of (state_of cpu.now m) pending subchannels.now) ≡ Instructs }
+    ensures { (m : Memory) → result ≡ look (core_of (state_of cpu.now m) pending subchannels.now) }
 {
     if is_plain {
         Next::Instructs
@@ -75,7 +76,7 @@ pub fn next_of(is_plain: bool, cpu: &Cpu, pending: Pending, subchannels: &Subcha
 /// What a running processor does next.
 #[inline(always)]
 pub fn look(cpu: &Cpu, pending: Pending, subchannels: &Subchannels) -> Next
-    ensures { (bytes keys : List ℕ) → result ≡ look (core_of (state_of cpu.now bytes keys) pending subchannels.now) }
+    ensures { (m : Memory) → result ≡ look (core_of (state_of cpu.now m) pending subchannels.now) }
 {
     if cpu.psw.is_ec() {
         return Next::Stops(Reason::EcMode);

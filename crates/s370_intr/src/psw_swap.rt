@@ -25,9 +25,9 @@ pub fn swap<S: Storage>(
     code: u16,
     ilc: Ilc,
 ) -> Result<(), Page>
-    requires { 8192 ≤ length (S.bytes storage.old) }
-    ensures swap { let before = state_of cpu.old (S.bytes storage.old) (S.keys storage.old) in
-        let after = state_of cpu.new (S.bytes storage.new) (S.keys storage.new) in
+    requires { 8192 ≤ length (S.memory storage.old).bytes }
+    ensures swap { let before = state_of cpu.old (S.memory storage.old) in
+        let after = state_of cpu.new (S.memory storage.new) in
         MeetsSwap (swapped before class code ilc) (S.present storage.old) before result after }
     ensures rest { S.Keeps storage.old storage.new }
 {

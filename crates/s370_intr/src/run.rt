@@ -41,13 +41,12 @@ fn try_unit<P: Processor, S: Keyed>(
     subchannels: &mut Subchannels,
     storage: &mut S,
 ) -> Result<(), Page>
-    requires { 8192 ≤ length (S.Storage.bytes storage.old) }
+    requires { 8192 ≤ length (S.Storage.memory storage.old).bytes }
     ensures unit { let before = core_of
-        (state_of cpu.old (S.Storage.bytes storage.old) (S.Storage.keys storage.old)) pending.old subchannels.old in
-        let after = core_of (state_of cpu.new (S.Storage.bytes storage.new)
-        (S.Storage.keys storage.new)) pending.new subchannels.new in
+        (state_of cpu.old (S.Storage.memory storage.old)) pending.old subchannels.old in
+        let after = core_of (state_of cpu.new (S.Storage.memory storage.new)) pending.new subchannels.new in
         MeetsUnitAt said (S.Storage.present storage.old) before result after }
-    ensures rest { S.Storage.Keeps storage.old storage.new }
+    ensures rest { S.KeepsRest storage.old storage.new }
 {
     match said {
         Next::Stops(_) => Ok(()),
@@ -67,17 +66,16 @@ fn bring_pages<P: Processor, S: UnitSupply>(
     subchannels: &mut Subchannels,
     storage: &mut S,
 ) -> Result<(), FramesOut>
-    requires { 8192 ≤ length (S.Storage.bytes storage.old) }
+    requires { 8192 ≤ length (S.Storage.memory storage.old).bytes }
     ensures unit { let before = core_of
-        (state_of cpu.old (S.Storage.bytes storage.old) (S.Storage.keys storage.old)) pending.old subchannels.old in
-        let after = core_of (state_of cpu.new (S.Storage.bytes storage.new)
-        (S.Storage.keys storage.new)) pending.new subchannels.new in
+        (state_of cpu.old (S.Storage.memory storage.old)) pending.old subchannels.old in
+        let after = core_of (state_of cpu.new (S.Storage.memory storage.new)) pending.new subchannels.new in
         SuppliesUnit said before result after (S.Supply.IsShort storage.new) }
     ensures supply { let before = core_of
-        (state_of cpu.old (S.Storage.bytes storage.old) (S.Storage.keys storage.old)) pending.old subchannels.old in
+        (state_of cpu.old (S.Storage.memory storage.old)) pending.old subchannels.old in
         (pages : List ℕ) × S.Supply.Brought storage.old pages storage.new × AllNeeded (NeedsAt said before) pages
         × (length pages ≤ 9) }
-    ensures size { length (S.Storage.bytes storage.new) ≡ length (S.Storage.bytes storage.old) }
+    ensures size { length (S.Storage.memory storage.new).bytes ≡ length (S.Storage.memory storage.old).bytes }
 {
     loop {
         match try_unit::<P, S>(said, cpu, spare, pending, subchannels, storage) {
@@ -100,19 +98,17 @@ fn bring_for_unit<P: Processor, S: UnitSupply>(
     subchannels: &mut Subchannels,
     storage: &mut S,
 ) -> Result<(), FramesOut>
-    requires large { 8192 ≤ length (S.Storage.bytes storage.old) }
+    requires large { 8192 ≤ length (S.Storage.memory storage.old).bytes }
     requires between { S.IsBetween storage.old }
     ensures unit { let before = core_of
-        (state_of cpu.old (S.Storage.bytes storage.old) (S.Storage.keys storage.old)) pending.old subchannels.old in
-        let after = core_of (state_of cpu.new (S.Storage.bytes storage.new)
-        (S.Storage.keys storage.new)) pending.new subchannels.new in
+        (state_of cpu.old (S.Storage.memory storage.old)) pending.old subchannels.old in
+        let after = core_of (state_of cpu.new (S.Storage.memory storage.new)) pending.new subchannels.new in
         SuppliesUnit said before result after (S.IsOut storage.new) }
     ensures supply { let before = core_of
-        (state_of cpu.old (S.Storage.bytes storage.old) (S.Storage.keys storage.old)) pending.old subchannels.old in
+        (state_of cpu.old (S.Storage.memory storage.old)) pending.old subchannels.old in
         (pages : List ℕ) × S.Came storage.old (pages ∷ []) storage.new × AllNeeded (NeedsAt said before) pages
         × (length pages ≤ 9) }
     ensures between { S.IsBetween storage.new }
-    ensures size { length (S.Storage.bytes storage.new) ≡ length (S.Storage.bytes storage.old) }
 {
     let done = bring_pages::<P, S>(said, cpu, spare, pending, subchannels, storage);
     storage.let_go();
@@ -130,19 +126,17 @@ fn try_or_bring<P: Processor, S: UnitSupply>(
     subchannels: &mut Subchannels,
     storage: &mut S,
 ) -> Result<(), FramesOut>
-    requires large { 8192 ≤ length (S.Storage.bytes storage.old) }
+    requires large { 8192 ≤ length (S.Storage.memory storage.old).bytes }
     requires between { S.IsBetween storage.old }
     ensures unit { let before = core_of
-        (state_of cpu.old (S.Storage.bytes storage.old) (S.Storage.keys storage.old)) pending.old subchannels.old in
-        let after = core_of (state_of cpu.new (S.Storage.bytes storage.new)
-        (S.Storage.keys storage.new)) pending.new subchannels.new in
+        (state_of cpu.old (S.Storage.memory storage.old)) pending.old subchannels.old in
+        let after = core_of (state_of cpu.new (S.Storage.memory storage.new)) pending.new subchannels.new in
         SuppliesUnit said before result after (S.IsOut storage.new) }
     ensures supply { let before = core_of
-        (state_of cpu.old (S.Storage.bytes storage.old) (S.Storage.keys storage.old)) pending.old subchannels.old in
+        (state_of cpu.old (S.Storage.memory storage.old)) pending.old subchannels.old in
         (pages : List ℕ) × S.Came storage.old (pages ∷ []) storage.new × AllNeeded (NeedsAt said before) pages
         × (length pages ≤ 9) }
     ensures between { S.IsBetween storage.new }
-    ensures size { length (S.Storage.bytes storage.new) ≡ length (S.Storage.bytes storage.old) }
 {
     match try_unit::<P, S>(said, cpu, spare, pending, subchannels, storage) {
         Ok(()) => Ok(()),
@@ -160,19 +154,17 @@ fn accept_supplied<P: Processor, S: UnitSupply>(
     subchannels: &mut Subchannels,
     storage: &mut S,
 ) -> Result<(), FramesOut>
-    requires large { 8192 ≤ length (S.Storage.bytes storage.old) }
+    requires large { 8192 ≤ length (S.Storage.memory storage.old).bytes }
     requires between { S.IsBetween storage.old }
     ensures unit { let before = core_of
-        (state_of cpu.old (S.Storage.bytes storage.old) (S.Storage.keys storage.old)) pending.old subchannels.old in
-        let after = core_of (state_of cpu.new (S.Storage.bytes storage.new)
-        (S.Storage.keys storage.new)) pending.new subchannels.new in
+        (state_of cpu.old (S.Storage.memory storage.old)) pending.old subchannels.old in
+        let after = core_of (state_of cpu.new (S.Storage.memory storage.new)) pending.new subchannels.new in
         SuppliesUnit said before result after (S.IsOut storage.new) }
     ensures supply { let before = core_of
-        (state_of cpu.old (S.Storage.bytes storage.old) (S.Storage.keys storage.old)) pending.old subchannels.old in
+        (state_of cpu.old (S.Storage.memory storage.old)) pending.old subchannels.old in
         (pages : List ℕ) × S.Came storage.old (pages ∷ []) storage.new × AllNeeded (NeedsAt said before) pages
         × (length pages ≤ 9) }
     ensures between { S.IsBetween storage.new }
-    ensures size { length (S.Storage.bytes storage.new) ≡ length (S.Storage.bytes storage.old) }
 {
     try_or_bring::<P, S>(said, cpu, spare, pending, subchannels, storage)
 }
@@ -188,19 +180,17 @@ fn supplied<P: Processor, S: UnitSupply>(
     subchannels: &mut Subchannels,
     storage: &mut S,
 ) -> Result<(), FramesOut>
-    requires large { 8192 ≤ length (S.Storage.bytes storage.old) }
+    requires large { 8192 ≤ length (S.Storage.memory storage.old).bytes }
     requires between { S.IsBetween storage.old }
     ensures unit { let before = core_of
-        (state_of cpu.old (S.Storage.bytes storage.old) (S.Storage.keys storage.old)) pending.old subchannels.old in
-        let after = core_of (state_of cpu.new (S.Storage.bytes storage.new)
-        (S.Storage.keys storage.new)) pending.new subchannels.new in
+        (state_of cpu.old (S.Storage.memory storage.old)) pending.old subchannels.old in
+        let after = core_of (state_of cpu.new (S.Storage.memory storage.new)) pending.new subchannels.new in
         SuppliesUnit said before result after (S.IsOut storage.new) }
     ensures supply { let before = core_of
-        (state_of cpu.old (S.Storage.bytes storage.old) (S.Storage.keys storage.old)) pending.old subchannels.old in
+        (state_of cpu.old (S.Storage.memory storage.old)) pending.old subchannels.old in
         (pages : List ℕ) × S.Came storage.old (pages ∷ []) storage.new × AllNeeded (NeedsAt said before) pages
         × (length pages ≤ 9) }
     ensures between { S.IsBetween storage.new }
-    ensures size { length (S.Storage.bytes storage.new) ≡ length (S.Storage.bytes storage.old) }
 {
     match said {
         Next::Instructs => {
@@ -216,7 +206,7 @@ fn supplied<P: Processor, S: UnitSupply>(
 fn find_again<S: Storage>(storage: &S, next: Addr24, key: AccessKey) -> Option<Block>
     ensures first { IfSome result (λ found. found.first ≡ next / 2048 * 2048) }
     ensures may_fetch { IfSome result
-        (λ found. MayFetch (length (S.bytes storage.now)) (S.keys storage.now)
+        (λ found. MayFetch (length (S.memory storage.now).bytes) (S.memory storage.now).keys
         (S.present storage.now) key found.first) }
     ensures placed { IfSome result (λ found. S.IsPlaced storage.now found) }
 {
@@ -228,12 +218,12 @@ fn find_again<S: Storage>(storage: &S, next: Addr24, key: AccessKey) -> Option<B
 #[inline(always)]
 fn block_of<S: Storage>(storage: &S, block: Block, next: Addr24, key: AccessKey) -> Option<Block>
     requires low { block.first < 16777216 }
-    requires may_fetch { MayFetch (length (S.bytes storage.now)) (S.keys storage.now)
+    requires may_fetch { MayFetch (length (S.memory storage.now).bytes) (S.memory storage.now).keys
         (S.present storage.now) key block.first }
     requires placed { S.IsPlaced storage.now block }
     ensures low { IfSome result (λ found. found.first < 16777216) }
     ensures may_fetch { IfSome result
-        (λ found. MayFetch (length (S.bytes storage.now)) (S.keys storage.now)
+        (λ found. MayFetch (length (S.memory storage.now).bytes) (S.memory storage.now).keys
         (S.present storage.now) key found.first) }
     ensures placed { IfSome result (λ found. S.IsPlaced storage.now found) }
     ensures begins { IfSome result (λ found. found.first ≤ next) }
@@ -264,10 +254,9 @@ fn move_parts<S: Storage>(
     limit: u32,
 ) -> u32
     requires here { start ≡ cpu.old.psw.address }
-    requires stands { IsLongMoveAt (state_of cpu.old (S.bytes storage.old) (S.keys storage.old))
-        (S.present storage.old) start second_byte }
-    ensures done { let before = state_of cpu.old (S.bytes storage.old) (S.keys storage.old) in
-        let after = state_of cpu.new (S.bytes storage.new) (S.keys storage.new) in
+    requires stands { IsLongMoveAt (state_of cpu.old (S.memory storage.old)) (S.present storage.old) start second_byte }
+    ensures done { let before = state_of cpu.old (S.memory storage.old) in
+        let after = state_of cpu.new (S.memory storage.new) in
         DoesInstructions result before after }
     ensures within { result ≤ limit }
     ensures rest { S.Keeps storage.old storage.new }
@@ -293,14 +282,14 @@ fn move_parts_in<S: Storage>(
     limit: u32,
 ) -> u32
     requires here { start ≡ cpu.old.psw.address }
-    requires may_fetch { MayFetch (length (S.bytes storage.old)) (S.keys storage.old)
+    requires may_fetch { MayFetch (length (S.memory storage.old).bytes) (S.memory storage.old).keys
         (S.present storage.old) cpu.old.psw.key block.first }
     requires placed { S.IsPlaced storage.old block }
     requires begins { block.first ≤ start }
     requires ends { start ≤ block.first + 2042 }
     requires even { start % 2 ≡ 0 }
-    ensures done { let before = state_of cpu.old (S.bytes storage.old) (S.keys storage.old) in
-        let after = state_of cpu.new (S.bytes storage.new) (S.keys storage.new) in
+    ensures done { let before = state_of cpu.old (S.memory storage.old) in
+        let after = state_of cpu.new (S.memory storage.new) in
         DoesInstructions result before after }
     ensures within { result ≤ limit }
     ensures rest { S.Keeps storage.old storage.new }
@@ -317,8 +306,8 @@ fn move_parts_in<S: Storage>(
 /// stay in it. This has no other unit in it, so that registers are left for what it needs.
 #[inline(never)]
 fn instruct_quickly<S: Storage>(cpu: &mut Cpu, storage: &mut S, limit: u32) -> u32
-    ensures done { let before = state_of cpu.old (S.bytes storage.old) (S.keys storage.old) in
-        let after = state_of cpu.new (S.bytes storage.new) (S.keys storage.new) in
+    ensures done { let before = state_of cpu.old (S.memory storage.old) in
+        let after = state_of cpu.new (S.memory storage.new) in
         DoesInstructions result before after }
     ensures within { result ≤ limit }
     ensures rest { S.Keeps storage.old storage.new }
@@ -351,8 +340,8 @@ fn instruct_quickly<S: Storage>(cpu: &mut Cpu, storage: &mut S, limit: u32) -> u
 #[inline(always)]
 fn go_quickly<S: Storage>(is_plain: bool, cpu: &mut Cpu, storage: &mut S, limit: u32) -> u32
     ensures done { (pending : Pending) → (list : List Subchannel) →
-        let before = core_of (state_of cpu.old (S.bytes storage.old) (S.keys storage.old)) pending list in
-        let after = core_of (state_of cpu.new (S.bytes storage.new) (S.keys storage.new)) pending list in
+        let before = core_of (state_of cpu.old (S.memory storage.old)) pending list in
+        let after = core_of (state_of cpu.new (S.memory storage.new)) pending list in
         (is_plain ≡ true → look before ≡ next.Instructs)
         → (run result before ≡ record { core = after; units = result; reason = reasons.Count })
         × (is_plain ≡ true → look after ≡ next.Instructs) }
@@ -384,20 +373,18 @@ pub fn run_units<P: Processor, S: UnitSupply>(
     storage: &mut S,
     count: u32,
 ) -> Ran
-    requires large { 8192 ≤ length (S.Storage.bytes storage.old) }
+    requires large { 8192 ≤ length (S.Storage.memory storage.old).bytes }
     requires between { S.IsBetween storage.old }
     ensures told { let before = core_of
-        (state_of cpu.old (S.Storage.bytes storage.old) (S.Storage.keys storage.old)) pending.old subchannels.old in
-        let after = core_of (state_of cpu.new (S.Storage.bytes storage.new)
-        (S.Storage.keys storage.new)) pending.new subchannels.new in
+        (state_of cpu.old (S.Storage.memory storage.old)) pending.old subchannels.old in
+        let after = core_of (state_of cpu.new (S.Storage.memory storage.new)) pending.new subchannels.new in
         TellsRun count before
         (record { core = after; units = result.units; reason = result.reason }) (S.IsOut storage.new) }
     ensures supply { let before = core_of
-        (state_of cpu.old (S.Storage.bytes storage.old) (S.Storage.keys storage.old)) pending.old subchannels.old in
+        (state_of cpu.old (S.Storage.memory storage.old)) pending.old subchannels.old in
         (units : List (List ℕ)) × S.Came storage.old units storage.new × EachBrings before 0 units
         × (length units ≤ begun result.units result.reason) }
     ensures between { S.IsBetween storage.new }
-    ensures size { length (S.Storage.bytes storage.new) ≡ length (S.Storage.bytes storage.old) }
 {
     let mut plain = is_plain(cpu, *pending, subchannels);
     let mut units = go_quickly(plain, cpu, storage, count);

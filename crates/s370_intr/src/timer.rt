@@ -19,10 +19,9 @@ const STEP: u32 = 256;
 /// word from zero or positive to negative (GA22-7000, "Interval Timer"). Keys are not tested. Where page 0 is not
 /// present it is the error, and nothing is changed.
 pub fn tick<S: Storage>(pending: &mut Pending, storage: &mut S) -> Result<(), Page>
-    requires { 8192 ≤ length (S.bytes storage.old) }
-    ensures tick { MeetsTick (S.present storage.old) (timed (S.bytes storage.old) pending.old) result
-        (timed (S.bytes storage.new) pending.new) }
-    ensures keys { S.keys storage.new ≡ S.keys storage.old }
+    requires { 8192 ≤ length (S.memory storage.old).bytes }
+    ensures tick { MeetsTick (S.present storage.old) (timed (S.memory storage.old).bytes pending.old) result
+        (timed (S.memory storage.new).bytes pending.new) }
     ensures rest { S.Keeps storage.old storage.new }
 {
     match storage.check(TIMER, Access::Store, AccessKey::ZERO) {

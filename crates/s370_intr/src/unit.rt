@@ -27,10 +27,10 @@ pub trait Processor {
     /// Goes on with an instruction for the supervisor state that was handed back with this length code.
     fn control<S: Keyed>(cpu: &mut Cpu, storage: &mut S, i: Instruction, ilc: Ilc) -> Stop
         requires { is_supervised (opcode_at i.opcode) ≡ true }
-        ensures unit { let before = state_of cpu.old (S.Storage.bytes storage.old) (S.Storage.keys storage.old) in
-            let after = state_of cpu.new (S.Storage.bytes storage.new) (S.Storage.keys storage.new) in
+        ensures unit { let before = state_of cpu.old (S.Storage.memory storage.old) in
+            let after = state_of cpu.new (S.Storage.memory storage.new) in
             MeetsUnit (supervised before i ilc) (S.Storage.present storage.old) before result after }
-        ensures rest { S.Storage.Keeps storage.old storage.new };
+        ensures rest { S.KeepsRest storage.old storage.new };
 
     /// Interrupts the processor, with this interruption code and length code. Page 0 is the error where it is not
     /// present; nothing is then changed.
@@ -41,9 +41,9 @@ pub trait Processor {
         code: u16,
         ilc: Ilc,
     ) -> Result<(), Page>
-        requires { 8192 ≤ length (S.Storage.bytes storage.old) }
-        ensures swap { let before = state_of cpu.old (S.Storage.bytes storage.old) (S.Storage.keys storage.old) in
-            let after = state_of cpu.new (S.Storage.bytes storage.new) (S.Storage.keys storage.new) in
+        requires { 8192 ≤ length (S.Storage.memory storage.old).bytes }
+        ensures swap { let before = state_of cpu.old (S.Storage.memory storage.old) in
+            let after = state_of cpu.new (S.Storage.memory storage.new) in
             MeetsSwap (swapped before class code ilc) (S.Storage.present storage.old) before result after }
         ensures rest { S.Storage.Keeps storage.old storage.new };
 }
@@ -79,15 +79,15 @@ fn instruct_control<P: Processor, S: Keyed>(
     i: Instruction,
     ilc: Ilc,
 ) -> Result<(), Page>
-    requires size { 8192 ≤ length (S.Storage.bytes storage.old) }
-    requires handed { let m = state_of cpu.old (S.Storage.bytes storage.old) (S.Storage.keys storage.old) in
+    requires size { 8192 ≤ length (S.Storage.memory storage.old).bytes }
+    requires handed { let m = state_of cpu.old (S.Storage.memory storage.old) in
         MeetsStep (S.Storage.present storage.old) m (stops.Privileged i ilc) m }
     ensures instruction { let before = configuration_of
-        (state_of cpu.old (S.Storage.bytes storage.old) (S.Storage.keys storage.old)) subchannels.old in
+        (state_of cpu.old (S.Storage.memory storage.old)) subchannels.old in
         let after = configuration_of
-        (state_of cpu.new (S.Storage.bytes storage.new) (S.Storage.keys storage.new)) subchannels.new in
+        (state_of cpu.new (S.Storage.memory storage.new)) subchannels.new in
         MeetsInstruction (S.Storage.present storage.old) before result after }
-    ensures rest { S.Storage.Keeps storage.old storage.new }
+    ensures rest { S.KeepsRest storage.old storage.new }
 {
     let spare = *cpu;
     let stop = P::control(cpu, storage, i, ilc);
@@ -112,13 +112,13 @@ pub fn instruct<P: Processor, S: Keyed>(
     subchannels: &mut Subchannels,
     storage: &mut S,
 ) -> Result<(), Page>
-    requires { 8192 ≤ length (S.Storage.bytes storage.old) }
+    requires { 8192 ≤ length (S.Storage.memory storage.old).bytes }
     ensures instruction { let before = configuration_of
-        (state_of cpu.old (S.Storage.bytes storage.old) (S.Storage.keys storage.old)) subchannels.old in
+        (state_of cpu.old (S.Storage.memory storage.old)) subchannels.old in
         let after = configuration_of
-        (state_of cpu.new (S.Storage.bytes storage.new) (S.Storage.keys storage.new)) subchannels.new in
+        (state_of cpu.new (S.Storage.memory storage.new)) subchannels.new in
         MeetsInstruction (S.Storage.present storage.old) before result after }
-    ensures rest { S.Storage.Keeps storage.old storage.new }
+    ensures rest { S.KeepsRest storage.old storage.new }
 {
     let mut spare = *cpu;
     instruct_saving::<P, S>(cpu, &mut spare, subchannels, storage)
@@ -132,13 +132,13 @@ pub(crate) fn instruct_saving<P: Processor, S: Keyed>(
     subchannels: &mut Subchannels,
     storage: &mut S,
 ) -> Result<(), Page>
-    requires { 8192 ≤ length (S.Storage.bytes storage.old) }
+    requires { 8192 ≤ length (S.Storage.memory storage.old).bytes }
     ensures instruction { let before = configuration_of
-        (state_of cpu.old (S.Storage.bytes storage.old) (S.Storage.keys storage.old)) subchannels.old in
+        (state_of cpu.old (S.Storage.memory storage.old)) subchannels.old in
         let after = configuration_of
-        (state_of cpu.new (S.Storage.bytes storage.new) (S.Storage.keys storage.new)) subchannels.new in
+        (state_of cpu.new (S.Storage.memory storage.new)) subchannels.new in
         MeetsInstruction (S.Storage.present storage.old) before result after }
-    ensures rest { S.Storage.Keeps storage.old storage.new }
+    ensures rest { S.KeepsRest storage.old storage.new }
 {
     save(cpu, spare, storage);
     let stop = step(cpu, storage);
@@ -164,7 +164,7 @@ pub(crate) fn instruct_saving<P: Processor, S: Keyed>(
 /// present.
 #[inline(always)]
 fn save<S: Storage>(cpu: &Cpu, spare: &mut Cpu, storage: &S)
-    requires { 8192 ≤ length (S.bytes storage.now) }
+    requires { 8192 ≤ length (S.memory storage.now).bytes }
     ensures { (S.present storage.now 0 ≡ true) ⊎ (spare.new ≡ cpu.now) }
 {
     let first = Range { start: 0, count: 1 };
@@ -183,11 +183,11 @@ fn follow<P: Processor, S: Keyed>(
     storage: &mut S,
     stop: Stop,
 ) -> Result<(), Page>
-    requires { 8192 ≤ length (S.Storage.bytes storage.old) }
+    requires { 8192 ≤ length (S.Storage.memory storage.old).bytes }
     ensures followed { let before = configuration_of
-        (state_of cpu.old (S.Storage.bytes storage.old) (S.Storage.keys storage.old)) subchannels.old in
+        (state_of cpu.old (S.Storage.memory storage.old)) subchannels.old in
         let after = configuration_of
-        (state_of cpu.new (S.Storage.bytes storage.new) (S.Storage.keys storage.new)) subchannels.new in
+        (state_of cpu.new (S.Storage.memory storage.new)) subchannels.new in
         MeetsFollowed stop (S.Storage.present storage.old) before result after }
     ensures rest { S.Storage.Keeps storage.old storage.new }
 {
@@ -213,11 +213,10 @@ pub fn accept<P: Processor, S: Keyed>(
     _subchannels: &Subchannels,
     storage: &mut S,
 ) -> Result<(), Page>
-    requires { 8192 ≤ length (S.Storage.bytes storage.old) }
+    requires { 8192 ≤ length (S.Storage.memory storage.old).bytes }
     ensures unit { let before = core_of
-        (state_of cpu.old (S.Storage.bytes storage.old) (S.Storage.keys storage.old)) pending.old _subchannels.now in
-        let after = core_of (state_of cpu.new (S.Storage.bytes storage.new)
-        (S.Storage.keys storage.new)) pending.new _subchannels.now in
+        (state_of cpu.old (S.Storage.memory storage.old)) pending.old _subchannels.now in
+        let after = core_of (state_of cpu.new (S.Storage.memory storage.new)) pending.new _subchannels.now in
         MeetsUnitAt (next.Accepts taken) (S.Storage.present storage.old) before result after }
     ensures rest { S.Storage.Keeps storage.old storage.new }
 {
@@ -235,11 +234,11 @@ pub fn accept_status<P: Processor, S: Keyed>(
     subchannels: &mut Subchannels,
     storage: &mut S,
 ) -> Result<(), Page>
-    requires { 8192 ≤ length (S.Storage.bytes storage.old) }
+    requires { 8192 ≤ length (S.Storage.memory storage.old).bytes }
     ensures status { let before = configuration_of
-        (state_of cpu.old (S.Storage.bytes storage.old) (S.Storage.keys storage.old)) subchannels.old in
+        (state_of cpu.old (S.Storage.memory storage.old)) subchannels.old in
         let after = configuration_of
-        (state_of cpu.new (S.Storage.bytes storage.new) (S.Storage.keys storage.new)) subchannels.new in
+        (state_of cpu.new (S.Storage.memory storage.new)) subchannels.new in
         MeetsPresented status (S.Storage.present storage.old) before result after }
     ensures rest { S.Storage.Keeps storage.old storage.new }
 {

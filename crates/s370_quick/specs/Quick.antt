@@ -1,6 +1,7 @@
 -- What an instruction may answer that is done only where nothing keeps it from being done.
-use Rattle.std.specs.Prelude.{◌≡◌, ℕ, zero, suc, ◌+◌, ◌%◌, ◌<◌, ◌≤◌, Bool, true, false, List, length, slice_index, Option, Some, None, Ok, IfSome, IfNone}
+use Rattle.std.specs.Prelude.{◌≡◌, ℕ, zero, suc, ◌+◌, ◌%◌, ◌<◌, ◌≤◌, Bool, true, false, length, slice_index, Option, Some, None, Ok, IfSome, IfNone}
 use Rattle.s370_store.specs.Blocks.{MayAccess, MayFetch}
+use Rattle.s370_store.specs.Memory.{Memory}
 use Rattle.s370_store.specs.declared.Access.{Access}
 use Rattle.s370_store.specs.declared.Access.TheVariants.{Fetch, Store}
 use Rattle.s370_store.specs.declared.block.Block.{Block}
@@ -63,12 +64,12 @@ DoesUnits (suc n) present m m' =
     (next : State) × MeetsUnit (unit m) present m DoneStop next × (rights_of next ≡ rights_of m) × DoesUnits n present next m'
 
 -- a block that is held for such operands: where addresses reach it, all of it may be accessed so, and it stands where it says
-pub record IsHeld (access : Access) (is_placed : Block → Type 0) (size : ℕ) (keys : List ℕ) (present : ℕ → Bool) (key : ℕ) (block : Block) : Type 0 where
+pub record IsHeld (access : Access) (is_placed : Block → Type 0) (m : Memory) (present : ℕ → Bool) (key : ℕ) (block : Block) : Type 0 where
   pub far : block.first ≤ 2147483648
-  pub may_access : block.first < 16777216 → MayAccess access size keys present key block.first
+  pub may_access : block.first < 16777216 → MayAccess access (length m.bytes) m.keys present key block.first
   pub placed : block.first < 16777216 → is_placed block
 
 -- the blocks that are held for operands, one for those that are fetched, and one for those that are stored
-pub record AreHeld (is_placed : Block → Type 0) (size : ℕ) (keys : List ℕ) (present : ℕ → Bool) (key : ℕ) (held : Held) : Type 0 where
-  pub fetched : IsHeld Fetch is_placed size keys present key held.fetched
-  pub stored : IsHeld Store is_placed size keys present key held.stored
+pub record AreHeld (is_placed : Block → Type 0) (m : Memory) (present : ℕ → Bool) (key : ℕ) (held : Held) : Type 0 where
+  pub fetched : IsHeld Fetch is_placed m present key held.fetched
+  pub stored : IsHeld Store is_placed m present key held.stored

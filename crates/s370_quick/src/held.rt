@@ -1,5 +1,5 @@
 //! The blocks in which the last operands lay.
-ghost use Rattle.std.specs.Prelude.{◌≡◌, ◌+◌, ◌<◌, ◌≤◌, [], ◌∷◌, Ok, IfSome, true, length};
+ghost use Rattle.std.specs.Prelude.{◌≡◌, ◌+◌, ◌<◌, ◌≤◌, [], ◌∷◌, Ok, IfSome, true};
 ghost use Rattle.s370_store.specs.Access.{test_of};
 ghost use Rattle.s370_rows.specs.State.{state_of};
 ghost use Rattle.s370_rows.specs.Rows.{Grants};
@@ -44,14 +44,14 @@ pub fn operand_block<S: Storage>(
     count: u32,
 ) -> Option<Block>
     requires short { count ≤ 256 }
-    requires operands { IsHeld access (S.IsPlaced storage.now) (length (S.bytes storage.now)) (S.keys storage.now)
+    requires operands { IsHeld access (S.IsPlaced storage.now) (S.memory storage.now)
         (S.present storage.now) cpu.now.psw.key held }
     ensures operands { IfSome result
-        (λ found. IsHeld access (S.IsPlaced storage.now) (length (S.bytes storage.now)) (S.keys storage.now)
+        (λ found. IsHeld access (S.IsPlaced storage.now) (S.memory storage.now)
         (S.present storage.now) cpu.now.psw.key found) }
     ensures placed { IfSome result (λ found. S.IsPlaced storage.now found) }
     ensures granted { IfSome result
-        (λ _. Grants (state_of cpu.now (S.bytes storage.now) (S.keys storage.now)) (S.present storage.now)
+        (λ _. Grants (state_of cpu.now (S.memory storage.now)) (S.present storage.now)
         (test_of access start count ∷ []) (Ok tt)) }
     ensures begins { IfSome result (λ found. found.first ≤ start) }
     ensures ends { IfSome result (λ found. start + count ≤ found.first + 2048) }

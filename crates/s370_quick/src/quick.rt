@@ -46,19 +46,19 @@ pub fn step_quickly<S: Storage>(
     held: &mut Held,
 ) -> Option<Addr24>
     requires here { start ≡ cpu.old.psw.address }
-    requires may_fetch { MayFetch (length (S.bytes storage.old)) (S.keys storage.old)
+    requires may_fetch { MayFetch (length (S.memory storage.old).bytes) (S.memory storage.old).keys
         (S.present storage.old) cpu.old.psw.key block.first }
     requires placed { S.IsPlaced storage.old block }
     requires begins { block.first ≤ start }
     requires ends { start ≤ block.first + 2042 }
     requires even { start % 2 ≡ 0 }
-    requires operands { AreHeld (S.IsPlaced storage.old) (length (S.bytes storage.old)) (S.keys storage.old)
+    requires operands { AreHeld (S.IsPlaced storage.old) (S.memory storage.old)
         (S.present storage.old) cpu.old.psw.key held.old }
-    ensures step { let before = state_of cpu.old (S.bytes storage.old) (S.keys storage.old) in
-        let after = state_of cpu.new (S.bytes storage.new) (S.keys storage.new) in
+    ensures step { let before = state_of cpu.old (S.memory storage.old) in
+        let after = state_of cpu.new (S.memory storage.new) in
         StepsQuickly (S.present storage.old) before result after }
     ensures rest { S.Keeps storage.old storage.new }
-    ensures operands { AreHeld (S.IsPlaced storage.old) (length (S.bytes storage.old)) (S.keys storage.old)
+    ensures operands { AreHeld (S.IsPlaced storage.old) (S.memory storage.old)
         (S.present storage.old) cpu.old.psw.key held.new }
 {
     step_found_quickly(cpu, storage, start, block, held)
@@ -74,18 +74,18 @@ fn step_found_quickly<S: Storage>(
     held: &mut Held,
 ) -> Option<Addr24>
     requires here { start ≡ cpu.old.psw.address }
-    requires found { let m = state_of cpu.old (S.bytes storage.old) (S.keys storage.old) in
-        (fetched m start).result ≡ Ok (instruction_at (S.bytes storage.old) start) }
+    requires found { let m = state_of cpu.old (S.memory storage.old) in
+        (fetched m start).result ≡ Ok (instruction_at (S.memory storage.old).bytes start) }
     requires placed { S.IsPlaced storage.old block }
     requires begins { block.first ≤ start }
     requires ends { start ≤ block.first + 2042 }
-    requires operands { AreHeld (S.IsPlaced storage.old) (length (S.bytes storage.old)) (S.keys storage.old)
+    requires operands { AreHeld (S.IsPlaced storage.old) (S.memory storage.old)
         (S.present storage.old) cpu.old.psw.key held.old }
-    ensures step { let before = state_of cpu.old (S.bytes storage.old) (S.keys storage.old) in
-        let after = state_of cpu.new (S.bytes storage.new) (S.keys storage.new) in
+    ensures step { let before = state_of cpu.old (S.memory storage.old) in
+        let after = state_of cpu.new (S.memory storage.new) in
         StepsQuickly (S.present storage.old) before result after }
     ensures rest { S.Keeps storage.old storage.new }
-    ensures operands { AreHeld (S.IsPlaced storage.old) (length (S.bytes storage.old)) (S.keys storage.old)
+    ensures operands { AreHeld (S.IsPlaced storage.old) (S.memory storage.old)
         (S.present storage.old) cpu.old.psw.key held.new }
 {
     // One jump, behind which all is compiled for the one operation code.
@@ -130,15 +130,13 @@ pub fn move_parts_quickly<S: Storage>(
     limit: u32,
 ) -> u32
     requires here { start ≡ cpu.old.psw.address }
-    requires stands { IsLongMoveAt (state_of cpu.old (S.bytes storage.old) (S.keys storage.old))
-        (S.present storage.old) start second_byte }
-    ensures done { let before = state_of cpu.old (S.bytes storage.old) (S.keys storage.old) in
-        let after = state_of cpu.new (S.bytes storage.new) (S.keys storage.new) in
+    requires stands { IsLongMoveAt (state_of cpu.old (S.memory storage.old)) (S.present storage.old) start second_byte }
+    ensures done { let before = state_of cpu.old (S.memory storage.old) in
+        let after = state_of cpu.new (S.memory storage.new) in
         DoesUnits result (S.present storage.old) before after }
     ensures within { result ≤ limit }
     ensures here { start ≡ cpu.new.psw.address }
-    ensures stands { IsLongMoveAt (state_of cpu.new (S.bytes storage.new) (S.keys storage.new))
-        (S.present storage.new) start second_byte }
+    ensures stands { IsLongMoveAt (state_of cpu.new (S.memory storage.new)) (S.present storage.new) start second_byte }
     ensures rest { S.Keeps storage.old storage.new }
 {
     move_long_quickly(cpu, storage, start, second_byte, limit)
@@ -154,19 +152,19 @@ fn carry_quickly<S: Storage, const CODE: u8>(
     held: &mut Held,
 ) -> Option<Addr24>
     requires here { start ≡ cpu.old.psw.address }
-    requires found { let m = state_of cpu.old (S.bytes storage.old) (S.keys storage.old) in
-        (fetched m start).result ≡ Ok (instruction_at (S.bytes storage.old) start) }
+    requires found { let m = state_of cpu.old (S.memory storage.old) in
+        (fetched m start).result ≡ Ok (instruction_at (S.memory storage.old).bytes start) }
     requires placed { S.IsPlaced storage.old block }
     requires begins { block.first ≤ start }
     requires ends { start ≤ block.first + 2042 }
-    requires known { CODE ≡ slice_index (S.bytes storage.old) start }
-    requires operands { AreHeld (S.IsPlaced storage.old) (length (S.bytes storage.old)) (S.keys storage.old)
+    requires known { CODE ≡ slice_index (S.memory storage.old).bytes start }
+    requires operands { AreHeld (S.IsPlaced storage.old) (S.memory storage.old)
         (S.present storage.old) cpu.old.psw.key held.old }
-    ensures step { let before = state_of cpu.old (S.bytes storage.old) (S.keys storage.old) in
-        let after = state_of cpu.new (S.bytes storage.new) (S.keys storage.new) in
+    ensures step { let before = state_of cpu.old (S.memory storage.old) in
+        let after = state_of cpu.new (S.memory storage.new) in
         StepsQuickly (S.present storage.old) before result after }
     ensures rest { S.Keeps storage.old storage.new }
-    ensures operands { AreHeld (S.IsPlaced storage.old) (length (S.bytes storage.old)) (S.keys storage.old)
+    ensures operands { AreHeld (S.IsPlaced storage.old) (S.memory storage.old)
         (S.present storage.old) cpu.old.psw.key held.new }
 {
     if CODE == EXECUTE {
@@ -188,16 +186,16 @@ fn finish_quickly<S: Storage, const CODE: u8>(
     held: &mut Held,
 ) -> Option<Addr24>
     requires same { i.opcode ≡ CODE }
-    requires carried { Carries (state_of cpu.old (S.bytes storage.old) (S.keys storage.old)) place.ilc i }
-    requires next { let m = state_of cpu.old (S.bytes storage.old) (S.keys storage.old) in
+    requires carried { Carries (state_of cpu.old (S.memory storage.old)) place.ilc i }
+    requires next { let m = state_of cpu.old (S.memory storage.old) in
         place ≡ place_at m place.ilc }
-    requires operands { AreHeld (S.IsPlaced storage.old) (length (S.bytes storage.old)) (S.keys storage.old)
+    requires operands { AreHeld (S.IsPlaced storage.old) (S.memory storage.old)
         (S.present storage.old) cpu.old.psw.key held.old }
-    ensures step { let before = state_of cpu.old (S.bytes storage.old) (S.keys storage.old) in
-        let after = state_of cpu.new (S.bytes storage.new) (S.keys storage.new) in
+    ensures step { let before = state_of cpu.old (S.memory storage.old) in
+        let after = state_of cpu.new (S.memory storage.new) in
         StepsQuickly (S.present storage.old) before result after }
     ensures rest { S.Keeps storage.old storage.new }
-    ensures operands { AreHeld (S.IsPlaced storage.old) (length (S.bytes storage.old)) (S.keys storage.old)
+    ensures operands { AreHeld (S.IsPlaced storage.old) (S.memory storage.old)
         (S.present storage.old) cpu.old.psw.key held.new }
 {
     let Place { next, ilc } = place;
@@ -238,13 +236,13 @@ fn perform_quickly<S: Storage, const CODE: u8>(
     held: &mut Held,
 ) -> Option<Ending>
     requires same { i.opcode ≡ CODE }
-    requires operands { AreHeld (S.IsPlaced storage.old) (length (S.bytes storage.old)) (S.keys storage.old)
+    requires operands { AreHeld (S.IsPlaced storage.old) (S.memory storage.old)
         (S.present storage.old) cpu.old.psw.key held.old }
-    ensures row { let before = state_of cpu.old (S.bytes storage.old) (S.keys storage.old) in
-        let after = state_of cpu.new (S.bytes storage.new) (S.keys storage.new) in
+    ensures row { let before = state_of cpu.old (S.memory storage.old) in
+        let after = state_of cpu.new (S.memory storage.new) in
         MeetsQuick (row_of before place i) (S.present storage.old) before result after }
     ensures rest { S.Keeps storage.old storage.new }
-    ensures operands { AreHeld (S.IsPlaced storage.old) (length (S.bytes storage.old)) (S.keys storage.old)
+    ensures operands { AreHeld (S.IsPlaced storage.old) (S.memory storage.old)
         (S.present storage.old) cpu.old.psw.key held.new }
 {
     match CODE {
@@ -290,13 +288,13 @@ fn store_quickly<S: Storage>(
     i: Instruction,
     held: &mut Held,
 ) -> Option<Ending>
-    requires operands { AreHeld (S.IsPlaced storage.old) (length (S.bytes storage.old)) (S.keys storage.old)
+    requires operands { AreHeld (S.IsPlaced storage.old) (S.memory storage.old)
         (S.present storage.old) cpu.now.psw.key held.old }
-    ensures row { let before = state_of cpu.now (S.bytes storage.old) (S.keys storage.old) in
-        let after = state_of cpu.now (S.bytes storage.new) (S.keys storage.new) in
+    ensures row { let before = state_of cpu.now (S.memory storage.old) in
+        let after = state_of cpu.now (S.memory storage.new) in
         MeetsQuick (word_stored before i) (S.present storage.old) before result after }
     ensures rest { S.Keeps storage.old storage.new }
-    ensures operands { AreHeld (S.IsPlaced storage.old) (length (S.bytes storage.old)) (S.keys storage.old)
+    ensures operands { AreHeld (S.IsPlaced storage.old) (S.memory storage.old)
         (S.present storage.old) cpu.now.psw.key held.new }
 {
     let start = cpu.indexed(i.r2(), i.second_half);
@@ -319,12 +317,12 @@ fn word_quickly<S: Storage>(
     i: Instruction,
     held: &mut Held,
 ) -> Option<Ending>
-    requires operands { AreHeld (S.IsPlaced storage.now) (length (S.bytes storage.now)) (S.keys storage.now)
+    requires operands { AreHeld (S.IsPlaced storage.now) (S.memory storage.now)
         (S.present storage.now) cpu.old.psw.key held.old }
-    ensures row { let before = state_of cpu.old (S.bytes storage.now) (S.keys storage.now) in
-        let after = state_of cpu.new (S.bytes storage.now) (S.keys storage.now) in
+    ensures row { let before = state_of cpu.old (S.memory storage.now) in
+        let after = state_of cpu.new (S.memory storage.now) in
         MeetsAtOnce (word_operation operation before i) (S.present storage.now) before result after }
-    ensures operands { AreHeld (S.IsPlaced storage.now) (length (S.bytes storage.now)) (S.keys storage.now)
+    ensures operands { AreHeld (S.IsPlaced storage.now) (S.memory storage.now)
         (S.present storage.now) cpu.old.psw.key held.new }
 {
     let start = cpu.indexed(i.r2(), i.second_half);
@@ -345,12 +343,12 @@ fn add_quickly<S: Storage>(
     i: Instruction,
     held: &mut Held,
 ) -> Option<Ending>
-    requires operands { AreHeld (S.IsPlaced storage.now) (length (S.bytes storage.now)) (S.keys storage.now)
+    requires operands { AreHeld (S.IsPlaced storage.now) (S.memory storage.now)
         (S.present storage.now) cpu.old.psw.key held.old }
-    ensures row { let before = state_of cpu.old (S.bytes storage.now) (S.keys storage.now) in
-        let after = state_of cpu.new (S.bytes storage.now) (S.keys storage.now) in
+    ensures row { let before = state_of cpu.old (S.memory storage.now) in
+        let after = state_of cpu.new (S.memory storage.now) in
         MeetsQuick (word_operation operations.Add before i) (S.present storage.now) before result after }
-    ensures operands { AreHeld (S.IsPlaced storage.now) (length (S.bytes storage.now)) (S.keys storage.now)
+    ensures operands { AreHeld (S.IsPlaced storage.now) (S.memory storage.now)
         (S.present storage.now) cpu.old.psw.key held.new }
 {
     if cpu.psw.program_mask() >= 8 {
@@ -368,12 +366,12 @@ fn test_byte_quickly<S: Storage>(
     i: Instruction,
     held: &mut Held,
 ) -> Option<Ending>
-    requires operands { AreHeld (S.IsPlaced storage.now) (length (S.bytes storage.now)) (S.keys storage.now)
+    requires operands { AreHeld (S.IsPlaced storage.now) (S.memory storage.now)
         (S.present storage.now) cpu.old.psw.key held.old }
-    ensures row { let before = state_of cpu.old (S.bytes storage.now) (S.keys storage.now) in
-        let after = state_of cpu.new (S.bytes storage.now) (S.keys storage.now) in
+    ensures row { let before = state_of cpu.old (S.memory storage.now) in
+        let after = state_of cpu.new (S.memory storage.now) in
         MeetsAtOnce (byte_tested test before i) (S.present storage.now) before result after }
-    ensures operands { AreHeld (S.IsPlaced storage.now) (length (S.bytes storage.now)) (S.keys storage.now)
+    ensures operands { AreHeld (S.IsPlaced storage.now) (S.memory storage.now)
         (S.present storage.now) cpu.old.psw.key held.new }
 {
     let start = cpu.based(i.second_half);
@@ -390,17 +388,17 @@ fn test_byte_quickly<S: Storage>(
 /// D2 MVC between two blocks, where it is one copy. Else nothing changes.
 #[inline(always)]
 fn move_held<S: Storage>(cpu: &Cpu, storage: &mut S, i: Instruction, held: &mut Held) -> bool
-    requires operands { AreHeld (S.IsPlaced storage.old) (length (S.bytes storage.old)) (S.keys storage.old)
+    requires operands { AreHeld (S.IsPlaced storage.old) (S.memory storage.old)
         (S.present storage.old) cpu.now.psw.key held.old }
-    ensures done { let before = state_of cpu.now (S.bytes storage.old) (S.keys storage.old) in
-        let after = state_of cpu.now (S.bytes storage.new) (S.keys storage.new) in
+    ensures done { let before = state_of cpu.now (S.memory storage.old) in
+        let after = state_of cpu.now (S.memory storage.new) in
         result ≡ true → MeetsRow (string_combined combines.Move before i) (S.present storage.old) before
         (Ok endings.Done) after }
-    ensures still { let before = state_of cpu.now (S.bytes storage.old) (S.keys storage.old) in
-        let after = state_of cpu.now (S.bytes storage.new) (S.keys storage.new) in
+    ensures still { let before = state_of cpu.now (S.memory storage.old) in
+        let after = state_of cpu.now (S.memory storage.new) in
         result ≡ false → after ≡ before }
     ensures rest { S.Keeps storage.old storage.new }
-    ensures operands { AreHeld (S.IsPlaced storage.old) (length (S.bytes storage.old)) (S.keys storage.old)
+    ensures operands { AreHeld (S.IsPlaced storage.old) (S.memory storage.old)
         (S.present storage.old) cpu.now.psw.key held.new }
 {
     let to = cpu.based(i.second_half);
@@ -423,17 +421,17 @@ fn move_held<S: Storage>(cpu: &Cpu, storage: &mut S, i: Instruction, held: &mut 
 #[inline(always)]
 fn move_quickly<S: Storage>(cpu: &mut Cpu, storage: &mut S, i: Instruction, held: &mut Held) -> bool
     requires opcode { i.opcode ≡ 0xD2 }
-    requires operands { AreHeld (S.IsPlaced storage.old) (length (S.bytes storage.old)) (S.keys storage.old)
+    requires operands { AreHeld (S.IsPlaced storage.old) (S.memory storage.old)
         (S.present storage.old) cpu.old.psw.key held.old }
-    ensures done { let before = state_of cpu.old (S.bytes storage.old) (S.keys storage.old) in
-        let after = state_of cpu.new (S.bytes storage.new) (S.keys storage.new) in
+    ensures done { let before = state_of cpu.old (S.memory storage.old) in
+        let after = state_of cpu.new (S.memory storage.new) in
         result ≡ true → MeetsRow (string_combined combines.Move before i) (S.present storage.old) before
         (Ok endings.Done) after }
-    ensures still { let before = state_of cpu.old (S.bytes storage.old) (S.keys storage.old) in
-        let after = state_of cpu.new (S.bytes storage.new) (S.keys storage.new) in
+    ensures still { let before = state_of cpu.old (S.memory storage.old) in
+        let after = state_of cpu.new (S.memory storage.new) in
         result ≡ false → after ≡ before }
     ensures rest { S.Keeps storage.old storage.new }
-    ensures operands { AreHeld (S.IsPlaced storage.old) (length (S.bytes storage.old)) (S.keys storage.old)
+    ensures operands { AreHeld (S.IsPlaced storage.old) (S.memory storage.old)
         (S.present storage.old) cpu.old.psw.key held.new }
 {
     if move_held(cpu, storage, i, held) {
@@ -452,8 +450,8 @@ fn move_apart<S: Storage>(
     second_half: u16,
     third_half: u16,
 ) -> bool
-    ensures done { let before = state_of cpu.old (S.bytes storage.old) (S.keys storage.old) in
-        let after = state_of cpu.new (S.bytes storage.new) (S.keys storage.new) in
+    ensures done { let before = state_of cpu.old (S.memory storage.old) in
+        let after = state_of cpu.new (S.memory storage.new) in
         let i : Instruction = record {
           opcode = 0xD2;
           second_byte = second_byte;
@@ -462,8 +460,8 @@ fn move_apart<S: Storage>(
         } in
         result ≡ true → MeetsRow (string_combined combines.Move before i) (S.present storage.old) before
         (Ok endings.Done) after }
-    ensures still { let before = state_of cpu.old (S.bytes storage.old) (S.keys storage.old) in
-        let after = state_of cpu.new (S.bytes storage.new) (S.keys storage.new) in
+    ensures still { let before = state_of cpu.old (S.memory storage.old) in
+        let after = state_of cpu.new (S.memory storage.new) in
         result ≡ false → after ≡ before }
     ensures rest { S.Keeps storage.old storage.new }
 {

@@ -1,7 +1,8 @@
 //! Leave to access storage.
 ghost use Rattle.std.specs.Prelude.{◌≡◌, ℕ, ◌+◌, ◌≤◌, Bool, true, false, List, [], ◌∷◌, Ok, length, slice_range};
-ghost use Rattle.s370_store.specs.Access.{IsVerdict, Test, put, test_of, tested};
+ghost use Rattle.s370_store.specs.Access.{IsVerdict, Test, test_of, tested};
 ghost use Rattle.s370_store.specs.declared.Access.TheVariants.{Fetch, Store};
+ghost use Rattle.s370_store.specs.Memory.{with_stored};
 ghost use Rattle.s370_rows.specs.State.{State, state_of};
 ghost use Rattle.s370_rows.specs.Rows.{Grants};
 
@@ -19,7 +20,7 @@ pub fn grant<S: Storage>(
     access: Access,
 ) -> Result<(), Refusal>
     requires { range.count ≤ 256 }
-    ensures { Grants (state_of cpu.now (S.bytes storage.now) (S.keys storage.now)) (S.present storage.now)
+    ensures { Grants (state_of cpu.now (S.memory storage.now)) (S.present storage.now)
         (tested access range ∷ []) result }
 {
     leave_of(storage.check(range, access, cpu.psw.key()))
@@ -37,7 +38,7 @@ pub fn grant_two<S: Storage>(
 ) -> Result<(), Refusal>
     requires first { first.count ≤ 256 }
     requires second { second.count ≤ 256 }
-    ensures { Grants (state_of cpu.now (S.bytes storage.now) (S.keys storage.now)) (S.present storage.now)
+    ensures { Grants (state_of cpu.now (S.memory storage.now)) (S.present storage.now)
         (tested first_access first ∷ tested second_access second ∷ []) result }
 {
     let answer = check_two(
@@ -56,13 +57,13 @@ pub fn grant_two<S: Storage>(
 #[inline(always)]
 pub fn copy_granted<S: Storage>(cpu: &Cpu, storage: &mut S, from: u32, to: u32, count: u32) -> bool
     requires { count ≤ 2048 }
-    ensures granted { let m = state_of cpu.now (S.bytes storage.old) (S.keys storage.old) in
+    ensures granted { let m = state_of cpu.now (S.memory storage.old) in
         result ≡ true → Grants m (S.present storage.old) (test_of Store to count ∷ test_of Fetch from count ∷ [])
         (Ok tt) }
     ensures moved { result ≡ true
-        → S.bytes storage.new ≡ put (S.bytes storage.old) to (slice_range (S.bytes storage.old) from (from + count)) }
-    ensures still { result ≡ false → S.bytes storage.new ≡ S.bytes storage.old }
-    ensures keys { S.keys storage.new ≡ S.keys storage.old }
+        → S.memory storage.new
+        ≡ with_stored (S.memory storage.old) to (slice_range (S.memory storage.old).bytes from (from + count)) }
+    ensures still { result ≡ false → S.memory storage.new ≡ S.memory storage.old }
     ensures rest { S.Keeps storage.old storage.new }
 {
     storage.copy_at_once(from, to, count, cpu.psw.key())

@@ -1,17 +1,17 @@
 use Rattle.std.proofs.Common.{arith, refl, sym, ◌≡◌, ◌∙◌, ℕ, ◌+◌, List, slice_range, ap}
-use Rattle.s370_store.specs.Access.{put}
+use Rattle.s370_store.specs.Memory.{with_stored}
 use Rattle.s370_bytes.specs.declared.combine.Combine.TheVariants.{Move}
 use Rattle.s370_bytes.proofs.Places.{length-range}
 use Rattle.s370_bytes.proofs.Changes.{made_is, lagged_source}
 use Rattle.s370_bytes.proofs.combine.move_at.Goals as goal
 
-pub returns-else-lag_of-count-clause-bytes : goal.returns-else-lag_of-count-clause-bytes
-returns-else-lag_of-count-clause-bytes g c =
-    let before = g.S.Storage.bytes c.args.storage.now in
+pub returns-else-lag_of-count-clause-stored : goal.returns-else-lag_of-count-clause-stored
+returns-else-lag_of-count-clause-stored g c =
+    let before = (g.S.Storage.memory c.args.storage.now).bytes in
     let n = c.args.count in
     let source : List ℕ = slice_range before c.args.from (c.args.from + n) in
     let all : n ≡ c.lag_of.result = omega (arith, c.lag_of.ensures.within, c.if-lag_of-count.false) in
-    c.copy.ensures.bytes ∙ ap (λ (xs : List ℕ). put before c.args.to xs)
+    c.copy.ensures.stored ∙ ap (with_stored (g.S.Storage.memory c.args.storage.now) c.args.to)
     (made_is Move before (slice_range before c.args.to (c.args.to + n)) source source c.args.to c.args.from n n
     c.requires.target.inside (length-range before c.args.from n c.requires.source.inside) refl refl (all ∙ c.lag_of.ensures.value)
     (λ j s. sym (lagged_source source source n j s)))

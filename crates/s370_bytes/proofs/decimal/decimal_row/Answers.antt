@@ -7,7 +7,7 @@ use Rattle.s370_bytes.proofs.decimal.decimal_row.Goals as goal
 pub returns-clause-row : goal.returns-clause-row
 returns-clause-row g c =
     let number = λ (r : ℕ). decimal_of (slice_index c.args.cpu.now.general r) in
-    wrote c.args.cpu.now (g.S.Storage.bytes c.args.storage.now) (g.S.Storage.keys c.args.storage.now) _ _ _ _ _ c.get-at.result 8
+    wrote c.args.cpu.now (g.S.Storage.memory c.args.storage.now) _ _ _ _ c.get-at.result 8
     (search rules)
     (ap (λ (n : ℕ). to_be_bytes w64 n) (c.decimal_of.ensures ∙ ap number (c.index.ensures.value ∙ c.r1.ensures)))
-    c.in_ok-grant.ensures.0 c.store_doubleword.ensures.bytes c.store_doubleword.ensures.keys
+    c.in_ok-grant.ensures.0 c.store_doubleword.ensures.stored

@@ -1,4 +1,5 @@
-use Rattle.std.proofs.Common.{◌≡◌, arith, ◌∙◌, ap, ℕ, List, ◌<◌, ◌-◌, ◌*◌, sym, subst, suc}
+use Rattle.std.proofs.Common.{◌≡◌, arith, ◌∙◌, ap, ℕ, ◌<◌, ◌-◌, ◌*◌, sym, subst, suc}
+use Rattle.s370_store.specs.Memory.{memory_of}
 use Rattle.s370_rows.specs.declared.cpu.Cpu.{Cpu}
 use Rattle.s370_rows.specs.State.{State, state_of}
 use Rattle.s370_bytes.specs.Long.{AreParts, operand_of, past, with_operand}
@@ -11,7 +12,7 @@ returns-clause-parts g c i e f =
     let cpu = c.args.cpu.now in
     let r1 = c.args.r1 in
     let r2 = c.args.r2 in
-    let m = state_of cpu (g.S.Storage.bytes c.args.storage.now) (g.S.Storage.keys c.args.storage.now) in
+    let m = state_of cpu (g.S.Storage.memory c.args.storage.now) in
     let n = 256 * c.args.parts in
     let is_it = c.if-not-copy_granted.false in
     let granted = c.copy_granted.ensures.granted is_it in
@@ -34,8 +35,8 @@ returns-clause-parts g c i e f =
     } in
     let parts = parts_are (c.args.parts - 1) n c.args.start (g.S.Storage.present c.args.storage.now) i m r1 r2 (omega (arith, c.requires.some)) e f c.requires.apart c.requires.first c.requires.second c.of-first.ensures.registers
     (λ more. (c.requires.block (omega arith), c.requires.block_2 (omega arith))) whole in
-    let after : moved_by m r1 r2 n ≡ state_of c.set_left-2.new.cpu (g.S.Storage.bytes c.copy_granted.new.storage) (g.S.Storage.keys c.copy_granted.new.storage) =
-    ap (λ (x : Cpu). state_of x (moved_by m r1 r2 n).bytes m.keys) (sym left) ∙ ap (λ (x : List ℕ). state_of c.set_left-2.new.cpu x m.keys) (sym (rw (to, from) at (c.copy_granted.ensures.moved is_it))) ∙ ap (λ (x : List ℕ). state_of c.set_left-2.new.cpu (g.S.Storage.bytes c.copy_granted.new.storage) x) (sym c.copy_granted.ensures.keys) in
+    let after : moved_by m r1 r2 n ≡ state_of c.set_left-2.new.cpu (g.S.Storage.memory c.copy_granted.new.storage) =
+    ap (λ (x : Cpu). state_of x (memory_of (moved_by m r1 r2 n).bytes m.keys)) (sym left) ∙ ap (state_of c.set_left-2.new.cpu) (sym (rw (to, from) at (c.copy_granted.ensures.moved is_it))) in
     let count : suc (c.args.parts - 1) ≡ c.args.parts = omega (arith, c.requires.some) in
-    subst (λ (k : ℕ). AreParts k c.args.start (g.S.Storage.present c.args.storage.now) i m (state_of c.set_left-2.new.cpu (g.S.Storage.bytes c.copy_granted.new.storage) (g.S.Storage.keys c.copy_granted.new.storage))) count
+    subst (λ (k : ℕ). AreParts k c.args.start (g.S.Storage.present c.args.storage.now) i m (state_of c.set_left-2.new.cpu (g.S.Storage.memory c.copy_granted.new.storage))) count
     (subst (λ (x : State). AreParts (suc (c.args.parts - 1)) c.args.start (g.S.Storage.present c.args.storage.now) i m x) after parts)

@@ -3,4 +3,4 @@ use Rattle.s370_bytes.specs.Multiple.{loaded_from}
 use Rattle.s370_bytes.proofs.multiple.load_registers.Given as goal
 
 abbrev pub invariant-loop-k : goal.invariant-loop-k
-invariant-loop-k g l = l.registers ≡ loaded_from (g.S.Storage.bytes l.storage) l.fn.registers l.start l.first l.k
+invariant-loop-k g l = l.registers ≡ loaded_from (g.S.Storage.memory l.storage).bytes l.fn.registers l.start l.first l.k

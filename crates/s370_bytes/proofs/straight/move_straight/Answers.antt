@@ -1,5 +1,5 @@
 use Rattle.std.proofs.Common.{arith, refl, sym, ◌≡◌, ◌∙◌, ℕ, ◌+◌, List, slice_range, ap}
-use Rattle.s370_store.specs.Access.{put}
+use Rattle.s370_store.specs.Memory.{with_stored}
 use Rattle.s370_bytes.specs.declared.combine.Combine.TheVariants.{Move}
 use Rattle.s370_bytes.proofs.Places.{length-range}
 use Rattle.s370_bytes.proofs.Changes.{made_is, lagged_source}
@@ -7,11 +7,11 @@ use Rattle.s370_bytes.proofs.straight.move_straight.Goals as goal
 
 pub returns-clause-moved : goal.returns-clause-moved
 returns-clause-moved g c yes_it_is =
-    let before = g.S.Storage.bytes c.args.storage.now in
+    let before = (g.S.Storage.memory c.args.storage.now).bytes in
     let n = c.args.count in
     let source : List ℕ = slice_range before c.args.from (c.args.from + n) in
     let all : n ≡ c.lag_of.result = omega (arith, c.lag_of.ensures.within, c.if-lag_of-count.false) in
-    c.copy_in.ensures.bytes ∙ ap (λ (xs : List ℕ). put before c.args.to xs)
+    c.copy_in.ensures.stored ∙ ap (with_stored (g.S.Storage.memory c.args.storage.now) c.args.to)
     (made_is Move before (slice_range before c.args.to (c.args.to + n)) source source c.args.to c.args.from n n
     c.requires.target_inside (length-range before c.args.from n c.requires.source_inside) refl refl (all ∙ c.lag_of.ensures.value)
     (λ j s. sym (lagged_source source source n j s)))

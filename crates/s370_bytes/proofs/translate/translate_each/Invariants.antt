@@ -4,7 +4,6 @@ use Rattle.s370_bytes.proofs.translate.translate_each.Given as goal
 
 abbrev pub invariant-loop-k : goal.invariant-loop-k
 invariant-loop-k g l = record {
-  bytes : g.S.Storage.bytes l.storage ≡ translated (g.S.Storage.bytes l.fn.storage) l.to l.table l.k;
-  keys : g.S.Storage.keys l.storage ≡ g.S.Storage.keys l.fn.storage;
+  bytes : (g.S.Storage.memory l.storage).bytes ≡ translated (g.S.Storage.memory l.fn.storage).bytes l.to l.table l.k;
   rest : g.S.Storage.Keeps l.fn.storage l.storage;
 }

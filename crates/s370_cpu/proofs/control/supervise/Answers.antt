@@ -6,8 +6,8 @@ use Rattle.s370_cpu.proofs.control.supervise.Goals as goal
 
 pub returns-clause-unit : goal.returns-clause-unit
 returns-clause-unit g c =
-    let m = state_of c.args.cpu.now (g.S.Storage.bytes c.args.storage.now) (g.S.Storage.keys c.args.storage.now) in
-    let m' = state_of c.perform_control-outcome.new.cpu (g.S.Storage.bytes c.perform_control-outcome.new.storage) (g.S.Storage.keys c.perform_control-outcome.new.storage) in
+    let m = state_of c.args.cpu.now (g.S.Storage.memory c.args.storage.now) in
+    let m' = state_of c.perform_control-outcome.new.cpu (g.S.Storage.memory c.perform_control-outcome.new.storage) in
     let ilc = c.args.ilc in
     let e : c.wrapping_add-next.result ≡ (m.cpu.psw.address + 2 * ilc) % 2 ^ 24 = rw (c.wrapping_add-next.ensures, c.get.ensures.value, c.address.ensures) in
     supervised_meets m ilc c.args.i c.in-Supervised.control c.conclude.result c.conclude.new.cpu (g.S.Storage.present c.args.storage.now) c.perform_control-outcome.result m'

@@ -11,7 +11,7 @@ use Rattle.s370_cpu.proofs.fetch.fetch_by_parts.Goals.{then-halfwords-gt1+in_ok-
 
 pub returns-then-halfwords-gt2 : goal.returns-then-halfwords-gt2
 returns-then-halfwords-gt2 g c =
-    let m = state_of c.args.cpu.now (g.S.Storage.bytes c.args.storage.now) (g.S.Storage.keys c.args.storage.now) in
+    let m = state_of c.args.cpu.now (g.S.Storage.memory c.args.storage.now) in
     elim c.if-halfwords-gt1.branch [
       | then-halfwords-gt1+in_ok-grant-2 w ↦ (let here : c.get-start.result ≡ c.args.at = c.get-start.ensures.value in
           let h : c.load_halfword-first.result ≡ half_at m.bytes c.args.at = rw (← here) c.load_halfword-first.ensures in

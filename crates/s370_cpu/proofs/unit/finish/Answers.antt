@@ -10,8 +10,8 @@ use Rattle.s370_cpu.proofs.unit.finish.Goals as goal
 
 pub returns-clause-unit : goal.returns-clause-unit
 returns-clause-unit g c =
-    let m = state_of c.args.cpu.now (g.S.Storage.bytes c.args.storage.now) (g.S.Storage.keys c.args.storage.now) in
-    let m' = state_of c.perform-outcome.new.cpu (g.S.Storage.bytes c.perform-outcome.new.storage) (g.S.Storage.keys c.perform-outcome.new.storage) in
+    let m = state_of c.args.cpu.now (g.S.Storage.memory c.args.storage.now) in
+    let m' = state_of c.perform-outcome.new.cpu (g.S.Storage.memory c.perform-outcome.new.storage) in
     let i = c.args.i in
     let plain : is_supervised (opcode_at i.opcode) ≡ false = rw c.requires.same (sym c.is_supervised.ensures ∙ c.if-is_supervised.false) in
     row_steps m c.args.place.ilc i c.conclude.result c.conclude.new.cpu (g.S.Storage.present c.args.storage.now) c.perform-outcome.result m' plain c.requires.carried

@@ -1,11 +1,10 @@
-use Rattle.std.proofs.Common.{◌∙◌, ap, length}
 use Rattle.s370_intr.proofs.Brings.{supplied_for}
 use Rattle.s370_intr.proofs.run.bring_for_unit.Goals as goal
 
 pub returns-clause-unit : goal.returns-clause-unit
 returns-clause-unit g c =
     let s = c.bring_pages-done.ensures.supply in
-    rw (c.let_go.ensures.bytes, c.let_go.ensures.keys)
+    rw c.let_go.ensures.memory
     (supplied_for c.args.said _ _ c.bring_pages-done.result (g.S.Supply.IsShort c.bring_pages-done.new.storage) (g.S.UnitSupply.IsOut c.let_go.new.self)
     (λ page short. g.met.S.UnitSupply.let_go_out _ _ _ s.0 page c.requires.between s.1 s.3 short c.let_go.ensures.let_go)
     c.bring_pages-done.ensures.unit)
@@ -19,6 +18,3 @@ pub returns-clause-between : goal.returns-clause-between
 returns-clause-between g c =
     let s = c.bring_pages-done.ensures.supply in
     g.met.S.UnitSupply.let_go_between _ _ _ s.0 c.requires.between s.1 c.let_go.ensures.let_go
-
-pub returns-clause-size : goal.returns-clause-size
-returns-clause-size g c = ap length c.let_go.ensures.bytes ∙ c.bring_pages-done.ensures.size

@@ -7,11 +7,11 @@ use Rattle.s370_intr.proofs.run.bring_pages.Given as goal
 
 abbrev pub invariant-loop-page : goal.invariant-loop-page
 invariant-loop-page g l =
-    let first = core_of (state_of l.fn.cpu (g.S.Storage.bytes l.fn.storage) (g.S.Storage.keys l.fn.storage)) l.fn.pending l.fn.subchannels in
+    let first = core_of (state_of l.fn.cpu (g.S.Storage.memory l.fn.storage)) l.fn.pending l.fn.subchannels in
     record {
-      state : core_of (state_of l.cpu (g.S.Storage.bytes l.storage) (g.S.Storage.keys l.storage)) l.pending l.subchannels ≡ first;
+      state : core_of (state_of l.cpu (g.S.Storage.memory l.storage)) l.pending l.subchannels ≡ first;
       supply : (pages : List ℕ) × g.S.Supply.Brought l.fn.storage pages l.storage × AllNeeded (NeedsAt l.fn.said first) pages × AreDistinct pages;
-      size : length (g.S.Storage.bytes l.storage) ≡ length (g.S.Storage.bytes l.fn.storage);
+      size : length (g.S.Storage.memory l.storage).bytes ≡ length (g.S.Storage.memory l.fn.storage).bytes;
     }
 
 abbrev pub decreases-loop-page : goal.decreases-loop-page

@@ -7,9 +7,9 @@ use Rattle.s370_intr.proofs.run.instruct_quickly.Goals as goal
 
 pub loop-units-preserved : goal.loop-units-preserved
 loop-units-preserved g c =
-    let m0 = state_of c.args.cpu.now (g.S.Storage.bytes c.args.storage.now) (g.S.Storage.keys c.args.storage.now) in
-    let m = state_of c.loop-units.cpu (g.S.Storage.bytes c.loop-units.storage) (g.S.Storage.keys c.loop-units.storage) in
-    let m' = state_of c.step_quickly.new.cpu (g.S.Storage.bytes c.step_quickly.new.storage) (g.S.Storage.keys c.step_quickly.new.storage) in
+    let m0 = state_of c.args.cpu.now (g.S.Storage.memory c.args.storage.now) in
+    let m = state_of c.loop-units.cpu (g.S.Storage.memory c.loop-units.storage) in
+    let m' = state_of c.step_quickly.new.cpu (g.S.Storage.memory c.step_quickly.new.storage) in
     record {
       here = c.in-Some-step_quickly.ensures.step.next;
       key = c.loop-units.invariant.key ∙ sym (ap (λ (r : Rights). r.key) c.step_quickly.ensures.step.rights);
@@ -26,10 +26,10 @@ loop-units-preserved g c =
 
 pub returns-in-None-step_quickly-clause-done : goal.returns-in-None-step_quickly-clause-done
 returns-in-None-step_quickly-clause-done g c pending list e =
-    let m0 = state_of c.args.cpu.now (g.S.Storage.bytes c.args.storage.now) (g.S.Storage.keys c.args.storage.now) in
-    let m = state_of c.loop-units.cpu (g.S.Storage.bytes c.loop-units.storage) (g.S.Storage.keys c.loop-units.storage) in
-    let m1 = state_of c.step_quickly.new.cpu (g.S.Storage.bytes c.step_quickly.new.storage) (g.S.Storage.keys c.step_quickly.new.storage) in
-    let m2 = state_of c.move_parts_in.new.cpu (g.S.Storage.bytes c.move_parts_in.new.storage) (g.S.Storage.keys c.move_parts_in.new.storage) in
+    let m0 = state_of c.args.cpu.now (g.S.Storage.memory c.args.storage.now) in
+    let m = state_of c.loop-units.cpu (g.S.Storage.memory c.loop-units.storage) in
+    let m1 = state_of c.step_quickly.new.cpu (g.S.Storage.memory c.step_quickly.new.storage) in
+    let m2 = state_of c.move_parts_in.new.cpu (g.S.Storage.memory c.move_parts_in.new.storage) in
     let before = c.loop-units.invariant.done pending list e in
     let same : core_of m1 pending list ≡ core_of m pending list = ap (λ (x : State). core_of x pending list) c.in-None-step_quickly.ensures.step.still in
     let parts = c.move_parts_in.ensures.done pending list (ap look same ∙ before.1) in

@@ -7,15 +7,15 @@ use Rattle.s370_intr.proofs.run.instruct_quickly.Given as goal
 
 abbrev pub invariant-loop-units : goal.invariant-loop-units
 invariant-loop-units g l =
-    let m0 = state_of l.fn.cpu (g.S.Storage.bytes l.fn.storage) (g.S.Storage.keys l.fn.storage) in
-    let m = state_of l.cpu (g.S.Storage.bytes l.storage) (g.S.Storage.keys l.storage) in
+    let m0 = state_of l.fn.cpu (g.S.Storage.memory l.fn.storage) in
+    let m = state_of l.cpu (g.S.Storage.memory l.storage) in
     record {
       here : l.next ≡ m.cpu.psw.address;
       key : l.key ≡ m.cpu.psw.key;
       low : l.block.first < 16777216;
-      may_fetch : MayFetch (length (g.S.Storage.bytes l.storage)) (g.S.Storage.keys l.storage) (g.S.Storage.present l.storage) l.key l.block.first;
+      may_fetch : MayFetch (length (g.S.Storage.memory l.storage).bytes) (g.S.Storage.memory l.storage).keys (g.S.Storage.present l.storage) l.key l.block.first;
       placed : g.S.Storage.IsPlaced l.storage l.block;
-      operands : AreHeld (g.S.Storage.IsPlaced l.storage) (length (g.S.Storage.bytes l.storage)) (g.S.Storage.keys l.storage) (g.S.Storage.present l.storage) l.key l.held;
+      operands : AreHeld (g.S.Storage.IsPlaced l.storage) (g.S.Storage.memory l.storage) (g.S.Storage.present l.storage) l.key l.held;
       done : DoesInstructions l.units m0 m;
       rest : g.S.Storage.Keeps l.fn.storage l.storage;
     }

@@ -6,9 +6,9 @@ use Rattle.s370_intr.proofs.run.move_parts.Goals as goal
 
 pub loop-units-preserved : goal.loop-units-preserved
 loop-units-preserved g c =
-    let m0 = state_of c.args.cpu.now (g.S.Storage.bytes c.args.storage.now) (g.S.Storage.keys c.args.storage.now) in
-    let m = state_of c.loop-units.cpu (g.S.Storage.bytes c.loop-units.storage) (g.S.Storage.keys c.loop-units.storage) in
-    let m' = state_of c.move_parts_quickly-parts.new.cpu (g.S.Storage.bytes c.move_parts_quickly-parts.new.storage) (g.S.Storage.keys c.move_parts_quickly-parts.new.storage) in
+    let m0 = state_of c.args.cpu.now (g.S.Storage.memory c.args.storage.now) in
+    let m = state_of c.loop-units.cpu (g.S.Storage.memory c.loop-units.storage) in
+    let m' = state_of c.move_parts_quickly-parts.new.cpu (g.S.Storage.memory c.move_parts_quickly-parts.new.storage) in
     record {
       within = omega (arith, c.move_parts_quickly-parts.ensures.within);
       here = c.move_parts_quickly-parts.ensures.here;

@@ -6,8 +6,8 @@ use Rattle.s370_intr.proofs.run.move_parts.Given as goal
 
 abbrev pub invariant-loop-units : goal.invariant-loop-units
 invariant-loop-units g l =
-    let m0 = state_of l.fn.cpu (g.S.Storage.bytes l.fn.storage) (g.S.Storage.keys l.fn.storage) in
-    let m = state_of l.cpu (g.S.Storage.bytes l.storage) (g.S.Storage.keys l.storage) in
+    let m0 = state_of l.fn.cpu (g.S.Storage.memory l.fn.storage) in
+    let m = state_of l.cpu (g.S.Storage.memory l.storage) in
     record {
       within : l.units ≤ l.limit;
       here : l.fn.start ≡ m.cpu.psw.address;

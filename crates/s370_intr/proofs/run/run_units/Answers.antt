@@ -12,9 +12,9 @@ use Rattle.s370_intr.proofs.run.run_units.Goals as goal
 pub returns-then-units-count-clause-told : goal.returns-then-units-count-clause-told
 returns-then-units-count-clause-told g c =
     let n = c.go_quickly-units.result in
-    let first = core_of (state_of c.args.cpu.now (g.S.Storage.bytes c.args.storage.now) (g.S.Storage.keys c.args.storage.now)) c.args.pending.now c.args.subchannels.now in
-    let now = core_of (state_of c.go_quickly-units.new.cpu (g.S.Storage.bytes c.go_quickly-units.new.storage) (g.S.Storage.keys c.go_quickly-units.new.storage)) c.args.pending.now c.args.subchannels.now in
-    let plain = c.is_plain-plain.ensures (g.S.Storage.bytes c.args.storage.now) (g.S.Storage.keys c.args.storage.now) in
+    let first = core_of (state_of c.args.cpu.now (g.S.Storage.memory c.args.storage.now)) c.args.pending.now c.args.subchannels.now in
+    let now = core_of (state_of c.go_quickly-units.new.cpu (g.S.Storage.memory c.go_quickly-units.new.storage)) c.args.pending.now c.args.subchannels.now in
+    let plain = c.is_plain-plain.ensures (g.S.Storage.memory c.args.storage.now) in
     let quick = c.go_quickly-units.ensures.done c.args.pending.now c.args.subchannels.now plain in
     let told : Run = record { core = now; units = n; reason = Count } in
     subst (λ (k : ℕ). run k first ≡ told) c.if-units-count.true quick.0
@@ -22,32 +22,33 @@ returns-then-units-count-clause-told g c =
 pub returns-then-units-count-clause-supply : goal.returns-then-units-count-clause-supply
 returns-then-units-count-clause-supply g c =
     let n = c.go_quickly-units.result in
-    let first = core_of (state_of c.args.cpu.now (g.S.Storage.bytes c.args.storage.now) (g.S.Storage.keys c.args.storage.now)) c.args.pending.now c.args.subchannels.now in
+    let first = core_of (state_of c.args.cpu.now (g.S.Storage.memory c.args.storage.now)) c.args.pending.now c.args.subchannels.now in
     let quiet : List (List ℕ) = replicate n [] in
     let many : length quiet ≡ n = length-replicate n [] in
-    (quiet, g.met.S.UnitSupply.came_none _ _ n c.requires.between c.go_quickly-units.ensures.rest, each_none first 0 n, omega (arith, many))
+    let quickly = g.met.S.Keyed.rest_kept _ _ c.go_quickly-units.ensures.rest in
+    (quiet, g.met.S.UnitSupply.came_none _ _ n c.requires.between quickly, each_none first 0 n, omega (arith, many))
 
 pub loop-units-init : goal.loop-units-init
 loop-units-init g c =
     let n = c.go_quickly-units.result in
-    let first = core_of (state_of c.args.cpu.now (g.S.Storage.bytes c.args.storage.now) (g.S.Storage.keys c.args.storage.now)) c.args.pending.now c.args.subchannels.now in
-    let plain = c.is_plain-plain.ensures (g.S.Storage.bytes c.args.storage.now) (g.S.Storage.keys c.args.storage.now) in
+    let first = core_of (state_of c.args.cpu.now (g.S.Storage.memory c.args.storage.now)) c.args.pending.now c.args.subchannels.now in
+    let plain = c.is_plain-plain.ensures (g.S.Storage.memory c.args.storage.now) in
     let quick = c.go_quickly-units.ensures.done c.args.pending.now c.args.subchannels.now plain in
+    let quickly = g.met.S.Keyed.rest_kept _ _ c.go_quickly-units.ensures.rest in
     record {
       within = c.go_quickly-units.ensures.within;
       ran = quick.0;
-      supply = (replicate n [], g.met.S.UnitSupply.came_none _ _ n c.requires.between c.go_quickly-units.ensures.rest, each_none first 0 n, length-replicate n []);
-      between = g.met.S.UnitSupply.between_kept _ _ c.go_quickly-units.ensures.rest c.requires.between;
-      plain = λ bytes keys is_it. quick.1 is_it;
-      size = g.met.S.Storage.keeps_size _ _ c.go_quickly-units.ensures.rest;
+      supply = (replicate n [], g.met.S.UnitSupply.came_none _ _ n c.requires.between quickly, each_none first 0 n, length-replicate n []);
+      between = g.met.S.UnitSupply.between_kept _ _ quickly c.requires.between;
+      plain = λ m is_it. quick.1 is_it;
     }
 
 pub returns-in-Stops-clause-told : goal.returns-in-Stops-clause-told
 returns-in-Stops-clause-told g c =
     let k = c.loop-units.units in
-    let first = core_of (state_of c.args.cpu.now (g.S.Storage.bytes c.args.storage.now) (g.S.Storage.keys c.args.storage.now)) c.args.pending.now c.args.subchannels.now in
-    let now = core_of (state_of c.loop-units.cpu (g.S.Storage.bytes c.loop-units.storage) (g.S.Storage.keys c.loop-units.storage)) c.loop-units.pending c.loop-units.subchannels in
-    let e : c.next_of-next.result ≡ look now = c.next_of-next.ensures (g.S.Storage.bytes c.loop-units.storage) (g.S.Storage.keys c.loop-units.storage) in
+    let first = core_of (state_of c.args.cpu.now (g.S.Storage.memory c.args.storage.now)) c.args.pending.now c.args.subchannels.now in
+    let now = core_of (state_of c.loop-units.cpu (g.S.Storage.memory c.loop-units.storage)) c.loop-units.pending c.loop-units.subchannels in
+    let e : c.next_of-next.result ≡ look now = c.next_of-next.ensures (g.S.Storage.memory c.loop-units.storage) in
     tells_stop k c.args.count first now c.in-Stops.reason _ c.loop-units.invariant.ran c.loop-units-test.true (sym e ∙ c.in-Stops.is)
 
 pub returns-in-Stops-clause-supply : goal.returns-in-Stops-clause-supply
@@ -59,9 +60,9 @@ returns-in-Stops-clause-supply g c =
 pub returns-in-Err : goal.returns-in-Err
 returns-in-Err g c =
     let k = c.loop-units.units in
-    let first = core_of (state_of c.args.cpu.now (g.S.Storage.bytes c.args.storage.now) (g.S.Storage.keys c.args.storage.now)) c.args.pending.now c.args.subchannels.now in
-    let now = core_of (state_of c.loop-units.cpu (g.S.Storage.bytes c.loop-units.storage) (g.S.Storage.keys c.loop-units.storage)) c.loop-units.pending c.loop-units.subchannels in
-    let e : c.next_of-next.result ≡ look now = c.next_of-next.ensures (g.S.Storage.bytes c.loop-units.storage) (g.S.Storage.keys c.loop-units.storage) in
+    let first = core_of (state_of c.args.cpu.now (g.S.Storage.memory c.args.storage.now)) c.args.pending.now c.args.subchannels.now in
+    let now = core_of (state_of c.loop-units.cpu (g.S.Storage.memory c.loop-units.storage)) c.loop-units.pending c.loop-units.subchannels in
+    let e : c.next_of-next.result ≡ look now = c.next_of-next.ensures (g.S.Storage.memory c.loop-units.storage) in
     let s = c.loop-units.invariant.supply in
     let t = c.in-Err.ensures.supply in
     let needed : AllNeeded (NeedsAt (look now) now) t.0 = subst (λ (l : Next). AllNeeded (NeedsAt l now) t.0) e t.2 in
@@ -74,31 +75,31 @@ returns-in-Err g c =
         omega (arith, s.3, length-append s.0 (t.0 ∷ [])),
       );
       between = c.in-Err.ensures.between;
-      size = c.in-Err.ensures.size ∙ c.loop-units.invariant.size;
     }
 
 pub loop-units-preserved : goal.loop-units-preserved
 loop-units-preserved g c =
     let k = c.loop-units.units in
     let n = c.go_quickly-units-in-loop-units.result in
-    let first = core_of (state_of c.args.cpu.now (g.S.Storage.bytes c.args.storage.now) (g.S.Storage.keys c.args.storage.now)) c.args.pending.now c.args.subchannels.now in
-    let now = core_of (state_of c.loop-units.cpu (g.S.Storage.bytes c.loop-units.storage) (g.S.Storage.keys c.loop-units.storage)) c.loop-units.pending c.loop-units.subchannels in
-    let new = core_of (state_of c.supplied.new.cpu (g.S.Storage.bytes c.supplied.new.storage) (g.S.Storage.keys c.supplied.new.storage)) c.supplied.new.pending c.supplied.new.subchannels in
-    let end = core_of (state_of c.go_quickly-units-in-loop-units.new.cpu (g.S.Storage.bytes c.go_quickly-units-in-loop-units.new.storage) (g.S.Storage.keys c.go_quickly-units-in-loop-units.new.storage)) c.supplied.new.pending c.supplied.new.subchannels in
-    let e : c.next_of-next.result ≡ look now = c.next_of-next.ensures (g.S.Storage.bytes c.loop-units.storage) (g.S.Storage.keys c.loop-units.storage) in
+    let first = core_of (state_of c.args.cpu.now (g.S.Storage.memory c.args.storage.now)) c.args.pending.now c.args.subchannels.now in
+    let now = core_of (state_of c.loop-units.cpu (g.S.Storage.memory c.loop-units.storage)) c.loop-units.pending c.loop-units.subchannels in
+    let new = core_of (state_of c.supplied.new.cpu (g.S.Storage.memory c.supplied.new.storage)) c.supplied.new.pending c.supplied.new.subchannels in
+    let end = core_of (state_of c.go_quickly-units-in-loop-units.new.cpu (g.S.Storage.memory c.go_quickly-units-in-loop-units.new.storage)) c.supplied.new.pending c.supplied.new.subchannels in
+    let e : c.next_of-next.result ≡ look now = c.next_of-next.ensures (g.S.Storage.memory c.loop-units.storage) in
     let s = c.loop-units.invariant.supply in
     let t = c.in-Ok.ensures.supply in
     let goes : Goes (look now) = subst Goes e (not_stopped c.next_of-next.result c.in_default.not-Stops) in
     let step : new ≡ unit_at (look now) now = subst (λ (l : Next). new ≡ unit_at l now) e c.in-Ok.ensures.unit in
     let needed : AllNeeded (NeedsAt (look now) now) t.0 = subst (λ (l : Next). AllNeeded (NeedsAt l now) t.0) e t.2 in
     let one : run (k + 1) first ≡ all_done (k + 1) new = does_more k first now new c.loop-units.invariant.ran goes step in
-    let plain = c.is_plain-plain-in-loop-units.ensures (g.S.Storage.bytes c.supplied.new.storage) (g.S.Storage.keys c.supplied.new.storage) in
+    let plain = c.is_plain-plain-in-loop-units.ensures (g.S.Storage.memory c.supplied.new.storage) in
     let quick = c.go_quickly-units-in-loop-units.ensures.done c.supplied.new.pending c.supplied.new.subchannels plain in
     let within : n ≤ c.args.count - (k + 1) = c.go_quickly-units-in-loop-units.ensures.within in
     let less : k < c.args.count = c.loop-units-test.true in
     let quiet : List (List ℕ) = replicate n [] in
     let many : length quiet ≡ n = length-replicate n [] in
-    let quietly = g.met.S.UnitSupply.came_none _ _ n c.in-Ok.ensures.between c.go_quickly-units-in-loop-units.ensures.rest in
+    let quickly = g.met.S.Keyed.rest_kept _ _ c.go_quickly-units-in-loop-units.ensures.rest in
+    let quietly = g.met.S.UnitSupply.came_none _ _ n c.in-Ok.ensures.between quickly in
     record {
       within = omega (arith, within, less);
       ran = does_many (k + 1) n first new end one quick.0;
@@ -108,7 +109,6 @@ loop-units-preserved g c =
         each_on first 0 (s.0 ++ t.0 ∷ []) quiet (each_more first now k s.0 t.0 c.loop-units.invariant.ran s.2 s.3 needed t.3) (each_none first _ n),
         omega (arith, s.3, length-append s.0 (t.0 ∷ []), length-append (s.0 ++ t.0 ∷ []) quiet, many),
       );
-      between = g.met.S.UnitSupply.between_kept _ _ c.go_quickly-units-in-loop-units.ensures.rest c.in-Ok.ensures.between;
-      plain = λ bytes keys is_it. quick.1 is_it;
-      size = g.met.S.Storage.keeps_size _ _ c.go_quickly-units-in-loop-units.ensures.rest ∙ (c.in-Ok.ensures.size ∙ c.loop-units.invariant.size);
+      between = g.met.S.UnitSupply.between_kept _ _ quickly c.in-Ok.ensures.between;
+      plain = λ m is_it. quick.1 is_it;
     }

@@ -12,13 +12,13 @@ returns-in-Ok-clause-between g c = g.met.S.UnitSupply.between_kept _ _ c.try_uni
 
 pub bring_for_unit-requires : goal.bring_for_unit-requires
 bring_for_unit-requires g c = record {
-  large = rw (g.met.S.Storage.keeps_size _ _ c.try_unit.ensures.rest) c.requires.large;
+  large = rw (g.met.S.Keyed.rest_size _ _ c.try_unit.ensures.rest) c.requires.large;
   between = g.met.S.UnitSupply.between_kept _ _ c.try_unit.ensures.rest c.requires.between;
 }
 
 pub returns-in-Err-clause-unit : goal.returns-in-Err-clause-unit
 returns-in-Err-clause-unit g c =
-    let after = core_of (state_of c.bring_for_unit.new.cpu (g.S.Storage.bytes c.bring_for_unit.new.storage) (g.S.Storage.keys c.bring_for_unit.new.storage)) c.bring_for_unit.new.pending c.bring_for_unit.new.subchannels in
+    let after = core_of (state_of c.bring_for_unit.new.cpu (g.S.Storage.memory c.bring_for_unit.new.storage)) c.bring_for_unit.new.pending c.bring_for_unit.new.subchannels in
     subst (λ (x : Core). SuppliesUnit c.args.said x c.bring_for_unit.result after (g.S.UnitSupply.IsOut c.bring_for_unit.new.storage)) c.in-Err.ensures.unit.0 c.bring_for_unit.ensures.unit
 
 pub returns-in-Err-clause-supply : goal.returns-in-Err-clause-supply

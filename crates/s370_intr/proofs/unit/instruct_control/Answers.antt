@@ -8,14 +8,14 @@ use Rattle.s370_intr.proofs.unit.instruct_control.Goals as goal
 
 pub returns-in-Err : goal.returns-in-Err
 returns-in-Err g c =
-    let m = state_of c.args.cpu.now (g.S.Storage.bytes c.args.storage.now) (g.S.Storage.keys c.args.storage.now) in
-    let m1 = state_of c.control-stop.new.cpu (g.S.Storage.bytes c.control-stop.new.storage) (g.S.Storage.keys c.control-stop.new.storage) in
-    let m2 = state_of c.follow.new.cpu (g.S.Storage.bytes c.follow.new.storage) (g.S.Storage.keys c.follow.new.storage) in
+    let m = state_of c.args.cpu.now (g.S.Storage.memory c.args.storage.now) in
+    let m1 = state_of c.control-stop.new.cpu (g.S.Storage.memory c.control-stop.new.storage) in
+    let m2 = state_of c.follow.new.cpu (g.S.Storage.memory c.follow.new.storage) in
     let devices = c.args.subchannels.now in
     let before = g.S.Storage.present c.args.storage.now in
     let after = g.S.Storage.present c.control-stop.new.storage in
     let whole : MeetsUnit (unit m) before m c.control-stop.result m1 = handed_back m m m1 c.args.i c.args.ilc c.control-stop.result before c.requires.handed c.control-stop.ensures.unit in
     record {
-      instruction = following_misses m m1 devices (configuration_of m2 c.follow.new.subchannels) before after c.control-stop.result c.in-Err.page whole (g.met.S.Storage.keeps_present _ _ c.control-stop.ensures.rest) c.in-Err.ensures.followed;
-      rest = g.met.S.Storage.keeps_on _ _ _ c.control-stop.ensures.rest c.follow.ensures.rest;
+      instruction = following_misses m m1 devices (configuration_of m2 c.follow.new.subchannels) before after c.control-stop.result c.in-Err.page whole (g.met.S.Keyed.rest_present _ _ c.control-stop.ensures.rest) c.in-Err.ensures.followed;
+      rest = g.met.S.Keyed.rest_on _ _ _ c.control-stop.ensures.rest (g.met.S.Keyed.rest_kept _ _ c.follow.ensures.rest);
     }

@@ -8,9 +8,9 @@ use Rattle.s370_intr.proofs.unit.instruct_saving.Goals as goal
 
 pub returns-in-Err-clause-instruction : goal.returns-in-Err-clause-instruction
 returns-in-Err-clause-instruction g c =
-    let m = state_of c.args.cpu.now (g.S.Storage.bytes c.args.storage.now) (g.S.Storage.keys c.args.storage.now) in
-    let m1 = state_of c.step-stop.new.cpu (g.S.Storage.bytes c.step-stop.new.storage) (g.S.Storage.keys c.step-stop.new.storage) in
-    let m2 = state_of c.follow.new.cpu (g.S.Storage.bytes c.follow.new.storage) (g.S.Storage.keys c.follow.new.storage) in
+    let m = state_of c.args.cpu.now (g.S.Storage.memory c.args.storage.now) in
+    let m1 = state_of c.step-stop.new.cpu (g.S.Storage.memory c.step-stop.new.storage) in
+    let m2 = state_of c.follow.new.cpu (g.S.Storage.memory c.follow.new.storage) in
     let devices = c.args.subchannels.now in
     let c2 = configuration_of m2 c.follow.new.subchannels in
     let before = g.S.Storage.present c.args.storage.now in

@@ -9,6 +9,6 @@ use Rattle.s370_quick.proofs.quick.move_quickly.Goals as goal
 pub returns-clause-done : goal.returns-clause-done
 returns-clause-done g c t =
     let present = g.S.Storage.present c.args.storage.now in
-    let after = state_of c.move_apart.new.cpu (g.S.Storage.bytes c.move_apart.new.storage) (g.S.Storage.keys c.move_apart.new.storage) in
+    let after = state_of c.move_apart.new.cpu (g.S.Storage.memory c.move_apart.new.storage) in
     subst (λ (m : State). MeetsRow (string_combined Move m c.args.i) present m (Ok Done) after) (c.move_held.ensures.still c.if-move_held.false)
     (c.move_apart.ensures.done t)
