@@ -5,7 +5,7 @@ use Rattle.channel_laws.specs.declared.places.Place.{Place}
 use Rattle.s370_walk.specs.declared.parts.Spot.{Spot}
 use Rattle.s370_walk.specs.declared.parts.Ending.{Ending}
 use Rattle.channel_laws.specs.Tracks.{IsTracked}
-use Rattle.s370_walk.specs.Hardware.{Memory}
+use Rattle.s370_store.specs.Memory.{Memory}
 use Rattle.s370_walk.specs.Walk.{Form, Setting, State, Fetching, Over, Reaches}
 use Rattle.channel_laws.specs.Renaming.{renamed, renamed_spot, renamed_ending}
 use Rattle.channel_laws.proofs.Renamed.{walk_renamed}

@@ -2,7 +2,7 @@
 use Rattle.std.specs.Prelude.{ℕ, zero, suc, ◌≡◌, refl}
 use Rattle.std.proofs.Common.{ap, ◌∙◌}
 use Rattle.s370_walk.specs.Frozen.{IsSteady}
-use Rattle.s370_walk.specs.Hardware.{Memory}
+use Rattle.s370_store.specs.Memory.{Memory}
 use Rattle.s370_walk.specs.Walk.{Form, Setting, State, Fetching, Moving, Over, next, walk, fetched, rest}
 use Rattle.s370_walk.proofs.Freezing.{moved_same}
 use Rattle.channel_laws.specs.Frozen.{words_frozen}

@@ -19,7 +19,8 @@ use Rattle.std.proofs.lemmas.Bool.Decides.{nat_tests}
 use Rattle.s370_walk.specs.Blocks.{block_number, after, served}
 use Rattle.s370_walk.specs.declared.parts.Kind.{Kind}
 use Rattle.s370_walk.specs.declared.parts.Kind.TheVariants.{Gives, Takes, TakesUpTo}
-use Rattle.s370_walk.specs.Hardware.{Memory, fault_of, area, put_byte, byte_at}
+use Rattle.s370_store.specs.Memory.{Memory}
+use Rattle.s370_walk.specs.Hardware.{fault_of, area, put_byte, byte_at}
 use Rattle.s370_walk.specs.Walk.{Setting, State, Fetching, Moving, Over, walk, Reaches, byte_moved, given_to, given_at, taken_from, taken_at, stepped, skips, index_of, order_of}
 use Rattle.channel_laws.specs.Pairing.{Pairing, InRole, Related, moving_on, over, fetching, Simulates, moved_to}
 use Rattle.channel_laws.proofs.Simulation.{walk_related}

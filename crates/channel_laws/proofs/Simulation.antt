@@ -8,7 +8,7 @@ use Rattle.s370_walk.specs.declared.parts.Position.{Position}
 use Rattle.s370_walk.specs.declared.parts.Word.{Word}
 use Rattle.s370_walk.specs.declared.parts.Answer.{Answer}
 use Rattle.s370_walk.specs.declared.parts.Answer.TheVariants as answers
-use Rattle.s370_walk.specs.Hardware.{Memory}
+use Rattle.s370_store.specs.Memory.{Memory}
 use Rattle.s370_walk.specs.Walk.{Form, Setting, State, Fetching, Verdict, Bad, Jump, Good, next, walk, fetched, obeyed, entered, answered, judged, fails, closed, closes, state_of, may_chain, next_place, at_command, moved, counted_out, rest, tells_length, chains_data, order_of, ending, no_check, no_status}
 use Rattle.s370_walk.specs.declared.bits.UnitStatus.{UnitStatus}
 use Rattle.channel_laws.specs.Pairing.{Pairing, InRole, moved_to, Related, fetching, moving_on, over, begins_transfer, IsOver, Simulates}

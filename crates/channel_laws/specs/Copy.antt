@@ -5,7 +5,7 @@ use Rattle.s370_walk.specs.declared.parts.Spot.{Spot}
 use Rattle.s370_walk.specs.declared.parts.Ending.{Ending}
 use Rattle.s370_walk.specs.declared.parts.Word.{Word}
 use Rattle.channel_laws.specs.Tracks.{IsTracked}
-use Rattle.s370_walk.specs.Hardware.{Memory}
+use Rattle.s370_store.specs.Memory.{Memory}
 use Rattle.s370_walk.specs.Walk.{Form, Setting, Fetching, Over, Reaches}
 use Rattle.channel_laws.specs.Renaming.{IsCopy}
 use Rattle.channel_laws.specs.Frozen.{words_frozen}

@@ -1,6 +1,6 @@
 -- The walk of a program whose words and lists stand as they stood when it began; seek arguments are as they are. It is
 -- all that is frozen of a program for a device that takes no bytes of a seek.
-use Rattle.s370_walk.specs.Hardware.{Memory}
+use Rattle.s370_store.specs.Memory.{Memory}
 use Rattle.s370_walk.specs.Walk.{Form}
 
 abbrev pub words_frozen : Form → Memory → Form

@@ -3,7 +3,7 @@ use Rattle.std.specs.Prelude.{ℕ, Bool, List, Option}
 use Rattle.s370_walk.specs.declared.parts.Ending.{Ending}
 use Rattle.s370_walk.specs.declared.parts.Spot.{Spot}
 use Rattle.s370_walk.specs.Frozen.{IsSteady}
-use Rattle.s370_walk.specs.Hardware.{Memory}
+use Rattle.s370_store.specs.Memory.{Memory}
 use Rattle.s370_walk.specs.Stuck.{IsStuck}
 use Rattle.s370_walk.specs.Walk.{Form, Setting, State, Fetching, Over, Reaches}
 use Rattle.channel_laws.specs.declared.places.Place.{Place}

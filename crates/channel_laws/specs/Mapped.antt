@@ -8,7 +8,8 @@ use Rattle.s370_walk.specs.declared.parts.Spot.{Spot}
 use Rattle.s370_walk.specs.declared.parts.Word.{Word}
 use Rattle.std.specs.Prelude.{◌^◌, ◌%◌}
 use Rattle.s370_walk.specs.Blocks.{served}
-use Rattle.s370_walk.specs.Hardware.{Memory, fault_of, area, byte_at}
+use Rattle.s370_store.specs.Memory.{Memory}
+use Rattle.s370_walk.specs.Hardware.{fault_of, area, byte_at}
 use Rattle.s370_walk.specs.Walk.{Form, Setting, Fetching, Over, Reaches, index_of}
 use Rattle.channel_laws.specs.Pairing.{Pairing}
 

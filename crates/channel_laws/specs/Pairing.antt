@@ -9,7 +9,8 @@ use Rattle.s370_walk.specs.declared.parts.Order.{Order}
 use Rattle.s370_walk.specs.declared.parts.Answer.{Answer}
 use Rattle.s370_walk.specs.declared.parts.Answer.TheVariants as answers
 use Rattle.s370_walk.specs.declared.parts.Kind.TheVariants.{Gives, Takes, TakesUpTo}
-use Rattle.s370_walk.specs.Hardware.{Memory, Machine}
+use Rattle.s370_store.specs.Memory.{Memory}
+use Rattle.s370_walk.specs.Hardware.{Machine}
 use Rattle.s370_walk.specs.Walk.{Form, Setting, State, Fetching, Moving, Over, Good, moving, byte_moved, order_of, transfer_of, judged, rest, chains_data}
 
 -- How the storage and the devices of two walks go together: between commands, between the words of one transfer, and at

@@ -5,7 +5,7 @@ use Rattle.s370_walk.specs.declared.parts.Spot.{Spot}
 use Rattle.s370_walk.specs.declared.parts.Position.{Position}
 use Rattle.s370_walk.specs.declared.parts.Ending.{Ending}
 use Rattle.s370_walk.specs.declared.parts.Word.{Word}
-use Rattle.s370_walk.specs.Hardware.{Memory}
+use Rattle.s370_store.specs.Memory.{Memory}
 use Rattle.s370_walk.specs.Walk.{Form, State, Fetching, Moving, Over, is_jump, chains_data, chains_command, moving, stepped}
 use Rattle.s370_walk.specs.Stuck.{is_skipped}
 use Rattle.channel_laws.specs.Tracks.{has_area}

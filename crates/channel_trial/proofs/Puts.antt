@@ -2,9 +2,10 @@
 use Rattle.std.proofs.Common.{◌≡◌, ℕ, ◌+◌, ◌-◌, ◌/◌, ◌%◌, ◌<◌, ◌≤◌, List, Bool, true, false, length, get_or, ap, ◌∙◌, sym, arith, inl, inr}
 use Rattle.std.proofs.lemmas.Bool.{cases_lt}
 use Rattle.s370_store.specs.Access.{put, IsGranted}
+use Rattle.s370_store.specs.Memory.{Memory, with_stored}
 use Rattle.s370_store.proofs.Puts.{put_before, put_after}
 use Rattle.channel_trial.specs.declared.TrialStorage.{TrialStorage}
-use Rattle.channel_trial.specs.Trial.{trial_bytes, trial_flags, is_touched, TrialKeeps, KeepsUntouched}
+use Rattle.channel_trial.specs.Trial.{trial_bytes, trial_flags, trial_memory, is_touched, TrialKeeps, KeepsUntouched}
 
 differ : {b : Bool} → b ≡ false → b ≡ true → ⊥
 differ away there = cc
@@ -27,9 +28,12 @@ pub put_in_block : (touched : ℕ → Bool) (bytes xs : List ℕ) (first start :
 put_in_block touched bytes xs first start whole inside there begins ends =
     put_there touched bytes xs start (omega arith) (λ a low high. (let e : a / 4096 ≡ first / 4096 = omega arith in ap touched e ∙ there))
 
-pub kept_where : (s t : TrialStorage) (bytes : List ℕ) → length (trial_bytes t) ≡ length (trial_bytes s) → trial_flags t ≡ trial_flags s → trial_bytes t ≡ bytes → KeepsUntouched (is_touched s) (trial_bytes s) bytes → TrialKeeps s t
-kept_where s t bytes size flags written kept = record {
-  size = size;
-  flags = flags;
-  untouched = λ a away. (let old : is_touched s (a / 4096) ≡ false = sym (ap (λ f. get_or f (a / 4096) false) flags) ∙ away in ap (λ xs. get_or xs a 0) written ∙ kept a old);
+pub kept_where : (s t : TrialStorage) (start : ℕ) (xs : List ℕ) → length (trial_bytes t) ≡ length (trial_bytes s) → trial_flags t ≡ trial_flags s → trial_memory t ≡ with_stored (trial_memory s) start xs → KeepsUntouched (is_touched s) (trial_bytes s) (put (trial_bytes s) start xs) → TrialKeeps s t
+kept_where s t start xs size flags stored kept = record {
+  rest = record {
+    size = size;
+    flags = flags;
+    untouched = λ a away. (let old : is_touched s (a / 4096) ≡ false = sym (ap (λ f. get_or f (a / 4096) false) flags) ∙ away in ap (λ (m : Memory). get_or m.bytes a 0) stored ∙ kept a old);
+  };
+  keys = ap (λ (m : Memory). m.keys) stored;
 }

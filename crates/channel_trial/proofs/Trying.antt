@@ -1,6 +1,6 @@
 -- What a trial tells of the run.
-use Rattle.std.specs.Prelude.{ℕ, zero, suc, ◌≡◌, ◌<◌, Bool, true, false, List, [], ◌∷◌, length, slice_index_or, refl, None, OnOk, Result, Ok, Err}
-use Rattle.std.proofs.Common.{arith, subst, sym, ap, inl, inr}
+use Rattle.std.specs.Prelude.{ℕ, zero, suc, ◌≡◌, ◌<◌, Bool, true, false, List, [], ◌∷◌, length, slice_index_or, None, OnOk, Result, Ok, Err}
+use Rattle.std.proofs.Common.{arith, subst, inl, inr}
 use Rattle.s370_channel.specs.declared.limits.Limits.{Limits}
 use Rattle.s370_channel.specs.declared.words.Caw.{Caw}
 use Rattle.s370_channel.specs.Guest.{guest_written}
@@ -10,12 +10,13 @@ use Rattle.s370_channel.specs.Runs.{begun, limited}
 use Rattle.s370_channel.specs.Start.{most_commands}
 use Rattle.s370_channel.specs.Supplied.{AllSuch, EachSuch, IsTouched}
 use Rattle.s370_walk.specs.declared.parts.Ending.{Ending}
-use Rattle.s370_walk.specs.Hardware.{Machine, Memory, memory_of}
+use Rattle.s370_store.specs.Memory.{Memory, memory_of}
+use Rattle.s370_walk.specs.Hardware.{Machine}
 use Rattle.s370_walk.specs.Walk.{Fetching, Over, Reaches, Setting, State, live, start_spot}
 use Rattle.s370_walk.proofs.Viewing.{asked_back, ends_back, entered_viewed}
 use Rattle.s370_walk.specs.Viewed.{IsViewed, setting_for, viewed}
 use Rattle.channel_trial.specs.declared.TrialStorage.{TrialStorage}
-use Rattle.channel_trial.specs.Trial.{IsIn, TrialCame, is_touched, trial_bytes, trial_flags, trial_keys}
+use Rattle.channel_trial.specs.Trial.{IsIn, TrialCame, is_touched, trial_bytes, trial_flags, trial_keys, trial_memory}
 use Rattle.channel_trial.specs.Tried.{IsLoadingTried, IsProgramTried, IsTried}
 
 differ : {b : Bool} → b ≡ false → b ≡ true → ⊥
@@ -31,67 +32,40 @@ in_units P [] page each here = absurd here
 in_units P (pages ∷ units) page each (inl (k, low, is)) = such_in P pages page k each.0 low is
 in_units P (pages ∷ units) page each (inr there) = in_units P units page each.1 there
 
-module _ {T : Type 0} (machine : Machine T) (start : Caw) (t t' : T) (ending : Ending) (old new : TrialStorage) where
-  tried_at : (units : List (List ℕ)) → ((page : ℕ) → is_touched old page ≡ false)
-      → Reaches (live guest_written) (limited machine start) (begun start (memory_of (trial_bytes old) (trial_keys old)) t) (Over ending (memory_of (trial_bytes new) (trial_keys new)) t')
-      → TrialCame old units new → EachSuch (IsTouched guest_written (limited machine start) (begun start (memory_of (trial_bytes old) (trial_keys old)) t)) units
-      → trial_keys new ≡ trial_keys old
-      → IsProgramTried machine start (memory_of (trial_bytes old) (trial_keys old)) t (trial_bytes new) (trial_flags new)
-  tried_at units clear reaches came each keys =
-      let from : State T = begun start (memory_of (trial_bytes old) (trial_keys old)) t in
-      let P : List ℕ → Type 0 = λ ks. Reaches (live guest_written) (limited machine start) from (Over ending (memory_of (trial_bytes new) ks) t') in
-      record {
-        ending = ending;
-        device = t';
-        comes = subst P keys reaches;
-        touches = λ page flag. (elim (came.came page flag) [
-          | inl before ↦ absurd (differ (clear page) before)
-          | inr here ↦ in_units (IsTouched guest_written (limited machine start) from) units page each here
-        ]);
-        beside = came.untouched;
-        size = came.size;
-      }
+pub tried_for : {T : Type 0} (h : Setting T) (from : State T) (t' : T) (ending : Ending) (old new : TrialStorage) (units : List (List ℕ)) → ((page : ℕ) → is_touched old page ≡ false)
+    → Reaches (live guest_written) h from (Over ending (trial_memory new) t')
+    → TrialCame old units new → EachSuch (IsTouched guest_written h from) units → trial_keys new ≡ trial_keys old
+    → IsTried h from (trial_memory old) (trial_bytes new) (trial_flags new)
+tried_for h from t' ending old new units clear reaches came each keys =
+    let P : List ℕ → Type 0 = λ ks. Reaches (live guest_written) h from (Over ending (memory_of (trial_bytes new) ks) t') in
+    record {
+      ending = ending;
+      device = t';
+      comes = subst P keys reaches;
+      touches = λ page flag. (elim (came.came page flag) [
+        | inl before ↦ absurd (differ (clear page) before)
+        | inr here ↦ in_units (IsTouched guest_written h from) units page each here
+      ]);
+      beside = came.untouched;
+      size = came.size;
+    }
 
-  pub tried_told : (bytes keys : List ℕ) (at : ℕ) (l : Limits) (units : List (List ℕ)) → at ≡ start.address → l ≡ record { key = start.key; commands = most_commands; prefix = 0 }
-      → trial_bytes old ≡ bytes → trial_keys old ≡ keys → ((page : ℕ) → is_touched old page ≡ false)
-      → Reaches (live guest_written) (setting machine l) (Fetching (start_spot at) (memory_of (trial_bytes old) (trial_keys old)) t) (Over ending (memory_of (trial_bytes new) (trial_keys new)) t')
-      → TrialCame old units new → EachSuch (IsTouched guest_written (setting machine l) (Fetching (start_spot at) (memory_of (trial_bytes old) (trial_keys old)) t)) units
+-- of the program with a start, as it was run
+module _ {T : Type 0} (machine : Machine T) (start : Caw) (t t' : T) (ending : Ending) (old new : TrialStorage) where
+  pub tried_told : (at : ℕ) (l : Limits) (units : List (List ℕ)) → at ≡ start.address → l ≡ record { key = start.key; commands = most_commands; prefix = 0 }
+      → ((page : ℕ) → is_touched old page ≡ false)
+      → Reaches (live guest_written) (setting machine l) (Fetching (start_spot at) (trial_memory old) t) (Over ending (trial_memory new) t')
+      → TrialCame old units new → EachSuch (IsTouched guest_written (setting machine l) (Fetching (start_spot at) (trial_memory old) t)) units
       → trial_keys new ≡ trial_keys old
-      → IsProgramTried machine start (memory_of bytes keys) t (trial_bytes new) (trial_flags new)
-  tried_told bytes keys at l units at_is l_is bytes_is keys_is clear reaches came each same =
-      let from : ℕ → State T = λ a. Fetching (start_spot a) (memory_of (trial_bytes old) (trial_keys old)) t in
-      let end : State T = Over ending (memory_of (trial_bytes new) (trial_keys new)) t' in
+      → IsProgramTried machine start (trial_memory old) t (trial_bytes new) (trial_flags new)
+  tried_told at l units at_is l_is clear reaches came each same =
+      let from : ℕ → State T = λ a. Fetching (start_spot a) (trial_memory old) t in
+      let end : State T = Over ending (trial_memory new) t' in
       let R : ℕ → Type 0 = λ a. Reaches (live guest_written) (setting machine l) (from a) end in
       let S : Limits → Type 0 = λ x. Reaches (live guest_written) (setting machine x) (from start.address) end in
       let Q : ℕ → Type 0 = λ a. EachSuch (IsTouched guest_written (setting machine l) (from a)) units in
       let O : Limits → Type 0 = λ x. EachSuch (IsTouched guest_written (setting machine x) (from start.address)) units in
-      let done = tried_at units clear (subst S l_is (subst R at_is reaches)) came (subst O l_is (subst Q at_is each)) same in
-      let B : List ℕ → Type 0 = λ xs. IsProgramTried machine start (memory_of xs (trial_keys old)) t (trial_bytes new) (trial_flags new) in
-      let K : List ℕ → Type 0 = λ ks. IsProgramTried machine start (memory_of bytes ks) t (trial_bytes new) (trial_flags new) in
-      subst K keys_is (subst B bytes_is done)
-
--- the same for any walk of a storage
-pub tried_for : {T : Type 0} (h : Setting T) (from : Memory → State T) (t' : T) (ending : Ending) (old new : TrialStorage) (bytes keys : List ℕ) (units : List (List ℕ))
-    → trial_bytes old ≡ bytes → trial_keys old ≡ keys → ((page : ℕ) → is_touched old page ≡ false)
-    → Reaches (live guest_written) h (from (memory_of (trial_bytes old) (trial_keys old))) (Over ending (memory_of (trial_bytes new) (trial_keys new)) t')
-    → TrialCame old units new → EachSuch (IsTouched guest_written h (from (memory_of (trial_bytes old) (trial_keys old)))) units → trial_keys new ≡ trial_keys old
-    → IsTried h (from (memory_of bytes keys)) (memory_of bytes keys) (trial_bytes new) (trial_flags new)
-tried_for {T} h from t' ending old new bytes keys units bytes_is keys_is clear reaches came each same =
-    let P : List ℕ → Type 0 = λ ks. Reaches (live guest_written) h (from (memory_of (trial_bytes old) (trial_keys old))) (Over ending (memory_of (trial_bytes new) ks) t') in
-    let done : IsTried h (from (memory_of (trial_bytes old) (trial_keys old))) (memory_of (trial_bytes old) (trial_keys old)) (trial_bytes new) (trial_flags new) = record {
-      ending = ending;
-      device = t';
-      comes = subst P same reaches;
-      touches = λ page flag. (elim (came.came page flag) [
-        | inl before ↦ absurd (differ (clear page) before)
-        | inr here ↦ in_units (IsTouched guest_written h (from (memory_of (trial_bytes old) (trial_keys old)))) units page each here
-      ]);
-      beside = came.untouched;
-      size = came.size;
-    } in
-    let B : List ℕ → Type 0 = λ xs. IsTried h (from (memory_of xs (trial_keys old))) (memory_of xs (trial_keys old)) (trial_bytes new) (trial_flags new) in
-    let K : List ℕ → Type 0 = λ ks. IsTried h (from (memory_of bytes ks)) (memory_of bytes ks) (trial_bytes new) (trial_flags new) in
-    subst K keys_is (subst B bytes_is done)
+      tried_for (limited machine start) (begun start (trial_memory old) t) t' ending old new units clear (subst S l_is (subst R at_is reaches)) came (subst O l_is (subst Q at_is each)) same
 
 -- what was tried with what is seen of a device
 back_for : {D E : Type 0} (h : Setting D) (small : Machine E) (view : D → E) (from : State D) (m : Memory) (bytes : List ℕ) (touched : List Bool) → IsViewed h.machine small view

@@ -4,7 +4,7 @@ use Rattle.std.proofs.Common.{ap, sym, ◌∙◌, subst, inl, inr, arith}
 use Rattle.std.proofs.lemmas.List.Elements.{Contains-append_left, Contains-append_right, Contains-append_cases}
 use Rattle.s370_store.specs.declared.block.Block.{Block}
 use Rattle.channel_trial.specs.declared.TrialStorage.{TrialStorage}
-use Rattle.channel_trial.specs.Trial.{trial_flags, is_touched, TrialKeeps, IsTouchedBlock, untouched_count, IsIn, TrialTouches, TrialBrought, TrialCame}
+use Rattle.channel_trial.specs.Trial.{trial_flags, is_touched, TrialRest, TrialKeeps, IsTouchedBlock, untouched_count, IsIn, TrialTouches, TrialBrought, TrialCame}
 
 differ : {b : Bool} → b ≡ false → b ≡ true → ⊥
 differ away there = cc
@@ -14,37 +14,40 @@ flag_before true after stays away = absurd (differ away (stays refl))
 flag_before false after stays away = refl
 
 pub keeps_same : (s : TrialStorage) → TrialKeeps s s
-keeps_same s = record { size = refl; flags = refl; untouched = λ address away. refl }
+keeps_same s = record { rest = record { size = refl; flags = refl; untouched = λ address away. refl }; keys = refl }
 
-same_flags : (s t : TrialStorage) → TrialKeeps s t → is_touched t ≡ is_touched s
-same_flags s t kept = ap (λ flags page. slice_index_or flags page false) kept.flags
+pub rest_present : (s t : TrialStorage) → TrialRest s t → is_touched t ≡ is_touched s
+rest_present s t rest = ap (λ flags page. slice_index_or flags page false) rest.flags
 
 pub keeps_present : (s t : TrialStorage) → TrialKeeps s t → is_touched t ≡ is_touched s
-keeps_present s t kept = same_flags s t kept
+keeps_present s t kept = rest_present s t kept.rest
 
-pub keeps_on : (s t u : TrialStorage) → TrialKeeps s t → TrialKeeps t u → TrialKeeps s u
-keeps_on s t u before after = record {
+pub rest_on : (s t u : TrialStorage) → TrialRest s t → TrialRest t u → TrialRest s u
+rest_on s t u before after = record {
   size = after.size ∙ before.size;
   flags = after.flags ∙ before.flags;
-  untouched = λ address away. after.untouched address away ∙ before.untouched address (sym (ap (λ (f : ℕ → Bool). f (address / 4096)) (same_flags t u after)) ∙ away);
+  untouched = λ address away. after.untouched address away ∙ before.untouched address (sym (ap (λ (f : ℕ → Bool). f (address / 4096)) (rest_present t u after)) ∙ away);
 }
+
+pub keeps_on : (s t u : TrialStorage) → TrialKeeps s t → TrialKeeps t u → TrialKeeps s u
+keeps_on s t u before after = record { rest = rest_on s t u before.rest after.rest; keys = after.keys ∙ before.keys }
 
 pub placed_kept : (s t : TrialStorage) (block : Block) → TrialKeeps s t → IsTouchedBlock s block → IsTouchedBlock t block
 placed_kept s t block kept h = record {
-  inside = rw kept.size h.inside;
+  inside = rw kept.rest.size h.inside;
   whole = h.whole;
-  touched = ap (λ (f : ℕ → Bool). f (block.first / 4096)) (same_flags s t kept) ∙ h.touched;
+  touched = ap (λ (f : ℕ → Bool). f (block.first / 4096)) (rest_present s t kept.rest) ∙ h.touched;
 }
 
 -- ---- what is touched
-touches_kept : (s t : TrialStorage) (is_such : ℕ → Type 0) → TrialKeeps s t → TrialTouches s is_such t
-touches_kept s t is_such kept =
-    let same : (page : ℕ) → is_touched t page ≡ is_touched s page = λ page. ap (λ (f : ℕ → Bool). f page) (same_flags s t kept) in
+touches_kept : (s t : TrialStorage) (is_such : ℕ → Type 0) → TrialRest s t → TrialTouches s is_such t
+touches_kept s t is_such rest =
+    let same : (page : ℕ) → is_touched t page ≡ is_touched s page = λ page. ap (λ (f : ℕ → Bool). f page) (rest_present s t rest) in
     record {
-      size = kept.size;
+      size = rest.size;
       stays = λ page there. same page ∙ there;
       came = λ page there. inl (sym (same page) ∙ there);
-      untouched = kept.untouched;
+      untouched = rest.untouched;
     }
 
 touches_on : (s t u : TrialStorage) (one two both : ℕ → Type 0) → ((page : ℕ) → one page → both page) → ((page : ℕ) → two page → both page) → TrialTouches s one t → TrialTouches t two u → TrialTouches s both u
@@ -75,8 +78,8 @@ touches_more s t one both more a = record {
 nothing_in : {X : Type 0} (x : X) → Contains [] x → ⊥
 nothing_in x (k, low, here) = omega (arith, low)
 
-pub brought_none : (s t : TrialStorage) → TrialKeeps s t → TrialBrought s [] t
-brought_none s t kept = record { touches = touches_kept s t (Contains []) kept; held = λ page listed. absurd (nothing_in page listed) }
+pub brought_none : (s t : TrialStorage) → TrialRest s t → TrialBrought s [] t
+brought_none s t rest = record { touches = touches_kept s t (Contains []) rest; held = λ page listed. absurd (nothing_in page listed) }
 
 pub brought_on : (s t u : TrialStorage) (before after : List ℕ) → TrialBrought s before t → TrialBrought t after u → TrialBrought s (before ++ after) u
 brought_on s t u before after a b = record {
@@ -87,15 +90,15 @@ brought_on s t u before after a b = record {
   ]);
 }
 
-pub spare_kept : (s t : TrialStorage) → TrialKeeps s t → untouched_count (trial_flags t) ≡ untouched_count (trial_flags s)
-spare_kept s t kept = ap untouched_count kept.flags
+pub spare_kept : (s t : TrialStorage) → TrialRest s t → untouched_count (trial_flags t) ≡ untouched_count (trial_flags s)
+spare_kept s t rest = ap untouched_count rest.flags
 
 pub let_go_came : (s t u : TrialStorage) (pages : List ℕ) → TrialBrought s pages t → u ≡ t → TrialCame s (pages ∷ []) u
 let_go_came s t u pages brought same =
     subst (λ (x : TrialStorage). TrialCame s (pages ∷ []) x) (sym same) (touches_more s t (Contains pages) (IsIn (pages ∷ [])) (λ page listed. inl listed) brought.touches)
 
-pub came_none : (s t : TrialStorage) (units : ℕ) → TrialKeeps s t → TrialCame s (replicate units []) t
-came_none s t units kept = touches_kept s t (IsIn (replicate units [])) kept
+pub came_none : (s t : TrialStorage) (units : ℕ) → TrialRest s t → TrialCame s (replicate units []) t
+came_none s t units rest = touches_kept s t (IsIn (replicate units [])) rest
 
 in_left : (before after : List (List ℕ)) (page : ℕ) → IsIn before page → IsIn (before ++ after) page
 in_left [] after page there = absurd there

@@ -1,5 +1,6 @@
 -- What a storage on trial shows.
 use Rattle.std.specs.Prelude.{◌≡◌, ℕ, ◌+◌, ◌/◌, ◌%◌, ◌≤◌, ◌⊎◌, List, [], ◌∷◌, Bool, true, false, suc, length, slice_index, slice_index_or, Contains}
+use Rattle.s370_store.specs.Memory.{Memory, memory_of}
 use Rattle.s370_store.specs.declared.block.Block.{Block}
 use Rattle.channel_trial.specs.declared.TrialStorage.{TrialStorage}
 
@@ -10,6 +11,10 @@ trial_bytes s = s.bytes.items
 -- the key in storage of each of its blocks
 abbrev pub trial_keys : TrialStorage → List ℕ
 trial_keys s = s.keys.items
+
+-- both
+abbrev pub trial_memory : TrialStorage → Memory
+trial_memory s = memory_of (trial_bytes s) (trial_keys s)
 
 -- whether each of its pages was touched
 abbrev pub trial_flags : TrialStorage → List Bool
@@ -23,10 +28,15 @@ abbrev pub KeepsUntouched : (ℕ → Bool) → List ℕ → List ℕ → Type 0
 KeepsUntouched touched old new = (address : ℕ) → touched (address / 4096) ≡ false → slice_index new address ≡ slice_index old address
 
 -- as many bytes; the same pages were touched; the others are as they were
-pub record TrialKeeps (s t : TrialStorage) : Type 0 where
+pub record TrialRest (s t : TrialStorage) : Type 0 where
   pub size : length (trial_bytes t) ≡ length (trial_bytes s)
   pub flags : trial_flags t ≡ trial_flags s
   pub untouched : KeepsUntouched (is_touched t) (trial_bytes s) (trial_bytes t)
+
+-- with the same keys
+pub record TrialKeeps (s t : TrialStorage) : Type 0 where
+  pub rest : TrialRest s t
+  pub keys : trial_keys t ≡ trial_keys s
 
 -- a block that lies in a page that was touched
 pub record IsTouchedBlock (s : TrialStorage) (block : Block) : Type 0 where

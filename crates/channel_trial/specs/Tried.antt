@@ -7,7 +7,8 @@ use Rattle.s370_channel.specs.Progress.{setting}
 use Rattle.s370_channel.specs.Runs.{begun, limited}
 use Rattle.s370_channel.specs.Supplied.{IsTouched}
 use Rattle.s370_walk.specs.declared.parts.Ending.{Ending}
-use Rattle.s370_walk.specs.Hardware.{Machine, Memory}
+use Rattle.s370_store.specs.Memory.{Memory}
+use Rattle.s370_walk.specs.Hardware.{Machine}
 use Rattle.s370_walk.specs.Walk.{Over, Reaches, Setting, State, live}
 
 -- the walk comes to an end, with these bytes; the pages with a flag are touched by it, and the others have the bytes that they

@@ -24,7 +24,7 @@
 
 mod tried;
 
-ghost use Rattle.s370_store.specs.Access.{put};
+ghost use Rattle.s370_store.specs.Memory.{memory_of, with_stored};
 ghost use Rattle.std.specs.Prelude.{◌≡◌, ◌+◌, ◌*◌, ◌/◌, ◌<◌, ◌≤◌, Bool, true, false, length, replicate, slice_index_or, slice_range, slice_set, Ok, IfOk};
 
 use s370_channel::AmpleSupply;
@@ -50,7 +50,7 @@ pub struct TrialStorage {
 }
 
 impl TrialStorage {
-    ghost use Rattle.channel_trial.specs.Trial.{is_touched, trial_bytes, trial_flags, trial_keys};
+    ghost use Rattle.channel_trial.specs.Trial.{is_touched, trial_bytes, trial_flags, trial_memory};
 
     /// A storage of these bytes, no page of which was touched, with these keys.
     pub fn new(
@@ -62,8 +62,7 @@ impl TrialStorage {
         requires pages { pages ≤ 1048575 }
         requires size { length bytes.items ≡ 4096 * pages }
         requires keyed { length bytes.items ≤ 2048 * length keys.items }
-        ensures bytes { IfOk result (λ s. trial_bytes s ≡ bytes.items) }
-        ensures keys { IfOk result (λ s. trial_keys s ≡ keys.items) }
+        ensures memory { IfOk result (λ s. trial_memory s ≡ memory_of bytes.items keys.items) }
         ensures flags { IfOk result (λ s. trial_flags s ≡ replicate pages false) }
     {
         let touched = vec![in alloc; false; pages as usize]?;
@@ -92,9 +91,8 @@ impl TrialStorage {
     /// Writes bytes from an address on.
     fn put(&mut self, start: u32, from: &[u8])
         requires { start + length from.now ≤ length (trial_bytes self.old) }
-        ensures bytes { trial_bytes self.new ≡ put (trial_bytes self.old) start from.now }
+        ensures stored { trial_memory self.new ≡ with_stored (trial_memory self.old) start from.now }
         ensures size { length (trial_bytes self.new) ≡ length (trial_bytes self.old) }
-        ensures keys { trial_keys self.new ≡ trial_keys self.old }
         ensures flags { trial_flags self.new ≡ trial_flags self.old }
     {
         put_at(&mut self.bytes, start as usize, from);
@@ -102,12 +100,10 @@ impl TrialStorage {
 }
 
 impl Storage for TrialStorage {
-    ghost use Rattle.channel_trial.specs.Trial.{trial_bytes, trial_keys, is_touched, TrialKeeps, IsTouchedBlock};
+    ghost use Rattle.channel_trial.specs.Trial.{is_touched, trial_memory, TrialKeeps, IsTouchedBlock};
     ghost use Rattle.channel_trial.specs.Laws as laws;
 
-    ghost bytes = { trial_bytes };
-
-    ghost keys = { trial_keys };
+    ghost memory = { trial_memory };
 
     ghost present = { is_touched };
 
@@ -174,7 +170,9 @@ impl Storage for TrialStorage {
 
     ghost keeps_same = { laws.keeps_same };
 
-    ghost keeps_size = { λ s t kept. kept.size };
+    ghost keeps_size = { λ s t kept. kept.rest.size };
+
+    ghost keeps_keys = { λ s t kept. kept.keys };
 
     ghost keeps_present = { laws.keeps_present };
 
@@ -184,6 +182,11 @@ impl Storage for TrialStorage {
 }
 
 impl Keyed for TrialStorage {
+    ghost use Rattle.channel_trial.specs.Trial.{TrialRest};
+    ghost use Rattle.channel_trial.specs.Laws as laws;
+
+    ghost KeepsRest = { TrialRest };
+
     fn key_of(&self, block: u32) -> StorageKey {
         self.keys[block as usize]
     }
@@ -191,6 +194,14 @@ impl Keyed for TrialStorage {
     fn set_key(&mut self, block: u32, key: StorageKey) {
         self.keys[block as usize] = key;
     }
+
+    ghost rest_kept = { λ s t kept. kept.rest };
+
+    ghost rest_size = { λ s t rest. rest.size };
+
+    ghost rest_present = { laws.rest_present };
+
+    ghost rest_on = { laws.rest_on };
 }
 
 /// To bring a page is to mark it, for which there is always room.
@@ -248,7 +259,9 @@ impl UnitSupply for TrialStorage {
 
     ghost between_kept = { λ s t kept between. tt };
 
-    ghost came_none = { λ s t units between kept. laws.came_none s t units kept };
+    ghost came_none = { λ s t units between rest. laws.came_none s t units rest };
+
+    ghost came_size = { λ s t units came. came.size };
 
     ghost came_on = { laws.came_on };
 }

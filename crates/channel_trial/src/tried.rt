@@ -2,9 +2,10 @@
 ghost use Rattle.std.specs.Prelude.{◌≡◌, ℕ, Bool, List, false, OnOk};
 ghost use Rattle.s370_channel.specs.declared.words.Caw.{Caw};
 ghost use Rattle.s370_channel.specs.Start.{most_commands};
-ghost use Rattle.s370_walk.specs.Hardware.{Machine, Memory, memory_of};
+ghost use Rattle.s370_store.specs.Memory.{Memory};
+ghost use Rattle.s370_walk.specs.Hardware.{Machine};
 ghost use Rattle.s370_walk.specs.Viewed.{IsViewed};
-ghost use Rattle.channel_trial.specs.Trial.{is_touched, trial_bytes, trial_flags, trial_keys};
+ghost use Rattle.channel_trial.specs.Trial.{is_touched, trial_bytes, trial_flags, trial_memory};
 ghost use Rattle.channel_trial.specs.Tried.{IsLoadingTried, IsProgramTried};
 
 use crate::TrialStorage;
@@ -19,8 +20,7 @@ pub trait Tried: Device {
     fn try_on(&self, copy: &mut TrialStorage, start: Caw) -> Result<(), AllocError>
         requires untouched { (page : ℕ) → is_touched copy.old page ≡ false }
         ensures tried { OnOk result (IsProgramTried Self.machine start
-            (memory_of (trial_bytes copy.old) (trial_keys copy.old)) self.now (trial_bytes copy.new)
-            (trial_flags copy.new)) };
+            (trial_memory copy.old) self.now (trial_bytes copy.new) (trial_flags copy.new)) };
 }
 
 /// A device of which the program of an initial program loading can be tried: it stays as it is.
@@ -29,8 +29,7 @@ pub trait TriedLoading: Device {
     fn try_load(&self, copy: &mut TrialStorage) -> Result<(), AllocError>
         requires untouched { (page : ℕ) → is_touched copy.old page ≡ false }
         ensures tried { OnOk result (IsLoadingTried Self.machine
-            (memory_of (trial_bytes copy.old) (trial_keys copy.old)) self.now (trial_bytes copy.new)
-            (trial_flags copy.new)) };
+            (trial_memory copy.old) self.now (trial_bytes copy.new) (trial_flags copy.new)) };
 }
 
 impl Tried for Console {
@@ -70,8 +69,7 @@ pub fn try_program<T: Device>(
 ) -> Result<(), AllocError>
     requires untouched { (page : ℕ) → is_touched copy.old page ≡ false }
     ensures tried { OnOk result (IsProgramTried T.machine start
-        (memory_of (trial_bytes copy.old) (trial_keys copy.old)) trial.old (trial_bytes copy.new)
-        (trial_flags copy.new)) }
+        (trial_memory copy.old) trial.old (trial_bytes copy.new) (trial_flags copy.new)) }
 {
     match run_supplied(copy, start.address.get(), &limits_of(start), trial) {
         Ok(_) => Ok(()),
@@ -83,8 +81,7 @@ pub fn try_program<T: Device>(
 pub fn try_loading<T: Device>(copy: &mut TrialStorage, trial: &mut T) -> Result<(), AllocError>
     requires untouched { (page : ℕ) → is_touched copy.old page ≡ false }
     ensures tried { OnOk result (IsLoadingTried T.machine
-        (memory_of (trial_bytes copy.old) (trial_keys copy.old)) trial.old (trial_bytes copy.new)
-        (trial_flags copy.new)) }
+        (trial_memory copy.old) trial.old (trial_bytes copy.new) (trial_flags copy.new)) }
 {
     match load_supplied(copy, trial) {
         Ok(_) => Ok(()),

@@ -4,7 +4,8 @@ use Rattle.std.specs.List.{All}
 use Rattle.s370_store.specs.declared.Access.TheVariants.{Fetch}
 use Rattle.s370_store.specs.Access.{Touches, IsAway}
 use Rattle.s370_walk.specs.declared.parts.Word.{Word}
-use Rattle.s370_walk.specs.Hardware.{Memory, area}
+use Rattle.s370_store.specs.Memory.{Memory}
+use Rattle.s370_walk.specs.Hardware.{area}
 use Rattle.s370_walk.specs.Walk.{is_jump, chains_command, chains_data}
 use Rattle.s370_channel.specs.Guest.{area_block, guest_text}
 use Rattle.channel_laws.specs.declared.places.Place.{Place}

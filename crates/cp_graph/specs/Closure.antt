@@ -3,7 +3,8 @@ use Rattle.std.specs.Prelude.{[], ◌∷◌, ℕ, ◌+◌, ◌*◌, ◌/◌, ◌
 use Rattle.s370_store.specs.declared.Access.TheVariants.{Fetch}
 use Rattle.s370_store.specs.Access.{Touches}
 use Rattle.s370_walk.specs.declared.parts.Word.{Word}
-use Rattle.s370_walk.specs.Hardware.{Memory, area}
+use Rattle.s370_store.specs.Memory.{Memory}
+use Rattle.s370_walk.specs.Hardware.{area}
 use Rattle.s370_walk.specs.Walk.{is_jump, chains_data, chains_command}
 use Rattle.s370_channel.specs.Guest.{guest_text, area_block, block_asks}
 use Rattle.channel_laws.specs.declared.places.Place.{Place}

@@ -8,7 +8,6 @@ ghost use Rattle.cp_graph.specs.Marks.{IsIndexed, unmarked};
 ghost use Rattle.cp_graph.specs.Table.{AreHere, Grows, IsRow, leads_next, leads_skipped, program_of, role_after};
 ghost use Rattle.s370_channel.specs.Guest.{guest_text, guest_written};
 ghost use Rattle.s370_store.specs.Access.{IsAway};
-ghost use Rattle.s370_walk.specs.Hardware.{memory_of};
 ghost use Rattle.s370_walk.specs.Walk.{live};
 
 use crate::index::link;
@@ -30,24 +29,24 @@ fn copy_word<S: Storage>(
     place: Place,
 ) -> Result<Node, CopyError>
     requires even { place.address % 8 ≡ 0 }
-    requires room { length index.old ≡ length (S.bytes storage.now) / 8 * 2 }
+    requires room { length index.old ≡ length (S.memory storage.now).bytes / 8 * 2 }
     requires known { IsIndexed places.old.items index.old }
     requires few { vec_len places.old + unmarked index.old ≤ 2147483648 }
-    ensures row { IfOk result
-        (IsRow places.new.items (memory_of (S.bytes storage.now) (S.keys storage.now)) place.address) }
-    ensures here { IfOk result (λ node. AreHere (length (S.bytes storage.now)) (S.present storage.now) node.list.items) }
+    ensures row { IfOk result (IsRow places.new.items (S.memory storage.now) place.address) }
+    ensures here { IfOk result
+        (λ node. AreHere (length (S.memory storage.now).bytes) (S.present storage.now) node.list.items) }
     ensures grown { IfOk result (λ _. Grows places.old.items places.new.items) }
     ensures reached { IfOk result (λ _. (start : ℕ)
-        → IsReachedPlace (memory_of (S.bytes storage.now) (S.keys storage.now)) start place
-        → All (IsReachedPlace (memory_of (S.bytes storage.now) (S.keys storage.now)) start) places.old.items
-        → All (IsReachedPlace (memory_of (S.bytes storage.now) (S.keys storage.now)) start) places.new.items) }
+        → IsReachedPlace (S.memory storage.now) start place
+        → All (IsReachedPlace (S.memory storage.now) start) places.old.items
+        → All (IsReachedPlace (S.memory storage.now) start) places.new.items) }
     ensures known { IfOk result (λ _. IsIndexed places.new.items index.new) }
     ensures count { IfOk result
         (λ _. vec_len places.new + unmarked index.new ≡ vec_len places.old + unmarked index.old) }
     ensures size { length index.new ≡ length index.old }
     ensures absent { IfErr result
-        (IfAbsent (λ page. IsAway (length (S.bytes storage.now)) (S.present storage.now) page
-        × IsWordPage (memory_of (S.bytes storage.now) (S.keys storage.now)) place.address page)) }
+        (IfAbsent (λ page. IsAway (length (S.memory storage.now).bytes) (S.present storage.now) page
+        × IsWordPage (S.memory storage.now) place.address page)) }
 {
     let found = match fetch_word(storage, place.address) {
         Ok(found) => found,
@@ -145,17 +144,15 @@ pub fn copy<S: Storage>(alloc: Global, storage: &S, start: u32) -> Result<Copied
     requires even { start % 8 ≡ 0 }
     requires low { start < 2 ^ 24 }
     ensures copy { IfOk result
-        (λ c. IsCopyOf c.places.items (program_of c.nodes.items) (live guest_written)
-        (memory_of (S.bytes storage.now) (S.keys storage.now))) }
+        (λ c. IsCopyOf c.places.items (program_of c.nodes.items) (live guest_written) (S.memory storage.now)) }
     ensures start { IfOk result (λ c. guest_of c.places.items c.start ≡ start) }
-    ensures place { IfOk result
-        (λ c. IsPlace c.places.items (guest_text (memory_of (S.bytes storage.now) (S.keys storage.now))) c.start) }
+    ensures place { IfOk result (λ c. IsPlace c.places.items (guest_text (S.memory storage.now)) c.start) }
     ensures held { IfOk result
-        (λ c. (a : ℕ) → Named (program_of c.nodes.items) a → a < length (S.bytes storage.now)
+        (λ c. (a : ℕ) → Named (program_of c.nodes.items) a → a < length (S.memory storage.now).bytes
         → S.present storage.now (a / 4096) ≡ true) }
     ensures absent { IfErr result
-        (IfAbsent (λ page. IsAway (length (S.bytes storage.now)) (S.present storage.now) page
-        × IsServed (memory_of (S.bytes storage.now) (S.keys storage.now)) start page)) }
+        (IfAbsent (λ page. IsAway (length (S.memory storage.now).bytes) (S.present storage.now) page
+        × IsServed (S.memory storage.now) start page)) }
 {
     let mut places = Vec::new(alloc);
     let mut index = Slots::new(alloc, storage.size() as usize / 8 * 2);

@@ -4,7 +4,6 @@ ghost use Rattle.channel_laws.specs.Copy.{past};
 ghost use Rattle.cp_graph.specs.Marks.{IsIndexed, slot_of, unmarked};
 ghost use Rattle.cp_graph.specs.Table.{IsFollowed, IsLinked};
 ghost use Rattle.s370_channel.specs.Guest.{guest_text};
-ghost use Rattle.s370_walk.specs.Hardware.{memory_of};
 
 use crate::slots::Slots;
 use channel_laws::Place;
@@ -58,11 +57,10 @@ pub(crate) fn link<S: Storage>(
 ) -> Result<u32, AllocError>
     requires even { leads ≡ true → place.address % 8 ≡ 0 }
     requires low { place.address < 2 ^ 24 }
-    requires room { length index.old ≡ length (S.bytes storage.now) / 8 * 2 }
+    requires room { length index.old ≡ length (S.memory storage.now).bytes / 8 * 2 }
     requires known { IsIndexed places.old.items index.old }
     requires few { vec_len places.old + unmarked index.old ≤ 2147483648 }
-    ensures linked { IfOk result
-        (IsLinked places.new.items (guest_text (memory_of (S.bytes storage.now) (S.keys storage.now))) leads place.address) }
+    ensures linked { IfOk result (IsLinked places.new.items (guest_text (S.memory storage.now)) leads place.address) }
     ensures followed { IfOk result (λ _. IsFollowed leads place places.old.items places.new.items) }
     ensures known { IfOk result (λ _. IsIndexed places.new.items index.new) }
     ensures count { IfOk result

@@ -5,7 +5,6 @@ ghost use Rattle.cp_graph.specs.Closure.{IfAbsent, IsDataPage, IsEntryPage};
 ghost use Rattle.cp_graph.specs.Table.{AreHere, HasListOf, IsHere};
 ghost use Rattle.s370_channel.specs.Guest.{area_block};
 ghost use Rattle.s370_store.specs.Access.{IsAway};
-ghost use Rattle.s370_walk.specs.Hardware.{memory_of};
 
 use crate::program::CopyError;
 use s370_channel::fetch_block;
@@ -26,12 +25,10 @@ pub fn has_area(word: &Word) -> bool
 /// present.
 fn entry<S: Storage>(storage: &S, word: &Word, number: u32) -> Result<Option<u32>, Page>
     requires { number ≤ 64 }
-    ensures said { IfOk result
-        (λ said. said ≡ area_block (memory_of (S.bytes storage.now) (S.keys storage.now)) word.now number) }
-    ensures here { IfOk result (IsHere (length (S.bytes storage.now)) (S.present storage.now)) }
-    ensures away { IfErr result (λ page. IsAway (length (S.bytes storage.now)) (S.present storage.now) page.0) }
-    ensures asked { IfErr result
-        (λ page. IsEntryPage (memory_of (S.bytes storage.now) (S.keys storage.now)) word.now number page.0) }
+    ensures said { IfOk result (λ said. said ≡ area_block (S.memory storage.now) word.now number) }
+    ensures here { IfOk result (IsHere (length (S.memory storage.now).bytes) (S.present storage.now)) }
+    ensures away { IfErr result (λ page. IsAway (length (S.memory storage.now).bytes) (S.present storage.now) page.0) }
+    ensures asked { IfErr result (λ page. IsEntryPage (S.memory storage.now) word.now number page.0) }
 {
     let Some(address) = fetch_block(storage, word, number)? else {
         return Ok(None);
@@ -58,12 +55,12 @@ pub(crate) fn list_for<S: Storage>(
     storage: &S,
     word: &Word,
 ) -> Result<Vec<Option<u32>>, CopyError>
-    ensures list { IfOk result
-        (λ list. HasListOf (memory_of (S.bytes storage.now) (S.keys storage.now)) (Some word.now) list.items) }
-    ensures here { IfOk result (λ list. AreHere (length (S.bytes storage.now)) (S.present storage.now) list.items) }
+    ensures list { IfOk result (λ list. HasListOf (S.memory storage.now) (Some word.now) list.items) }
+    ensures here { IfOk result
+        (λ list. AreHere (length (S.memory storage.now).bytes) (S.present storage.now) list.items) }
     ensures absent { IfErr result
-        (IfAbsent (λ page. IsAway (length (S.bytes storage.now)) (S.present storage.now) page
-        × IsDataPage (memory_of (S.bytes storage.now) (S.keys storage.now)) word.now page)) }
+        (IfAbsent (λ page. IsAway (length (S.memory storage.now).bytes) (S.present storage.now) page
+        × IsDataPage (S.memory storage.now) word.now page)) }
 {
     let mut list = Vec::new(alloc);
     if !has_area(word) || word.count == 0 {

@@ -8,7 +8,8 @@ use Rattle.s370_store.specs.Access.{Touches}
 use Rattle.s370_channel.specs.Guest.{area_block, later}
 use Rattle.s370_walk.specs.declared.parts.Word.{Word}
 use Rattle.s370_walk.specs.Blocks.{after, begins_block, block_number}
-use Rattle.s370_walk.specs.Hardware.{Memory, area}
+use Rattle.s370_store.specs.Memory.{Memory}
+use Rattle.s370_walk.specs.Hardware.{area}
 use Rattle.s370_walk.specs.Walk.{is_indirect, is_jump}
 use Rattle.cp_graph.specs.Closure.{IsEntryPage}
 use Rattle.channel_laws.specs.Tracks.{has_area}

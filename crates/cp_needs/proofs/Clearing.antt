@@ -3,7 +3,7 @@ use Rattle.std.specs.Prelude.{ℕ, ◌+◌, ◌*◌, ◌/◌, ◌%◌, ◌<◌, 
 use Rattle.std.proofs.Common.{subst, arith, inl, inr}
 use Rattle.std.proofs.lemmas.List.Sorted.{Contains-permutation, IsPermutation-sym}
 use Rattle.s370_store.specs.declared.Range.{Range}
-use Rattle.s370_walk.specs.Hardware.{Memory}
+use Rattle.s370_store.specs.Memory.{Memory}
 use Rattle.cp_needs.specs.Needs.{IsClash, IsFixed, IsHeld, IsTextByte}
 use Rattle.cp_needs.specs.Noted.{AreMarked, AreStored, IsFilledBy, IsInSome, IsTextOf}
 use Rattle.cp_needs.specs.Words.{AreWords, IsAmong, IsHere, IsPageAt}

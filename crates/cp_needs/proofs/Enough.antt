@@ -1,18 +1,15 @@
 -- Where a program has its pages, its run stops for want of memory alone.
-use Rattle.std.specs.Prelude.{ℕ, ◌≡◌, Bool, true, IfErr, Result, Ok, Err, length, refl}
-use Rattle.std.proofs.Common.{◌∙◌, sym, inl, inr, arith}
-use Rattle.std.proofs.lemmas.Bool.{true≢false}
+use Rattle.std.specs.Prelude.{ℕ, ◌≡◌, Bool, IfErr, Result, Ok, Err, refl}
 use Rattle.s370_channel.specs.declared.running.ChannelError.{ChannelError}
 use Rattle.s370_channel.specs.declared.running.ChannelError.TheVariants as errors
 use Rattle.s370_channel.specs.Guest.{guest_written}
 use Rattle.s370_channel.specs.Progress.{MatchStuck}
 use Rattle.s370_walk.specs.declared.parts.Order.{Order}
 use Rattle.s370_walk.specs.declared.parts.Spot.{Spot}
-use Rattle.s370_walk.specs.Hardware.{Memory}
-use Rattle.s370_walk.specs.Stuck.{IsStuck, size_in}
-use Rattle.s370_walk.specs.Walk.{Setting, Fetching, live}
+use Rattle.s370_store.specs.Memory.{Memory}
+use Rattle.s370_walk.specs.Stuck.{IsStuck}
+use Rattle.s370_walk.specs.Walk.{Setting, Fetching}
 use Rattle.cp_needs.specs.Words.{IsFixedStill}
-use Rattle.cp_needs.proofs.Sizes.{reach_size}
 use Rattle.cp_needs.proofs.Walking.{kept_never_stuck}
 
 not_stuck : {D : Type 0} (h : Setting D) (present : ℕ → Bool) (spot : Spot) (m : Memory) (d : D) (page : ℕ) → IsFixedStill m present spot.at → IsStuck guest_written h present (Fetching spot m d) page → ⊥

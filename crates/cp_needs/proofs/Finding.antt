@@ -5,7 +5,7 @@ use Rattle.std.proofs.lemmas.List.{append-nil, get_or_append_left}
 use Rattle.s370_store.specs.declared.Page.{Page}
 use Rattle.s370_channel.specs.Guest.{guest_text}
 use Rattle.s370_walk.specs.declared.parts.Word.{Word}
-use Rattle.s370_walk.specs.Hardware.{Memory}
+use Rattle.s370_store.specs.Memory.{Memory}
 use Rattle.s370_walk.specs.Walk.{chains_command, chains_data, is_jump}
 use Rattle.channel_laws.specs.Renaming.{Leads}
 use Rattle.cp_graph.specs.Table.{leads_next, leads_skipped}

@@ -10,7 +10,8 @@ use Rattle.s370_channel.specs.Words.{ccw_of}
 use Rattle.s370_channel.specs.Guest.{guest_text, area_block, later, list_of, list_word, said_by, word_at}
 use Rattle.s370_walk.specs.declared.parts.Word.{Word}
 use Rattle.s370_walk.specs.Blocks.{block_number, straight}
-use Rattle.s370_walk.specs.Hardware.{Memory, area, fault_of, is_in, put_byte}
+use Rattle.s370_store.specs.Memory.{Memory}
+use Rattle.s370_walk.specs.Hardware.{area, fault_of, is_in, put_byte}
 use Rattle.s370_walk.specs.Walk.{is_indirect}
 use Rattle.channel_laws.proofs.Mapping.{get_other}
 use Rattle.channel_laws.specs.Tracks.{has_area}

@@ -7,7 +7,7 @@ use Rattle.s370_store.specs.declared.Range.{Range}
 use Rattle.s370_channel.specs.Guest.{area_block, guest_text, later}
 use Rattle.s370_walk.specs.declared.parts.Word.{Word}
 use Rattle.s370_walk.specs.Blocks.{block_number}
-use Rattle.s370_walk.specs.Hardware.{Memory}
+use Rattle.s370_store.specs.Memory.{Memory}
 use Rattle.s370_walk.specs.Walk.{is_indirect, skips}
 use Rattle.cp_needs.specs.Areas.{IsAreaByte, IsBegun, IsListByte, byte_place}
 use Rattle.channel_laws.specs.Tracks.{has_area}

@@ -1,5 +1,5 @@
 -- Lemmas of the pages on which areas lie.
-use Rattle.std.specs.Prelude.{ℕ, zero, suc, ◌+◌, ◌-◌, ◌*◌, ◌/◌, ◌%◌, ◌^◌, ◌<◌, ◌≤◌, ◌≡◌, ◌⊎◌, Bool, true, false, List, [], ◌∷◌, ◌++◌, Contains, length, slice_index, Option, None, Some, refl}
+use Rattle.std.specs.Prelude.{ℕ, zero, suc, ◌+◌, ◌-◌, ◌/◌, ◌%◌, ◌^◌, ◌<◌, ◌≤◌, ◌≡◌, ◌⊎◌, Bool, true, false, List, [], ◌∷◌, ◌++◌, Contains, length, slice_index, Option, None, Some, refl}
 use Rattle.std.proofs.Common.{sym, subst, ◌∙◌, ap, arith, inl, inr, append_assoc}
 use Rattle.std.proofs.lemmas.List.{append-nil}
 use Rattle.std.proofs.lemmas.List.Elements.{Contains-append_cases, Contains-append_left, Contains-append_right, Contains-push}
@@ -7,7 +7,7 @@ use Rattle.s370_store.specs.declared.Page.{Page}
 use Rattle.s370_channel.specs.Guest.{area_block, guest_text}
 use Rattle.s370_walk.specs.declared.parts.Word.{Word}
 use Rattle.s370_walk.specs.Blocks.{block_number}
-use Rattle.s370_walk.specs.Hardware.{Memory}
+use Rattle.s370_store.specs.Memory.{Memory}
 use Rattle.channel_laws.specs.Tracks.{has_area}
 use Rattle.cp_needs.specs.Areas.{IsAreaByte, IsBegun, byte_place}
 use Rattle.cp_needs.specs.declared.demand.Judged.{Judged}
@@ -15,7 +15,7 @@ use Rattle.cp_needs.specs.declared.demand.Judged.TheVariants as judged
 use Rattle.cp_needs.specs.declared.notes.Notes.{Notes}
 use Rattle.cp_needs.specs.Judged.{IfNotes}
 use Rattle.cp_needs.specs.Kept.{IsPaged, IsPagedOnly}
-use Rattle.cp_needs.specs.Needs.{IsDataByte, IsReached}
+use Rattle.cp_needs.specs.Needs.{IsDataByte}
 use Rattle.cp_needs.specs.Noted.{ArePaged, IsDataOf, page_at}
 use Rattle.cp_needs.specs.Words.{AreWords, IsAmong}
 use Rattle.cp_needs.proofs.Blocks.{begun_place, bytes_on, none_on, none_some, place_after, some_same}

@@ -8,7 +8,8 @@ use Rattle.s370_store.specs.Access.{IsAway}
 use Rattle.s370_channel.specs.Words.{ccw_of}
 use Rattle.s370_channel.specs.Guest.{guest_text, word_at}
 use Rattle.s370_walk.specs.declared.parts.Word.{Word}
-use Rattle.s370_walk.specs.Hardware.{Memory, is_in}
+use Rattle.s370_store.specs.Memory.{Memory}
+use Rattle.s370_walk.specs.Hardware.{is_in}
 use Rattle.cp_graph.specs.Closure.{InProgram, starts, jumps, continues_at, commands_at, skips_to}
 use Rattle.cp_graph.proofs.Tables.{skipped_even, text_even}
 use Rattle.cp_needs.specs.Needs.{IsDataByte, IsHeld, IsProgramPage, IsReached, IsTextByte}

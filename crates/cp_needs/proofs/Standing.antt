@@ -12,7 +12,8 @@ use Rattle.s370_store.specs.declared.Access.TheVariants.{Fetch}
 use Rattle.s370_store.specs.declared.Fault.{Fault}
 use Rattle.s370_store.specs.declared.Fault.TheVariants.{Addressing, Protection, Absent}
 use Rattle.s370_store.specs.Access.{IsGranted, IsVerdict, is_addressable, is_permitted, is_permitted_from}
-use Rattle.s370_walk.specs.Hardware.{Memory, area, byte_at}
+use Rattle.s370_store.specs.Memory.{Memory}
+use Rattle.s370_walk.specs.Hardware.{area, byte_at}
 use Rattle.cp_needs.specs.declared.kept.Fullword.{Fullword}
 use Rattle.cp_needs.specs.Kept.{IsAdded, IsAsItStood, IsKept, IsText, IsTextOnly, fullword_at}
 use Rattle.cp_needs.specs.Needs.{IsHeld, IsReached, IsTextByte}

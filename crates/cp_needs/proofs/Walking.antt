@@ -19,7 +19,8 @@ use Rattle.s370_walk.specs.declared.parts.Transfer.{Transfer}
 use Rattle.s370_walk.specs.declared.parts.Word.{Word}
 use Rattle.s370_walk.specs.Bits.{has_bits}
 use Rattle.s370_walk.specs.Blocks.{after, begins_block, block_number, served}
-use Rattle.s370_walk.specs.Hardware.{Machine, Memory, area, fault_of}
+use Rattle.s370_store.specs.Memory.{Memory}
+use Rattle.s370_walk.specs.Hardware.{Machine, area, fault_of}
 use Rattle.s370_walk.specs.Stuck.{IsStuck, IsAsked, byte_asks, is_skipped, moves, size_in}
 use Rattle.s370_walk.specs.Walk.{Setting, State, Fetching, Moving, Over, Bad, Jump, Good, next, walk, live, place_in, fetched, obeyed, entered, answered, judged, fails, closed, closes, state_of, at_command, moved, counted_out, byte_moved, given_to, given_at, taken_from, taken_at, stepped, rest, moving, skips, tells_length, chains_data, chains_command, order_of, ending, index_of, is_bad_word, is_bad_in_role, is_indirect, is_jump, no_check, no_status}
 use Rattle.s370_channel.specs.Guest.{area_block, block_asks, guest_text, guest_written, later}

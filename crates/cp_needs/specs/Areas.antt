@@ -4,7 +4,7 @@ use Rattle.channel_laws.specs.Tracks.{has_area}
 use Rattle.s370_channel.specs.Guest.{area_block, later}
 use Rattle.s370_walk.specs.declared.parts.Word.{Word}
 use Rattle.s370_walk.specs.Blocks.{begins_block, block_number, served}
-use Rattle.s370_walk.specs.Hardware.{Memory}
+use Rattle.s370_store.specs.Memory.{Memory}
 use Rattle.s370_walk.specs.Walk.{is_indirect}
 
 -- where byte k of an area lies, by where the byte before it lies

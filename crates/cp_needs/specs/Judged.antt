@@ -1,6 +1,6 @@
 -- What is noted of a program whose pages are present.
 use Rattle.std.specs.Prelude.{ℕ, List, [], IsPermutation, length}
-use Rattle.s370_walk.specs.Hardware.{Memory}
+use Rattle.s370_store.specs.Memory.{Memory}
 use Rattle.cp_needs.specs.declared.demand.Judged.{Judged}
 use Rattle.cp_needs.specs.declared.demand.Judged.TheVariants as judged
 use Rattle.cp_needs.specs.declared.notes.Notes.{Notes}

@@ -2,7 +2,8 @@
 use Rattle.std.specs.Prelude.{ℕ, ◌+◌, ◌*◌, ◌/◌, ◌<◌, ◌≤◌, ◌≡◌, ◌⊎◌, All, Bool, List, Contains, length, slice_range}
 use Rattle.s370_store.specs.Access.{IsGranted}
 use Rattle.s370_store.specs.declared.Page.{Page}
-use Rattle.s370_walk.specs.Hardware.{Memory, byte_at}
+use Rattle.s370_store.specs.Memory.{Memory}
+use Rattle.s370_walk.specs.Hardware.{byte_at}
 use Rattle.cp_needs.specs.declared.kept.Found.{Found}
 use Rattle.cp_needs.specs.declared.kept.Found.TheVariants as found
 use Rattle.cp_needs.specs.declared.kept.Fullword.{Fullword}

@@ -4,7 +4,7 @@ use Rattle.cp_needs.specs.Needs.{IsFixed, IsHeld}
 use Rattle.s370_channel.specs.Guest.{guest_text, guest_written}
 use Rattle.s370_walk.specs.declared.parts.Position.{Position}
 use Rattle.s370_walk.specs.declared.parts.Spot.{Spot}
-use Rattle.s370_walk.specs.Hardware.{Memory}
+use Rattle.s370_store.specs.Memory.{Memory}
 use Rattle.s370_walk.specs.Stuck.{IsStuck, moves}
 use Rattle.s370_walk.specs.Walk.{Fetching, Moving, Setting, State, live, place_in, walk}
 

@@ -4,7 +4,7 @@ use Rattle.cp_graph.specs.Closure.{InProgram}
 use Rattle.cp_needs.specs.Areas.{IsAreaByte, IsListByte}
 use Rattle.s370_channel.specs.Guest.{guest_text}
 use Rattle.s370_walk.specs.declared.parts.Word.{Word}
-use Rattle.s370_walk.specs.Hardware.{Memory}
+use Rattle.s370_store.specs.Memory.{Memory}
 use Rattle.s370_walk.specs.Walk.{skips}
 
 -- the program that starts at an address can reach a word there, in some role

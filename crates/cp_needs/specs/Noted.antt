@@ -5,7 +5,7 @@ use Rattle.s370_store.specs.declared.Page.{Page}
 use Rattle.s370_store.specs.declared.Range.{Range}
 use Rattle.s370_channel.specs.Guest.{guest_text, later}
 use Rattle.s370_walk.specs.declared.parts.Word.{Word}
-use Rattle.s370_walk.specs.Hardware.{Memory}
+use Rattle.s370_store.specs.Memory.{Memory}
 use Rattle.s370_walk.specs.Walk.{is_indirect, skips}
 use Rattle.cp_needs.specs.Areas.{IsAreaByte}
 use Rattle.cp_needs.specs.Needs.{IsDataByte, IsTextByte}

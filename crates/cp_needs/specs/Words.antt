@@ -3,10 +3,10 @@ use Rattle.std.specs.Prelude.{ℕ, ◌*◌, ◌/◌, ◌%◌, ◌<◌, ◌≡◌
 use Rattle.cp_graph.specs.Table.{leads_next, leads_skipped}
 use Rattle.cp_needs.specs.Areas.{IsAreaByte, IsListByte}
 use Rattle.cp_needs.specs.Kept.{IsKept}
-use Rattle.cp_needs.specs.Needs.{IsClash, IsDataByte, IsFixed, IsHeld, IsProgramPage, IsReached, IsTextByte}
+use Rattle.cp_needs.specs.Needs.{IsDataByte, IsFixed, IsHeld, IsReached, IsTextByte}
 use Rattle.s370_channel.specs.Guest.{guest_text}
 use Rattle.s370_walk.specs.declared.parts.Word.{Word}
-use Rattle.s370_walk.specs.Hardware.{Memory}
+use Rattle.s370_store.specs.Memory.{Memory}
 
 -- if the page is one of a storage of this size, it is present
 abbrev pub IsHere : ℕ → (ℕ → Bool) → ℕ → Type 0

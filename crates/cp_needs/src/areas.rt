@@ -4,7 +4,6 @@ ghost use Rattle.cp_graph.specs.Closure.{IsEntryPage};
 ghost use Rattle.cp_needs.specs.Words.{IsAreaPage, IsHere};
 ghost use Rattle.s370_channel.specs.Guest.{area_block, later};
 ghost use Rattle.s370_store.specs.Access.{IsAway};
-ghost use Rattle.s370_walk.specs.Hardware.{memory_of};
 ghost use Rattle.s370_walk.specs.Walk.{is_indirect};
 
 use crate::pages::absent_at;
@@ -39,16 +38,16 @@ pub(crate) fn block_here<S: Storage>(
     number: u32,
 ) -> Result<Option<u32>, Page>
     requires { number ≤ 64 }
-    ensures said { IfOk result
-        (λ said. said ≡ area_block (memory_of (S.bytes storage.now) (S.keys storage.now)) word.now number) }
+    ensures said { IfOk result (λ said. said ≡ area_block (S.memory storage.now) word.now number) }
     ensures listed { IfOk result (λ _. is_indirect word.now ≡ true
-        → IsHere (length (S.bytes storage.now)) (S.present storage.now) (later word.now.address (4 * number) / 4096)) }
+        → IsHere (length (S.memory storage.now).bytes) (S.present storage.now)
+        (later word.now.address (4 * number) / 4096)) }
     ensures here { IfOk result
-        (λ said. IfSome said (λ start. IsHere (length (S.bytes storage.now)) (S.present storage.now) (start / 4096))) }
+        (λ said. IfSome said
+        (λ start. IsHere (length (S.memory storage.now).bytes) (S.present storage.now) (start / 4096))) }
     ensures low { IfOk result (λ said. IfSome said (λ start. start < 2 ^ 32)) }
-    ensures away { IfErr result (λ page. IsAway (length (S.bytes storage.now)) (S.present storage.now) page.0) }
-    ensures asked { IfErr result
-        (λ page. IsEntryPage (memory_of (S.bytes storage.now) (S.keys storage.now)) word.now number page.0) }
+    ensures away { IfErr result (λ page. IsAway (length (S.memory storage.now).bytes) (S.present storage.now) page.0) }
+    ensures asked { IfErr result (λ page. IsEntryPage (S.memory storage.now) word.now number page.0) }
 {
     if word.flags.has(Flags::INDIRECT) {
         if let Some(page) = absent_at(storage, list_address(word, number)) {
@@ -66,12 +65,11 @@ pub(crate) fn block_here<S: Storage>(
 
 /// The first page that is not present of those of a word's list and area, block by block.
 pub(crate) fn absent_in_area<S: Storage>(storage: &S, word: &Word) -> Option<Page>
-    ensures away { IfSome result (λ page. IsAway (length (S.bytes storage.now)) (S.present storage.now) page.0) }
-    ensures asked { IfSome result
-        (λ page. IsAreaPage (memory_of (S.bytes storage.now) (S.keys storage.now)) word.now page.0) }
+    ensures away { IfSome result (λ page. IsAway (length (S.memory storage.now).bytes) (S.present storage.now) page.0) }
+    ensures asked { IfSome result (λ page. IsAreaPage (S.memory storage.now) word.now page.0) }
     ensures here { IfNone result
-        ((page : ℕ) → IsAreaPage (memory_of (S.bytes storage.now) (S.keys storage.now)) word.now page
-        → IsHere (length (S.bytes storage.now)) (S.present storage.now) page) }
+        ((page : ℕ) → IsAreaPage (S.memory storage.now) word.now page
+        → IsHere (length (S.memory storage.now).bytes) (S.present storage.now) page) }
 {
     if !has_area(word) {
         return None;

@@ -3,7 +3,6 @@ ghost use Rattle.std.specs.Prelude.{◌≡◌, ◌%◌, IfOk, length};
 ghost use Rattle.cp_needs.specs.Judged.{AreNotes, IfAbsent, IfNotes, IfOpen};
 ghost use Rattle.cp_needs.specs.Needs.{IsClash, IsFixed, IsHeld, IsProgramPage};
 ghost use Rattle.s370_store.specs.Access.{IsAway};
-ghost use Rattle.s370_walk.specs.Hardware.{memory_of};
 
 use crate::fixed::meet;
 use crate::notes::{Notes, notes_of};
@@ -30,19 +29,13 @@ pub(crate) fn judge<S: Storage>(
 ) -> Result<Judged, AllocError>
     requires even { start % 8 ≡ 0 }
     ensures away { IfOk result
-        (λ told. IfAbsent told (IsAway (length (S.bytes storage.now)) (S.present storage.now))) }
-    ensures needed { IfOk result
-        (λ told. IfAbsent told (IsProgramPage (memory_of (S.bytes storage.now) (S.keys storage.now)) start)) }
-    ensures fixed { IfOk result
-        (λ told. IfNotes told (λ notes. IsFixed (memory_of (S.bytes storage.now) (S.keys storage.now)) start)) }
+        (λ told. IfAbsent told (IsAway (length (S.memory storage.now).bytes) (S.present storage.now))) }
+    ensures needed { IfOk result (λ told. IfAbsent told (IsProgramPage (S.memory storage.now) start)) }
+    ensures fixed { IfOk result (λ told. IfNotes told (λ notes. IsFixed (S.memory storage.now) start)) }
     ensures held { IfOk result
-        (λ told. IfNotes told
-        (λ notes. IsHeld (memory_of (S.bytes storage.now) (S.keys storage.now)) start (S.present storage.now))) }
-    ensures noted { IfOk result
-        (λ told. IfNotes told
-        (λ notes. AreNotes (memory_of (S.bytes storage.now) (S.keys storage.now)) start notes)) }
-    ensures open { IfOk result
-        (λ told. IfOpen told (IsClash (memory_of (S.bytes storage.now) (S.keys storage.now)) start)) }
+        (λ told. IfNotes told (λ notes. IsHeld (S.memory storage.now) start (S.present storage.now))) }
+    ensures noted { IfOk result (λ told. IfNotes told (λ notes. AreNotes (S.memory storage.now) start notes)) }
+    ensures open { IfOk result (λ told. IfOpen told (IsClash (S.memory storage.now) start)) }
 {
     let words = match words_of(alloc, storage, start)? {
         Ok(words) => words,

@@ -1,7 +1,6 @@
 //! A program's words as they stood, and whether they stand so still.
 ghost use Rattle.std.specs.Prelude.{◌≡◌, ◌+◌, ◌*◌, ◌%◌, ◌<◌, ◌≤◌, All, Contains, IfOk, OnOk, false, length, true, ℕ};
 ghost use Rattle.s370_store.specs.Access.{IsAway, IsGranted};
-ghost use Rattle.s370_walk.specs.Hardware.{memory_of};
 ghost use Rattle.cp_needs.specs.Kept.{IsAdded, IfFound, IfOpen, IfPages, IfText, IsAsItStood, IsPaged, IsPagedOnly, IsText, IsTextOnly, fullword_at};
 ghost use Rattle.cp_needs.specs.declared.kept.Fullword.{Fullword};
 ghost use Rattle.cp_needs.specs.Needs.{IsClash, IsFixed, IsHeld, IsProgramPage};
@@ -22,8 +21,8 @@ pub struct Fullword {
 
 /// Whether a fullword stands, on a page that is present, as it stood.
 fn is_as_it_stood<S: Storage>(storage: &S, word: &Fullword) -> bool
-    ensures same { result ≡ true → IsAsItStood (S.bytes storage.now) (S.present storage.now) word.now }
-    ensures other { IsAsItStood (S.bytes storage.now) (S.present storage.now) word.now → result ≡ true }
+    ensures same { result ≡ true → IsAsItStood (S.memory storage.now).bytes (S.present storage.now) word.now }
+    ensures other { IsAsItStood (S.memory storage.now).bytes (S.present storage.now) word.now → result ≡ true }
 {
     match storage.check(
         Range {
@@ -43,8 +42,8 @@ fn is_as_it_stood<S: Storage>(storage: &S, word: &Fullword) -> bool
 
 /// Whether each of these fullwords stands, on a page that is present, as it stood.
 pub fn stands<S: Storage>(storage: &S, text: &[Fullword]) -> bool
-    ensures same { result ≡ true → All (IsAsItStood (S.bytes storage.now) (S.present storage.now)) text.now }
-    ensures other { All (IsAsItStood (S.bytes storage.now) (S.present storage.now)) text.now → result ≡ true }
+    ensures same { result ≡ true → All (IsAsItStood (S.memory storage.now).bytes (S.present storage.now)) text.now }
+    ensures other { All (IsAsItStood (S.memory storage.now).bytes (S.present storage.now)) text.now → result ≡ true }
 {
     for word in text {
         if !is_as_it_stood(storage, word) {
@@ -56,8 +55,8 @@ pub fn stands<S: Storage>(storage: &S, text: &[Fullword]) -> bool
 
 /// The fullword with this number, as it stands.
 fn fullword_from<S: Storage>(storage: &S, start: u32) -> Fullword
-    requires { IsGranted (length (S.bytes storage.now)) (S.present storage.now) start 4 }
-    ensures { result ≡ fullword_at (S.bytes storage.now) start }
+    requires { IsGranted (length (S.memory storage.now).bytes) (S.present storage.now) start 4 }
+    ensures { result ≡ fullword_at (S.memory storage.now).bytes start }
 {
     let mut bytes = [0u8; 4];
     storage.load(start, &mut bytes);
@@ -66,9 +65,10 @@ fn fullword_from<S: Storage>(storage: &S, start: u32) -> Fullword
 
 /// Adds the fullword of a number, a fourth of its address, as it stands, where it lies in storage.
 fn add<S: Storage>(storage: &S, number: u32, text: &mut Vec<Fullword>) -> Result<(), AllocError>
-    requires { number * 4 + 4 ≤ length (S.bytes storage.now)
-        → IsGranted (length (S.bytes storage.now)) (S.present storage.now) (number * 4) 4 }
-    ensures { OnOk result (IsAdded (S.bytes storage.now) (S.present storage.now) number text.old.items text.new.items) }
+    requires { number * 4 + 4 ≤ length (S.memory storage.now).bytes
+        → IsGranted (length (S.memory storage.now).bytes) (S.present storage.now) (number * 4) 4 }
+    ensures { OnOk result
+        (IsAdded (S.memory storage.now).bytes (S.present storage.now) number text.old.items text.new.items) }
 {
     let start = u64::from(number) * 4;
     if start + 4 > u64::from(storage.size()) {
@@ -84,14 +84,15 @@ fn fullwords<S: Storage>(
     storage: &S,
     numbers: &[u32],
 ) -> Result<Vec<Fullword>, AllocError>
-    requires here { (n : ℕ) → Contains numbers.now n → n * 4 + 4 ≤ length (S.bytes storage.now)
-        → IsGranted (length (S.bytes storage.now)) (S.present storage.now) (n * 4) 4 }
-    ensures all { IfOk result (λ text. (n : ℕ) → Contains numbers.now n → n * 4 + 4 ≤ length (S.bytes storage.now)
-        → Contains text.items (fullword_at (S.bytes storage.now) (n * 4))) }
+    requires here { (n : ℕ) → Contains numbers.now n → n * 4 + 4 ≤ length (S.memory storage.now).bytes
+        → IsGranted (length (S.memory storage.now).bytes) (S.present storage.now) (n * 4) 4 }
+    ensures all { IfOk result (λ text. (n : ℕ) → Contains numbers.now n
+        → n * 4 + 4 ≤ length (S.memory storage.now).bytes
+        → Contains text.items (fullword_at (S.memory storage.now).bytes (n * 4))) }
     ensures stands { IfOk result
-        (λ text. All (IsAsItStood (S.bytes storage.now) (S.present storage.now)) text.items) }
+        (λ text. All (IsAsItStood (S.memory storage.now).bytes (S.present storage.now)) text.items) }
     ensures only { IfOk result (λ text. (w : Fullword) → Contains text.items w
-        → (n : ℕ) × Contains numbers.now n × (w ≡ fullword_at (S.bytes storage.now) (n * 4))) }
+        → (n : ℕ) × Contains numbers.now n × (w ≡ fullword_at (S.memory storage.now).bytes (n * 4))) }
 {
     let mut text = Vec::new(alloc);
     for number in numbers {
@@ -117,30 +118,21 @@ pub enum Found {
 /// error is memory.
 pub fn look<S: Storage>(alloc: Global, storage: &S, start: u32) -> Result<Found, AllocError>
     requires even { start % 8 ≡ 0 }
-    requires whole { length (S.bytes storage.now) % 4 ≡ 0 }
+    requires whole { length (S.memory storage.now).bytes % 4 ≡ 0 }
     ensures away { IfOk result
-        (λ found. IfFound found (IsAway (length (S.bytes storage.now)) (S.present storage.now))) }
-    ensures needed { IfOk result
-        (λ found. IfFound found (IsProgramPage (memory_of (S.bytes storage.now) (S.keys storage.now)) start)) }
-    ensures fixed { IfOk result
-        (λ found. IfText found (λ text. IsFixed (memory_of (S.bytes storage.now) (S.keys storage.now)) start)) }
+        (λ found. IfFound found (IsAway (length (S.memory storage.now).bytes) (S.present storage.now))) }
+    ensures needed { IfOk result (λ found. IfFound found (IsProgramPage (S.memory storage.now) start)) }
+    ensures fixed { IfOk result (λ found. IfText found (λ text. IsFixed (S.memory storage.now) start)) }
     ensures held { IfOk result
-        (λ found. IfText found
-        (λ text. IsHeld (memory_of (S.bytes storage.now) (S.keys storage.now)) start (S.present storage.now))) }
-    ensures text { IfOk result
-        (λ found. IfText found (λ text. IsText (memory_of (S.bytes storage.now) (S.keys storage.now)) start text)) }
-    ensures only { IfOk result
-        (λ found. IfText found
-        (λ text. IsTextOnly (memory_of (S.bytes storage.now) (S.keys storage.now)) start text)) }
+        (λ found. IfText found (λ text. IsHeld (S.memory storage.now) start (S.present storage.now))) }
+    ensures text { IfOk result (λ found. IfText found (λ text. IsText (S.memory storage.now) start text)) }
+    ensures only { IfOk result (λ found. IfText found (λ text. IsTextOnly (S.memory storage.now) start text)) }
     ensures stands { IfOk result
-        (λ found. IfText found (λ text. All (IsAsItStood (S.bytes storage.now) (S.present storage.now)) text)) }
-    ensures pages { IfOk result
-        (λ found. IfPages found (λ pages. IsPaged (memory_of (S.bytes storage.now) (S.keys storage.now)) start pages)) }
+        (λ found. IfText found (λ text. All (IsAsItStood (S.memory storage.now).bytes (S.present storage.now)) text)) }
+    ensures pages { IfOk result (λ found. IfPages found (λ pages. IsPaged (S.memory storage.now) start pages)) }
     ensures pages_only { IfOk result
-        (λ found. IfPages found
-        (λ pages. IsPagedOnly (memory_of (S.bytes storage.now) (S.keys storage.now)) start pages)) }
-    ensures open { IfOk result
-        (λ found. IfOpen found (IsClash (memory_of (S.bytes storage.now) (S.keys storage.now)) start)) }
+        (λ found. IfPages found (λ pages. IsPagedOnly (S.memory storage.now) start pages)) }
+    ensures open { IfOk result (λ found. IfOpen found (IsClash (S.memory storage.now) start)) }
 {
     let notes = match judge(alloc, storage, start)? {
         Judged::Page(page) => return Ok(Found::Page(page)),

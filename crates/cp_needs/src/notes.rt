@@ -5,7 +5,6 @@ ghost use Rattle.cp_needs.specs.Areas.{IsAreaByte, IsListByte};
 ghost use Rattle.cp_needs.specs.Needs.{IsDataByte, IsTextByte};
 ghost use Rattle.cp_needs.specs.Noted.{AreMarked, AreStored, ArePaged, IsDataOf, IsEntryByte, IsFilled, IsFilledAt, IsFilledBy, IsPieceByte, IsTextOf};
 ghost use Rattle.cp_needs.specs.Words.{IsAreaPage, IsHere, IsPageAt};
-ghost use Rattle.s370_walk.specs.Hardware.{memory_of};
 
 use crate::areas::{block_here, bytes_in_block, list_address};
 use cp_graph::has_area;
@@ -48,17 +47,14 @@ fn note_piece(filled: &mut Vec<Range>, word: &Word, piece: Range) -> Result<(), 
 
 /// Notes the list and the area of a word, whose pages are present, block by block.
 fn note_area<S: Storage>(storage: &S, word: &Word, notes: &mut Notes) -> Result<(), AllocError>
-    requires here { (page : ℕ) → IsAreaPage (memory_of (S.bytes storage.now) (S.keys storage.now)) word.now page
-        → IsHere (length (S.bytes storage.now)) (S.present storage.now) page }
+    requires here { (page : ℕ) → IsAreaPage (S.memory storage.now) word.now page
+        → IsHere (length (S.memory storage.now).bytes) (S.present storage.now) page }
     ensures marked { OnOk result
-        (AreMarked (IsListByte (memory_of (S.bytes storage.now) (S.keys storage.now)) word.now)
-        notes.old.text.items notes.new.text.items) }
+        (AreMarked (IsListByte (S.memory storage.now) word.now) notes.old.text.items notes.new.text.items) }
     ensures stored { OnOk result
-        (AreStored (IsFilled (memory_of (S.bytes storage.now) (S.keys storage.now)) word.now)
-        notes.old.filled.items notes.new.filled.items) }
+        (AreStored (IsFilled (S.memory storage.now) word.now) notes.old.filled.items notes.new.filled.items) }
     ensures paged { OnOk result
-        (ArePaged (IsAreaByte (memory_of (S.bytes storage.now) (S.keys storage.now)) word.now)
-        notes.old.pages.items notes.new.pages.items) }
+        (ArePaged (IsAreaByte (S.memory storage.now) word.now) notes.old.pages.items notes.new.pages.items) }
 {
     if !has_area(word) {
         return Ok(());
@@ -90,17 +86,14 @@ fn note_area<S: Storage>(storage: &S, word: &Word, notes: &mut Notes) -> Result<
 /// Notes the word at an address, whose pages are present.
 fn note_word<S: Storage>(storage: &S, address: u32, notes: &mut Notes) -> Result<(), AllocError>
     requires even { address % 8 ≡ 0 }
-    requires here { (page : ℕ) → IsPageAt (memory_of (S.bytes storage.now) (S.keys storage.now)) address page
-        → IsHere (length (S.bytes storage.now)) (S.present storage.now) page }
+    requires here { (page : ℕ) → IsPageAt (S.memory storage.now) address page
+        → IsHere (length (S.memory storage.now).bytes) (S.present storage.now) page }
     ensures marked { OnOk result
-        (AreMarked (IsTextByte (memory_of (S.bytes storage.now) (S.keys storage.now)) address)
-        notes.old.text.items notes.new.text.items) }
+        (AreMarked (IsTextByte (S.memory storage.now) address) notes.old.text.items notes.new.text.items) }
     ensures stored { OnOk result
-        (AreStored (IsFilledAt (memory_of (S.bytes storage.now) (S.keys storage.now)) address)
-        notes.old.filled.items notes.new.filled.items) }
+        (AreStored (IsFilledAt (S.memory storage.now) address) notes.old.filled.items notes.new.filled.items) }
     ensures paged { OnOk result
-        (ArePaged (IsDataByte (memory_of (S.bytes storage.now) (S.keys storage.now)) address)
-        notes.old.pages.items notes.new.pages.items) }
+        (ArePaged (IsDataByte (S.memory storage.now) address) notes.old.pages.items notes.new.pages.items) }
 {
     notes.text.push(address / 4)?;
     notes.text.push(address / 4 + 1)?;
@@ -123,17 +116,14 @@ pub(crate) fn notes_of<S: Storage>(
 ) -> Result<Notes, AllocError>
     requires even { (i : ℕ) → i < length words.now → slice_index words.now i % 8 ≡ 0 }
     requires here { (i page : ℕ) → i < length words.now
-        → IsPageAt (memory_of (S.bytes storage.now) (S.keys storage.now)) (slice_index words.now i) page
-        → IsHere (length (S.bytes storage.now)) (S.present storage.now) page }
+        → IsPageAt (S.memory storage.now) (slice_index words.now i) page
+        → IsHere (length (S.memory storage.now).bytes) (S.present storage.now) page }
     ensures marked { IfOk result
-        (λ notes. AreMarked (IsTextOf (memory_of (S.bytes storage.now) (S.keys storage.now)) words.now (length words.now))
-        [] notes.text.items) }
+        (λ notes. AreMarked (IsTextOf (S.memory storage.now) words.now (length words.now)) [] notes.text.items) }
     ensures stored { IfOk result
-        (λ notes. AreStored (IsFilledBy (memory_of (S.bytes storage.now) (S.keys storage.now)) words.now (length words.now))
-        [] notes.filled.items) }
+        (λ notes. AreStored (IsFilledBy (S.memory storage.now) words.now (length words.now)) [] notes.filled.items) }
     ensures paged { IfOk result
-        (λ notes. ArePaged (IsDataOf (memory_of (S.bytes storage.now) (S.keys storage.now)) words.now (length words.now))
-        [] notes.pages.items) }
+        (λ notes. ArePaged (IsDataOf (S.memory storage.now) words.now (length words.now)) [] notes.pages.items) }
 {
     let mut notes = Notes {
         text: Vec::new(alloc),

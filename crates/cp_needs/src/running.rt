@@ -4,7 +4,6 @@ ghost use Rattle.cp_needs.specs.Words.{IsFixedStill};
 ghost use Rattle.s370_channel.specs.Guest.{guest_written};
 ghost use Rattle.s370_channel.specs.Progress.{MatchStuck, setting};
 ghost use Rattle.s370_channel.specs.declared.running.ChannelError.TheVariants as errors;
-ghost use Rattle.s370_walk.specs.Hardware.{memory_of};
 ghost use Rattle.s370_walk.specs.Walk.{Fetching, Over, Reaches, live, start_spot};
 
 use s370_channel::{ChannelError, Guest, Limits, run};
@@ -19,16 +18,15 @@ pub fn run_held<S: Storage, D: Device>(
     limits: &Limits,
     device: &mut D,
 ) -> Result<Ending, ChannelError>
-    requires still { IsFixedStill (memory_of (S.bytes storage.old) (S.keys storage.old)) (S.present storage.old) start }
+    requires still { IsFixedStill (S.memory storage.old) (S.present storage.old) start }
     ensures reaches { IfOk result
         (λ ending. Reaches (live guest_written) (setting D.machine limits.now)
-        (Fetching (start_spot start) (memory_of (S.bytes storage.old) (S.keys storage.old)) device.old)
-        (Over ending (memory_of (S.bytes storage.new) (S.keys storage.new)) device.new)) }
+        (Fetching (start_spot start) (S.memory storage.old) device.old)
+        (Over ending (S.memory storage.new) device.new)) }
     ensures memory { IfErr result (λ error. error ≡ errors.Memory) }
     ensures short { IfErr result
         (MatchStuck guest_written (setting D.machine limits.now) D.needs_memory (S.present storage.old)
-        (Fetching (start_spot start) (memory_of (S.bytes storage.old) (S.keys storage.old)) device.old)) }
-    ensures keys { S.keys storage.new ≡ S.keys storage.old }
+        (Fetching (start_spot start) (S.memory storage.old) device.old)) }
     ensures rest { S.Keeps storage.old storage.new }
 {
     run(&Guest, storage, start, limits, device)

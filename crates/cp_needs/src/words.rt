@@ -4,7 +4,6 @@ ghost use Rattle.cp_graph.specs.Marks.{unmarked};
 ghost use Rattle.cp_needs.specs.Needs.{IsHeld, IsProgramPage};
 ghost use Rattle.cp_needs.specs.Words.{AreSeen, AreSteps, AreWords, IsAmong, IsFollowed, IsPageAt, IsVisited};
 ghost use Rattle.s370_store.specs.Access.{IsAway};
-ghost use Rattle.s370_walk.specs.Hardware.{memory_of};
 
 use crate::areas::absent_in_area;
 use crate::pages::absent_at;
@@ -48,14 +47,12 @@ fn visit<S: Storage>(
     requires even { address % 8 ≡ 0 }
     requires known { AreSeen words.old.items seen.old }
     ensures away { IfOk result
-        (λ found. IfSome found (λ page. IsAway (length (S.bytes storage.now)) (S.present storage.now) page.0)) }
-    ensures asked { IfOk result (λ found. IfSome found
-        (λ page. IsPageAt (memory_of (S.bytes storage.now) (S.keys storage.now)) address page.0)) }
+        (λ found. IfSome found (λ page. IsAway (length (S.memory storage.now).bytes) (S.present storage.now) page.0)) }
+    ensures asked { IfOk result (λ found. IfSome found (λ page. IsPageAt (S.memory storage.now) address page.0)) }
     ensures steps { IfOk result (λ found. IfNone found
-        (AreSteps (memory_of (S.bytes storage.now) (S.keys storage.now)) address words.old.items words.new.items)) }
+        (AreSteps (S.memory storage.now) address words.old.items words.new.items)) }
     ensures visited { IfOk result (λ found. IfNone found
-        (IsVisited (memory_of (S.bytes storage.now) (S.keys storage.now)) (S.present storage.now) (length seen.new)
-        words.new.items address)) }
+        (IsVisited (S.memory storage.now) (S.present storage.now) (length seen.new) words.new.items address)) }
     ensures known { IfOk result (λ found. IfNone found (AreSeen words.new.items seen.new)) }
     ensures count { IfOk result (λ found. IfNone found
         (vec_len words.new + unmarked seen.new ≡ vec_len words.old + unmarked seen.old)) }
@@ -84,14 +81,12 @@ pub(crate) fn words_of<S: Storage>(
     start: u32,
 ) -> Result<Result<Vec<u32>, Page>, AllocError>
     requires even { start % 8 ≡ 0 }
-    ensures words { IfOk result (λ found. IfOk found
-        (λ words. AreWords (memory_of (S.bytes storage.now) (S.keys storage.now)) start words.items)) }
+    ensures words { IfOk result (λ found. IfOk found (λ words. AreWords (S.memory storage.now) start words.items)) }
     ensures held { IfOk result (λ found. IfOk found
-        (λ words. IsHeld (memory_of (S.bytes storage.now) (S.keys storage.now)) start (S.present storage.now))) }
+        (λ words. IsHeld (S.memory storage.now) start (S.present storage.now))) }
     ensures away { IfOk result (λ found. IfErr found
-        (λ page. IsAway (length (S.bytes storage.now)) (S.present storage.now) page.0)) }
-    ensures needed { IfOk result (λ found. IfErr found
-        (λ page. IsProgramPage (memory_of (S.bytes storage.now) (S.keys storage.now)) start page.0)) }
+        (λ page. IsAway (length (S.memory storage.now).bytes) (S.present storage.now) page.0)) }
+    ensures needed { IfOk result (λ found. IfErr found (λ page. IsProgramPage (S.memory storage.now) start page.0)) }
 {
     let mut seen = Slots::new(alloc, (storage.size() as usize + 4095) / 4096 * 512);
     let mut words = Vec::new(alloc);

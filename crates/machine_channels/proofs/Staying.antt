@@ -19,7 +19,8 @@ use Rattle.s370_walk.specs.declared.parts.Position.{Position}
 use Rattle.s370_walk.specs.declared.parts.Progress.{Progress}
 use Rattle.s370_walk.specs.declared.parts.Progress.TheVariants.{At, Ended}
 use Rattle.s370_walk.specs.declared.parts.Word.{Word}
-use Rattle.s370_walk.specs.Hardware.{Machine, Memory, fault_of, area}
+use Rattle.s370_store.specs.Memory.{Memory}
+use Rattle.s370_walk.specs.Hardware.{Machine, fault_of, area}
 use Rattle.s370_walk.specs.Stuck.{size_in}
 use Rattle.s370_walk.specs.Walk.{Form, Setting, State, Written, live, Fetching, Moving, Over, Verdict, Bad, Jump, Good, next, walk, Reaches, fetched, obeyed, entered, answered, judged, fails, closed, closes, state_of, moved, rest, tells_length, chains_data, order_of, no_status, given_at, given_to, taken_at, taken_from, byte_moved, stepped, skips, start_spot}
 use Rattle.s370_channel.specs.declared.running.ChannelError.{ChannelError}

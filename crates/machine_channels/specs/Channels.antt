@@ -2,7 +2,8 @@
 use Rattle.std.specs.Prelude.{ℕ, ◌≡◌, ◌*◌, ◌<◌, ◌⊎◌, Bool, true, List, set, slice_get, Option, Some, None}
 use Rattle.s370_store.specs.Access.{IsAway}
 use Rattle.s370_walk.specs.declared.parts.Ending.{Ending}
-use Rattle.s370_walk.specs.Hardware.{Machine, Memory}
+use Rattle.s370_store.specs.Memory.{Memory}
+use Rattle.s370_walk.specs.Hardware.{Machine}
 use Rattle.s370_walk.specs.Short.{nothing_needed}
 use Rattle.s370_walk.specs.Walk.{Over, Reaches, live}
 use Rattle.s370_channel.specs.declared.running.ChannelError.{ChannelError}

@@ -1,7 +1,7 @@
 //! Who runs the programs of a machine's devices, and has its disks.
 ghost use Rattle.std.specs.Prelude.{◌≡◌, ◌*◌, ◌<◌, ℕ, Bool, true, false, List, [], length, map, slice_get, IfErr, IfOk, IfSome, OnOk};
 ghost use Rattle.std.specs.List.{position};
-ghost use Rattle.s370_walk.specs.Hardware.{Memory, memory_of};
+ghost use Rattle.s370_store.specs.Memory.{Memory};
 ghost use Rattle.s370_channel.specs.Guest.{guest_written};
 ghost use Rattle.s370_channel.specs.Loading.{MatchLoading};
 ghost use Rattle.s370_channel.specs.Reading.{Reading};
@@ -90,22 +90,22 @@ pub trait Channels<S: Storage>: Disks {
         requires { IsReady storage.old }
         ensures walk { IfOk result
             (λ ending. Walks reads D.Device.machine start
-            (memory_of (S.bytes storage.old) (S.keys storage.old)) device.old ending
-            (memory_of (S.bytes storage.new) (S.keys storage.new)) device.new) }
+            (S.memory storage.old) device.old ending
+            (S.memory storage.new) device.new) }
         ensures disks { Self.disks self.new ≡ Self.disks self.old }
         ensures stopped { is_whole ≡ false
             → IfErr result (IsStopped D.Device.machine D.Device.needs_memory (S.present storage.old) start
-            (memory_of (S.bytes storage.old) (S.keys storage.old)) device.old) }
+            (S.memory storage.old) device.old) }
         ensures whole { let needs = ProgramNeeds holds D.Device.machine start
-            (memory_of (S.bytes storage.old) (S.keys storage.old)) device.old in
+            (S.memory storage.old) device.old in
             is_whole ≡ true
-            → IfErr result (WhereOut (length (S.bytes storage.old)) needs (NoRoom IsOut IsFilled S.present storage.new needs)
-            ((S.bytes storage.new ≡ S.bytes storage.old) × (device.new ≡ device.old))) }
+            → IfErr result (WhereOut (length (S.memory storage.old).bytes) needs
+            (NoRoom IsOut IsFilled S.present storage.new needs)
+            ((S.memory storage.new ≡ S.memory storage.old) × (device.new ≡ device.old))) }
         ensures came { Brings Came storage.old (ProgramNeeds holds D.Device.machine start
-            (memory_of (S.bytes storage.old) (S.keys storage.old)) device.old) storage.new }
+            (S.memory storage.old) device.old) storage.new }
         ensures ready { IsReady storage.new }
-        ensures others { Self.KeepsOthers self.old self.new }
-        ensures keys { S.keys storage.new ≡ S.keys storage.old };
+        ensures others { Self.KeepsOthers self.old self.new };
 
     /// The same for the disk of this index, which is at rest after its program.
     fn run_disk(
@@ -117,21 +117,21 @@ pub trait Channels<S: Storage>: Disks {
         requires inside { index < length (Self.disks self.old) }
         requires ready { IsReady storage.old }
         ensures walk { IfOk result
-            (λ ending. WalksDisk reads start (memory_of (S.bytes storage.old) (S.keys storage.old))
-            (Self.disks self.old) index ending (memory_of (S.bytes storage.new) (S.keys storage.new)) (Self.disks self.new)) }
+            (λ ending. WalksDisk reads start (S.memory storage.old)
+            (Self.disks self.old) index ending (S.memory storage.new) (Self.disks self.new)) }
         ensures stopped { is_whole ≡ false
             → IfErr result (StopsDisk (S.present storage.old) start
-            (memory_of (S.bytes storage.old) (S.keys storage.old)) (slice_get (Self.disks self.old) index)) }
-        ensures whole { let needs = DiskNeeds holds start (memory_of (S.bytes storage.old) (S.keys storage.old))
+            (S.memory storage.old) (slice_get (Self.disks self.old) index)) }
+        ensures whole { let needs = DiskNeeds holds start (S.memory storage.old)
             (slice_get (Self.disks self.old) index) in
             is_whole ≡ true
-            → IfErr result (WhereOut (length (S.bytes storage.old)) needs (NoRoom IsOut IsFilled S.present storage.new needs)
-            ((S.bytes storage.new ≡ S.bytes storage.old) × (Self.disks self.new ≡ Self.disks self.old))) }
-        ensures came { Brings Came storage.old (DiskNeeds holds start (memory_of (S.bytes storage.old) (S.keys storage.old))
+            → IfErr result (WhereOut (length (S.memory storage.old).bytes) needs
+            (NoRoom IsOut IsFilled S.present storage.new needs)
+            ((S.memory storage.new ≡ S.memory storage.old) × (Self.disks self.new ≡ Self.disks self.old))) }
+        ensures came { Brings Came storage.old (DiskNeeds holds start (S.memory storage.old)
             (slice_get (Self.disks self.old) index)) storage.new }
         ensures ready { IsReady storage.new }
-        ensures others { Self.KeepsOthers self.old self.new }
-        ensures keys { S.keys storage.new ≡ S.keys storage.old };
+        ensures others { Self.KeepsOthers self.old self.new };
 
     /// The program of an initial program loading runs, for a device that is no disk.
     fn load<D: TriedLoading>(
@@ -141,24 +141,24 @@ pub trait Channels<S: Storage>: Disks {
     ) -> Result<Ending, ChannelError>
         requires { IsReady storage.old }
         ensures walk { IfOk result
-            (λ ending. WalksLoading D.Device.machine (memory_of (S.bytes storage.old) (S.keys storage.old))
-            device.old ending (memory_of (S.bytes storage.new) (S.keys storage.new)) device.new) }
+            (λ ending. WalksLoading D.Device.machine (S.memory storage.old)
+            device.old ending (S.memory storage.new) device.new) }
         ensures disks { Self.disks self.new ≡ Self.disks self.old }
         ensures stopped { is_whole ≡ false
             → IfErr result (MatchLoading guest_written D.Device.machine D.Device.needs_memory (S.present storage.old)
-            (memory_of (S.bytes storage.old) (S.keys storage.old)) device.old) }
-        ensures whole { let needs = LoadNeeds D.Device.machine (memory_of (S.bytes storage.old) (S.keys storage.old))
+            (S.memory storage.old) device.old) }
+        ensures whole { let needs = LoadNeeds D.Device.machine (S.memory storage.old)
             device.old in
             is_whole ≡ true
-            → IfErr result (WhereOut (length (S.bytes storage.old)) needs (NoRoom IsOut IsFilled S.present storage.new needs)
-            ((S.bytes storage.new ≡ S.bytes storage.old) × (device.new ≡ device.old))) }
+            → IfErr result (WhereOut (length (S.memory storage.old).bytes) needs
+            (NoRoom IsOut IsFilled S.present storage.new needs)
+            ((S.memory storage.new ≡ S.memory storage.old) × (device.new ≡ device.old))) }
         ensures there { is_whole ≡ true → OnOk result (S.present storage.new 0 ≡ true) }
         ensures same { is_whole ≡ false → S.present storage.new ≡ S.present storage.old }
         ensures came { Brings Came storage.old (LoadNeeds D.Device.machine
-            (memory_of (S.bytes storage.old) (S.keys storage.old)) device.old) storage.new }
+            (S.memory storage.old) device.old) storage.new }
         ensures ready { IsReady storage.new }
-        ensures others { Self.KeepsOthers self.old self.new }
-        ensures keys { S.keys storage.new ≡ S.keys storage.old };
+        ensures others { Self.KeepsOthers self.old self.new };
 
     /// The disks are reset, and the program of an initial program loading runs on that of this index, which is at rest
     /// after it. Where that is refused for want of room they aren't reset either.
@@ -166,23 +166,23 @@ pub trait Channels<S: Storage>: Disks {
         requires inside { index < length (Self.disks self.old) }
         requires ready { IsReady storage.old }
         ensures walk { IfOk result
-            (λ ending. LoadsDisk (memory_of (S.bytes storage.old) (S.keys storage.old))
+            (λ ending. LoadsDisk (S.memory storage.old)
             (map reset_disk (Self.disks self.old)) index ending
-            (memory_of (S.bytes storage.new) (S.keys storage.new)) (Self.disks self.new)) }
+            (S.memory storage.new) (Self.disks self.new)) }
         ensures lacks { is_whole ≡ false
-            → IfErr result (LacksPage (length (S.bytes storage.old)) (S.present storage.old)) }
-        ensures whole { let needs = DiskLoads (memory_of (S.bytes storage.old) (S.keys storage.old))
+            → IfErr result (LacksPage (length (S.memory storage.old).bytes) (S.present storage.old)) }
+        ensures whole { let needs = DiskLoads (S.memory storage.old)
             (slice_get (map reset_disk (Self.disks self.old)) index) in
             is_whole ≡ true
-            → IfErr result (WhereOut (length (S.bytes storage.old)) needs (NoRoom IsOut IsFilled S.present storage.new needs)
-            ((S.bytes storage.new ≡ S.bytes storage.old) × (Self.disks self.new ≡ Self.disks self.old))) }
+            → IfErr result (WhereOut (length (S.memory storage.old).bytes) needs
+            (NoRoom IsOut IsFilled S.present storage.new needs)
+            ((S.memory storage.new ≡ S.memory storage.old) × (Self.disks self.new ≡ Self.disks self.old))) }
         ensures there { is_whole ≡ true → OnOk result (S.present storage.new 0 ≡ true) }
         ensures same { is_whole ≡ false → S.present storage.new ≡ S.present storage.old }
-        ensures came { Brings Came storage.old (DiskLoads (memory_of (S.bytes storage.old) (S.keys storage.old))
+        ensures came { Brings Came storage.old (DiskLoads (S.memory storage.old)
             (slice_get (map reset_disk (Self.disks self.old)) index)) storage.new }
         ensures ready { IsReady storage.new }
-        ensures others { Self.KeepsOthers self.old self.new }
-        ensures keys { S.keys storage.new ≡ S.keys storage.old };
+        ensures others { Self.KeepsOthers self.old self.new };
 
     /// Where nothing is done, nothing comes.
     ghost came_none: { (s : S) → IsReady s → Came s [] s };
@@ -194,5 +194,9 @@ pub trait Channels<S: Storage>: Disks {
     ghost ready_kept: { (s t : S) → S.Keeps s t → IsReady s → IsReady t };
 
     /// A storage has always as many bytes.
-    ghost came_size: { (s t : S) (units : List (List ℕ)) → Came s units t → length (S.bytes t) ≡ length (S.bytes s) };
+    ghost came_size: { (s t : S) (units : List (List ℕ)) → Came s units t
+        → length (S.memory t).bytes ≡ length (S.memory s).bytes };
+
+    /// No program sets a key.
+    ghost came_keys: { (s t : S) (units : List (List ℕ)) → Came s units t → (S.memory t).keys ≡ (S.memory s).keys };
 }

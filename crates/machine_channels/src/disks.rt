@@ -1,6 +1,5 @@
 //! The disks of a machine, each at its address.
 ghost use Rattle.std.specs.Prelude.{◌≡◌, IfErr, IfOk, length, map};
-ghost use Rattle.s370_walk.specs.Hardware.{memory_of};
 ghost use Rattle.s370_channel.specs.Reading.{as_reached};
 ghost use Rattle.s370_channel.specs.Runs.{TellsAway};
 ghost use Rattle.machine_channels.specs.Channels.{LacksPage, RestsAfter, RestsLoaded, StopsForPage};
@@ -60,13 +59,12 @@ impl AttachedDisk {
     ) -> Result<Ending, ChannelError>
         ensures walk { IfOk result
             (λ ending. RestsAfter as_reached start
-            (memory_of (S.bytes storage.old) (S.keys storage.old)) self.old ending
-            (memory_of (S.bytes storage.new) (S.keys storage.new)) self.new) }
+            (S.memory storage.old) self.old ending
+            (S.memory storage.new) self.new) }
         ensures away { IfErr result (TellsAway (S.present storage.old)) }
         ensures stopped { IfErr result
             (StopsForPage disk_machine (S.present storage.old) start
-            (memory_of (S.bytes storage.old) (S.keys storage.old)) self.old.unit) }
-        ensures keys { S.keys storage.new ≡ S.keys storage.old }
+            (S.memory storage.old) self.old.unit) }
         ensures rest { S.Keeps storage.old storage.new }
     {
         let ending = run_live(storage, start, &mut self.unit)?;
@@ -79,10 +77,9 @@ impl AttachedDisk {
     #[tactic(auto, using(crate::proofs::Staying::disk_lacks))]
     pub(crate) fn load<S: Storage>(&mut self, storage: &mut S) -> Result<Ending, ChannelError>
         ensures walk { IfOk result
-            (λ ending. RestsLoaded (memory_of (S.bytes storage.old) (S.keys storage.old)) self.old ending
-            (memory_of (S.bytes storage.new) (S.keys storage.new)) self.new) }
-        ensures lacks { IfErr result (LacksPage (length (S.bytes storage.old)) (S.present storage.old)) }
-        ensures keys { S.keys storage.new ≡ S.keys storage.old }
+            (λ ending. RestsLoaded (S.memory storage.old) self.old ending
+            (S.memory storage.new) self.new) }
+        ensures lacks { IfErr result (LacksPage (length (S.memory storage.old).bytes) (S.present storage.old)) }
         ensures rest { S.Keeps storage.old storage.new }
     {
         let ending = run_ipl(&Guest, storage, &mut self.unit)?;

@@ -130,4 +130,6 @@ impl<S: Storage> Channels<S> for Own {
     ghost ready_kept = { λ s t kept ready. tt };
 
     ghost came_size = { λ s t units came. S.keeps_size s t came };
+
+    ghost came_keys = { λ s t units came. S.keeps_keys s t came };
 }

@@ -1,6 +1,5 @@
 //! Programs whose words are read as they are reached, in the storage of their own machine.
-ghost use Rattle.std.specs.Prelude.{◌≡◌, IfErr, IfOk, length};
-ghost use Rattle.s370_walk.specs.Hardware.{memory_of};
+ghost use Rattle.std.specs.Prelude.{IfErr, IfOk};
 ghost use Rattle.s370_channel.specs.Guest.{guest_written};
 ghost use Rattle.s370_channel.specs.Loading.{MatchLoading};
 ghost use Rattle.machine_channels.specs.Channels.{WalksLoading};
@@ -20,13 +19,12 @@ pub(crate) fn run_live<S: Storage, D: Device>(
 ) -> Result<Ending, ChannelError>
     ensures walk { IfOk result
         (λ ending. Walks as_reached D.machine start
-        (memory_of (S.bytes storage.old) (S.keys storage.old)) device.old ending
-        (memory_of (S.bytes storage.new) (S.keys storage.new)) device.new) }
+        (S.memory storage.old) device.old ending
+        (S.memory storage.new) device.new) }
     ensures away { IfErr result (TellsAway (S.present storage.old)) }
     ensures stopped { IfErr result
         (IsStopped D.machine D.needs_memory (S.present storage.old) start
-        (memory_of (S.bytes storage.old) (S.keys storage.old)) device.old) }
-    ensures keys { S.keys storage.new ≡ S.keys storage.old }
+        (S.memory storage.old) device.old) }
     ensures rest { S.Keeps storage.old storage.new }
 {
     let limits = Limits {
@@ -43,12 +41,11 @@ pub(crate) fn load_live<S: Storage, D: Device>(
     device: &mut D,
 ) -> Result<Ending, ChannelError>
     ensures walk { IfOk result
-        (λ ending. WalksLoading D.machine (memory_of (S.bytes storage.old) (S.keys storage.old)) device.old ending
-        (memory_of (S.bytes storage.new) (S.keys storage.new)) device.new) }
+        (λ ending. WalksLoading D.machine (S.memory storage.old) device.old ending
+        (S.memory storage.new) device.new) }
     ensures stuck { IfErr result
         (MatchLoading guest_written D.machine D.needs_memory (S.present storage.old)
-        (memory_of (S.bytes storage.old) (S.keys storage.old)) device.old) }
-    ensures keys { S.keys storage.new ≡ S.keys storage.old }
+        (S.memory storage.old) device.old) }
     ensures rest { S.Keeps storage.old storage.new }
 {
     run_ipl(&Guest, storage, device)

@@ -1,17 +1,15 @@
 -- Pages that a step asks for, each of them once: a few.
-use Rattle.std.proofs.Common.{◌≡◌, ℕ, zero, suc, ◌+◌, ◌*◌, ◌/◌, ◌<◌, ◌≤◌, ◌⊎◌, Bool, true, false, List, [], ◌∷◌, ◌++◌, length, get_or, Option, None, Some, refl, sym, ◌∙◌, subst, ap, arith, inl, inr}
+use Rattle.std.proofs.Common.{◌≡◌, ℕ, zero, suc, ◌+◌, ◌*◌, ◌/◌, ◌<◌, ◌≤◌, ◌⊎◌, Bool, true, false, List, [], ◌∷◌, ◌++◌, length, get_or, Option, None, Some, refl, sym, ◌∙◌, subst, arith, inl, inr}
 use Rattle.std.specs.Prelude.{Contains, if◌then◌else◌}
 use Rattle.std.proofs.lemmas.List.{length-append}
 use Rattle.std.proofs.lemmas.List.Elements.{Contains-append_cases}
 use Rattle.s370_store.specs.Access.{Test, Touches}
 use Rattle.s370_store.specs.declared.Access.TheVariants.{Fetch}
-use Rattle.s370_walk.specs.declared.parts.Position.{Position}
-use Rattle.s370_walk.specs.declared.parts.Word.{Word}
 use Rattle.s370_walk.specs.Blocks.{begins_block, block_number}
-use Rattle.s370_walk.specs.Hardware.{Machine, Memory, area}
+use Rattle.s370_walk.specs.Hardware.{Machine, area}
 use Rattle.s370_walk.specs.Stuck.{IsAsked, byte_asks, place_asks}
 use Rattle.s370_walk.specs.Walk.{State, Fetching, Moving, Over, index_of, is_indirect, place_in}
-use Rattle.s370_channel.specs.Guest.{guest_written, block_asks, later as later_place}
+use Rattle.s370_channel.specs.Guest.{guest_written, later as later_place}
 use Rattle.s370_channel.specs.Supplied.{AllSuch}
 
 -- no page is in the list twice

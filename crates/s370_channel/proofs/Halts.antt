@@ -1,26 +1,23 @@
 -- Where a run halts, and how far it has come.
-use Rattle.std.specs.Prelude.{ℕ, ◌+◌, ◌-◌, ◌*◌, ◌^◌, ◌≡◌, ◌<◌, ◌≤◌, ◌⊎◌, Bool, true, Result, Ok, Err, IfOk, IfErr, None, Some, length}
-use Rattle.std.proofs.Common.{arith, inl, inr, subst, ap, ◌∙◌, sym, refl}
+use Rattle.std.specs.Prelude.{ℕ, ◌+◌, ◌-◌, ◌*◌, ◌^◌, ◌≡◌, ◌<◌, ◌≤◌, ◌⊎◌, Bool, Result, Ok, Err, IfErr, Some, length}
+use Rattle.std.proofs.Common.{arith, inl, inr, subst, ap, ◌∙◌, sym}
 use Rattle.s370_store.specs.Access.{IsAway, Touches}
 use Rattle.s370_walk.specs.declared.parts.Ending.{Ending}
 use Rattle.s370_walk.specs.declared.parts.Order.{Order}
 use Rattle.s370_walk.specs.declared.parts.Position.{Position}
 use Rattle.s370_walk.specs.declared.parts.Spot.{Spot}
 use Rattle.s370_walk.specs.declared.parts.Transfer.{Transfer}
-use Rattle.s370_walk.specs.declared.parts.Word.{Word}
-use Rattle.s370_walk.specs.Hardware.{Memory, Machine}
-use Rattle.s370_walk.specs.Short.{IsShort}
+use Rattle.s370_store.specs.Memory.{Memory}
+use Rattle.s370_walk.specs.Hardware.{Machine}
 use Rattle.s370_walk.specs.Stuck.{IsStuck}
-use Rattle.s370_walk.specs.Walk.{Setting, State, Fetching, Moving, Over, Written, Reaches, Form, entered, live, moving, next}
+use Rattle.s370_walk.specs.Walk.{Setting, State, Fetching, Written, Reaches, live, next}
 use Rattle.s370_walk.proofs.Reaching.{reach_here, reach_on, reach_from, short_on}
-use Rattle.s370_channel.specs.declared.limits.Limits.{Limits}
 use Rattle.s370_channel.specs.declared.moving.Lacking.{Lacking}
-use Rattle.s370_channel.specs.declared.running.ChannelError.{ChannelError}
 use Rattle.s370_channel.specs.declared.running.Place.{Place}
 use Rattle.s370_channel.specs.declared.running.Place.TheVariants.{Next, Within}
 use Rattle.s370_channel.specs.declared.running.Halt.{Halt}
 use Rattle.s370_channel.specs.declared.running.Halt.TheVariants as halts
-use Rattle.s370_channel.specs.Halts.{Lacks, HaltsIn, HasMovedTo, HaltsAt, HasGone, HaltsOn, HaltsBeyond, IsReady, MatchHalt, MatchHaltBegun, error_of, place_weight, stands, MatchHaltLoading}
+use Rattle.s370_channel.specs.Halts.{HaltsIn, HasMovedTo, HaltsAt, HasGone, HaltsOn, HaltsBeyond, MatchHalt, error_of, place_weight, stands, MatchHaltLoading}
 use Rattle.s370_channel.specs.Loading.{MatchLoading, loading, loading_limits}
 use Rattle.s370_channel.specs.Progress.{MatchStuck, rest_of, setting, weight}
 

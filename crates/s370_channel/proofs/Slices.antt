@@ -11,7 +11,8 @@ use Rattle.s370_store.proofs.Puts.{put-nothing, length-put}
 use Rattle.s370_walk.specs.declared.parts.Position.{Position}
 use Rattle.s370_walk.specs.declared.parts.Kind.TheVariants.{Gives, Takes, TakesUpTo}
 use Rattle.s370_walk.specs.Blocks.{served}
-use Rattle.s370_walk.specs.Hardware.{Memory, area, fault_of, given, after_giving, after_taking, memory_of, put_byte, byte_at}
+use Rattle.s370_store.specs.Memory.{Memory, memory_of, with_stored}
+use Rattle.s370_walk.specs.Hardware.{area, fault_of, given, after_giving, after_taking, put_byte, byte_at}
 use Rattle.s370_walk.specs.Walk.{Form, Setting, State, Moving, Written, Reaches, next, live, rest, place_in, stepped, skips, given_to, given_at, moved, byte_moved, taken_from, taken_at}
 use Rattle.s370_walk.specs.declared.parts.Kind.{Kind}
 use Rattle.s370_channel.specs.declared.moving.Moved.{Moved}
@@ -159,13 +160,13 @@ last_is before a zero last some e = absurd (omega arith)
 last_is before a (suc n) last some e = let f : a + n ≡ last = omega arith in ap Some f
 
 -- the same in the words of the code
-pub gives_piece : {D : Type 0} (w : Written) (h : Setting D) {present : ℕ → Bool} {n a last : ℕ} {p : Position} {m : Memory} {d d' : D} {bytes keys : List ℕ} → 0 < n → n ≤ p.count → n ≤ p.transfer.left → p.transfer.kind ≡ Gives → skips p.word ≡ false
+pub gives_piece : {D : Type 0} (w : Written) (h : Setting D) {present : ℕ → Bool} {n a last : ℕ} {p : Position} {m m' : Memory} {d d' : D} → 0 < n → n ≤ p.count → n ≤ p.transfer.left → p.transfer.kind ≡ Gives → skips p.word ≡ false
     → ((k : ℕ) → k < n → h.machine.done (after_giving h.machine d k) ≡ false) → place_in w m p ≡ Some a → a % 2048 + n ≤ 2048 → a + n < 2 ^ 32 → IsGranted (length m.bytes) present a n → fault_of m h.key (area Store a n) ≡ None
-    → last + 1 ≡ a + n → bytes ≡ put m.bytes a (given h.machine d n) → keys ≡ m.keys → d' ≡ after_giving h.machine d n
-    → Reaches (live w) h (Moving p m d) (Moving (onward p n (Some last)) (memory_of bytes keys) d')
-gives_piece w h {n = n} {a = a} {last = last} {p = p} {m = m} {d = d} some count left gives all on at inside low granted fine e new kept moved_on =
+    → last + 1 ≡ a + n → m' ≡ with_stored m a (given h.machine d n) → d' ≡ after_giving h.machine d n
+    → Reaches (live w) h (Moving p m d) (Moving (onward p n (Some last)) m' d')
+gives_piece w h {n = n} {a = a} {last = last} {p = p} {m = m} {d = d} some count left gives all on at inside low granted fine e stored moved_on =
     reach_to w h (Moving p m d) _ _ (gives_slice w h n p m d a count left gives all on (λ _. at) inside low granted.inside fine)
-    (rw (last_is p.before a n last some e, new, kept, moved_on) refl)
+    (rw (last_is p.before a n last some e, stored, moved_on) refl)
 
 pub takes_piece : {D : Type 0} (w : Written) (h : Setting D) {present : ℕ → Bool} {n a last : ℕ} {p : Position} {m : Memory} {d d' : D} → 0 < n → n ≤ p.count → n ≤ p.transfer.left → p.transfer.kind ≢ Gives
     → ((bs : List ℕ) → length bs < n → h.machine.done (after_taking h.machine d bs) ≡ false) → place_in w m p ≡ Some a → a % 2048 + n ≤ 2048 → a + n < 2 ^ 32 → IsGranted (length m.bytes) present a n → fault_of m h.key (area Fetch a n) ≡ None

@@ -3,29 +3,26 @@ use Rattle.std.proofs.Common.{◌≡◌, ◌≢◌, ℕ, ◌<◌, Bool, true, fa
 use Rattle.std.proofs.lemmas.Bool.{lt-ltb}
 use Rattle.s370_store.specs.declared.Access.{Access}
 use Rattle.s370_store.specs.Access.{Test, IsAway, Touches, IsVerdict}
-use Rattle.s370_walk.specs.declared.parts.Order.{Order}
 use Rattle.s370_walk.specs.declared.parts.Position.{Position}
 use Rattle.s370_walk.specs.declared.parts.Spot.{Spot}
 use Rattle.s370_walk.specs.declared.parts.Word.{Word}
 use Rattle.s370_walk.specs.declared.parts.Transfer.{Transfer}
 use Rattle.s370_walk.specs.declared.parts.Kind.{Kind}
 use Rattle.s370_walk.specs.declared.parts.Kind.TheVariants.{Gives, Takes, TakesUpTo}
-use Rattle.s370_walk.specs.Hardware.{Memory, Machine, area}
-use Rattle.s370_walk.specs.Walk.{Setting, judged, Good, moving, State, Moving, Fetching, Written, Reaches, Form, next, live, rest, place_in}
+use Rattle.s370_store.specs.Memory.{Memory}
+use Rattle.s370_walk.specs.Hardware.{Machine, area}
+use Rattle.s370_walk.specs.Walk.{Setting, judged, Good, moving, State, Moving, Fetching, Written, Reaches, Form, next, rest, place_in}
 use Rattle.s370_walk.specs.Stuck.{moves, is_skipped, place_asks}
 use Rattle.s370_walk.specs.Bits.{has_bits}
 use Rattle.s370_channel.specs.declared.moving.Moved.{Moved}
 use Rattle.s370_channel.specs.declared.moving.Moved.TheVariants.{Done}
 use Rattle.s370_channel.specs.Progress.{moved_state}
 use Rattle.s370_channel.specs.Halts.{Lacks}
-use Rattle.s370_channel.specs.declared.running.ChannelError.{ChannelError}
-use Rattle.s370_channel.specs.declared.running.ChannelError.TheVariants as errors
-use Rattle.s370_channel.specs.declared.limits.Limits.{Limits}
 use Rattle.s370_store.specs.declared.Fault.{Fault}
 use Rattle.s370_store.specs.declared.Fault.TheVariants.{Absent}
 use Rattle.s370_store.specs.declared.Page.{Page}
 use Rattle.std.specs.Prelude.{Result, Err, ⊤}
-use Rattle.s370_walk.proofs.Reaching.{reach_here, reach_on, reach_then, reach_next, short_on}
+use Rattle.s370_walk.proofs.Reaching.{reach_then}
 
 takes_all : (p : Position) (k : Kind) → k ≢ Gives → is_skipped p k ≡ false
 takes_all p Gives ne = absurd (ne refl)

@@ -1,10 +1,11 @@
 -- A run for which pages are brought goes on where it was.
-use Rattle.std.specs.Prelude.{ℕ, ◌*◌, ◌≡◌, ◌<◌, Bool, List, [], ◌∷◌, ◌++◌, Result, Ok, Err, IfErr, length}
-use Rattle.std.proofs.Common.{arith, inl, inr, subst, ap, ◌∙◌, sym, refl}
+use Rattle.std.specs.Prelude.{ℕ, ◌≡◌, ◌<◌, Bool, List, [], ◌∷◌, ◌++◌, Result, Ok, Err, IfErr, length}
+use Rattle.std.proofs.Common.{inl, inr, subst, ◌∙◌, refl}
 use Rattle.s370_store.specs.Access.{IsAway}
 use Rattle.s370_walk.specs.declared.parts.Ending.{Ending}
 use Rattle.s370_walk.specs.declared.parts.Order.{Order}
-use Rattle.s370_walk.specs.Hardware.{Machine, Memory}
+use Rattle.s370_store.specs.Memory.{Memory}
+use Rattle.s370_walk.specs.Hardware.{Machine}
 use Rattle.s370_walk.specs.Stuck.{IsAsked, size_in}
 use Rattle.s370_walk.specs.Walk.{Setting, State, Written, Over, Reaches, live}
 use Rattle.s370_walk.proofs.Reaching.{reach_on, short_on}
@@ -15,8 +16,6 @@ use Rattle.s370_channel.specs.declared.running.Place.TheVariants.{Next, Within}
 use Rattle.s370_channel.specs.declared.supplied.Gone.{Gone}
 use Rattle.s370_channel.specs.declared.supplied.Gone.TheVariants as gones
 use Rattle.s370_channel.specs.declared.supplied.Lack.{Lack}
-use Rattle.s370_channel.specs.declared.supplied.Lack.TheVariants as lacks
-use Rattle.s370_channel.specs.Guest.{guest_written}
 use Rattle.s370_channel.specs.Halts.{HaltsAt, HasGone, IsReady, place_weight, stands}
 use Rattle.s370_channel.specs.Loading.{loading, loading_limits}
 use Rattle.s370_channel.specs.Progress.{setting}

@@ -9,7 +9,8 @@ use Rattle.s370_channel.specs.declared.words.Ccw.{Ccw}
 use Rattle.s370_channel.specs.Words.{ccw_of}
 use Rattle.s370_walk.specs.declared.parts.Word.{Word}
 use Rattle.s370_walk.specs.Blocks.{straight}
-use Rattle.s370_walk.specs.Hardware.{Memory, is_in, area}
+use Rattle.s370_store.specs.Memory.{Memory}
+use Rattle.s370_walk.specs.Hardware.{is_in, area}
 use Rattle.s370_walk.specs.Walk.{Written, is_jump, chains_data, chains_command, is_indirect}
 
 -- an address further on: addresses have 24 bits

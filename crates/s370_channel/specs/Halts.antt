@@ -5,7 +5,8 @@ use Rattle.s370_walk.specs.declared.parts.Order.{Order}
 use Rattle.s370_walk.specs.declared.parts.Position.{Position}
 use Rattle.s370_walk.specs.declared.parts.Spot.{Spot}
 use Rattle.s370_walk.specs.declared.parts.Word.{Word}
-use Rattle.s370_walk.specs.Hardware.{Machine, Memory}
+use Rattle.s370_store.specs.Memory.{Memory}
+use Rattle.s370_walk.specs.Hardware.{Machine}
 use Rattle.s370_walk.specs.Short.{IsShort}
 use Rattle.s370_walk.specs.Stuck.{IsAsked, size_in}
 use Rattle.s370_walk.specs.Walk.{Setting, State, Fetching, Moving, Written, Reaches, entered, live, order_of, start_spot}

@@ -1,6 +1,6 @@
 -- How a guest's channel program is read: each word when it is reached, or as it stood when the program began.
 use Rattle.s370_walk.specs.Frozen.{IsSteady, frozen}
-use Rattle.s370_walk.specs.Hardware.{Memory}
+use Rattle.s370_store.specs.Memory.{Memory}
 use Rattle.s370_walk.specs.Walk.{Form, Setting, State, live}
 use Rattle.s370_channel.specs.Guest.{guest_written}
 

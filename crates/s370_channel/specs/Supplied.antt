@@ -1,8 +1,8 @@
 -- What is brought for a channel program: the pages that its walk touches.
-use Rattle.std.specs.Prelude.{ℕ, ◌*◌, ◌+◌, ◌≡◌, ◌<◌, ◌⊎◌, Bool, true, List, [], ◌∷◌}
-use Rattle.s370_walk.specs.declared.parts.Ending.{Ending}
+use Rattle.std.specs.Prelude.{ℕ, ◌*◌, ◌≡◌, ◌<◌, ◌⊎◌, Bool, true, List, [], ◌∷◌}
 use Rattle.s370_walk.specs.declared.parts.Order.{Order}
-use Rattle.s370_walk.specs.Hardware.{Machine, Memory}
+use Rattle.s370_store.specs.Memory.{Memory}
+use Rattle.s370_walk.specs.Hardware.{Machine}
 use Rattle.s370_walk.specs.Short.{IsShort}
 use Rattle.s370_walk.specs.Stuck.{IsAsked}
 use Rattle.s370_walk.specs.Walk.{Setting, State, Over, Written, Reaches, live, order_of, start_spot}

@@ -1,6 +1,6 @@
 //! How a word ends: what it leads to, or with which status the program is over.
 ghost use Rattle.std.specs.Prelude.{◌≡◌, ◌<◌, ◌⊎◌};
-ghost use Rattle.s370_walk.specs.Hardware.{Memory};
+ghost use Rattle.s370_store.specs.Memory.{Memory};
 ghost use Rattle.s370_walk.specs.Walk.{Form, Moving, next, closed, failure, failed, state_of, ending, rest, tells_length};
 ghost use Rattle.s370_channel.specs.Progress.{setting, IsBehind};
 

@@ -1,7 +1,7 @@
 //! How a guest writes its channel programs: eight bytes a word, and with indirect data addressing (GA22-7000, "Channel
 //! Indirect Data Addressing") a list of words of four bytes that say where the data lie.
 ghost use Rattle.std.specs.Prelude.{IfOk, IfSome, [], ◌∷◌, ◌≡◌, ◌≤◌, ◌+◌, ◌*◌, true, false, Bool, Option, length, ℕ, ◌<◌, ◌^◌};
-ghost use Rattle.s370_walk.specs.Hardware.{FetchTells, memory_of, area};
+ghost use Rattle.s370_walk.specs.Hardware.{FetchTells, area};
 ghost use Rattle.s370_walk.specs.Blocks.{straight};
 ghost use Rattle.s370_walk.specs.Walk.{is_indirect, is_jump, chains_data, chains_command};
 ghost use Rattle.s370_store.specs.declared.Access.TheVariants as access;
@@ -74,8 +74,8 @@ fn linked(at: u32, ccw: Ccw) -> Word
 
 /// A word of a list of addresses, or None past storage.
 fn fetch_list_word<S: Storage>(storage: &S, at: u32) -> Result<Option<u32>, Page>
-    ensures { FetchTells (length (S.bytes storage.now)) (S.present storage.now) (area access.Fetch at 4 ∷ [])
-        (list_word (memory_of (S.bytes storage.now) (S.keys storage.now)) at) result }
+    ensures { FetchTells (length (S.memory storage.now).bytes) (S.present storage.now) (area access.Fetch at 4 ∷ [])
+        (list_word (S.memory storage.now) at) result }
 {
     match storage.check(
         Range {
@@ -120,8 +120,8 @@ fn block_start(address: u32, number: u32) -> Option<u32>
 
 /// The guest's word at an address, or None past storage. The places of the words after it have 24 bits.
 pub fn fetch_word<S: Storage>(storage: &S, at: u32) -> Result<Option<Word>, Page>
-    ensures word { FetchTells (length (S.bytes storage.now)) (S.present storage.now) (area access.Fetch at 8 ∷ [])
-        (guest_text (memory_of (S.bytes storage.now) (S.keys storage.now)) at) result }
+    ensures word { FetchTells (length (S.memory storage.now).bytes) (S.present storage.now)
+        (area access.Fetch at 8 ∷ []) (guest_text (S.memory storage.now) at) result }
     ensures next { IfOk result (λ found. IfSome found (λ word. word.next < 2 ^ 24)) }
     ensures skipped { IfOk result (λ found. IfSome found (λ word. word.skipped < 2 ^ 24)) }
 {
@@ -147,8 +147,8 @@ pub fn fetch_word<S: Storage>(storage: &S, at: u32) -> Result<Option<Word>, Page
 /// Where the block of a number begins of the area of a guest's word, or None where that cannot be found out.
 pub fn fetch_block<S: Storage>(storage: &S, word: &Word, number: u32) -> Result<Option<u32>, Page>
     requires { number ≤ 64 }
-    ensures { FetchTells (length (S.bytes storage.now)) (S.present storage.now) (block_asks word.now number)
-        (area_block (memory_of (S.bytes storage.now) (S.keys storage.now)) word.now number) result }
+    ensures { FetchTells (length (S.memory storage.now).bytes) (S.present storage.now) (block_asks word.now number)
+        (area_block (S.memory storage.now) word.now number) result }
 {
     if !word.flags.has(Flags::INDIRECT) {
         return Ok(block_start(word.address, number));

@@ -1,6 +1,5 @@
 //! The channel program of an initial program loading (GA22-7000, "Initial Program Loading").
-ghost use Rattle.std.specs.Prelude.{◌≡◌, IfOk, IfErr, length};
-ghost use Rattle.s370_walk.specs.Hardware.{memory_of};
+ghost use Rattle.std.specs.Prelude.{IfOk, IfErr};
 ghost use Rattle.s370_walk.specs.Walk.{Over, Reaches, live};
 ghost use Rattle.s370_channel.specs.Loading.{MatchLoading, loading, loading_limits};
 ghost use Rattle.s370_channel.specs.Halts.{MatchHaltLoading};
@@ -38,14 +37,13 @@ pub(crate) fn load<F: WordForm, S: Storage, D: Device>(
 ) -> Result<Ending, Halt>
     ensures reaches { IfOk result
         (λ ending. Reaches (live (F.written program.now)) (setting D.machine loading_limits)
-        (loading D.machine (memory_of (S.bytes storage.old) (S.keys storage.old)) device.old)
-        (Over ending (memory_of (S.bytes storage.new) (S.keys storage.new)) device.new)) }
-    ensures keys { S.keys storage.new ≡ S.keys storage.old }
+        (loading D.machine (S.memory storage.old) device.old)
+        (Over ending (S.memory storage.new) device.new)) }
     ensures rest { S.Keeps storage.old storage.new }
     ensures halts { IfErr result
         (MatchHaltLoading (F.written program.now) D.machine D.needs_memory (S.present storage.old)
-        (memory_of (S.bytes storage.old) (S.keys storage.old)) device.old
-        (memory_of (S.bytes storage.new) (S.keys storage.new)) device.new) }
+        (S.memory storage.old) device.old
+        (S.memory storage.new) device.new) }
 {
     match begin(program, storage, device, &LIMITS, &first_spot(0), IMPLIED)? {
         Progress::At(spot) => go_on(program, storage, device, &LIMITS, spot),
@@ -62,13 +60,12 @@ pub fn run_ipl<F: WordForm, S: Storage, D: Device>(
 ) -> Result<Ending, ChannelError>
     ensures reaches { IfOk result
         (λ ending. Reaches (live (F.written program.now)) (setting D.machine loading_limits)
-        (loading D.machine (memory_of (S.bytes storage.old) (S.keys storage.old)) device.old)
-        (Over ending (memory_of (S.bytes storage.new) (S.keys storage.new)) device.new)) }
-    ensures keys { S.keys storage.new ≡ S.keys storage.old }
+        (loading D.machine (S.memory storage.old) device.old)
+        (Over ending (S.memory storage.new) device.new)) }
     ensures rest { S.Keeps storage.old storage.new }
     ensures stuck { IfErr result
         (MatchLoading (F.written program.now) D.machine D.needs_memory (S.present storage.old)
-        (memory_of (S.bytes storage.old) (S.keys storage.old)) device.old) }
+        (S.memory storage.old) device.old) }
 {
     match load(program, storage, device) {
         Ok(ending) => Ok(ending),

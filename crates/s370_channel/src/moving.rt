@@ -1,7 +1,7 @@
 //! Bytes between a device and the area of a word.
 ghost use Rattle.std.specs.Prelude.{◌≡◌, ℕ, ◌<◌, ◌≤◌, IfOk, IfErr, length, ◌≢◌};
 ghost use Rattle.s370_walk.specs.Blocks.{begins_block, after};
-ghost use Rattle.s370_walk.specs.Hardware.{FetchTells, memory_of};
+ghost use Rattle.s370_walk.specs.Hardware.{FetchTells};
 ghost use Rattle.s370_walk.specs.Walk.{Moving, next, Reaches, live, rest, stepped, place_in};
 ghost use Rattle.s370_walk.specs.Stuck.{place_asks};
 ghost use Rattle.s370_walk.specs.declared.parts.Kind.TheVariants.{Gives};
@@ -59,9 +59,9 @@ pub(crate) fn place<F: WordForm, S: Storage>(
     p: &Position,
 ) -> Result<Option<u32>, Page>
     requires { p.now.count ≤ p.now.word.count }
-    ensures { FetchTells (length (S.bytes storage.now)) (S.present storage.now)
+    ensures { FetchTells (length (S.memory storage.now).bytes) (S.present storage.now)
         (place_asks (F.written program.now) p.now)
-        (place_in (F.written program.now) (memory_of (S.bytes storage.now) (S.keys storage.now)) p.now) result }
+        (place_in (F.written program.now) (S.memory storage.now) p.now) result }
 {
     if is_first_of_block(p.before) {
         let index = (p.word.count - p.count) as u32;
@@ -106,15 +106,14 @@ fn give_byte<F: WordForm, S: Storage, D: Device>(
     requires within { p.now.count ≤ p.now.word.count }
     ensures next { IfOk result
         (λ r. next (live (F.written program.now)) (setting D.machine limits.now)
-        (Moving p.now (memory_of (S.bytes storage.old) (S.keys storage.old)) device.old)
-        ≡ moved_state r (memory_of (S.bytes storage.new) (S.keys storage.new)) device.new) }
+        (Moving p.now (S.memory storage.old) device.old)
+        ≡ moved_state r (S.memory storage.new) device.new) }
     ensures on { IfOk result (IsOneOn p.now) }
-    ensures keys { S.keys storage.new ≡ S.keys storage.old }
     ensures rest { S.Keeps storage.old storage.new }
     ensures lacks { IfErr result
         (λ page. Lacks (F.written program.now) D.machine (S.present storage.old)
-        (Moving p.now (memory_of (S.bytes storage.old) (S.keys storage.old)) device.old) page.0) }
-    ensures still { IfErr result (λ page. S.bytes storage.new ≡ S.bytes storage.old) }
+        (Moving p.now (S.memory storage.old) device.old) page.0) }
+    ensures still { IfErr result (λ page. S.memory storage.new ≡ S.memory storage.old) }
     ensures idle { IfErr result (λ page. device.new ≡ device.old) }
 {
     if p.word.flags.has(Flags::SKIP) {
@@ -165,12 +164,12 @@ fn take_byte<F: WordForm, S: Storage, D: Device>(
     requires within { p.now.count ≤ p.now.word.count }
     ensures next { IfOk result
         (λ r. next (live (F.written program.now)) (setting D.machine limits.now)
-        (Moving p.now (memory_of (S.bytes storage.now) (S.keys storage.now)) device.old)
-        ≡ moved_state r (memory_of (S.bytes storage.now) (S.keys storage.now)) device.new) }
+        (Moving p.now (S.memory storage.now) device.old)
+        ≡ moved_state r (S.memory storage.now) device.new) }
     ensures on { IfOk result (IsOneOn p.now) }
     ensures lacks { IfErr result
         (λ page. Lacks (F.written program.now) D.machine (S.present storage.now)
-        (Moving p.now (memory_of (S.bytes storage.now) (S.keys storage.now)) device.old) page.0) }
+        (Moving p.now (S.memory storage.now) device.old) page.0) }
     ensures idle { IfErr result (λ page. device.new ≡ device.old) }
 {
     let Some(address) = place(program, storage, p)? else {
@@ -215,15 +214,14 @@ fn move_byte<F: WordForm, S: Storage, D: Device>(
     requires within { p.now.count ≤ p.now.word.count }
     ensures next { IfOk result
         (λ r. next (live (F.written program.now)) (setting D.machine limits.now)
-        (Moving p.now (memory_of (S.bytes storage.old) (S.keys storage.old)) device.old)
-        ≡ moved_state r (memory_of (S.bytes storage.new) (S.keys storage.new)) device.new) }
+        (Moving p.now (S.memory storage.old) device.old)
+        ≡ moved_state r (S.memory storage.new) device.new) }
     ensures on { IfOk result (IsOneOn p.now) }
-    ensures keys { S.keys storage.new ≡ S.keys storage.old }
     ensures rest { S.Keeps storage.old storage.new }
     ensures lacks { IfErr result
         (λ page. Lacks (F.written program.now) D.machine (S.present storage.old)
-        (Moving p.now (memory_of (S.bytes storage.old) (S.keys storage.old)) device.old) page.0) }
-    ensures still { IfErr result (λ page. S.bytes storage.new ≡ S.bytes storage.old) }
+        (Moving p.now (S.memory storage.old) device.old) page.0) }
+    ensures still { IfErr result (λ page. S.memory storage.new ≡ S.memory storage.old) }
     ensures idle { IfErr result (λ page. device.new ≡ device.old) }
 {
     match p.transfer.kind {
@@ -247,16 +245,15 @@ fn move_on<F: WordForm, S: Storage, D: Device>(
     requires within { p.now.count ≤ p.now.word.count }
     ensures reaches { IfOk result
         (λ r. Reaches (live (F.written program.now)) (setting D.machine limits.now)
-        (Moving p.now (memory_of (S.bytes storage.old) (S.keys storage.old)) device.old)
-        (moved_state r (memory_of (S.bytes storage.new) (S.keys storage.new)) device.new)) }
+        (Moving p.now (S.memory storage.old) device.old)
+        (moved_state r (S.memory storage.new) device.new)) }
     ensures on { IfOk result (IsFurther p.now) }
-    ensures keys { S.keys storage.new ≡ S.keys storage.old }
     ensures rest { S.Keeps storage.old storage.new }
     ensures lacks { IfErr result
         (λ lacking. Lacks (F.written program.now) D.machine (S.present storage.old)
-        (Moving p.now (memory_of (S.bytes storage.old) (S.keys storage.old)) device.old) lacking.page.0) }
+        (Moving p.now (S.memory storage.old) device.old) lacking.page.0) }
     ensures here { IfErr result (λ lacking. lacking.position ≡ p.now) }
-    ensures still { IfErr result (λ lacking. S.bytes storage.new ≡ S.bytes storage.old) }
+    ensures still { IfErr result (λ lacking. S.memory storage.new ≡ S.memory storage.old) }
     ensures idle { IfErr result (λ lacking. device.new ≡ device.old) }
 {
     match move_many(program, storage, device, limits, p) {
@@ -280,18 +277,17 @@ pub(crate) fn transfer<F: WordForm, S: Storage, D: Device>(
     requires { position.count ≤ position.word.count }
     ensures reaches { IfOk result
         (λ r. Reaches (live (F.written program.now)) (setting D.machine limits.now)
-        (Moving position (memory_of (S.bytes storage.old) (S.keys storage.old)) device.old)
-        (moved_state r (memory_of (S.bytes storage.new) (S.keys storage.new)) device.new)) }
+        (Moving position (S.memory storage.old) device.old)
+        (moved_state r (S.memory storage.new) device.new)) }
     ensures out { IfOk result (IsOut D.machine position device.new) }
-    ensures keys { S.keys storage.new ≡ S.keys storage.old }
     ensures rest { S.Keeps storage.old storage.new }
     ensures halts { IfErr result
         (λ lacking. HaltsIn (F.written program.now) (setting D.machine limits.now) (S.present storage.old)
-        (Moving position (memory_of (S.bytes storage.old) (S.keys storage.old)) device.old)
-        (memory_of (S.bytes storage.new) (S.keys storage.new)) device.new lacking) }
+        (Moving position (S.memory storage.old) device.old)
+        (S.memory storage.new) device.new lacking) }
     ensures moved { IfErr result
-        (λ lacking. HasMovedTo position (memory_of (S.bytes storage.old) (S.keys storage.old)) device.old
-        lacking.position (memory_of (S.bytes storage.new) (S.keys storage.new)) device.new) }
+        (λ lacking. HasMovedTo position (S.memory storage.old) device.old
+        lacking.position (S.memory storage.new) device.new) }
 {
     let mut p = position;
     'bytes: while p.count > 0 && left_of(device, &p) > 0 {

@@ -1,8 +1,9 @@
 //! Bytes that move in one piece, as they would move one by one.
 ghost use Rattle.std.specs.Prelude.{◌≡◌, ◌≢◌, ℕ, ◌+◌, ◌%◌, ◌<◌, ◌≤◌, List, Some, false, length, IfSome, IfNone};
 ghost use Rattle.std.specs.List.{slice_range};
-ghost use Rattle.s370_store.specs.Access.{IsGranted, put};
-ghost use Rattle.s370_walk.specs.Hardware.{memory_of, given, after_giving, after_taking};
+ghost use Rattle.s370_store.specs.Access.{IsGranted};
+ghost use Rattle.s370_store.specs.Memory.{with_stored};
+ghost use Rattle.s370_walk.specs.Hardware.{given, after_giving, after_taking};
 ghost use Rattle.s370_walk.specs.Walk.{Moving, Reaches, Written, live, place_in, rest};
 ghost use Rattle.s370_walk.specs.declared.parts.Kind.TheVariants.{Gives};
 ghost use Rattle.s370_channel.specs.Progress.{setting, onward, HasMoved};
@@ -59,11 +60,11 @@ fn many_on(p: &Position, n: u32, last: u32) -> Position
 
 /// Takes bytes from the device, and stores them from an address on.
 fn give_piece<S: Storage, D: Device>(storage: &mut S, device: &mut D, address: u32, n: u32)
-    requires granted { IsGranted (length (S.bytes storage.old)) (S.present storage.old) address n }
+    requires granted { IsGranted (length (S.memory storage.old).bytes) (S.present storage.old) address n }
     requires short { n ≤ 256 }
-    ensures bytes { S.bytes storage.new ≡ put (S.bytes storage.old) address (given D.machine device.old n) }
+    ensures stored { S.memory storage.new
+        ≡ with_stored (S.memory storage.old) address (given D.machine device.old n) }
     ensures device { device.new ≡ after_giving D.machine device.old n }
-    ensures keys { S.keys storage.new ≡ S.keys storage.old }
     ensures rest { S.Keeps storage.old storage.new }
 {
     let mut buffer = [0u8; 256];
@@ -74,9 +75,10 @@ fn give_piece<S: Storage, D: Device>(storage: &mut S, device: &mut D, address: u
 
 /// Loads bytes from an address on, and hands them to the device.
 fn take_piece<S: Storage, D: Device>(storage: &S, device: &mut D, address: u32, n: u32)
-    requires granted { IsGranted (length (S.bytes storage.now)) (S.present storage.now) address n }
+    requires granted { IsGranted (length (S.memory storage.now).bytes) (S.present storage.now) address n }
     requires short { n ≤ 256 }
-    ensures { device.new ≡ after_taking D.machine device.old (slice_range (S.bytes storage.now) address (address + n)) }
+    ensures { device.new
+        ≡ after_taking D.machine device.old (slice_range (S.memory storage.now).bytes address (address + n)) }
 {
     let mut buffer = [0u8; 256];
     let bytes = &mut buffer[..n as usize];
@@ -95,14 +97,13 @@ fn give_many<S: Storage, D: Device>(
     requires going { D.machine.done device.old ≡ false }
     requires gives { p.now.transfer.kind ≡ Gives }
     ensures reaches { IfSome result
-        (λ then. (w : Written) → place_in w (memory_of (S.bytes storage.old) (S.keys storage.old)) p.now ≡ Some address
+        (λ then. (w : Written) → place_in w (S.memory storage.old) p.now ≡ Some address
         → Reaches (live w) (setting D.machine limits.now)
-        (Moving p.now (memory_of (S.bytes storage.old) (S.keys storage.old)) device.old)
-        (Moving then (memory_of (S.bytes storage.new) (S.keys storage.new)) device.new)) }
+        (Moving p.now (S.memory storage.old) device.old)
+        (Moving then (S.memory storage.new) device.new)) }
     ensures on { IfSome result (HasMoved p.now) }
-    ensures none { IfNone result (S.bytes storage.new ≡ S.bytes storage.old) }
+    ensures none { IfNone result (S.memory storage.new ≡ S.memory storage.old) }
     ensures idle { IfNone result (device.new ≡ device.old) }
-    ensures keys { S.keys storage.new ≡ S.keys storage.old }
     ensures rest { S.Keeps storage.old storage.new }
 {
     if p.word.flags.has(Flags::SKIP) {
@@ -135,10 +136,10 @@ fn take_many<S: Storage, D: Device>(
     requires going { D.machine.done device.old ≡ false }
     requires takes { p.now.transfer.kind ≢ Gives }
     ensures reaches { IfSome result
-        (λ then. (w : Written) → place_in w (memory_of (S.bytes storage.now) (S.keys storage.now)) p.now ≡ Some address
+        (λ then. (w : Written) → place_in w (S.memory storage.now) p.now ≡ Some address
         → Reaches (live w) (setting D.machine limits.now)
-        (Moving p.now (memory_of (S.bytes storage.now) (S.keys storage.now)) device.old)
-        (Moving then (memory_of (S.bytes storage.now) (S.keys storage.now)) device.new)) }
+        (Moving p.now (S.memory storage.now) device.old)
+        (Moving then (S.memory storage.now) device.new)) }
     ensures on { IfSome result (HasMoved p.now) }
     ensures idle { IfNone result (device.new ≡ device.old) }
 {
@@ -170,12 +171,11 @@ pub(crate) fn move_many<F: WordForm, S: Storage, D: Device>(
     requires within { p.now.count ≤ p.now.word.count }
     ensures reaches { IfSome result
         (λ then. Reaches (live (F.written program.now)) (setting D.machine limits.now)
-        (Moving p.now (memory_of (S.bytes storage.old) (S.keys storage.old)) device.old)
-        (Moving then (memory_of (S.bytes storage.new) (S.keys storage.new)) device.new)) }
+        (Moving p.now (S.memory storage.old) device.old)
+        (Moving then (S.memory storage.new) device.new)) }
     ensures on { IfSome result (HasMoved p.now) }
-    ensures none { IfNone result (S.bytes storage.new ≡ S.bytes storage.old) }
+    ensures none { IfNone result (S.memory storage.new ≡ S.memory storage.old) }
     ensures idle { IfNone result (device.new ≡ device.old) }
-    ensures keys { S.keys storage.new ≡ S.keys storage.old }
     ensures rest { S.Keeps storage.old storage.new }
 {
     let Ok(Some(address)) = place(program, storage, p) else {

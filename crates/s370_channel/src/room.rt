@@ -10,19 +10,19 @@ pub trait AmpleSupply: UnitSupply {
     ghost IsAmple: { Self → Type 0 };
 
     /// Where there is room for every page, there is room for each.
-    ghost ample_out: { (s : Self) (page : ℕ) → IsAmple s → page * 4096 < length (Self.bytes s) → Self.IsOut s page
-        → ⊥ };
+    ghost ample_out: { (s : Self) (page : ℕ) → IsAmple s → page * 4096 < length (Self.memory s).bytes
+        → Self.IsOut s page → ⊥ };
 
     /// An access takes no room.
     ghost ample_kept: { (s t : Self) → Self.Keeps s t → IsAmple s → IsAmple t };
 
     /// What is brought takes the room that was left for it.
     ghost ample_brought: { (s t : Self) (pages : List ℕ) → Self.Brought s pages t
-        → length (Self.bytes t) ≡ length (Self.bytes s)
-        → ((page : ℕ) → Contains pages page → page * 4096 < length (Self.bytes s)) → IsAmple s → IsAmple t };
+        → length (Self.memory t).bytes ≡ length (Self.memory s).bytes
+        → ((page : ℕ) → Contains pages page → page * 4096 < length (Self.memory s).bytes) → IsAmple s → IsAmple t };
 
     /// Letting go takes no room.
-    ghost ample_let_go: { (s t : Self) → Self.LetsGo s t → length (Self.bytes t) ≡ length (Self.bytes s)
+    ghost ample_let_go: { (s t : Self) → Self.LetsGo s t → length (Self.memory t).bytes ≡ length (Self.memory s).bytes
         → IsAmple s → IsAmple t };
 }
 

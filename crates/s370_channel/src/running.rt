@@ -1,6 +1,5 @@
 //! The run of a channel program over any form of words, storage and device.
 ghost use Rattle.std.specs.Prelude.{◌≡◌, ℕ, ◌+◌, ◌<◌, ◌≤◌, IfOk, IfErr, None, Some, length};
-ghost use Rattle.s370_walk.specs.Hardware.{memory_of};
 ghost use Rattle.s370_walk.specs.Walk.{Moving, Fetching, Over, next, judged, moving, Good, state_of, entered, Reaches, start_spot, live};
 ghost use Rattle.s370_channel.specs.Progress.{setting, IsLighter, IsFollowed, MatchStuck};
 ghost use Rattle.s370_channel.specs.Halts.{HaltsBeyond, HaltsIn, HaltsOn, HasMovedTo, IsReady, MatchHalt, MatchHaltBegun, stands};
@@ -30,18 +29,17 @@ fn obey<F: WordForm, S: Storage, D: Device>(
     requires within { position.count ≤ position.word.count }
     ensures reaches { IfOk result
         (λ r. Reaches (live (F.written program.now)) (setting D.machine limits.now)
-        (Moving position (memory_of (S.bytes storage.old) (S.keys storage.old)) device.old)
-        (state_of r (memory_of (S.bytes storage.new) (S.keys storage.new)) device.new)) }
+        (Moving position (S.memory storage.old) device.old)
+        (state_of r (S.memory storage.new) device.new)) }
     ensures followed { IfOk result (IsFollowed limits.now.commands position) }
-    ensures keys { S.keys storage.new ≡ S.keys storage.old }
     ensures rest { S.Keeps storage.old storage.new }
     ensures halts { IfErr result
         (λ lacking. HaltsIn (F.written program.now) (setting D.machine limits.now) (S.present storage.old)
-        (Moving position (memory_of (S.bytes storage.old) (S.keys storage.old)) device.old)
-        (memory_of (S.bytes storage.new) (S.keys storage.new)) device.new lacking) }
+        (Moving position (S.memory storage.old) device.old)
+        (S.memory storage.new) device.new lacking) }
     ensures moved { IfErr result
-        (λ lacking. HasMovedTo position (memory_of (S.bytes storage.old) (S.keys storage.old)) device.old
-        lacking.position (memory_of (S.bytes storage.new) (S.keys storage.new)) device.new) }
+        (λ lacking. HasMovedTo position (S.memory storage.old) device.old
+        lacking.position (S.memory storage.new) device.new) }
 {
     match transfer(program, storage, device, limits, position)? {
         Moved::Stopped(ending) => Ok(Progress::Ended(ending)),
@@ -97,15 +95,14 @@ pub(crate) fn begin<F: WordForm, S: Storage, D: Device>(
     ensures reaches { IfOk result
         (λ r. Reaches (live (F.written program.now)) (setting D.machine limits.now)
         (entered (setting D.machine limits.now) spot.now word None
-        (memory_of (S.bytes storage.old) (S.keys storage.old)) device.old)
-        (state_of r (memory_of (S.bytes storage.new) (S.keys storage.new)) device.new)) }
+        (S.memory storage.old) device.old)
+        (state_of r (S.memory storage.new) device.new)) }
     ensures lighter { IfOk result (IsLighter limits.now.commands spot.now) }
-    ensures keys { S.keys storage.new ≡ S.keys storage.old }
     ensures rest { S.Keeps storage.old storage.new }
     ensures halts { IfErr result
         (MatchHaltBegun (F.written program.now) (setting D.machine limits.now) D.needs_memory
-        (S.present storage.old) spot.now word (memory_of (S.bytes storage.old) (S.keys storage.old)) device.old
-        (memory_of (S.bytes storage.new) (S.keys storage.new)) device.new) }
+        (S.present storage.old) spot.now word (S.memory storage.old) device.old
+        (S.memory storage.new) device.new) }
     ensures beyond { IfErr result (HaltsBeyond limits.now.commands spot.now) }
 {
     let order = Order {
@@ -172,19 +169,18 @@ fn resume<F: WordForm, S: Storage, D: Device>(
 ) -> Result<Progress, Halt>
     requires good { judged limits.now.commands spot.now word ≡ Good }
     requires role { spot.now.role ≡ Some wanted }
-    requires text { (F.written program.now).text (memory_of (S.bytes storage.old) (S.keys storage.old)) spot.now.at
+    requires text { (F.written program.now).text (S.memory storage.old) spot.now.at
         ≡ Some word }
     ensures reaches { IfOk result
         (λ r. Reaches (live (F.written program.now)) (setting D.machine limits.now)
-        (Fetching spot.now (memory_of (S.bytes storage.old) (S.keys storage.old)) device.old)
-        (state_of r (memory_of (S.bytes storage.new) (S.keys storage.new)) device.new)) }
+        (Fetching spot.now (S.memory storage.old) device.old)
+        (state_of r (S.memory storage.new) device.new)) }
     ensures lighter { IfOk result (IsLighter limits.now.commands spot.now) }
-    ensures keys { S.keys storage.new ≡ S.keys storage.old }
     ensures rest { S.Keeps storage.old storage.new }
     ensures halts { IfErr result
         (MatchHalt (F.written program.now) (setting D.machine limits.now) D.needs_memory (S.present storage.old)
-        (Fetching spot.now (memory_of (S.bytes storage.old) (S.keys storage.old)) device.old)
-        (memory_of (S.bytes storage.new) (S.keys storage.new)) device.new) }
+        (Fetching spot.now (S.memory storage.old) device.old)
+        (S.memory storage.new) device.new) }
     ensures beyond { IfErr result (HaltsBeyond limits.now.commands spot.now) }
 {
     match obey(
@@ -210,18 +206,17 @@ fn one_word<F: WordForm, S: Storage, D: Device>(
 ) -> Result<Progress, Halt>
     ensures reaches { IfOk result
         (λ r. Reaches (live (F.written program.now)) (setting D.machine limits.now)
-        (Fetching spot.now (memory_of (S.bytes storage.old) (S.keys storage.old)) device.old)
-        (state_of r (memory_of (S.bytes storage.new) (S.keys storage.new)) device.new)) }
+        (Fetching spot.now (S.memory storage.old) device.old)
+        (state_of r (S.memory storage.new) device.new)) }
     ensures lighter { IfOk result (IsLighter limits.now.commands spot.now) }
-    ensures keys { S.keys storage.new ≡ S.keys storage.old }
     ensures rest { S.Keeps storage.old storage.new }
     ensures halts { IfErr result
         (MatchHalt (F.written program.now) (setting D.machine limits.now) D.needs_memory (S.present storage.old)
-        (Fetching spot.now (memory_of (S.bytes storage.old) (S.keys storage.old)) device.old)
-        (memory_of (S.bytes storage.new) (S.keys storage.new)) device.new) }
+        (Fetching spot.now (S.memory storage.old) device.old)
+        (S.memory storage.new) device.new) }
     ensures on { IfErr result
-        (HaltsOn limits.now.commands (Next spot.now) (memory_of (S.bytes storage.old) (S.keys storage.old)) device.old
-        (memory_of (S.bytes storage.new) (S.keys storage.new)) device.new) }
+        (HaltsOn limits.now.commands (Next spot.now) (S.memory storage.old) device.old
+        (S.memory storage.new) device.new) }
 {
     let found = match program.fetch(storage, spot.at) {
         Ok(found) => found,
@@ -281,17 +276,16 @@ pub(crate) fn go_on<F: WordForm, S: Storage, D: Device>(
 ) -> Result<Ending, Halt>
     ensures reaches { IfOk result
         (λ ending. Reaches (live (F.written program.now)) (setting D.machine limits.now)
-        (Fetching from (memory_of (S.bytes storage.old) (S.keys storage.old)) device.old)
-        (Over ending (memory_of (S.bytes storage.new) (S.keys storage.new)) device.new)) }
-    ensures keys { S.keys storage.new ≡ S.keys storage.old }
+        (Fetching from (S.memory storage.old) device.old)
+        (Over ending (S.memory storage.new) device.new)) }
     ensures rest { S.Keeps storage.old storage.new }
     ensures halts { IfErr result
         (MatchHalt (F.written program.now) (setting D.machine limits.now) D.needs_memory (S.present storage.old)
-        (Fetching from (memory_of (S.bytes storage.old) (S.keys storage.old)) device.old)
-        (memory_of (S.bytes storage.new) (S.keys storage.new)) device.new) }
+        (Fetching from (S.memory storage.old) device.old)
+        (S.memory storage.new) device.new) }
     ensures on { IfErr result
-        (HaltsOn limits.now.commands (Next from) (memory_of (S.bytes storage.old) (S.keys storage.old)) device.old
-        (memory_of (S.bytes storage.new) (S.keys storage.new)) device.new) }
+        (HaltsOn limits.now.commands (Next from) (S.memory storage.old) device.old
+        (S.memory storage.new) device.new) }
 {
     let mut spot = from;
     'words: loop {
@@ -314,17 +308,16 @@ pub(crate) fn go_from<F: WordForm, S: Storage, D: Device>(
     requires { IsReady from }
     ensures reaches { IfOk result
         (λ ending. Reaches (live (F.written program.now)) (setting D.machine limits.now)
-        (stands from (memory_of (S.bytes storage.old) (S.keys storage.old)) device.old)
-        (Over ending (memory_of (S.bytes storage.new) (S.keys storage.new)) device.new)) }
-    ensures keys { S.keys storage.new ≡ S.keys storage.old }
+        (stands from (S.memory storage.old) device.old)
+        (Over ending (S.memory storage.new) device.new)) }
     ensures rest { S.Keeps storage.old storage.new }
     ensures halts { IfErr result
         (MatchHalt (F.written program.now) (setting D.machine limits.now) D.needs_memory (S.present storage.old)
-        (stands from (memory_of (S.bytes storage.old) (S.keys storage.old)) device.old)
-        (memory_of (S.bytes storage.new) (S.keys storage.new)) device.new) }
+        (stands from (S.memory storage.old) device.old)
+        (S.memory storage.new) device.new) }
     ensures on { IfErr result
-        (HaltsOn limits.now.commands from (memory_of (S.bytes storage.old) (S.keys storage.old)) device.old
-        (memory_of (S.bytes storage.new) (S.keys storage.new)) device.new) }
+        (HaltsOn limits.now.commands from (S.memory storage.old) device.old
+        (S.memory storage.new) device.new) }
 {
     match from {
         Place::Next(spot) => go_on(program, storage, device, limits, spot),
@@ -348,13 +341,12 @@ pub fn run<F: WordForm, S: Storage, D: Device>(
 ) -> Result<Ending, ChannelError>
     ensures reaches { IfOk result
         (λ ending. Reaches (live (F.written program.now)) (setting D.machine limits.now)
-        (Fetching (start_spot start) (memory_of (S.bytes storage.old) (S.keys storage.old)) device.old)
-        (Over ending (memory_of (S.bytes storage.new) (S.keys storage.new)) device.new)) }
-    ensures keys { S.keys storage.new ≡ S.keys storage.old }
+        (Fetching (start_spot start) (S.memory storage.old) device.old)
+        (Over ending (S.memory storage.new) device.new)) }
     ensures rest { S.Keeps storage.old storage.new }
     ensures stuck { IfErr result
         (MatchStuck (F.written program.now) (setting D.machine limits.now) D.needs_memory (S.present storage.old)
-        (Fetching (start_spot start) (memory_of (S.bytes storage.old) (S.keys storage.old)) device.old)) }
+        (Fetching (start_spot start) (S.memory storage.old) device.old)) }
 {
     match go_on(program, storage, device, limits, first_spot(start)) {
         Ok(ending) => Ok(ending),

@@ -3,7 +3,6 @@
 //! It goes on at the very word or byte at which a page was absent: so its walk is that of a storage which is all there,
 //! and what is brought is what it touches.
 ghost use Rattle.std.specs.Prelude.{◌≡◌, ◌+◌, ◌-◌, ◌*◌, ◌^◌, ◌<◌, ◌≤◌, ℕ, List, [], ◌∷◌, IfErr, IfOk, length};
-ghost use Rattle.s370_walk.specs.Hardware.{memory_of};
 ghost use Rattle.s370_walk.specs.Stuck.{IsAsked};
 ghost use Rattle.s370_walk.specs.Walk.{Fetching, Over, Reaches, live, start_spot};
 ghost use Rattle.s370_channel.specs.Guest.{guest_written};
@@ -86,20 +85,20 @@ fn supply_step<S: AmpleSupply, D: Device>(
     requires { IsReady from }
     ensures reaches { IfOk result
         (λ gone. Reaches (live guest_written) (setting D.machine limits.now)
-        (stands from (memory_of (S.Storage.bytes storage.old) (S.Storage.keys storage.old)) device.old)
-        (gone_state gone (memory_of (S.Storage.bytes storage.new) (S.Storage.keys storage.new)) device.new)) }
+        (stands from (S.Storage.memory storage.old) device.old)
+        (gone_state gone (S.Storage.memory storage.new) device.new)) }
     ensures farther { IfOk result (IsFarther limits.now.commands from) }
     ensures lack { IfErr result
         (IsLack guest_written (setting D.machine limits.now) D.needs_memory
-        (stands from (memory_of (S.Storage.bytes storage.old) (S.Storage.keys storage.old)) device.old)
-        (length (S.Storage.bytes storage.new)) (S.Supply.IsShort storage.new)) }
+        (stands from (S.Storage.memory storage.old) device.old)
+        (length (S.Storage.memory storage.new).bytes) (S.Supply.IsShort storage.new)) }
     ensures supply { (pages : List ℕ) × S.Supply.Brought storage.old pages storage.new
         × IsAskedFor guest_written D.machine
-        (stands from (memory_of (S.Storage.bytes storage.old) (S.Storage.keys storage.old)) device.old)
-        (length (S.Storage.bytes storage.old)) pages
+        (stands from (S.Storage.memory storage.old) device.old)
+        (length (S.Storage.memory storage.old).bytes) pages
         × (length pages ≤ 9) }
-    ensures keys { S.Storage.keys storage.new ≡ S.Storage.keys storage.old }
-    ensures size { length (S.Storage.bytes storage.new) ≡ length (S.Storage.bytes storage.old) }
+    ensures keys { (S.Storage.memory storage.new).keys ≡ (S.Storage.memory storage.old).keys }
+    ensures size { length (S.Storage.memory storage.new).bytes ≡ length (S.Storage.memory storage.old).bytes }
 {
     'page: loop {
         match go_from(&Guest, storage, device, limits, from) {
@@ -130,19 +129,18 @@ fn supply_unit<S: AmpleSupply, D: Device>(
     requires ample { S.IsAmple storage.old }
     ensures reaches { IfOk result
         (λ gone. Reaches (live guest_written) (setting D.machine limits.now)
-        (stands from (memory_of (S.Storage.bytes storage.old) (S.Storage.keys storage.old)) device.old)
-        (gone_state gone (memory_of (S.Storage.bytes storage.new) (S.Storage.keys storage.new)) device.new)) }
+        (stands from (S.Storage.memory storage.old) device.old)
+        (gone_state gone (S.Storage.memory storage.new) device.new)) }
     ensures farther { IfOk result (IsFarther limits.now.commands from) }
     ensures memory { IfErr result
         (IsOutOfMemory guest_written (setting D.machine limits.now) D.needs_memory
-        (stands from (memory_of (S.Storage.bytes storage.old) (S.Storage.keys storage.old)) device.old)) }
+        (stands from (S.Storage.memory storage.old) device.old)) }
     ensures came { (pages : List ℕ) × S.UnitSupply.Came storage.old (pages ∷ []) storage.new
         × AllSuch (IsAsked guest_written D.machine
-        (stands from (memory_of (S.Storage.bytes storage.old) (S.Storage.keys storage.old)) device.old)) pages }
+        (stands from (S.Storage.memory storage.old) device.old)) pages }
     ensures between { S.UnitSupply.IsBetween storage.new }
     ensures ample { S.IsAmple storage.new }
-    ensures keys { S.Storage.keys storage.new ≡ S.Storage.keys storage.old }
-    ensures size { length (S.Storage.bytes storage.new) ≡ length (S.Storage.bytes storage.old) }
+    ensures keys { (S.Storage.memory storage.new).keys ≡ (S.Storage.memory storage.old).keys }
 {
     let gone = supply_step(storage, device, limits, from);
     storage.let_go();
@@ -168,18 +166,17 @@ fn go_supplied<S: AmpleSupply, D: Device>(
     requires ample { S.IsAmple storage.old }
     ensures reaches { IfOk result
         (λ ending. Reaches (live guest_written) (setting D.machine limits.now)
-        (stands from (memory_of (S.Storage.bytes storage.old) (S.Storage.keys storage.old)) device.old)
-        (Over ending (memory_of (S.Storage.bytes storage.new) (S.Storage.keys storage.new)) device.new)) }
+        (stands from (S.Storage.memory storage.old) device.old)
+        (Over ending (S.Storage.memory storage.new) device.new)) }
     ensures memory { IfErr result
         (IsOutOfMemory guest_written (setting D.machine limits.now) D.needs_memory
-        (stands from (memory_of (S.Storage.bytes storage.old) (S.Storage.keys storage.old)) device.old)) }
+        (stands from (S.Storage.memory storage.old) device.old)) }
     ensures came { (units : List (List ℕ)) × S.UnitSupply.Came storage.old units storage.new
         × EachSuch (IsTouched guest_written (setting D.machine limits.now)
-        (stands from (memory_of (S.Storage.bytes storage.old) (S.Storage.keys storage.old)) device.old)) units }
+        (stands from (S.Storage.memory storage.old) device.old)) units }
     ensures between { S.UnitSupply.IsBetween storage.new }
     ensures ample { S.IsAmple storage.new }
-    ensures keys { S.Storage.keys storage.new ≡ S.Storage.keys storage.old }
-    ensures size { length (S.Storage.bytes storage.new) ≡ length (S.Storage.bytes storage.old) }
+    ensures keys { (S.Storage.memory storage.new).keys ≡ (S.Storage.memory storage.old).keys }
 {
     let mut place = from;
     'unit: loop {
@@ -206,19 +203,18 @@ pub fn run_supplied<S: AmpleSupply, D: Device>(
     requires ample { S.IsAmple storage.old }
     ensures reaches { IfOk result
         (λ ending. Reaches (live guest_written) (setting D.machine limits.now)
-        (Fetching (start_spot start) (memory_of (S.Storage.bytes storage.old) (S.Storage.keys storage.old)) device.old)
-        (Over ending (memory_of (S.Storage.bytes storage.new) (S.Storage.keys storage.new)) device.new)) }
+        (Fetching (start_spot start) (S.Storage.memory storage.old) device.old)
+        (Over ending (S.Storage.memory storage.new) device.new)) }
     ensures memory { IfErr result
         (IsOutOfMemory guest_written (setting D.machine limits.now) D.needs_memory
-        (Fetching (start_spot start) (memory_of (S.Storage.bytes storage.old) (S.Storage.keys storage.old)) device.old)) }
+        (Fetching (start_spot start) (S.Storage.memory storage.old) device.old)) }
     ensures came { (units : List (List ℕ)) × S.UnitSupply.Came storage.old units storage.new
         × EachSuch (IsTouched guest_written (setting D.machine limits.now)
-        (Fetching (start_spot start) (memory_of (S.Storage.bytes storage.old) (S.Storage.keys storage.old)) device.old))
+        (Fetching (start_spot start) (S.Storage.memory storage.old) device.old))
         units }
     ensures between { S.UnitSupply.IsBetween storage.new }
     ensures ample { S.IsAmple storage.new }
-    ensures keys { S.Storage.keys storage.new ≡ S.Storage.keys storage.old }
-    ensures size { length (S.Storage.bytes storage.new) ≡ length (S.Storage.bytes storage.old) }
+    ensures keys { (S.Storage.memory storage.new).keys ≡ (S.Storage.memory storage.old).keys }
 {
     go_supplied(storage, device, limits, Place::Next(first_spot(start)))
 }
@@ -232,18 +228,17 @@ pub fn load_supplied<S: AmpleSupply, D: Device>(
     requires ample { S.IsAmple storage.old }
     ensures reaches { IfOk result
         (λ ending. Reaches (live guest_written) (setting D.machine loading_limits)
-        (loading D.machine (memory_of (S.Storage.bytes storage.old) (S.Storage.keys storage.old)) device.old)
-        (Over ending (memory_of (S.Storage.bytes storage.new) (S.Storage.keys storage.new)) device.new)) }
+        (loading D.machine (S.Storage.memory storage.old) device.old)
+        (Over ending (S.Storage.memory storage.new) device.new)) }
     ensures memory { IfErr result
         (IsLoadingOut guest_written D.machine D.needs_memory
-        (memory_of (S.Storage.bytes storage.old) (S.Storage.keys storage.old)) device.old) }
+        (S.Storage.memory storage.old) device.old) }
     ensures came { (units : List (List ℕ)) × S.UnitSupply.Came storage.old units storage.new
         × EachSuch (IsTouched guest_written (setting D.machine loading_limits)
-        (loading D.machine (memory_of (S.Storage.bytes storage.old) (S.Storage.keys storage.old)) device.old)) units }
+        (loading D.machine (S.Storage.memory storage.old) device.old)) units }
     ensures between { S.UnitSupply.IsBetween storage.new }
     ensures ample { S.IsAmple storage.new }
-    ensures keys { S.Storage.keys storage.new ≡ S.Storage.keys storage.old }
-    ensures size { length (S.Storage.bytes storage.new) ≡ length (S.Storage.bytes storage.old) }
+    ensures keys { (S.Storage.memory storage.new).keys ≡ (S.Storage.memory storage.old).keys }
 {
     match load(&Guest, storage, device) {
         Ok(ending) => Ok(ending),

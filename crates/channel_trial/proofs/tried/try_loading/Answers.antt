@@ -1,7 +1,6 @@
-use Rattle.std.proofs.Common.{refl}
 use Rattle.s370_channel.specs.Loading.{loading, loading_limits}
 use Rattle.s370_channel.specs.Progress.{setting}
-use Rattle.channel_trial.specs.Trial.{trial_bytes, trial_keys}
+use Rattle.channel_trial.specs.Trial.{trial_memory}
 use Rattle.channel_trial.proofs.Trying.{tried_for}
 use Rattle.channel_trial.proofs.tried.try_loading.Goals as goal
 
@@ -9,4 +8,4 @@ pub returns-in-Ok : goal.returns-in-Ok
 returns-in-Ok g c =
     let came = c.load_supplied.ensures.came in
     let old = c.args.copy.now in
-    record { tried = tried_for (setting g.T.Device.machine loading_limits) (λ m. loading g.T.Device.machine m c.args.trial.now) c.load_supplied.new.device c.in-Ok.field-0 old c.load_supplied.new.storage (trial_bytes old) (trial_keys old) came.0 refl refl c.requires.untouched c.in-Ok.ensures.reaches came.1 came.2 c.load_supplied.ensures.keys }
+    record { tried = tried_for (setting g.T.Device.machine loading_limits) (loading g.T.Device.machine (trial_memory old) c.args.trial.now) c.load_supplied.new.device c.in-Ok.field-0 old c.load_supplied.new.storage came.0 c.requires.untouched c.in-Ok.ensures.reaches came.1 came.2 c.load_supplied.ensures.keys }

@@ -1,6 +1,5 @@
 use Rattle.std.proofs.Common.{◌≡◌, ◌≤◌, ◌<◌, ◌%◌, ◌∙◌, List, ap, arith, length, slice_index_or, subst, sym, ℕ}
 use Rattle.std.proofs.lemmas.List.{get_or_read, length-replicate}
-use Rattle.s370_walk.specs.Hardware.{memory_of}
 use Rattle.channel_laws.specs.declared.places.Place.{Place}
 use Rattle.channel_laws.specs.Copy.{guest_of, past}
 use Rattle.cp_graph.specs.Closure.{IsReachedPlace}
@@ -19,9 +18,9 @@ pub places-init : goal.places-init
 places-init g c =
     let slots = ap (λ (index : List ℕ). length index) c.new-index.ensures ∙ length-replicate _ 0 in
     record {
-      rows = rw c.new-nodes.ensures.items (rows_none c.link.new.places.items (memory_of (g.S.Storage.bytes c.args.storage.now) (g.S.Storage.keys c.args.storage.now)));
-      held = rw c.new-nodes.ensures.items (held_none (length (g.S.Storage.bytes c.args.storage.now)) (g.S.Storage.present c.args.storage.now));
-      reached = first_reached (memory_of (g.S.Storage.bytes c.args.storage.now) (g.S.Storage.keys c.args.storage.now)) c.args.start _ c.link.new.places.items c.new-places.ensures.items c.in-Ok.ensures.followed;
+      rows = rw c.new-nodes.ensures.items (rows_none c.link.new.places.items (g.S.Storage.memory c.args.storage.now));
+      held = rw c.new-nodes.ensures.items (held_none (length (g.S.Storage.memory c.args.storage.now).bytes) (g.S.Storage.present c.args.storage.now));
+      reached = first_reached (g.S.Storage.memory c.args.storage.now) c.args.start _ c.link.new.places.items c.new-places.ensures.items c.in-Ok.ensures.followed;
       known = c.in-Ok.ensures.known;
       few = (let few = unmarked_few c.new-index.result in omega (arith, few, c.in-Ok.ensures.count, slots, c.new-places.ensures.len, c.size.ensures.bytes));
       room = omega (arith, c.in-Ok.ensures.size, slots, c.size.ensures.bytes);
@@ -42,7 +41,7 @@ places-preserved g c =
     let places = c.places.places.items in
     let nodes = c.places.nodes.items in
     let new = c.copy_word.new.places.items in
-    let m = memory_of (g.S.Storage.bytes c.args.storage.now) (g.S.Storage.keys c.args.storage.now) in
+    let m = g.S.Storage.memory c.args.storage.now in
     let at = c.len-in-places-2.result in
     let lt : at < length places = omega (arith, c.places-test.true, c.places.places.ok.0, c.places.nodes.ok.0) in
     let number : at ≡ length nodes = omega (arith, c.places.nodes.ok.0) in
@@ -64,12 +63,12 @@ places-preserved g c =
 pub returns-clause-copy : goal.returns-clause-copy
 returns-clause-copy g c =
     let few : length c.places.places.items ≤ 2147483648 = omega (arith, c.places.invariant.few, c.places.places.ok.0) in
-    copy_of c.places.places.items c.places.nodes.items (memory_of (g.S.Storage.bytes c.args.storage.now) (g.S.Storage.keys c.args.storage.now)) few
+    copy_of c.places.places.items c.places.nodes.items (g.S.Storage.memory c.args.storage.now) few
     (omega (arith, c.places-test.false, c.places.invariant.behind, c.places.places.ok.0, c.places.nodes.ok.0)) c.places.invariant.rows
 
 pub returns-clause-place : goal.returns-clause-place
 returns-clause-place g c =
-    linked_is_place c.places.places.items (memory_of (g.S.Storage.bytes c.args.storage.now) (g.S.Storage.keys c.args.storage.now)) c.args.start c.in-Ok.first (omega (arith, c.places.invariant.few, c.places.places.ok.0)) c.places.invariant.linked
+    linked_is_place c.places.places.items (g.S.Storage.memory c.args.storage.now) c.args.start c.in-Ok.first (omega (arith, c.places.invariant.few, c.places.places.ok.0)) c.places.invariant.linked
 
 pub returns-in-Err-copy_word-clause-absent : goal.returns-in-Err-copy_word-clause-absent
 returns-in-Err-copy_word-clause-absent g c =
@@ -77,5 +76,5 @@ returns-in-Err-copy_word-clause-absent g c =
     let at = c.len-in-places-2.result in
     let lt : at < length places = omega (arith, c.places-test.true, c.places.places.ok.0, c.places.nodes.ok.0) in
     let is : c.index-place.result.now ≡ slice_index_or places at (past at) = get_or_read places at _ lt c.index-place.ensures (past at) in
-    let m = memory_of (g.S.Storage.bytes c.args.storage.now) (g.S.Storage.keys c.args.storage.now) in
+    let m = g.S.Storage.memory c.args.storage.now in
     absent_served m _ _ c.args.start c.index-place.result.now c.in-Err-copy_word.error (subst (IsReachedPlace m c.args.start) (sym is) (c.places.invariant.reached at (past at) lt)) c.in-Err-copy_word.ensures.absent

@@ -1,6 +1,5 @@
 use Rattle.std.proofs.Common.{◌≡◌, ◌+◌, ◌-◌, ◌*◌, ◌/◌, ◌≤◌, length, vec_len, true}
 use Rattle.std.specs.List.{All}
-use Rattle.s370_walk.specs.Hardware.{memory_of}
 use Rattle.s370_channel.specs.Guest.{guest_text}
 use Rattle.cp_graph.specs.Closure.{IsReachedPlace}
 use Rattle.cp_graph.specs.Table.{AreRows, AreHeldRows, IsLinked}
@@ -9,14 +8,14 @@ use Rattle.cp_graph.proofs.copying.copy.Given as goal
 
 abbrev pub invariant-places : goal.invariant-places
 invariant-places g l = record {
-  rows : AreRows l.places.items l.nodes.items (memory_of (g.S.Storage.bytes l.storage) (g.S.Storage.keys l.storage));
-  held : AreHeldRows l.nodes.items (length (g.S.Storage.bytes l.storage)) (g.S.Storage.present l.storage);
-  reached : All (IsReachedPlace (memory_of (g.S.Storage.bytes l.storage) (g.S.Storage.keys l.storage)) l.start) l.places.items;
+  rows : AreRows l.places.items l.nodes.items (g.S.Storage.memory l.storage);
+  held : AreHeldRows l.nodes.items (length (g.S.Storage.memory l.storage).bytes) (g.S.Storage.present l.storage);
+  reached : All (IsReachedPlace (g.S.Storage.memory l.storage) l.start) l.places.items;
   known : IsIndexed l.places.items l.index;
   few : vec_len l.places + unmarked l.index ≤ 2147483648;
-  room : length l.index ≡ length (g.S.Storage.bytes l.storage) / 8 * 2;
+  room : length l.index ≡ length (g.S.Storage.memory l.storage).bytes / 8 * 2;
   behind : vec_len l.nodes ≤ vec_len l.places;
-  linked : IsLinked l.places.items (guest_text (memory_of (g.S.Storage.bytes l.storage) (g.S.Storage.keys l.storage))) true l.start l.first;
+  linked : IsLinked l.places.items (guest_text (g.S.Storage.memory l.storage)) true l.start l.first;
 }
 
 abbrev pub decreases-places : goal.decreases-places

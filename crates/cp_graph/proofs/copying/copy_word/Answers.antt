@@ -1,5 +1,4 @@
 use Rattle.std.proofs.Common.{◌≤◌, ◌≡◌, ◌∙◌, sym, length, arith, Some, false}
-use Rattle.s370_walk.specs.Hardware.{memory_of}
 use Rattle.s370_channel.specs.Guest.{guest_text}
 use Rattle.cp_graph.specs.Table.{leads_next, leads_skipped}
 use Rattle.cp_graph.proofs.Closures.{followed_reached, next_reached, skipped_reached}
@@ -8,7 +7,7 @@ use Rattle.cp_graph.proofs.copying.copy_word.Goals as goal
 
 pub returns-clause-row : goal.returns-clause-row
 returns-clause-row g c =
-    let m = memory_of (g.S.Storage.bytes c.args.storage.now) (g.S.Storage.keys c.args.storage.now) in
+    let m = g.S.Storage.memory c.args.storage.now in
     let is : guest_text m c.args.place.address ≡ Some c.in-Some.word = sym c.in-Ok.ensures.word ∙ c.in-Some.is in
     let room : length c.link-2.new.places.items ≤ 2147483648 = omega (arith, c.in-Ok-link-2.ensures.count, c.in-Ok-link.ensures.count, c.requires.few, c.link-2.new.places.ok.0) in
     record {
@@ -23,7 +22,7 @@ returns-clause-grown g c =
 
 pub returns-clause-reached : goal.returns-clause-reached
 returns-clause-reached g c = λ start there all.
-    let m = memory_of (g.S.Storage.bytes c.args.storage.now) (g.S.Storage.keys c.args.storage.now) in
+    let m = g.S.Storage.memory c.args.storage.now in
     let place = c.args.place in
     let w = c.in-Some.word in
     let text : guest_text m place.address ≡ Some w = sym c.in-Ok.ensures.word ∙ c.in-Some.is in

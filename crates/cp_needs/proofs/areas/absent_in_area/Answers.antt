@@ -1,19 +1,18 @@
 use Rattle.std.proofs.Common.{◌≡◌, ◌∙◌, sym, arith, true}
 use Rattle.s370_channel.specs.Guest.{area_block}
-use Rattle.s370_walk.specs.Hardware.{memory_of}
 use Rattle.channel_laws.specs.Tracks as tracks
 use Rattle.cp_needs.proofs.Blocks.{asked_of, begun_on, done_on, done_past, pages_done}
 use Rattle.cp_needs.proofs.areas.absent_in_area.Goals as goal
 
 pub returns-in-Err-clause-asked : goal.returns-in-Err-clause-asked
 returns-in-Err-clause-asked g c =
-    let m = memory_of (g.S.Storage.bytes c.args.storage.now) (g.S.Storage.keys c.args.storage.now) in
+    let m = g.S.Storage.memory c.args.storage.now in
     let has : tracks.has_area c.args.word.now ≡ true = sym c.has_area.ensures ∙ c.if-not-has_area.false in
     asked_of m c.args.word.now c.blocks-2.byte _ has (omega (arith, c.blocks-2-test.true, c.blocks-2.invariant.counted)) (c.blocks-2.invariant.begun c.blocks-2-test.true) c.in-Err.ensures.asked
 
 pub returns-in-Ok-None-clause-here : goal.returns-in-Ok-None-clause-here
 returns-in-Ok-None-clause-here g c =
-    let m = memory_of (g.S.Storage.bytes c.args.storage.now) (g.S.Storage.keys c.args.storage.now) in
+    let m = g.S.Storage.memory c.args.storage.now in
     let has : tracks.has_area c.args.word.now ≡ true = sym c.has_area.ensures ∙ c.if-not-has_area.false in
     let w = c.args.word.now in
     let done = done_past m w (g.S.Storage.present c.args.storage.now) c.blocks-2.byte w.count c.blocks-2.invariant.done (c.blocks-2.invariant.begun c.blocks-2-test.true) (sym c.in-Ok-None.ensures.said ∙ c.in-Ok-None.field-0-is) c.in-Ok-None.ensures.listed in
@@ -21,7 +20,7 @@ returns-in-Ok-None-clause-here g c =
 
 pub blocks-2-preserved : goal.blocks-2-preserved
 blocks-2-preserved g c =
-    let m = memory_of (g.S.Storage.bytes c.args.storage.now) (g.S.Storage.keys c.args.storage.now) in
+    let m = g.S.Storage.memory c.args.storage.now in
     let w = c.args.word.now in
     let part = c.bytes_in_block-byte.ensures in
     let said = sym c.in-Ok-Some.ensures.said ∙ c.in-Ok-Some.field-0-is in

@@ -1,18 +1,17 @@
 use Rattle.std.proofs.Common.{ℕ}
 use Rattle.std.proofs.lemmas.List.Sorted.{IsNonDecreasingBy-from_sort}
-use Rattle.s370_walk.specs.Hardware.{memory_of}
 use Rattle.cp_needs.proofs.Clearing.{clash_of, even_at, fixed_of, here_at, ok_of}
 use Rattle.cp_needs.proofs.demand.judge.Goals as goal
 
 pub notes_of-requires-clause-even : goal.notes_of-requires-clause-even
 notes_of-requires-clause-even g c =
-    let m = memory_of (g.S.Storage.bytes c.args.storage.now) (g.S.Storage.keys c.args.storage.now) in
+    let m = g.S.Storage.memory c.args.storage.now in
     let found = ok_of _ c.in_ok-words.field-0 c.in-Ok.words c.in-Ok.is c.in_ok-words.ensures.words in
     rw c.deref.ensures.value (even_at m c.args.start c.in-Ok.words.items c.requires.even found)
 
 pub notes_of-requires-clause-here : goal.notes_of-requires-clause-here
 notes_of-requires-clause-here g c =
-    let m = memory_of (g.S.Storage.bytes c.args.storage.now) (g.S.Storage.keys c.args.storage.now) in
+    let m = g.S.Storage.memory c.args.storage.now in
     let found = ok_of _ c.in_ok-words.field-0 c.in-Ok.words c.in-Ok.is c.in_ok-words.ensures.words in
     let held = ok_of _ c.in_ok-words.field-0 c.in-Ok.words c.in-Ok.is c.in_ok-words.ensures.held in
     rw c.deref.ensures.value (here_at m c.args.start c.in-Ok.words.items (g.S.Storage.present c.args.storage.now) found held)
@@ -22,7 +21,7 @@ meet-requires g c = rw c.deref-2.ensures.value (IsNonDecreasingBy-from_sort (λ 
 
 pub returns-clause-fixed : goal.returns-clause-fixed
 returns-clause-fixed g c =
-    let m = memory_of (g.S.Storage.bytes c.args.storage.now) (g.S.Storage.keys c.args.storage.now) in
+    let m = g.S.Storage.memory c.args.storage.now in
     let found = ok_of _ c.in_ok-words.field-0 c.in-Ok.words c.in-Ok.is c.in_ok-words.ensures.words in
     let marked = rw c.deref.ensures.value at c.in_ok-notes.ensures.marked in
     let stored = rw c.deref.ensures.value at c.in_ok-notes.ensures.stored in
@@ -41,7 +40,7 @@ returns-clause-held g c = ok_of _ c.in_ok-words.field-0 c.in-Ok.words c.in-Ok.is
 
 pub returns-then-meet-clause-open : goal.returns-then-meet-clause-open
 returns-then-meet-clause-open g c =
-    let m = memory_of (g.S.Storage.bytes c.args.storage.now) (g.S.Storage.keys c.args.storage.now) in
+    let m = g.S.Storage.memory c.args.storage.now in
     let found = ok_of _ c.in_ok-words.field-0 c.in-Ok.words c.in-Ok.is c.in_ok-words.ensures.words in
     let marked = rw c.deref.ensures.value at c.in_ok-notes.ensures.marked in
     let stored = rw c.deref.ensures.value at c.in_ok-notes.ensures.stored in

@@ -1,15 +1,14 @@
 use Rattle.std.proofs.Common.{◌≡◌, ◌∙◌, refl, sym, arith, true}
 use Rattle.s370_channel.specs.Guest.{area_block}
-use Rattle.s370_walk.specs.Hardware.{memory_of}
 use Rattle.channel_laws.specs.Tracks as tracks
 use Rattle.cp_needs.proofs.Blocks.{asked_of, begun_on}
 use Rattle.cp_needs.proofs.Noting.{filled_done, filled_on, filled_past, list_done, list_on, list_past, not_away}
-use Rattle.cp_needs.proofs.Paging.{area_done, area_none, area_on, area_past}
+use Rattle.cp_needs.proofs.Paging.{area_done, area_on, area_past}
 use Rattle.cp_needs.proofs.notes.note_area.Goals as goal
 
 pub returns-in-Ok-None-clause-marked : goal.returns-in-Ok-None-clause-marked
 returns-in-Ok-None-clause-marked g c =
-    let m = memory_of (g.S.Storage.bytes c.args.storage.now) (g.S.Storage.keys c.args.storage.now) in
+    let m = g.S.Storage.memory c.args.storage.now in
     let w = c.args.word.now in
     let has : tracks.has_area w ≡ true = sym c.has_area.ensures ∙ c.if-not-has_area.false in
     list_past m w c.blocks-2.byte _ _ _ has (omega (arith, c.blocks-2-test.true, c.blocks-2.invariant.counted)) (c.blocks-2.invariant.begun c.blocks-2-test.true) (sym c.in-Ok-None.ensures.said ∙ c.in-Ok-None.field-0-is)
@@ -17,18 +16,18 @@ returns-in-Ok-None-clause-marked g c =
 
 pub returns-in-Ok-None-clause-stored : goal.returns-in-Ok-None-clause-stored
 returns-in-Ok-None-clause-stored g c =
-    let m = memory_of (g.S.Storage.bytes c.args.storage.now) (g.S.Storage.keys c.args.storage.now) in
+    let m = g.S.Storage.memory c.args.storage.now in
     let w = c.args.word.now in
     filled_past m w c.blocks-2.byte _ _ (c.blocks-2.invariant.begun c.blocks-2-test.true) (sym c.in-Ok-None.ensures.said ∙ c.in-Ok-None.field-0-is) c.blocks-2.invariant.stored
 
 pub returns-in-Ok-None-clause-paged : goal.returns-in-Ok-None-clause-paged
 returns-in-Ok-None-clause-paged g c =
-    let m = memory_of (g.S.Storage.bytes c.args.storage.now) (g.S.Storage.keys c.args.storage.now) in
+    let m = g.S.Storage.memory c.args.storage.now in
     area_past m c.args.word.now c.blocks-2.byte _ _ (c.blocks-2.invariant.begun c.blocks-2-test.true) (sym c.in-Ok-None.ensures.said ∙ c.in-Ok-None.field-0-is) c.blocks-2.invariant.paged
 
 pub unreachable-requires : goal.unreachable-requires
 unreachable-requires g c =
-    let m = memory_of (g.S.Storage.bytes c.args.storage.now) (g.S.Storage.keys c.args.storage.now) in
+    let m = g.S.Storage.memory c.args.storage.now in
     let w = c.args.word.now in
     let has : tracks.has_area w ≡ true = sym c.has_area.ensures ∙ c.if-not-has_area.false in
     let page = c.in-Err.field-0.0 in
@@ -37,7 +36,7 @@ unreachable-requires g c =
 
 pub blocks-2-preserved : goal.blocks-2-preserved
 blocks-2-preserved g c =
-    let m = memory_of (g.S.Storage.bytes c.args.storage.now) (g.S.Storage.keys c.args.storage.now) in
+    let m = g.S.Storage.memory c.args.storage.now in
     let w = c.args.word.now in
     let has : tracks.has_area w ≡ true = sym c.has_area.ensures ∙ c.if-not-has_area.false in
     let part = c.bytes_in_block-bytes.ensures in

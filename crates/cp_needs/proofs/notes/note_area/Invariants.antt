@@ -1,6 +1,5 @@
 use Rattle.std.proofs.Common.{◌-◌, ◌≡◌, ◌≤◌, ◌<◌}
 use Rattle.s370_channel.specs.Guest.{area_block}
-use Rattle.s370_walk.specs.Hardware.{memory_of}
 use Rattle.cp_needs.specs.Areas.{IsBegun}
 use Rattle.cp_needs.specs.Noted.{AreMarked, ArePaged, AreStored}
 use Rattle.cp_needs.proofs.Noting.{IsFilledBelow, IsListBelow}
@@ -11,10 +10,10 @@ abbrev pub invariant-blocks-2 : goal.invariant-blocks-2
 invariant-blocks-2 g l = record {
   counted : l.count ≡ l.word.count;
   within : l.byte ≤ l.count;
-  begun : l.byte < l.count → IsBegun (area_block (memory_of (g.S.Storage.bytes l.storage) (g.S.Storage.keys l.storage)) l.word) l.byte;
-  marked : AreMarked (IsListBelow (memory_of (g.S.Storage.bytes l.storage) (g.S.Storage.keys l.storage)) l.word l.byte) l.initial.notes.text.items l.notes.text.items;
-  stored : AreStored (IsFilledBelow (memory_of (g.S.Storage.bytes l.storage) (g.S.Storage.keys l.storage)) l.word l.byte) l.initial.notes.filled.items l.notes.filled.items;
-  paged : ArePaged (IsAreaBelow (memory_of (g.S.Storage.bytes l.storage) (g.S.Storage.keys l.storage)) l.word l.byte) l.initial.notes.pages.items l.notes.pages.items;
+  begun : l.byte < l.count → IsBegun (area_block (g.S.Storage.memory l.storage) l.word) l.byte;
+  marked : AreMarked (IsListBelow (g.S.Storage.memory l.storage) l.word l.byte) l.initial.notes.text.items l.notes.text.items;
+  stored : AreStored (IsFilledBelow (g.S.Storage.memory l.storage) l.word l.byte) l.initial.notes.filled.items l.notes.filled.items;
+  paged : ArePaged (IsAreaBelow (g.S.Storage.memory l.storage) l.word l.byte) l.initial.notes.pages.items l.notes.pages.items;
 }
 
 abbrev pub decreases-blocks-2 : goal.decreases-blocks-2

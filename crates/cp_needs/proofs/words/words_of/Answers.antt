@@ -1,13 +1,12 @@
 use Rattle.std.proofs.Common.{◌≡◌, ◌+◌, ◌*◌, ◌/◌, ◌<◌, ◌≤◌, ◌∙◌, List, ap, arith, length, refl, slice_index, sym, ℕ}
 use Rattle.std.proofs.lemmas.List.{get_or_read, length-replicate}
-use Rattle.s370_walk.specs.Hardware.{memory_of}
 use Rattle.cp_needs.specs.Words.{AreSteps}
 use Rattle.cp_needs.proofs.Programs.{first_size, needed_at, none_of, reached_at, reached_first, steps_length, visited_size, visited_steps, words_all, words_held}
 use Rattle.cp_needs.proofs.words.words_of.Goals as goal
 
 pub words-init : goal.words-init
 words-init g c =
-    let m = memory_of (g.S.Storage.bytes c.args.storage.now) (g.S.Storage.keys c.args.storage.now) in
+    let m = g.S.Storage.memory c.args.storage.now in
     record {
       known = c.in_ok-follow.ensures.known;
       reached = reached_first m c.args.start _ c.follow.new.words.items c.new-words.ensures.items c.in_ok-follow.ensures.words;
@@ -19,21 +18,21 @@ words-init g c =
 
 pub returns-clause-words : goal.returns-clause-words
 returns-clause-words g c =
-    let m = memory_of (g.S.Storage.bytes c.args.storage.now) (g.S.Storage.keys c.args.storage.now) in
+    let m = g.S.Storage.memory c.args.storage.now in
     let all : length c.words.words.items ≤ c.words.done = omega (arith, c.words-test.false, c.len.ensures, c.words.words.ok.0) in
     words_all m c.args.start (g.S.Storage.present c.args.storage.now) _ c.words.words.items c.requires.even c.words.invariant.room
     (λ i lt. c.words.invariant.visited i (omega (arith, lt, all))) c.words.invariant.first c.words.invariant.reached
 
 pub returns-clause-held : goal.returns-clause-held
 returns-clause-held g c =
-    let m = memory_of (g.S.Storage.bytes c.args.storage.now) (g.S.Storage.keys c.args.storage.now) in
+    let m = g.S.Storage.memory c.args.storage.now in
     let all : length c.words.words.items ≤ c.words.done = omega (arith, c.words-test.false, c.len.ensures, c.words.words.ok.0) in
     words_held m c.args.start (g.S.Storage.present c.args.storage.now) _ c.words.words.items c.requires.even c.words.invariant.room
     (λ i lt. c.words.invariant.visited i (omega (arith, lt, all))) c.words.invariant.first
 
 pub returns-in-Some-clause-needed : goal.returns-in-Some-clause-needed
 returns-in-Some-clause-needed g c =
-    let m = memory_of (g.S.Storage.bytes c.args.storage.now) (g.S.Storage.keys c.args.storage.now) in
+    let m = g.S.Storage.memory c.args.storage.now in
     let words = c.words.words.items in
     let lt : c.words.done < length words = omega (arith, c.words-test.true, c.len.ensures, c.words.words.ok.0) in
     let is : c.index-address.result.now ≡ slice_index words c.words.done = get_or_read words c.words.done _ lt c.index-address.ensures 0 in
@@ -41,7 +40,7 @@ returns-in-Some-clause-needed g c =
 
 pub words-preserved : goal.words-preserved
 words-preserved g c =
-    let m = memory_of (g.S.Storage.bytes c.args.storage.now) (g.S.Storage.keys c.args.storage.now) in
+    let m = g.S.Storage.memory c.args.storage.now in
     let present = g.S.Storage.present c.args.storage.now in
     let words = c.words.words.items in
     let new = c.visit.new.words.items in

@@ -1,5 +1,4 @@
 use Rattle.std.proofs.Common.{◌≡◌, ◌+◌, ◌-◌, ◌*◌, ◌/◌, ◌<◌, ◌≤◌, length, vec_len}
-use Rattle.s370_walk.specs.Hardware.{memory_of}
 use Rattle.cp_graph.specs.Marks.{unmarked}
 use Rattle.cp_needs.specs.Words.{AreSeen, IsAmong}
 use Rattle.cp_needs.proofs.Programs.{AreReached, AreVisited}
@@ -8,11 +7,11 @@ use Rattle.cp_needs.proofs.words.words_of.Given as goal
 abbrev pub invariant-words : goal.invariant-words
 invariant-words g l = record {
   known : AreSeen l.words.items l.seen;
-  reached : AreReached (memory_of (g.S.Storage.bytes l.storage) (g.S.Storage.keys l.storage)) l.start l.words.items;
-  visited : AreVisited (memory_of (g.S.Storage.bytes l.storage) (g.S.Storage.keys l.storage)) (g.S.Storage.present l.storage) (length l.seen) l.words.items l.done;
+  reached : AreReached (g.S.Storage.memory l.storage) l.start l.words.items;
+  visited : AreVisited (g.S.Storage.memory l.storage) (g.S.Storage.present l.storage) (length l.seen) l.words.items l.done;
   first : l.start / 8 < length l.seen → IsAmong l.words.items l.start;
   behind : l.done ≤ vec_len l.words;
-  room : length l.seen ≡ (length (g.S.Storage.bytes l.storage) + 4095) / 4096 * 512;
+  room : length l.seen ≡ (length (g.S.Storage.memory l.storage).bytes + 4095) / 4096 * 512;
 }
 
 abbrev pub decreases-words : goal.decreases-words

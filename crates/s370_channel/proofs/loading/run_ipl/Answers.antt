@@ -1,4 +1,3 @@
-use Rattle.std.proofs.Common.{subst, sym}
 use Rattle.s370_channel.proofs.Halts.{loading_told}
 use Rattle.s370_channel.proofs.loading.run_ipl.Goals as goal
 

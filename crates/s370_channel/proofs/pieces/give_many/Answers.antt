@@ -1,5 +1,4 @@
 use Rattle.std.proofs.Common.{arith, ◌∙◌, sym, ◌<◌, ◌+◌, ◌-◌, ◌≡◌, subst}
-use Rattle.s370_walk.specs.Hardware.{memory_of}
 use Rattle.s370_walk.specs.Walk.{Moving, Reaches, live}
 use Rattle.s370_walk.specs.declared.parts.Position.{Position}
 use Rattle.s370_channel.specs.Progress.{setting}
@@ -9,10 +8,10 @@ use Rattle.s370_channel.proofs.pieces.give_many.Goals as goal
 pub returns-clause-reaches : goal.returns-clause-reaches
 returns-clause-reaches g c w at =
     let h = setting g.D.Device.machine c.args.limits.now in
-    let m = memory_of (g.S.Storage.bytes c.args.storage.now) (g.S.Storage.keys c.args.storage.now) in
+    let m = g.S.Storage.memory c.args.storage.now in
     let n = c.piece-n.result in
     let some : 0 < n = omega (arith, c.if-n-lt2.false) in
     let last : (c.in_ok-end.end - 1) + 1 ≡ c.args.address + n = omega (arith, c.in_ok-end.ensures.1, some) in
     let all = sym c.has.ensures ∙ c.if-has.false in
-    let there = gives_piece w h some c.piece-n.ensures.count c.piece-n.ensures.left c.requires.gives all c.piece-n.ensures.giving at c.piece-n.ensures.block c.in_ok-end.ensures.0 (c.in-Ok.ensures.1.0 some) c.in-Ok.ensures.0 last c.give_piece.ensures.bytes c.give_piece.ensures.keys c.give_piece.ensures.device in
-    subst (λ (x : Position). Reaches (live w) h (Moving c.args.p.now m c.args.device.now) (Moving x (memory_of (g.S.Storage.bytes c.give_piece.new.storage) (g.S.Storage.keys c.give_piece.new.storage)) c.give_piece.new.device)) (sym c.many_on.ensures) there
+    let there = gives_piece w h some c.piece-n.ensures.count c.piece-n.ensures.left c.requires.gives all c.piece-n.ensures.giving at c.piece-n.ensures.block c.in_ok-end.ensures.0 (c.in-Ok.ensures.1.0 some) c.in-Ok.ensures.0 last c.give_piece.ensures.stored c.give_piece.ensures.device in
+    subst (λ (x : Position). Reaches (live w) h (Moving c.args.p.now m c.args.device.now) (Moving x (g.S.Storage.memory c.give_piece.new.storage) c.give_piece.new.device)) (sym c.many_on.ensures) there

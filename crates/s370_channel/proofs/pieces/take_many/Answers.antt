@@ -1,5 +1,4 @@
 use Rattle.std.proofs.Common.{arith, sym, ◌<◌, ◌+◌, ◌-◌, ◌≡◌, subst}
-use Rattle.s370_walk.specs.Hardware.{memory_of}
 use Rattle.s370_walk.specs.Walk.{Moving, Reaches, live}
 use Rattle.s370_walk.specs.declared.parts.Position.{Position}
 use Rattle.s370_channel.specs.Progress.{setting}
@@ -9,7 +8,7 @@ use Rattle.s370_channel.proofs.pieces.take_many.Goals as goal
 pub returns-clause-reaches : goal.returns-clause-reaches
 returns-clause-reaches g c w at =
     let h = setting g.D.Device.machine c.args.limits.now in
-    let m = memory_of (g.S.Storage.bytes c.args.storage.now) (g.S.Storage.keys c.args.storage.now) in
+    let m = g.S.Storage.memory c.args.storage.now in
     let n = c.piece-n.result in
     let some : 0 < n = omega (arith, c.if-n-lt2.false) in
     let last : (c.in_ok-end.end - 1) + 1 ≡ c.args.address + n = omega (arith, c.in_ok-end.ensures.1, some) in

@@ -1,7 +1,4 @@
-use Rattle.std.proofs.Common.{◌≡◌, ap, subst}
-use Rattle.s370_walk.specs.declared.parts.Spot.{Spot}
-use Rattle.s370_walk.specs.Hardware.{memory_of}
-use Rattle.s370_walk.specs.Walk.{Fetching, Moving, Reaches, live}
+use Rattle.s370_walk.specs.Walk.{live}
 use Rattle.s370_channel.specs.Progress.{setting}
 use Rattle.s370_channel.proofs.Ends.{reach_word, then_ends}
 use Rattle.s370_channel.proofs.Halts.{then_halts}

@@ -1,13 +1,10 @@
-use Rattle.std.proofs.Common.{inl, inr, refl}
-use Rattle.s370_walk.specs.Hardware.{memory_of}
-use Rattle.s370_walk.specs.Walk.{live}
 use Rattle.s370_channel.specs.Progress.{setting}
-use Rattle.s370_channel.proofs.Halts.{match_halts_later, on_still, lighter_still}
+use Rattle.s370_channel.proofs.Halts.{match_halts_later, on_still}
 use Rattle.s370_channel.proofs.running.go_on.Goals as goal
 
 pub returns-in-Err-clause-halts : goal.returns-in-Err-clause-halts
 returns-in-Err-clause-halts g c =
-    let m = memory_of (g.S.Storage.bytes c.one_word.new.storage) (g.S.Storage.keys c.one_word.new.storage) in
+    let m = g.S.Storage.memory c.one_word.new.storage in
     match_halts_later (g.F.WordForm.written c.args.program.now) (setting g.D.Device.machine c.args.limits.now) g.D.Device.needs_memory m c.one_word.new.device c.in-Err.error c.words.invariant.reaches (g.met.S.Storage.keeps_present _ _ c.words.invariant.rest) c.in-Err.ensures.halts
 
 pub returns-in-Err-clause-on : goal.returns-in-Err-clause-on

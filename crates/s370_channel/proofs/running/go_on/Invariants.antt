@@ -1,5 +1,3 @@
-use Rattle.std.proofs.Common.{◌≡◌, length}
-use Rattle.s370_walk.specs.Hardware.{memory_of}
 use Rattle.s370_walk.specs.Walk.{Fetching, Reaches, live}
 use Rattle.s370_channel.specs.Progress.{setting, weight}
 use Rattle.s370_channel.proofs.Halts.{IsSameOrLighter}
@@ -7,10 +5,9 @@ use Rattle.s370_channel.proofs.running.go_on.Given as goal
 
 abbrev pub invariant-words : goal.invariant-words
 invariant-words g l = record {
-  reaches : Reaches (live (g.F.WordForm.written l.fn.program)) (setting g.D.Device.machine l.fn.limits) (Fetching l.fn.from (memory_of (g.S.Storage.bytes l.fn.storage) (g.S.Storage.keys l.fn.storage)) l.fn.device) (Fetching l.spot (memory_of (g.S.Storage.bytes l.storage) (g.S.Storage.keys l.storage)) l.device);
-  keys : g.S.Storage.keys l.storage ≡ g.S.Storage.keys l.fn.storage;
+  reaches : Reaches (live (g.F.WordForm.written l.fn.program)) (setting g.D.Device.machine l.fn.limits) (Fetching l.fn.from (g.S.Storage.memory l.fn.storage) l.fn.device) (Fetching l.spot (g.S.Storage.memory l.storage) l.device);
   rest : g.S.Storage.Keeps l.fn.storage l.storage;
-  on : IsSameOrLighter l.fn.limits.commands l.fn.from (memory_of (g.S.Storage.bytes l.fn.storage) (g.S.Storage.keys l.fn.storage)) l.fn.device l.spot (memory_of (g.S.Storage.bytes l.storage) (g.S.Storage.keys l.storage)) l.device;
+  on : IsSameOrLighter l.fn.limits.commands l.fn.from (g.S.Storage.memory l.fn.storage) l.fn.device l.spot (g.S.Storage.memory l.storage) l.device;
 }
 
 abbrev pub decreases-words : goal.decreases-words

@@ -1,8 +1,6 @@
-use Rattle.std.proofs.Common.{subst, sym}
+use Rattle.std.proofs.Common.{subst}
 use Rattle.s370_walk.specs.declared.parts.Spot.{Spot}
-use Rattle.s370_walk.specs.Hardware.{memory_of}
 use Rattle.s370_walk.specs.Walk.{Fetching}
-use Rattle.s370_channel.specs.declared.running.ChannelError.{ChannelError}
 use Rattle.s370_channel.specs.Progress.{MatchStuck, setting}
 use Rattle.s370_channel.proofs.Halts.{halts_told}
 use Rattle.s370_channel.proofs.running.run.Goals as goal
@@ -11,7 +9,7 @@ pub returns-in-Err-clause-stuck : goal.returns-in-Err-clause-stuck
 returns-in-Err-clause-stuck g c =
     let w = g.F.WordForm.written c.args.program.now in
     let h = setting g.D.Device.machine c.args.limits.now in
-    let m = memory_of (g.S.Storage.bytes c.args.storage.now) (g.S.Storage.keys c.args.storage.now) in
+    let m = g.S.Storage.memory c.args.storage.now in
     let told = halts_told w h g.D.Device.needs_memory _ _ _ _ c.in-Err.halt c.in-Err.ensures.halts in
     let P : Spot → Type 0 = λ s. MatchStuck w h g.D.Device.needs_memory (g.S.Storage.present c.args.storage.now) (Fetching s m c.args.device.now) c.error.result in
     subst P c.first_spot.ensures (rw c.error.ensures told)

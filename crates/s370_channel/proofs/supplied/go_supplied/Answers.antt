@@ -1,5 +1,4 @@
-use Rattle.std.proofs.Common.{◌≡◌, ℕ, List, [], ◌∷◌, ◌++◌, ◌∙◌, refl}
-use Rattle.s370_walk.specs.Hardware.{memory_of}
+use Rattle.std.proofs.Common.{[], ◌∷◌, ◌++◌, ◌∙◌, refl}
 use Rattle.s370_walk.specs.Walk.{live}
 use Rattle.s370_walk.proofs.Reaching.{reach_here, reach_on}
 use Rattle.s370_channel.specs.Guest.{guest_written}
@@ -12,15 +11,14 @@ use Rattle.s370_channel.proofs.supplied.go_supplied.Goals as goal
 pub unit-init : goal.unit-init
 unit-init g c =
     let h = setting g.D.Device.machine c.args.limits.now in
-    let first = stands c.args.from (memory_of (g.S.Storage.bytes c.args.storage.now) (g.S.Storage.keys c.args.storage.now)) c.args.device.now in
+    let first = stands c.args.from (g.S.Storage.memory c.args.storage.now) c.args.device.now in
     record {
       reaches = reach_here (live guest_written) h first;
       ready = c.requires.ready;
       between = c.requires.between;
       ample = c.requires.ample;
-      came = ([], g.met.S.UnitSupply.came_none _ _ 0 c.requires.between (g.met.S.Storage.keeps_same _), tt);
+      came = ([], g.met.S.UnitSupply.came_none _ _ 0 c.requires.between (g.met.S.Keyed.rest_kept _ _ (g.met.S.Storage.keeps_same _)), tt);
       keys = refl;
-      size = refl;
     }
 
 pub returns-in-Err-clause-memory : goal.returns-in-Err-clause-memory
@@ -30,7 +28,7 @@ returns-in-Err-clause-memory g c =
 pub returns-in-Err-clause-came : goal.returns-in-Err-clause-came
 returns-in-Err-clause-came g c =
     let h = setting g.D.Device.machine c.args.limits.now in
-    let first = stands c.args.from (memory_of (g.S.Storage.bytes c.args.storage.now) (g.S.Storage.keys c.args.storage.now)) c.args.device.now in
+    let first = stands c.args.from (g.S.Storage.memory c.args.storage.now) c.args.device.now in
     let s = c.unit.invariant.came in
     let t = c.in-Err.ensures.came in (
       s.0 ++ (t.0 ∷ []),
@@ -46,7 +44,7 @@ returns-in-Finished-clause-reaches g c =
 pub returns-in-Finished-clause-came : goal.returns-in-Finished-clause-came
 returns-in-Finished-clause-came g c =
     let h = setting g.D.Device.machine c.args.limits.now in
-    let first = stands c.args.from (memory_of (g.S.Storage.bytes c.args.storage.now) (g.S.Storage.keys c.args.storage.now)) c.args.device.now in
+    let first = stands c.args.from (g.S.Storage.memory c.args.storage.now) c.args.device.now in
     let s = c.unit.invariant.came in
     let t = c.in-Ok.ensures.came in (
       s.0 ++ (t.0 ∷ []),
@@ -57,7 +55,7 @@ returns-in-Finished-clause-came g c =
 pub unit-preserved : goal.unit-preserved
 unit-preserved g c =
     let h = setting g.D.Device.machine c.args.limits.now in
-    let first = stands c.args.from (memory_of (g.S.Storage.bytes c.args.storage.now) (g.S.Storage.keys c.args.storage.now)) c.args.device.now in
+    let first = stands c.args.from (g.S.Storage.memory c.args.storage.now) c.args.device.now in
     let before = c.unit.invariant in
     let s = before.came in
     let t = c.in-Ok.ensures.came in
@@ -73,5 +71,4 @@ unit-preserved g c =
         each_more (IsTouched guest_written h first) s.0 t.0 s.2 (all_touched guest_written h first _ t.0 before.reaches t.2),
       );
       keys = c.in-Ok.ensures.keys ∙ before.keys;
-      size = c.in-Ok.ensures.size ∙ before.size;
     }

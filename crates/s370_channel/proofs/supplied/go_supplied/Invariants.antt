@@ -1,5 +1,4 @@
-use Rattle.std.proofs.Common.{◌≡◌, ℕ, List, length}
-use Rattle.s370_walk.specs.Hardware.{memory_of}
+use Rattle.std.proofs.Common.{◌≡◌, ℕ, List}
 use Rattle.s370_walk.specs.Walk.{Reaches, live}
 use Rattle.s370_channel.specs.Guest.{guest_written}
 use Rattle.s370_channel.specs.Halts.{IsReady, place_weight, stands}
@@ -10,15 +9,14 @@ use Rattle.s370_channel.proofs.supplied.go_supplied.Given as goal
 abbrev pub invariant-unit : goal.invariant-unit
 invariant-unit g l =
     let h = setting g.D.Device.machine l.fn.limits in
-    let first = stands l.fn.from (memory_of (g.S.Storage.bytes l.fn.storage) (g.S.Storage.keys l.fn.storage)) l.fn.device in
+    let first = stands l.fn.from (g.S.Storage.memory l.fn.storage) l.fn.device in
     record {
-      reaches : Reaches (live guest_written) h first (stands l.place (memory_of (g.S.Storage.bytes l.storage) (g.S.Storage.keys l.storage)) l.device);
+      reaches : Reaches (live guest_written) h first (stands l.place (g.S.Storage.memory l.storage) l.device);
       ready : IsReady l.place;
       between : g.S.UnitSupply.IsBetween l.storage;
       ample : g.S.AmpleSupply.IsAmple l.storage;
       came : (units : List (List ℕ)) × g.S.UnitSupply.Came l.fn.storage units l.storage × EachSuch (IsTouched guest_written h first) units;
-      keys : g.S.Storage.keys l.storage ≡ g.S.Storage.keys l.fn.storage;
-      size : length (g.S.Storage.bytes l.storage) ≡ length (g.S.Storage.bytes l.fn.storage);
+      keys : (g.S.Storage.memory l.storage).keys ≡ (g.S.Storage.memory l.fn.storage).keys;
     }
 
 abbrev pub decreases-unit : goal.decreases-unit

@@ -1,18 +1,17 @@
-use Rattle.std.proofs.Common.{◌≡◌, ℕ, List, [], ◌∷◌, ◌++◌, ◌∙◌, refl}
-use Rattle.s370_walk.specs.Hardware.{memory_of}
+use Rattle.std.proofs.Common.{[]}
 use Rattle.s370_walk.specs.Walk.{live}
 use Rattle.s370_channel.specs.Guest.{guest_written}
-use Rattle.s370_channel.specs.Loading.{loading, loading_limits}
+use Rattle.s370_channel.specs.Loading.{loading_limits}
 use Rattle.s370_channel.specs.Progress.{setting}
 use Rattle.s370_channel.proofs.Ends.{then_ends}
 use Rattle.s370_channel.proofs.Supplying.{each_before, loading_out}
 use Rattle.s370_channel.proofs.supplied.load_supplied.Goals as goal
 
 pub returns-in-Ok-clause-came : goal.returns-in-Ok-clause-came
-returns-in-Ok-clause-came g c = ([], g.met.S.UnitSupply.came_none _ _ 0 c.requires.between c.in-Ok.ensures.rest, tt)
+returns-in-Ok-clause-came g c = ([], g.met.S.UnitSupply.came_none _ _ 0 c.requires.between (g.met.S.Keyed.rest_kept _ _ c.in-Ok.ensures.rest), tt)
 
 pub returns-in-Err-Memory-clause-came : goal.returns-in-Err-Memory-clause-came
-returns-in-Err-Memory-clause-came g c = ([], g.met.S.UnitSupply.came_none _ _ 0 c.requires.between c.in-Err-Memory.ensures.rest, tt)
+returns-in-Err-Memory-clause-came g c = ([], g.met.S.UnitSupply.came_none _ _ 0 c.requires.between (g.met.S.Keyed.rest_kept _ _ c.in-Err-Memory.ensures.rest), tt)
 
 pub returns-in-Err-Absent-clause-reaches : goal.returns-in-Err-Absent-clause-reaches
 returns-in-Err-Absent-clause-reaches g c =
@@ -22,7 +21,7 @@ returns-in-Err-Absent-clause-reaches g c =
 
 pub returns-in-Err-Absent-clause-memory : goal.returns-in-Err-Absent-clause-memory
 returns-in-Err-Absent-clause-memory g c =
-    let m = memory_of (g.S.Storage.bytes c.args.storage.now) (g.S.Storage.keys c.args.storage.now) in
+    let m = g.S.Storage.memory c.args.storage.now in
     let halts = rw c.in-Err-Absent.field-0-is at c.in-Err-Absent.ensures.halts in
     loading_out guest_written g.D.Device.machine g.D.Device.needs_memory m c.args.device.now _ c.go_supplied.result halts.comes c.go_supplied.ensures.memory
 
@@ -31,4 +30,4 @@ returns-in-Err-Absent-clause-came g c =
     let h = setting g.D.Device.machine loading_limits in
     let halts = rw c.in-Err-Absent.field-0-is at c.in-Err-Absent.ensures.halts in
     let t = c.go_supplied.ensures.came in
-    (t.0, g.met.S.UnitSupply.came_on _ _ _ [] t.0 (g.met.S.UnitSupply.came_none _ _ 0 c.requires.between c.in-Err-Absent.ensures.rest) t.1, each_before guest_written h _ _ t.0 halts.comes t.2)
+    (t.0, g.met.S.UnitSupply.came_on _ _ _ [] t.0 (g.met.S.UnitSupply.came_none _ _ 0 c.requires.between (g.met.S.Keyed.rest_kept _ _ c.in-Err-Absent.ensures.rest)) t.1, each_before guest_written h _ _ t.0 halts.comes t.2)

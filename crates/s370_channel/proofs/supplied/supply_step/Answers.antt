@@ -1,8 +1,8 @@
-use Rattle.std.proofs.Common.{arith, ◌≡◌, ◌<◌, ◌*◌, ℕ, List, [], ◌∷◌, ◌++◌, ◌∙◌, ap, length, refl, subst, sym, false}
+use Rattle.std.proofs.Common.{arith, ◌≡◌, ◌<◌, ◌*◌, ℕ, List, [], ◌∷◌, ◌++◌, ◌∙◌, ap, length, refl, subst, sym}
 use Rattle.std.specs.Prelude.{Contains}
 use Rattle.std.proofs.lemmas.Bool.{false≢true}
 use Rattle.std.proofs.lemmas.List.{append-nil}
-use Rattle.s370_walk.specs.Hardware.{Memory, memory_of}
+use Rattle.s370_store.specs.Memory.{Memory}
 use Rattle.s370_walk.specs.Stuck.{IsAsked}
 use Rattle.s370_channel.specs.Guest.{guest_written}
 use Rattle.s370_channel.specs.Halts.{place_weight, stands}
@@ -15,21 +15,21 @@ pub page-init : goal.page-init
 page-init g c = record {
   memory = refl;
   device = refl;
-  supply = ([], g.met.S.Supply.brought_none _ _ (g.met.S.Storage.keeps_same _), record { all = tt; inside = tt }, tt);
+  supply = ([], g.met.S.Supply.brought_none _ _ (g.met.S.Keyed.rest_kept _ _ (g.met.S.Storage.keeps_same _)), record { all = tt; inside = tt }, tt);
 }
 
 pub returns-in-Ok-clause-supply : goal.returns-in-Ok-clause-supply
 returns-in-Ok-clause-supply g c =
     let s = c.page.invariant.supply in
-    let first = stands c.args.from (memory_of (g.S.Storage.bytes c.args.storage.now) (g.S.Storage.keys c.args.storage.now)) c.args.device.now in
-    let kept = subst (λ (pages : List ℕ). g.S.Supply.Brought c.args.storage.now pages c.go_from.new.storage) (append-nil s.0) (g.met.S.Supply.brought_on _ _ _ s.0 [] s.1 (g.met.S.Supply.brought_none _ _ c.go_from.ensures.rest)) in
+    let first = stands c.args.from (g.S.Storage.memory c.args.storage.now) c.args.device.now in
+    let kept = subst (λ (pages : List ℕ). g.S.Supply.Brought c.args.storage.now pages c.go_from.new.storage) (append-nil s.0) (g.met.S.Supply.brought_on _ _ _ s.0 [] s.1 (g.met.S.Supply.brought_none _ _ (g.met.S.Keyed.rest_kept _ _ c.go_from.ensures.rest))) in
     (s.0, kept, s.2, nine_asked g.D.Device.machine first s.0 s.3 s.2.all)
 
 pub returns-in-Err-Memory-clause-supply : goal.returns-in-Err-Memory-clause-supply
 returns-in-Err-Memory-clause-supply g c =
     let s = c.page.invariant.supply in
-    let first = stands c.args.from (memory_of (g.S.Storage.bytes c.args.storage.now) (g.S.Storage.keys c.args.storage.now)) c.args.device.now in
-    let kept = subst (λ (pages : List ℕ). g.S.Supply.Brought c.args.storage.now pages c.go_from.new.storage) (append-nil s.0) (g.met.S.Supply.brought_on _ _ _ s.0 [] s.1 (g.met.S.Supply.brought_none _ _ c.go_from.ensures.rest)) in
+    let first = stands c.args.from (g.S.Storage.memory c.args.storage.now) c.args.device.now in
+    let kept = subst (λ (pages : List ℕ). g.S.Supply.Brought c.args.storage.now pages c.go_from.new.storage) (append-nil s.0) (g.met.S.Supply.brought_on _ _ _ s.0 [] s.1 (g.met.S.Supply.brought_none _ _ (g.met.S.Keyed.rest_kept _ _ c.go_from.ensures.rest))) in
     (s.0, kept, s.2, nine_asked g.D.Device.machine first s.0 s.3 s.2.all)
 
 pub returns-in-Err-Memory-clause-size : goal.returns-in-Err-Memory-clause-size
@@ -38,8 +38,8 @@ returns-in-Err-Memory-clause-size g c = g.met.S.Storage.keeps_size _ _ c.go_from
 pub returns-then-weight_of-clause-supply : goal.returns-then-weight_of-clause-supply
 returns-then-weight_of-clause-supply g c =
     let s = c.page.invariant.supply in
-    let first = stands c.args.from (memory_of (g.S.Storage.bytes c.args.storage.now) (g.S.Storage.keys c.args.storage.now)) c.args.device.now in
-    let kept = subst (λ (pages : List ℕ). g.S.Supply.Brought c.args.storage.now pages c.go_from.new.storage) (append-nil s.0) (g.met.S.Supply.brought_on _ _ _ s.0 [] s.1 (g.met.S.Supply.brought_none _ _ c.go_from.ensures.rest)) in
+    let first = stands c.args.from (g.S.Storage.memory c.args.storage.now) c.args.device.now in
+    let kept = subst (λ (pages : List ℕ). g.S.Supply.Brought c.args.storage.now pages c.go_from.new.storage) (append-nil s.0) (g.met.S.Supply.brought_on _ _ _ s.0 [] s.1 (g.met.S.Supply.brought_none _ _ (g.met.S.Keyed.rest_kept _ _ c.go_from.ensures.rest))) in
     (s.0, kept, s.2, nine_asked g.D.Device.machine first s.0 s.3 s.2.all)
 
 pub page-preserved : goal.page-preserved
@@ -48,27 +48,27 @@ page-preserved g c =
     let page = c.in-Err-Absent.page.0 in
     let machine = g.D.Device.machine in
     let h = setting machine c.args.limits.now in
-    let m = memory_of (g.S.Storage.bytes c.page.storage) (g.S.Storage.keys c.page.storage) in
-    let m0 = memory_of (g.S.Storage.bytes c.args.storage.now) (g.S.Storage.keys c.args.storage.now) in
+    let m = g.S.Storage.memory c.page.storage in
+    let m0 = g.S.Storage.memory c.args.storage.now in
     let first = stands c.args.from m0 c.args.device.now in
-    let kept = subst (λ (pages : List ℕ). g.S.Supply.Brought c.args.storage.now pages c.go_from.new.storage) (append-nil s.0) (g.met.S.Supply.brought_on _ _ _ s.0 [] s.1 (g.met.S.Supply.brought_none _ _ c.go_from.ensures.rest)) in
+    let kept = subst (λ (pages : List ℕ). g.S.Supply.Brought c.args.storage.now pages c.go_from.new.storage) (append-nil s.0) (g.met.S.Supply.brought_on _ _ _ s.0 [] s.1 (g.met.S.Supply.brought_none _ _ (g.met.S.Keyed.rest_kept _ _ c.go_from.ensures.rest))) in
     let halts = rw c.in-Err-Absent.field-0-is at c.in-Err-Absent.ensures.halts in
     let on = rw c.in-Err-Absent.field-0-is at c.in-Err-Absent.ensures.on in
     let not_less : place_weight c.args.limits.now.commands c.in-Err-Absent.place < place_weight c.args.limits.now.commands c.args.from → ⊥ = λ less. absurd (omega (arith, less)) in
     let still = halts_still c.args.limits.now.commands c.args.from m m0 c.page.device c.args.device.now halts on not_less c.page.invariant.memory c.page.invariant.device in
     let away = away_at halts in
-    let size : length (g.S.Storage.bytes c.go_from.new.storage) ≡ length (g.S.Storage.bytes c.args.storage.now) = ap (λ (x : Memory). length x.bytes) still.0 in
-    let inside : page * 4096 < length (g.S.Storage.bytes c.args.storage.now) = subst (λ (n : ℕ). page * 4096 < n) size away.inside in
+    let size : length (g.S.Storage.memory c.go_from.new.storage).bytes ≡ length (g.S.Storage.memory c.args.storage.now).bytes = ap (λ (x : Memory). length x.bytes) still.0 in
+    let inside : page * 4096 < length (g.S.Storage.memory c.args.storage.now).bytes = subst (λ (n : ℕ). page * 4096 < n) size away.inside in
     let is_new : Contains s.0 page → ⊥ = λ at. false≢true (sym away.away ∙ g.met.S.UnitSupply.held _ _ s.0 page s.1 at) in
     record {
-      memory = rw (c.bring.ensures.bytes, c.bring.ensures.keys) still.0;
+      memory = c.bring.ensures.memory ∙ still.0;
       device = still.1;
       supply = (
         s.0 ++ (page ∷ []),
         g.met.S.Supply.brought_on _ _ _ s.0 (page ∷ []) kept c.in-Ok-bring.ensures.brought,
         record {
           all = such_more (IsAsked guest_written machine first) s.0 page s.2.all still.2;
-          inside = such_more (λ (p : ℕ). p * 4096 < length (g.S.Storage.bytes c.args.storage.now)) s.0 page s.2.inside inside;
+          inside = such_more (λ (p : ℕ). p * 4096 < length (g.S.Storage.memory c.args.storage.now).bytes) s.0 page s.2.inside inside;
         },
         distinct_more s.0 page s.3 is_new,
       );
@@ -77,7 +77,7 @@ page-preserved g c =
 pub returns-in-Err-clause-supply : goal.returns-in-Err-clause-supply
 returns-in-Err-clause-supply g c =
     let s = c.page.invariant.supply in
-    let first = stands c.args.from (memory_of (g.S.Storage.bytes c.args.storage.now) (g.S.Storage.keys c.args.storage.now)) c.args.device.now in
-    let kept = subst (λ (pages : List ℕ). g.S.Supply.Brought c.args.storage.now pages c.go_from.new.storage) (append-nil s.0) (g.met.S.Supply.brought_on _ _ _ s.0 [] s.1 (g.met.S.Supply.brought_none _ _ c.go_from.ensures.rest)) in
+    let first = stands c.args.from (g.S.Storage.memory c.args.storage.now) c.args.device.now in
+    let kept = subst (λ (pages : List ℕ). g.S.Supply.Brought c.args.storage.now pages c.go_from.new.storage) (append-nil s.0) (g.met.S.Supply.brought_on _ _ _ s.0 [] s.1 (g.met.S.Supply.brought_none _ _ (g.met.S.Keyed.rest_kept _ _ c.go_from.ensures.rest))) in
     let left = subst (λ (pages : List ℕ). g.S.Supply.Brought c.args.storage.now pages c.bring.new.self) (append-nil s.0) (g.met.S.Supply.brought_on _ _ _ s.0 [] kept c.in-Err.ensures.refused) in
     (s.0, left, s.2, nine_asked g.D.Device.machine first s.0 s.3 s.2.all)

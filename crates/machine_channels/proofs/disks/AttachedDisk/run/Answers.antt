@@ -1,5 +1,4 @@
 use Rattle.std.proofs.Common.{ℕ, ap, subst}
-use Rattle.s370_walk.specs.Hardware.{memory_of}
 use Rattle.s370_channel.specs.Reading.{as_reached}
 use Rattle.ckd_volume.specs.Unit.{Disk}
 use Rattle.machine_channels.specs.Channels.{RestsAfter}
@@ -11,8 +10,8 @@ at address unit = record { address = address; unit = unit }
 
 pub returns-clause-walk : goal.returns-clause-walk
 returns-clause-walk g c =
-    let old = memory_of (g.S.Storage.bytes c.args.storage.now) (g.S.Storage.keys c.args.storage.now) in
-    let new = memory_of (g.S.Storage.bytes c.run_live.new.storage) (g.S.Storage.keys c.run_live.new.storage) in
+    let old = g.S.Storage.memory c.args.storage.now in
+    let new = g.S.Storage.memory c.run_live.new.storage in
     subst (λ (d : DiskAt). RestsAfter as_reached c.args.start old d c.in_ok-ending.ending new (at c.self.inside.address c.rest.new.self)) c.self.view_is
     (record {
       unit = c.run_live.new.device;
