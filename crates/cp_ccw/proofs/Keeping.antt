@@ -8,7 +8,8 @@ use Rattle.std.proofs.lemmas.List.{get_or_default, get_or_past}
 use Rattle.std.proofs.Math.Decide.{dec_lt}
 use Rattle.std.proofs.lemmas.Option.{slice_get_within}
 use Rattle.s370_walk.specs.declared.parts.Ending.{Ending}
-use Rattle.s370_walk.specs.Hardware.{Machine, Memory}
+use Rattle.s370_store.specs.Memory.{Memory}
+use Rattle.s370_walk.specs.Hardware.{Machine}
 use Rattle.s370_walk.specs.Walk.{Fetching, live, start_spot}
 use Rattle.s370_channel.specs.declared.limits.Limits.{Limits}
 use Rattle.s370_channel.specs.declared.running.ChannelError.{ChannelError}
@@ -20,7 +21,7 @@ use Rattle.channel_laws.specs.declared.places.Place.{Place}
 use Rattle.channel_laws.specs.Copy.{guest_of, IsCopyOf, IsPlace}
 use Rattle.channel_laws.specs.Mapped.{Named, real_place}
 use Rattle.cp_dat.specs.declared.dat.Dat.{Dat}
-use Rattle.cp_dat.specs.Lent.{is_lent_page, lent_bytes, lent_frame}
+use Rattle.cp_dat.specs.Lent.{is_lent_page, lent_bytes, lent_frame, lent_memory}
 use Rattle.cp_graph.specs.declared.program.Node.{Node}
 use Rattle.cp_graph.specs.Table.{entry_in, program_of}
 use Rattle.cp_real.specs.Layout.{at_frame, real_in}
@@ -31,7 +32,7 @@ use Rattle.cp_needs.proofs.Walking.{stays_as_kept}
 use Rattle.cp_ccw.specs.declared.kept.Held.{Held}
 use Rattle.cp_ccw.specs.Kept.{AreNoted, AreNotedOnly, Grows, IsAtBase, IsFrame, IsMade, IsNoted, IsNotedAt, IsOf, IsOfList, KeptProgram}
 use Rattle.cp_ccw.specs.Moved.{AreRealNodes}
-use Rattle.cp_ccw.specs.Runs.{IsGuestsRun, IsRunOf, lent_memory}
+use Rattle.cp_ccw.specs.Runs.{IsGuestsRun, IsRunOf}
 use Rattle.cp_ccw.specs.Translated.{IsTranslatedFor}
 use Rattle.cp_ccw.proofs.Steady.{walk_same}
 

@@ -1,16 +1,14 @@
 -- A program that is known to be fixed stays so.
-use Rattle.std.specs.Prelude.{ℕ, ◌+◌, ◌*◌, ◌/◌, ◌%◌, ◌<◌, ◌≤◌, ◌≡◌, ◌⊎◌, Bool, true, false, All, Contains, List, [], ◌∷◌, ◌++◌, length, slice_index_or, take, Option, None, Some, is_some, refl}
+use Rattle.std.specs.Prelude.{ℕ, ◌+◌, ◌*◌, ◌/◌, ◌%◌, ◌<◌, ◌≤◌, ◌≡◌, ◌⊎◌, true, Contains, List, [], ◌∷◌, ◌++◌, length, slice_index_or, take, Option, Some, is_some, refl}
 use Rattle.std.proofs.Common.{ap, ◌∙◌, sym, subst, arith, inl, inr}
-use Rattle.std.proofs.Math.Decide.{dec_lt}
 use Rattle.std.proofs.lemmas.List.{take_more}
 use Rattle.std.proofs.lemmas.List.Elements.{All-contains, All-push, Contains-append_cases, Contains-append_left, Contains-append_right}
 use Rattle.s370_channel.specs.declared.words.Caw.{Caw}
 use Rattle.s370_store.specs.declared.Page.{Page}
-use Rattle.s370_walk.specs.Hardware.{Memory}
 use Rattle.cp_dat.specs.declared.dat.Dat.{Dat}
-use Rattle.cp_dat.specs.Lent.{is_lent_page, lent_bytes, lent_frame}
+use Rattle.cp_dat.specs.Lent.{is_lent_page, lent_bytes, lent_frame, lent_memory}
 use Rattle.cp_needs.specs.Kept.{IsAsItStood, IsPagedOnly, fullword_at}
-use Rattle.cp_needs.specs.Needs.{IsDataByte, IsHeld, IsProgramPage, IsTextByte}
+use Rattle.cp_needs.specs.Needs.{IsDataByte, IsHeld, IsTextByte}
 use Rattle.cp_needs.specs.Noted.{page_at}
 use Rattle.cp_needs.specs.Words.{IsFixedStill}
 use Rattle.cp_needs.proofs.Standing.{kept_of}
@@ -18,7 +16,6 @@ use Rattle.cp_ccw.specs.declared.kept.Held.{Held}
 use Rattle.cp_ccw.specs.Kept.{IsFrame}
 use Rattle.cp_ccw.specs.Known.{ArePlaced, ArePlacedOnly, IsAsKnown, IsKnown, KnownProgram}
 use Rattle.cp_ccw.specs.Placed.{IsPlacedOne}
-use Rattle.cp_ccw.specs.Runs.{lent_memory}
 
 -- ---- what is noted
 

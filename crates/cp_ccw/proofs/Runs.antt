@@ -5,7 +5,7 @@ use Rattle.s370_walk.specs.declared.parts.Word.{Word}
 use Rattle.s370_walk.specs.declared.parts.Ending.{Ending}
 use Rattle.s370_walk.specs.declared.parts.Order.{Order}
 use Rattle.std.specs.Prelude.{Bool}
-use Rattle.s370_walk.specs.Hardware.{Memory, memory_of}
+use Rattle.s370_store.specs.Memory.{Memory, memory_of}
 use Rattle.s370_walk.specs.Walk.{Form, Written, Setting, live, Fetching, Over, Reaches, start_spot}
 use Rattle.s370_channel.specs.Progress.{MatchStuck}
 use Rattle.s370_channel.specs.Guest.{guest_text, guest_written}
@@ -22,7 +22,7 @@ use Rattle.channel_laws.specs.Unstuck.{real_written}
 use Rattle.channel_laws.proofs.Copies.{frozen_end, steady_end}
 use Rattle.channel_laws.proofs.NeverStuck.{never_stuck}
 use Rattle.cp_graph.specs.declared.program.Node.{Node}
-use Rattle.cp_dat.specs.Lent.{lent_bytes, lent_keys, lent_pool, user_of}
+use Rattle.cp_dat.specs.Lent.{lent_bytes, lent_keys, lent_pool, user_of, lent_memory}
 use Rattle.cp_real.specs.declared.real.Real.{Real}
 use Rattle.std.specs.Prelude.{◌/◌}
 use Rattle.cp_frames.specs.Layout.{FrameSupply, is_there}
@@ -34,7 +34,6 @@ use Rattle.cp_real.specs.Shown.{real_bytes_of, real_keys_of, is_real_page_of, Ke
 use Rattle.cp_real.specs.Mapped.{IsLent}
 use Rattle.cp_real.proofs.Lending.{lent, lent_mapped, lent_present}
 use Rattle.cp_ccw.specs.Translated.{table_written, IsTranslatedFor}
-use Rattle.cp_ccw.specs.Runs.{lent_memory}
 
 abbrev written_by : (ℕ → Option Word) → (ℕ → ℕ → Option ℕ) → Written
 written_by words lists = record { text = λ _ a. words a; block = λ _ p number. lists p.at number; word_asks = λ a. []; block_asks = λ p number. [] }
@@ -71,14 +70,14 @@ module _ {D : Type 0} (h : Setting D) (places : List Place) (nodes : List Node) 
 
   module _ (s : Real) (kept : KeepsReal r s) where
     small_after : length (lent_bytes s.dat.now) ≤ 4294967295
-    small_after = let size = kept.lent.same_size in omega (arith, size, small)
+    small_after = let size = kept.lent.rest.same_size in omega (arith, size, small)
 
     same_byte : (x : Memory) (a : ℕ) → IsMapped (real_in r.dat.now) (Named t.guests) x (shown s) → IsKept (real_in r.dat.now) (lent_memory r.dat.now) x → (o : Option ℕ) → real_in r.dat.now a ≡ o → get_or x.bytes a 0 ≡ get_or (lent_bytes s.dat.now) a 0
     same_byte x a map k None none = k.bytes a none ∙ sym (kept.away a none)
-    same_byte x a map k (Some place) is = map.bytes a place is ∙ sym ((lent_in s small_after).bytes a place (same_real r.dat.now s.dat.now kept.lent a ∙ is))
+    same_byte x a map k (Some place) is = map.bytes a place is ∙ sym ((lent_in s small_after).bytes a place (same_real r.dat.now s.dat.now kept.lent.rest a ∙ is))
 
     same_storage : (x : Memory) → IsMapped (real_in r.dat.now) (Named t.guests) x (shown s) → IsKept (real_in r.dat.now) (lent_memory r.dat.now) x → x ≡ lent_memory s.dat.now
-    same_storage x map k = ap₂ memory_of (ext_get_or 0 x.bytes (lent_bytes s.dat.now) (k.size ∙ sym kept.lent.same_size) (λ a lt. same_byte x a map k (real_in r.dat.now a) refl)) (k.keys ∙ sym kept.keys)
+    same_storage x map k = ap₂ memory_of (ext_get_or 0 x.bytes (lent_bytes s.dat.now) (k.size ∙ sym kept.lent.rest.same_size) (λ a lt. same_byte x a map k (real_in r.dat.now a) refl)) (k.keys ∙ sym kept.lent.keys)
 
     at_end : (form : Form) (e : D) (end : Ending) (at : ℕ) → at ≡ guest_of places end.at → MeetsFrozen (real_in r.dat.now) t.guests form h (start_spot (guest_of places start)) (lent_memory r.dat.now) d (renamed_ending (guest_of places) end) (shown s) e
         → Reaches form h (Fetching (start_spot (guest_of places start)) (lent_memory r.dat.now) d) (Over (record { at = at; unit = end.unit; channel = end.channel; count = end.count }) (lent_memory s.dat.now) e)
@@ -114,6 +113,6 @@ kept_translated r s places nodes m0 kept t = record {
   guests = t.guests;
   copy = t.copy;
   words = t.words;
-  reals = λ a j. t.reals a j ∙ same_place (real_in r.dat.now) (real_in s.dat.now) (λ k. sym (same_real r.dat.now s.dat.now kept.lent k)) (t.guests.lists a j);
-  held = λ a named low. (let size = kept.lent.same_size in same_there r.dat.now s.dat.now kept.lent (a / 4096) ∙ t.held a named (omega (arith, size, low)));
+  reals = λ a j. t.reals a j ∙ same_place (real_in r.dat.now) (real_in s.dat.now) (λ k. sym (same_real r.dat.now s.dat.now kept.lent.rest k)) (t.guests.lists a j);
+  held = λ a named low. (let size = kept.lent.rest.same_size in same_there r.dat.now s.dat.now kept.lent.rest (a / 4096) ∙ t.held a named (omega (arith, size, low)));
 }

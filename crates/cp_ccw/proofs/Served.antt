@@ -9,7 +9,8 @@ use Rattle.s370_channel.specs.Guest.{area_block, guest_text, list_of, list_word,
 use Rattle.s370_channel.specs.Words.{ccw_of}
 use Rattle.s370_walk.specs.declared.parts.Word.{Word}
 use Rattle.s370_walk.specs.Blocks.{block_number, straight}
-use Rattle.s370_walk.specs.Hardware.{Memory, is_in}
+use Rattle.s370_store.specs.Memory.{Memory}
+use Rattle.s370_walk.specs.Hardware.{is_in}
 use Rattle.s370_walk.specs.Walk.{is_indirect}
 use Rattle.cp_graph.specs.Closure.{IsDataPage, IsEntryPage, IsServed, IsUsed, IsWordPage}
 use Rattle.cp_graph.proofs.Tables.{area_aligned}

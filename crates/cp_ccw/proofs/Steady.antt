@@ -1,7 +1,7 @@
 -- A program that is fixed: its walk is the one with the words and lists as they stood when it began.
 use Rattle.std.specs.Prelude.{ℕ, zero, suc, ◌≡◌, refl}
 use Rattle.std.proofs.Common.{ap, ◌∙◌}
-use Rattle.s370_walk.specs.Hardware.{Memory}
+use Rattle.s370_store.specs.Memory.{Memory}
 use Rattle.s370_walk.specs.Walk.{Setting, State, Fetching, Moving, Over, live, next, walk, fetched, rest}
 use Rattle.s370_walk.proofs.Freezing.{moved_same}
 use Rattle.s370_channel.specs.Guest.{guest_written}

@@ -1,13 +1,13 @@
 -- What is known of a program that is read where it stands.
-use Rattle.std.specs.Prelude.{ℕ, ◌*◌, ◌/◌, ◌+◌, ◌≤◌, ◌%◌, ◌≡◌, true, All, Contains, List, Some, length}
+use Rattle.std.specs.Prelude.{ℕ, ◌*◌, ◌+◌, ◌≤◌, ◌%◌, ◌≡◌, All, Contains, List, length}
 use Rattle.s370_channel.specs.declared.words.Caw.{Caw}
 use Rattle.s370_store.specs.declared.Page.{Page}
-use Rattle.s370_walk.specs.Hardware.{Memory}
+use Rattle.s370_store.specs.Memory.{Memory}
 use Rattle.cp_needs.specs.declared.kept.Fullword.{Fullword}
 use Rattle.cp_needs.specs.Kept.{IsAsItStood, IsPaged, IsPagedOnly, IsText, IsTextOnly}
 use Rattle.cp_needs.specs.Needs.{IsFixed}
 use Rattle.cp_dat.specs.declared.dat.Dat.{Dat}
-use Rattle.cp_dat.specs.Lent.{is_lent_page, lent_bytes, lent_frame}
+use Rattle.cp_dat.specs.Lent.{is_lent_page, lent_bytes}
 use Rattle.cp_ccw.specs.declared.kept.Held.{Held}
 use Rattle.cp_ccw.specs.Kept.{IsFrame}
 

@@ -1,5 +1,5 @@
 -- A page that is noted with its frame.
-use Rattle.std.specs.Prelude.{ℕ, ◌*◌, ◌+◌, ◌≤◌, ◌≡◌, ◌⊎◌, All, Contains, List, length}
+use Rattle.std.specs.Prelude.{◌*◌, ◌+◌, ◌≤◌, ◌≡◌, ◌⊎◌, All, Contains, List, length}
 use Rattle.s370_store.specs.declared.Page.{Page}
 use Rattle.cp_dat.specs.declared.dat.Dat.{Dat}
 use Rattle.cp_dat.specs.Lent.{lent_bytes}

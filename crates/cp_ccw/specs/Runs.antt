@@ -1,7 +1,8 @@
 -- A run over real storage as the guest's own.
 use Rattle.std.specs.Prelude.{ℕ}
 use Rattle.s370_walk.specs.declared.parts.Ending.{Ending}
-use Rattle.s370_walk.specs.Hardware.{Memory, Machine, memory_of}
+use Rattle.s370_store.specs.Memory.{Memory}
+use Rattle.s370_walk.specs.Hardware.{Machine}
 use Rattle.s370_walk.specs.Walk.{Form, live, Fetching, Over, Reaches, start_spot}
 use Rattle.s370_channel.specs.declared.limits.Limits.{Limits}
 use Rattle.s370_channel.specs.Progress.{setting}
@@ -9,16 +10,12 @@ use Rattle.s370_channel.specs.Guest.{guest_written}
 use Rattle.channel_laws.specs.Frozen.{words_frozen}
 use Rattle.s370_channel.specs.Reading.{IsSteadyFrom}
 use Rattle.cp_dat.specs.declared.dat.Dat.{Dat}
-use Rattle.cp_dat.specs.Lent.{lent_bytes, lent_keys}
+use Rattle.cp_dat.specs.Lent.{lent_memory}
 use Rattle.cp_real.specs.declared.real.Real.{Real}
 
 -- the frames, and whose pages are seen in them
 abbrev pub dat_of : Real → Dat
 dat_of r = r.dat.now
-
--- one user's storage
-abbrev pub lent_memory : Dat → Memory
-lent_memory d = memory_of (lent_bytes d) (lent_keys d)
 
 -- a program, read in this form, comes from this address of the user's storage to this end
 abbrev pub IsRunOf : {D : Type 0} → Form → Machine D → Limits → ℕ → Dat → D → Ending → Dat → D → Type 0

@@ -1,6 +1,6 @@
 -- A guest's program with real addresses.
 use Rattle.std.specs.Prelude.{◌≡◌, ℕ, List, [], length}
-use Rattle.s370_walk.specs.Hardware.{Memory}
+use Rattle.s370_store.specs.Memory.{Memory}
 use Rattle.s370_walk.specs.Walk.{Written, live}
 use Rattle.s370_channel.specs.Guest.{guest_written}
 use Rattle.channel_laws.specs.declared.places.Place.{Place}

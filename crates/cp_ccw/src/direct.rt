@@ -1,13 +1,12 @@
 //! When a program that was known may run again where it stands.
 ghost use Rattle.std.specs.Prelude.{◌≡◌, ◌%◌, ◌*◌, ◌+◌, ◌≤◌, All, Contains, IfOk, OnOk, length, true};
-ghost use Rattle.cp_dat.specs.Lent.{is_lent_page, lent_bytes};
+ghost use Rattle.cp_dat.specs.Lent.{is_lent_page, lent_bytes, lent_memory};
 ghost use Rattle.cp_needs.specs.Kept.{IsAsItStood, IsPaged, IsPagedOnly, IsText, IsTextOnly};
 ghost use Rattle.cp_needs.specs.Needs.{IsFixed, IsHeld};
 ghost use Rattle.cp_needs.specs.Words.{IsFixedStill};
 ghost use Rattle.cp_ccw.specs.Kept.{IsFrame};
 ghost use Rattle.cp_ccw.specs.Known.{ArePlaced, ArePlacedOnly, IsAsKnown};
 ghost use Rattle.cp_ccw.specs.Placed.{IsPlacedOne};
-ghost use Rattle.cp_ccw.specs.Runs.{lent_memory};
 
 use crate::kept::Held;
 use crate::known::Known;

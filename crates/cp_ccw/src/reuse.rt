@@ -1,15 +1,15 @@
 //! When a copied program that was kept may run again.
-ghost use Rattle.std.specs.Prelude.{◌≡◌, ℕ, ◌%◌, ◌*◌, ◌/◌, ◌<◌, ◌^◌, ◌⊎◌, All, Contains, IfErr, IfOk, OnOk, length, true};
+ghost use Rattle.std.specs.Prelude.{◌≡◌, ℕ, ◌%◌, ◌*◌, ◌/◌, ◌<◌, ◌^◌, ◌⊎◌, All, Contains, IfErr, IfOk, OnOk, true};
 ghost use Rattle.s370_channel.specs.Guest.{guest_written};
 ghost use Rattle.s370_channel.specs.declared.running.ChannelError.TheVariants as errors;
 ghost use Rattle.s370_walk.specs.Walk.{live};
-ghost use Rattle.cp_dat.specs.Lent.{KeepsRest, is_lent_page, lent_bytes, lent_keys};
+ghost use Rattle.cp_dat.specs.Lent.{KeepsStored, is_lent_page, lent_bytes, lent_memory};
 ghost use Rattle.cp_graph.specs.Table.{program_of};
 ghost use Rattle.cp_needs.specs.Kept.{IsAsItStood, IsText, IsTextOnly};
 ghost use Rattle.cp_needs.specs.Needs.{IsFixed, IsHeld};
 ghost use Rattle.cp_ccw.specs.Kept.{AreNoted, AreNotedOnly, Grows, IsAtBase, IsFrame, IsNoted, IsOf, IsOfList};
 ghost use Rattle.cp_ccw.specs.declared.kept.Held.{Held};
-ghost use Rattle.cp_ccw.specs.Runs.{IsRunOf, lent_memory};
+ghost use Rattle.cp_ccw.specs.Runs.{IsRunOf};
 
 use crate::kept::{Held, Kept};
 use crate::running::run_lent;
@@ -168,8 +168,7 @@ pub fn run_kept<D: Device>(
         (λ ending. IsRunOf (live guest_written) D.machine limits.now caw.address storage.old device.old ending
         storage.new device.new) }
     ensures memory { IfErr result (λ error. error ≡ errors.Memory) }
-    ensures keys { lent_keys storage.new ≡ lent_keys storage.old }
-    ensures rest { KeepsRest storage.old storage.new }
+    ensures rest { KeepsStored storage.old storage.new }
 {
     run_lent(&kept.table, storage, limits, device)
 }

@@ -1,7 +1,7 @@
 //! The run of a guest's program that was given real addresses.
 ghost use Rattle.std.specs.Prelude.{◌≡◌, IfOk, IfErr};
-ghost use Rattle.cp_dat.specs.Lent.{KeepsRest, lent_keys};
-ghost use Rattle.s370_walk.specs.Hardware.{Memory};
+ghost use Rattle.cp_dat.specs.Lent.{KeepsStored};
+ghost use Rattle.s370_store.specs.Memory.{Memory};
 ghost use Rattle.s370_channel.specs.Guest.{guest_text};
 ghost use Rattle.s370_channel.specs.declared.running.ChannelError.TheVariants as errors;
 ghost use Rattle.channel_laws.specs.Copy.{guest_of, IsPlace};
@@ -79,8 +79,7 @@ pub(crate) fn run_lent<'a, D: Device>(
     ensures never_absent { IfErr result (λ error. (m0 : Memory)
         → IsTranslatedFor storage.old table.now.places.items table.now.nodes.items m0
         → error ≡ errors.Memory) }
-    ensures keys { lent_keys storage.new ≡ lent_keys storage.old }
-    ensures rest { KeepsRest storage.old storage.new }
+    ensures rest { KeepsStored storage.old storage.new }
 {
     let mut own = [0u8; 0];
     let frames = storage.frame_count();

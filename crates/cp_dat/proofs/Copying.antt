@@ -7,13 +7,14 @@ use Rattle.std.proofs.lemmas.Bool.{cases_lt}
 use Rattle.std.proofs.lemmas.List.{ext_get_or, get_or-append_right, get_or_append_left, length-take-le, get_or-replicate}
 use Rattle.std.proofs.lemmas.Grind.{common_steps}
 use Rattle.s370_store.specs.Access.{put}
+use Rattle.s370_store.specs.Memory.{Memory, with_stored}
 use Rattle.s370_store.specs.declared.supply.FramesOut.{FramesOut}
 use Rattle.s370_store.proofs.Puts.{length-put, put_before, put_after}
 use Rattle.cp_frames.specs.Layout.{IsZeroPage}
 use Rattle.cp_frames.specs.Paging.{IsRefused}
 use Rattle.cp_dat.specs.declared.dat.Dat.{Dat}
 use Rattle.cp_dat.specs.Copies.{AllAre, EachAre, CameOnly, StandAll, SameBeside, is_wanted}
-use Rattle.cp_dat.specs.Lent.{KeepsRest, is_lent_page, lent_bytes, lent_keys, lent_pool, user_of, keeps_rest_same}
+use Rattle.cp_dat.specs.Lent.{KeepsStored, is_lent_page, lent_bytes, lent_keys, lent_memory, lent_pool, user_of, keeps_stored_same}
 use Rattle.cp_dat.specs.Letting.{between_kept, came_none, came_on, let_go_came, let_go_out}
 use Rattle.cp_dat.specs.Supplied.{HasNoRoom, IsBetweenUnits, Stands, Supplied, TakesPins}
 
@@ -95,12 +96,12 @@ module _ (s t u : Dat) (page : ℕ) where
   out_told (Ok _) between refused short let_go = tt
   out_told (Err e) between refused short let_go = let_go_out s t u [] page between refused (omega arith) short let_go
 
-  pub came_told : (r : Result ⊤ FramesOut) → OnOk r (Supplied s (page ∷ []) t) → OnErr r (Supplied s [] t) → TakesPins t u → CameOnly s (λ other. other ≡ page) u
-  came_told (Ok _) brought refused let_go = record { units = (page ∷ []) ∷ []; came = let_go_came s t u (page ∷ []) brought let_go; only = ((refl, tt), tt) }
-  came_told (Err e) brought refused let_go = record { units = [] ∷ []; came = let_go_came s t u [] refused let_go; only = (tt, tt) }
+  pub came_told : (r : Result ⊤ FramesOut) → OnOk r (Supplied s (page ∷ []) t) → OnErr r (Supplied s [] t) → TakesPins t u → lent_keys u ≡ lent_keys s → CameOnly s (λ other. other ≡ page) u
+  came_told (Ok _) brought refused let_go keys = record { units = (page ∷ []) ∷ []; came = let_go_came s t u (page ∷ []) brought let_go; only = ((refl, tt), tt); keys = keys }
+  came_told (Err e) brought refused let_go keys = record { units = [] ∷ []; came = let_go_came s t u [] refused let_go; only = (tt, tt); keys = keys }
 
-pub came_nothing : (s t : Dat) (is_such : ℕ → Type 0) → IsBetweenUnits (lent_pool s).supply → KeepsRest s t → CameOnly s is_such t
-came_nothing s t is_such between kept = record { units = []; came = came_none s t 0 between kept; only = tt }
+pub came_nothing : (s t : Dat) (is_such : ℕ → Type 0) → IsBetweenUnits (lent_pool s).supply → KeepsStored s t → CameOnly s is_such t
+came_nothing s t is_such between kept = record { units = []; came = came_none s t 0 between kept.rest; only = tt; keys = kept.keys }
 
 all_such : (P Q : ℕ → Type 0) → ((page : ℕ) → P page → Q page) → (pages : List ℕ) → AllAre P pages → AllAre Q pages
 all_such P Q more [] all = tt
@@ -119,6 +120,7 @@ came_more s t u P Q more a b = record {
   units = a.units ++ b.units;
   came = came_on s t u a.units b.units a.came b.came;
   only = each_on Q a.units b.units a.only (each_such P Q more b.units b.only);
+  keys = b.keys ∙ a.keys;
 }
 
 -- what stands somewhere goes on standing somewhere
@@ -149,28 +151,25 @@ pub record IsPlacedTo (old : Dat) (wanted : List Bool) (page : ℕ) (new : Dat) 
   pub stand : (k : ℕ) → k < page → is_wanted wanted k → Stands (lent_pool new).supply (user_of new) k
   pub came : CameOnly old (is_wanted wanted) new
   pub between : IsBetweenUnits (lent_pool new).supply
-  pub bytes : lent_bytes new ≡ lent_bytes old
-  pub keys : lent_keys new ≡ lent_keys old
+  pub memory : lent_memory new ≡ lent_memory old
 
 pub placed_none : (old : Dat) (wanted : List Bool) → IsBetweenUnits (lent_pool old).supply → IsPlacedTo old wanted 0 old
 placed_none old wanted between = record {
   few = omega arith;
   stand = λ k low it. absurd (omega (arith, low));
-  came = came_nothing old old (is_wanted wanted) between (keeps_rest_same old);
+  came = came_nothing old old (is_wanted wanted) between (keeps_stored_same old);
   between = between;
-  bytes = refl;
-  keys = refl;
+  memory = refl;
 }
 
 pub placed_page : (old : Dat) (wanted : List Bool) (page : ℕ) (middle new : Dat) → page < length wanted → slice_index_or wanted page false ≡ true → IsPlacedTo old wanted page middle
-    → is_lent_page new page ≡ true → CameOnly middle (λ other. other ≡ page) new → IsBetweenUnits (lent_pool new).supply → lent_bytes new ≡ lent_bytes middle → lent_keys new ≡ lent_keys middle → IsPlacedTo old wanted (page + 1) new
-placed_page old wanted page middle new low it before there came between bytes keys = record {
+    → is_lent_page new page ≡ true → CameOnly middle (λ other. other ≡ page) new → IsBetweenUnits (lent_pool new).supply → lent_memory new ≡ lent_memory middle → IsPlacedTo old wanted (page + 1) new
+placed_page old wanted page middle new low it before there came between memory = record {
   few = omega (arith, low);
   stand = placed_on middle new (λ other. other ≡ page) wanted page came before.stand (λ _. inl there);
   came = came_more old middle new (λ other. other ≡ page) (is_wanted wanted) (wanted_page wanted page it) before.came came;
   between = between;
-  bytes = bytes ∙ before.bytes;
-  keys = keys ∙ before.keys;
+  memory = memory ∙ before.memory;
 }
 
 differ : {b : Bool} → b ≡ false → b ≡ true → ⊥
@@ -186,8 +185,7 @@ placed_by old wanted page new low away before = record {
   ]);
   came = before.came;
   between = before.between;
-  bytes = before.bytes;
-  keys = before.keys;
+  memory = before.memory;
 }
 
 -- the bytes below this address are put back
@@ -198,7 +196,6 @@ pub record IsBackTo (old : Dat) (from : List ℕ) (wanted : List Bool) (start : 
   pub stand : StandAll new wanted
   pub came : CameOnly old (is_wanted wanted) new
   pub between : IsBetweenUnits (lent_pool new).supply
-  pub keys : lent_keys new ≡ lent_keys old
 
 pub back_none : (old : Dat) (from : List ℕ) (wanted : List Bool) → StandAll old wanted → IsBetweenUnits (lent_pool old).supply → IsBackTo old from wanted 0 old
 back_none old from wanted stand between = record {
@@ -206,9 +203,8 @@ back_none old from wanted stand between = record {
   few = omega arith;
   put = put_none from (lent_bytes old);
   stand = stand;
-  came = came_nothing old old (is_wanted wanted) between (keeps_rest_same old);
+  came = came_nothing old old (is_wanted wanted) between (keeps_stored_same old);
   between = between;
-  keys = refl;
 }
 
 module _ (old : Dat) (from : List ℕ) (wanted : List Bool) (start : ℕ) (middle : Dat) (whole : length (lent_bytes old) % 4096 ≡ 0) (low : start < length (lent_bytes old)) (long : length from ≡ length (lent_bytes old)) (before : IsBackTo old from wanted start middle) where
@@ -223,19 +219,17 @@ module _ (old : Dat) (from : List ℕ) (wanted : List Bool) (start : ℕ) (middl
     stand = before.stand;
     came = before.came;
     between = before.between;
-    keys = before.keys;
   }
 
-  pub back_on : (fetched new : Dat) → slice_index_or wanted (start / 4096) false ≡ true → CameOnly middle (λ other. other ≡ start / 4096) fetched → IsBetweenUnits (lent_pool fetched).supply → lent_bytes fetched ≡ lent_bytes middle → lent_keys fetched ≡ lent_keys middle
-      → KeepsRest fetched new → lent_bytes new ≡ put (lent_bytes fetched) start (slice_range from start (start + 256)) → lent_keys new ≡ lent_keys fetched → IsBackTo old from wanted (start + 256) new
-  back_on fetched new it came between same_bytes same_keys kept bytes keys =
+  pub back_on : (fetched new : Dat) → slice_index_or wanted (start / 4096) false ≡ true → CameOnly middle (λ other. other ≡ start / 4096) fetched → IsBetweenUnits (lent_pool fetched).supply → lent_memory fetched ≡ lent_memory middle
+      → KeepsStored fetched new → lent_memory new ≡ with_stored (lent_memory fetched) start (slice_range from start (start + 256)) → IsBackTo old from wanted (start + 256) new
+  back_on fetched new it came between same kept stored =
       let all : CameOnly middle (λ other. other ≡ start / 4096) new = came_more middle fetched new (λ other. ⊥) (λ other. other ≡ start / 4096) (λ page none. absurd none) came (came_nothing fetched new (λ other. ⊥) between kept) in
       record {
         aligned = (let aligned = before.aligned in omega (arith, aligned));
         few = inside;
-        put = put_part start from (lent_bytes old) (lent_bytes middle) (lent_bytes new) long inside before.put (bytes ∙ ap (λ xs. put xs start (slice_range from start (start + 256))) same_bytes);
+        put = put_part start from (lent_bytes old) (lent_bytes middle) (lent_bytes new) long inside before.put (ap (λ (m : Memory). m.bytes) (stored ∙ ap (λ (m : Memory). with_stored m start (slice_range from start (start + 256))) same));
         stand = stand_on middle new (λ other. other ≡ start / 4096) wanted all before.stand;
         came = came_more old middle new (λ other. other ≡ start / 4096) (is_wanted wanted) (wanted_page wanted (start / 4096) it) before.came all;
-        between = between_kept fetched new kept between;
-        keys = keys ∙ same_keys ∙ before.keys;
+        between = between_kept fetched new kept.rest between;
       }

@@ -1,7 +1,7 @@
 -- A user's storage as bytes, of which pages are put back.
 use Rattle.std.specs.Prelude.{◌≡◌, ℕ, ◌/◌, Bool, true, false, List, [], ◌∷◌, slice_index, slice_index_or}
 use Rattle.cp_dat.specs.declared.dat.Dat.{Dat}
-use Rattle.cp_dat.specs.Lent.{lent_pool, user_of}
+use Rattle.cp_dat.specs.Lent.{lent_keys, lent_pool, user_of}
 use Rattle.cp_dat.specs.Supplied.{Stands, SuppliedUnits}
 
 -- a page is wanted where its flag says so
@@ -17,11 +17,13 @@ abbrev pub EachAre : (ℕ → Type 0) → List (List ℕ) → Type 0
 EachAre is_such [] = Unit {0}
 EachAre is_such (pages ∷ units) = AllAre is_such pages × EachAre is_such units
 
--- just such pages of the user came, in units: the same user of the same frames, where each other user has the bytes he had
+-- just such pages of the user came, in units, and no key was set: the same user of the same frames, with as many bytes, where
+-- each other user has the bytes he had
 pub record CameOnly (old : Dat) (is_such : ℕ → Type 0) (new : Dat) : Type 0 where
   pub units : List (List ℕ)
   pub came : SuppliedUnits old units new
   pub only : EachAre is_such units
+  pub keys : lent_keys new ≡ lent_keys old
 
 -- each wanted page stands in a frame or in a slot
 abbrev pub StandAll : Dat → List Bool → Type 0

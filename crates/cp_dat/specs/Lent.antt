@@ -1,6 +1,7 @@
 -- What is seen of one user's lent pages, and what is kept of those who lent them.
 use Rattle.std.specs.Prelude.{◌≡◌, ℕ, List, [], ◌∷◌, zero, suc, Bool, Option, length, slice_set, slice_index_or, refl}
 use Rattle.std.proofs.Common.{◌∙◌, ap}
+use Rattle.s370_store.specs.Memory.{Memory, memory_of}
 use Rattle.cp_dat.specs.declared.dat.Dat.{Dat}
 use Rattle.cp_frames.specs.Layout.{FrameSupply, Pool, bytes_of, frame_of, is_there}
 
@@ -24,6 +25,10 @@ lent_bytes d = bytes_of d.frames.now d.user
 abbrev pub lent_keys : Dat → List ℕ
 lent_keys d = d.keys.now
 
+-- both
+abbrev pub lent_memory : Dat → Memory
+lent_memory d = memory_of (lent_bytes d) (lent_keys d)
+
 -- his pages that stand in frames
 abbrev pub is_lent_page : Dat → ℕ → Bool
 is_lent_page d = is_there d.frames.now.supply.owners d.user
@@ -37,11 +42,17 @@ pub record KeepsRest (old new : Dat) : Type 0 where
   pub same_supply : new.frames.now.supply ≡ old.frames.now.supply
   pub others : new.frames.now.storages ≡ slice_set old.frames.now.storages old.user (bytes_of new.frames.now old.user)
 
--- the same user of the same frames, where each other user has the bytes he had
+-- with the keys he had
+pub record KeepsStored (old new : Dat) : Type 0 where
+  pub rest : KeepsRest old new
+  pub keys : lent_keys new ≡ lent_keys old
+
+-- the same user of the same frames, with as many bytes, where each other user has the bytes he had
 pub record KeepsFrames (old new : Dat) : Type 0 where
   pub same_frames : new.frames.ghost_name ≡ old.frames.ghost_name
   pub same_keys : new.keys.ghost_name ≡ old.keys.ghost_name
   pub same_user : new.user ≡ old.user
+  pub same_size : length (lent_bytes new) ≡ length (lent_bytes old)
   pub others : new.frames.now.storages ≡ slice_set old.frames.now.storages old.user (bytes_of new.frames.now old.user)
 
 pub set_own : {X : Type 0} (xs : List X) (i : ℕ) (d : X) → xs ≡ slice_set xs i (slice_index_or xs i d)
@@ -80,9 +91,15 @@ pub keeps_rest_present : (s t : Dat) → KeepsRest s t → is_lent_page t ≡ is
 keeps_rest_present s t k =
     ap (λ (supply : FrameSupply). is_there supply.owners t.user) k.same_supply ∙ ap (λ (user : ℕ). is_there s.frames.now.supply.owners user) k.same_user
 
+pub keeps_stored_same : (s : Dat) → KeepsStored s s
+keeps_stored_same s = record { rest = keeps_rest_same s; keys = refl }
+
+pub keeps_stored_on : (s t u : Dat) → KeepsStored s t → KeepsStored t u → KeepsStored s u
+keeps_stored_on s t u a b = record { rest = keeps_rest_on s t u a.rest b.rest; keys = b.keys ∙ a.keys }
+
 -- what callers say of many steps
 pub keeps_frames : (s t : Dat) → KeepsRest s t → KeepsFrames s t
-keeps_frames s t k = record { same_frames = k.same_frames; same_keys = k.same_keys; same_user = k.same_user; others = k.others }
+keeps_frames s t k = record { same_frames = k.same_frames; same_keys = k.same_keys; same_user = k.same_user; same_size = k.same_size; others = k.others }
 
 pub keeps_frames_same : (s : Dat) → KeepsFrames s s
 keeps_frames_same s = keeps_frames s s (keeps_rest_same s)
@@ -92,5 +109,6 @@ keeps_frames_on s t u a b = record {
   same_frames = b.same_frames ∙ a.same_frames;
   same_keys = b.same_keys ∙ a.same_keys;
   same_user = b.same_user ∙ a.same_user;
+  same_size = b.same_size ∙ a.same_size;
   others = others_on s.frames.now t.frames.now u.frames.now s.user t.user a.same_user a.others b.others;
 }

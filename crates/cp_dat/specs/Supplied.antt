@@ -60,14 +60,14 @@ pub record IsPagedFor (user : ℕ) (pages : List ℕ) (old new : FrameSupply) : 
   pub came : (u page : ℕ) → Stands new u page → Stands old u page ⊎ ((u ≡ user) × Contains pages page)
   pub page_ins : new.page_ins ≡ counted_by (length pages) old.page_ins
 
--- from one to the other just these pages of the user were brought and pinned: the same user of the same frames, where each
--- other user has the bytes he had
+-- from one to the other just these pages of the user were brought and pinned: the same user of the same frames, with as many
+-- bytes, where each other user has the bytes he had
 pub record Supplied (old : Dat) (pages : List ℕ) (new : Dat) : Type 0 where
   pub kept : KeepsFrames old new
   pub paged : IsPagedFor (user_of old) pages (lent_pool old).supply (lent_pool new).supply
 
--- the same user of the same frames, where each other user has the bytes he had; the user's pages have left their frames and
--- slots, no other page has, and no frame is pinned
+-- the same user of the same frames, with as many bytes, where each other user has the bytes he had; the user's pages have left
+-- their frames and slots, no other page has, and no frame is pinned
 pub record GivesBack (old new : Dat) : Type 0 where
   pub kept : KeepsFrames old new
   pub supply : (lent_pool new).supply ≡ record (lent_pool old).supply {
@@ -122,8 +122,8 @@ pub record IsBroughtInUnits (user : ℕ) (units : List (List ℕ)) (old new : Fr
   pub in_units : AreUnits user old units new
   pub brought : IsBroughtFor user (concat units) old new
 
--- from one to the other just these pages of the user came, in these units: the same user of the same frames, where each other
--- user has the bytes he had
+-- from one to the other just these pages of the user came, in these units: the same user of the same frames, with as many bytes,
+-- where each other user has the bytes he had
 pub record SuppliedUnits (old : Dat) (units : List (List ℕ)) (new : Dat) : Type 0 where
   pub kept : KeepsFrames old new
   pub brought : IsBroughtInUnits (user_of old) units (lent_pool old).supply (lent_pool new).supply

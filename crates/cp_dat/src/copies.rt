@@ -15,7 +15,7 @@ const CHUNK: u32 = 256;
 
 impl<'a> Dat<'a> {
     ghost use Rattle.cp_dat.specs.Copies.{CameOnly, SameBeside, StandAll, is_wanted};
-    ghost use Rattle.cp_dat.specs.Lent.{lent_bytes, lent_keys, lent_pool, is_lent_page, user_of};
+    ghost use Rattle.cp_dat.specs.Lent.{lent_bytes, lent_keys, lent_memory, lent_pool, is_lent_page, user_of};
     ghost use Rattle.cp_dat.specs.Supplied.{HasNoRoom, IsBetweenUnits, Stands};
 
     /// Copies 256 bytes of a page out, wherever it stands.
@@ -88,8 +88,7 @@ impl<'a> Dat<'a> {
         ensures nowhere { OnErr result (Stands (lent_pool self.old).supply (user_of self.old) page.0 → ⊥) }
         ensures came { CameOnly self.old (λ other. other ≡ page.0) self.new }
         ensures between { IsBetweenUnits (lent_pool self.new).supply }
-        ensures bytes { lent_bytes self.new ≡ lent_bytes self.old }
-        ensures keys { lent_keys self.new ≡ lent_keys self.old }
+        ensures memory { lent_memory self.new ≡ lent_memory self.old }
     {
         if self.frame_of(page).is_some() {
             return Ok(());
@@ -109,8 +108,7 @@ impl<'a> Dat<'a> {
             × HasNoRoom (lent_pool self.new).supply (user_of self.new) page) }
         ensures came { CameOnly self.old (is_wanted wanted.now) self.new }
         ensures between { IsBetweenUnits (lent_pool self.new).supply }
-        ensures bytes { lent_bytes self.new ≡ lent_bytes self.old }
-        ensures keys { lent_keys self.new ≡ lent_keys self.old }
+        ensures memory { lent_memory self.new ≡ lent_memory self.old }
     {
         let mut page = 0u32;
         while (page as usize) < wanted.len() {
@@ -130,7 +128,6 @@ impl<'a> Dat<'a> {
         requires stand { StandAll self.old wanted.now }
         requires between { IsBetweenUnits (lent_pool self.old).supply }
         ensures bytes { lent_bytes self.new ≡ from.now }
-        ensures keys { lent_keys self.new ≡ lent_keys self.old }
         ensures came { CameOnly self.old (is_wanted wanted.now) self.new }
         ensures between { IsBetweenUnits (lent_pool self.new).supply }
     {

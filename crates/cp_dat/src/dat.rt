@@ -179,16 +179,14 @@ fn page_of(address: u32) -> Page
 }
 
 impl<'a> Storage for Dat<'a> {
-    ghost use Rattle.cp_dat.specs.Lent.{lent_bytes, lent_keys, is_lent_page, KeepsRest, keeps_rest_same, keeps_rest_on, keeps_rest_present};
+    ghost use Rattle.cp_dat.specs.Lent.{lent_memory, is_lent_page, KeepsStored, keeps_stored_same, keeps_stored_on, keeps_rest_present};
     ghost use Rattle.cp_dat.specs.Blocks.{IsInFrame, in_frame_kept};
 
-    ghost bytes = { lent_bytes };
-
-    ghost keys = { lent_keys };
+    ghost memory = { lent_memory };
 
     ghost present = { is_lent_page };
 
-    ghost Keeps = { KeepsRest };
+    ghost Keeps = { KeepsStored };
 
     ghost IsPlaced = { IsInFrame };
 
@@ -293,18 +291,24 @@ impl<'a> Storage for Dat<'a> {
         self.frames.copy(self.user, from, to, count);
     }
 
-    ghost keeps_same = { keeps_rest_same };
+    ghost keeps_same = { keeps_stored_same };
 
-    ghost keeps_size = { λ s t k. k.same_size };
+    ghost keeps_size = { λ s t k. k.rest.same_size };
 
-    ghost keeps_present = { keeps_rest_present };
+    ghost keeps_keys = { λ s t k. k.keys };
 
-    ghost keeps_on = { keeps_rest_on };
+    ghost keeps_present = { λ s t k. keeps_rest_present s t k.rest };
+
+    ghost keeps_on = { keeps_stored_on };
 
     ghost placed_kept = { in_frame_kept };
 }
 
 impl<'a> Keyed for Dat<'a> {
+    ghost use Rattle.cp_dat.specs.Lent.{KeepsRest, keeps_rest_on, keeps_rest_present};
+
+    ghost KeepsRest = { KeepsRest };
+
     #[inline]
     fn key_of(&self, block: u32) -> StorageKey {
         self.keys[block as usize]
@@ -314,6 +318,14 @@ impl<'a> Keyed for Dat<'a> {
     fn set_key(&mut self, block: u32, key: StorageKey) {
         self.keys[block as usize] = key;
     }
+
+    ghost rest_kept = { λ s t k. k.rest };
+
+    ghost rest_size = { λ s t k. k.same_size };
+
+    ghost rest_present = { keeps_rest_present };
+
+    ghost rest_on = { keeps_rest_on };
 }
 
 impl<'a> Supply for Dat<'a> {
@@ -384,6 +396,8 @@ impl<'a> UnitSupply for Dat<'a> {
     ghost between_kept = { laws.between_kept };
 
     ghost came_none = { laws.came_none };
+
+    ghost came_size = { λ s t units came. came.kept.same_size };
 
     ghost came_on = { laws.came_on };
 }

@@ -1,15 +1,15 @@
 -- What is held of a fixed program.
 use Rattle.std.specs.Prelude.{◌≡◌, ℕ, ◌%◌, All, List, [], ◌∷◌, ◌++◌}
-use Rattle.std.proofs.Common.{◌∙◌, ap, subst}
+use Rattle.std.proofs.Common.{subst}
 use Rattle.s370_channel.specs.Supplied.{AllSuch}
 use Rattle.s370_store.specs.declared.Page.{Page}
-use Rattle.s370_walk.specs.Hardware.{Memory, memory_of}
+use Rattle.s370_store.specs.Memory.{Memory}
 use Rattle.cp_dat.specs.declared.dat.Dat.{Dat}
-use Rattle.cp_dat.specs.Lent.{is_lent_page, lent_bytes, lent_keys}
+use Rattle.cp_dat.specs.Lent.{is_lent_page, lent_bytes, lent_memory}
 use Rattle.cp_needs.specs.Kept.{IsAsItStood, IsPaged, IsPagedOnly, IsText, IsTextOnly}
 use Rattle.cp_needs.specs.Needs.{IsFixed, IsHeld}
 use Rattle.cp_needs.specs.declared.kept.Fullword.{Fullword}
-use Rattle.cp_hold.specs.Holding.{IsFixedProgram, guest_memory}
+use Rattle.cp_hold.specs.Holding.{IsFixedProgram}
 
 pub such_on : (P : ℕ → Type 0) (first second : List ℕ) → AllSuch P first → AllSuch P second → AllSuch P (first ++ second)
 such_on P [] second a b = b
@@ -19,15 +19,10 @@ pub such_for : (P Q : ℕ → Type 0) → ((page : ℕ) → P page → Q page) �
 such_for P Q more [] all = tt
 such_for P Q more (page ∷ pages) all = (more page all.0, such_for P Q more pages all.1)
 
--- ---- the same bytes and keys
-
-pub memory_same : (bytes keys old_bytes old_keys : List ℕ) → bytes ≡ old_bytes → keys ≡ old_keys → memory_of bytes keys ≡ memory_of old_bytes old_keys
-memory_same bytes keys old_bytes old_keys b k = ap (λ (xs : List ℕ). memory_of xs keys) b ∙ ap (λ (ks : List ℕ). memory_of old_bytes ks) k
-
-pub fixed_at : (old new : Dat) (start : ℕ) (words : List Fullword) (pages : List Page) → lent_bytes new ≡ lent_bytes old → lent_keys new ≡ lent_keys old → start % 8 ≡ 0
-    → IsFixed (guest_memory new) start → IsHeld (guest_memory new) start (is_lent_page new) → IsText (guest_memory new) start words → IsTextOnly (guest_memory new) start words
-    → All (IsAsItStood (lent_bytes new) (is_lent_page new)) words → IsPaged (guest_memory new) start pages → IsPagedOnly (guest_memory new) start pages
-    → IsFixedProgram (guest_memory old) start (is_lent_page new) words pages
-fixed_at old new start words pages bytes keys even fixed held text only stands paged paged_only =
-    subst (λ (m : Memory). IsFixedProgram m start (is_lent_page new) words pages) (memory_same (lent_bytes new) (lent_keys new) (lent_bytes old) (lent_keys old) bytes keys)
+pub fixed_at : (old new : Dat) (start : ℕ) (words : List Fullword) (pages : List Page) → lent_memory new ≡ lent_memory old → start % 8 ≡ 0
+    → IsFixed (lent_memory new) start → IsHeld (lent_memory new) start (is_lent_page new) → IsText (lent_memory new) start words → IsTextOnly (lent_memory new) start words
+    → All (IsAsItStood (lent_bytes new) (is_lent_page new)) words → IsPaged (lent_memory new) start pages → IsPagedOnly (lent_memory new) start pages
+    → IsFixedProgram (lent_memory old) start (is_lent_page new) words pages
+fixed_at old new start words pages same even fixed held text only stands paged paged_only =
+    subst (λ (m : Memory). IsFixedProgram m start (is_lent_page new) words pages) same
     (record { even = even; fixed = fixed; held = held; text = text; only = only; stands = stands; paged = paged; paged_only = paged_only })

@@ -1,18 +1,12 @@
 -- The pages of a program that no input can change.
 use Rattle.std.specs.Prelude.{◌≡◌, ℕ, ◌%◌, All, Bool, List}
 use Rattle.s370_store.specs.declared.Page.{Page}
-use Rattle.s370_walk.specs.Hardware.{Memory, memory_of}
-use Rattle.cp_dat.specs.declared.dat.Dat.{Dat}
-use Rattle.cp_dat.specs.Lent.{lent_bytes, lent_keys}
+use Rattle.s370_store.specs.Memory.{Memory}
 use Rattle.cp_needs.specs.Kept.{IsAsItStood, IsPaged, IsPagedOnly, IsText, IsTextOnly}
 use Rattle.cp_needs.specs.Needs.{IsFixed, IsHeld, IsProgramPage}
 use Rattle.cp_needs.specs.declared.kept.Fullword.{Fullword}
 use Rattle.cp_hold.specs.declared.held.Program.{Program}
 use Rattle.cp_hold.specs.declared.held.Program.TheVariants as programs
-
--- a user's bytes and keys
-abbrev pub guest_memory : Dat → Memory
-guest_memory d = memory_of (lent_bytes d) (lent_keys d)
 
 -- the pages that are held together for the program that starts at an address: those of its words, their lists and areas, where
 -- no input can change it

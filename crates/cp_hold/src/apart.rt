@@ -1,10 +1,9 @@
 //! A program that is looked at on a copy of its user's bytes.
 ghost use Rattle.std.specs.Prelude.{◌≡◌, ℕ, ◌%◌, ◌*◌, ◌<◌, IfNone, IfOk, IfSome, length, false, true};
 ghost use Rattle.cp_dat.specs.Copies.{is_wanted};
-ghost use Rattle.cp_dat.specs.Lent.{lent_bytes, lent_keys};
-ghost use Rattle.cp_hold.specs.Holding.{guest_memory};
+ghost use Rattle.cp_dat.specs.Lent.{lent_bytes, lent_memory};
 ghost use Rattle.cp_needs.specs.Needs.{IsClash, IsFixed, IsProgramPage};
-ghost use Rattle.channel_trial.specs.Trial.{is_touched, trial_bytes, trial_keys};
+ghost use Rattle.channel_trial.specs.Trial.{is_touched, trial_bytes, trial_memory};
 
 use crate::flags::flags_of;
 use channel_trial::TrialStorage;
@@ -15,8 +14,7 @@ use std::alloc::{AllocError, Global};
 
 /// A copy of a user's storage. For that no page has to stand in a frame.
 fn copy_of(alloc: Global, storage: &Dat<'_>) -> Result<TrialStorage, AllocError>
-    ensures bytes { IfOk result (λ copy. trial_bytes copy ≡ lent_bytes storage.now) }
-    ensures keys { IfOk result (λ copy. trial_keys copy ≡ lent_keys storage.now) }
+    ensures memory { IfOk result (λ copy. trial_memory copy ≡ lent_memory storage.now) }
     ensures away { IfOk result (λ copy. (page : ℕ) → is_touched copy page ≡ false) }
 {
     let bytes = storage.copy_out(alloc)?;
@@ -27,8 +25,7 @@ fn copy_of(alloc: Global, storage: &Dat<'_>) -> Result<TrialStorage, AllocError>
 /// Makes each page of a copy present.
 fn fill(copy: &mut TrialStorage)
     requires { (page : ℕ) → is_touched copy.old page ≡ false }
-    ensures bytes { trial_bytes copy.new ≡ trial_bytes copy.old }
-    ensures keys { trial_keys copy.new ≡ trial_keys copy.old }
+    ensures memory { trial_memory copy.new ≡ trial_memory copy.old }
     ensures there { (page : ℕ) → page * 4096 < length (trial_bytes copy.old) → is_touched copy.new page ≡ true }
 {
     let pages = copy.size() / PAGE_SIZE;
@@ -51,14 +48,14 @@ pub(crate) fn pages_apart(
     address: u32,
 ) -> Result<Option<Vec<bool>>, AllocError>
     requires { address % 8 ≡ 0 }
-    ensures open { IfOk result (λ found. IfNone found (IsClash (guest_memory storage.now) address)) }
-    ensures fixed { IfOk result (λ found. IfSome found (λ flags. IsFixed (guest_memory storage.now) address)) }
+    ensures open { IfOk result (λ found. IfNone found (IsClash (lent_memory storage.now) address)) }
+    ensures fixed { IfOk result (λ found. IfSome found (λ flags. IsFixed (lent_memory storage.now) address)) }
     ensures size { IfOk result
         (λ found. IfSome found (λ flags. length flags.items * 4096 ≡ length (lent_bytes storage.now))) }
     ensures all { IfOk result (λ found. IfSome found
-        (λ flags. (page : ℕ) → IsProgramPage (guest_memory storage.now) address page → is_wanted flags.items page)) }
+        (λ flags. (page : ℕ) → IsProgramPage (lent_memory storage.now) address page → is_wanted flags.items page)) }
     ensures only { IfOk result (λ found. IfSome found
-        (λ flags. (page : ℕ) → is_wanted flags.items page → IsProgramPage (guest_memory storage.now) address page)) }
+        (λ flags. (page : ℕ) → is_wanted flags.items page → IsProgramPage (lent_memory storage.now) address page)) }
 {
     let mut copy = copy_of(alloc, storage)?;
     fill(&mut copy);

@@ -4,7 +4,7 @@ ghost use Rattle.cp_dat.specs.Copies.{is_wanted};
 ghost use Rattle.cp_hold.specs.Flags.{AreFlagged};
 ghost use Rattle.cp_needs.specs.Kept.{IsPaged, IsPagedOnly, IsText, IsTextOnly};
 ghost use Rattle.cp_needs.specs.Needs.{IsProgramPage};
-ghost use Rattle.s370_walk.specs.Hardware.{Memory};
+ghost use Rattle.s370_store.specs.Memory.{Memory};
 
 use cp_needs::Fullword;
 use s370_store::{PAGE_SIZE, Page};

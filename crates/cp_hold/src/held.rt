@@ -1,10 +1,10 @@
 //! A program's pages are brought, and held.
 ghost use Rattle.std.specs.Prelude.{◌≡◌, ℕ, ◌%◌, ◌*◌, ◌≤◌, ◌<◌, All, Err, IfNone, IfOk, IfSome, List, OnErr, OnOk, length, false, true};
 ghost use Rattle.cp_dat.specs.Copies.{is_wanted};
-ghost use Rattle.cp_dat.specs.Lent.{is_lent_page, lent_bytes, lent_keys, lent_pool, user_of};
+ghost use Rattle.cp_dat.specs.Lent.{is_lent_page, lent_bytes, lent_memory, lent_pool, user_of};
 ghost use Rattle.cp_dat.specs.Supplied.{Supplied};
 ghost use Rattle.cp_frames.specs.Paging.{IsRefused};
-ghost use Rattle.cp_hold.specs.Holding.{HoldNeeds, IfFixed, IfOpen, IsFixedProgram, guest_memory};
+ghost use Rattle.cp_hold.specs.Holding.{HoldNeeds, IfFixed, IfOpen, IsFixedProgram};
 ghost use Rattle.cp_needs.specs.Needs.{IsClash, IsFixed, IsProgramPage};
 ghost use Rattle.cp_trial.specs.declared.TriedError.TheVariants as errors;
 ghost use Rattle.s370_channel.specs.Supplied.{AllSuch};
@@ -54,8 +54,7 @@ fn bring_wanted(storage: &mut Dat<'_>, wanted: &[bool]) -> Result<(), FramesOut>
         × IsRefused (lent_pool storage.new).supply (user_of storage.new) page) }
     ensures supply { (pages : List ℕ) × Supplied storage.old pages storage.new
         × AllSuch (is_wanted wanted.now) pages }
-    ensures bytes { lent_bytes storage.new ≡ lent_bytes storage.old }
-    ensures keys { lent_keys storage.new ≡ lent_keys storage.old }
+    ensures memory { lent_memory storage.new ≡ lent_memory storage.old }
 {
     loop {
         match lacking(storage, wanted) {
@@ -69,16 +68,14 @@ fn bring_wanted(storage: &mut Dat<'_>, wanted: &[bool]) -> Result<(), FramesOut>
 /// is told; they are held until the pins are taken away.
 pub fn hold(alloc: Global, storage: &mut Dat<'_>, address: u32) -> Result<Program, TriedError>
     ensures fixed { IfOk result (λ found. IfFixed found
-        (IsFixedProgram (guest_memory storage.old) address (is_lent_page storage.new))) }
-    ensures open { IfOk result
-        (λ found. IfOpen found (address % 8 ≡ 0 → IsClash (guest_memory storage.old) address)) }
+        (IsFixedProgram (lent_memory storage.old) address (is_lent_page storage.new))) }
+    ensures open { IfOk result (λ found. IfOpen found (address % 8 ≡ 0 → IsClash (lent_memory storage.old) address)) }
     ensures untouched { IfOk result (λ found. IfOpen found (storage.new ≡ storage.old)) }
-    ensures out { result ≡ Err errors.FramesOut → ((page : ℕ) × HoldNeeds (guest_memory storage.old) address page
+    ensures out { result ≡ Err errors.FramesOut → ((page : ℕ) × HoldNeeds (lent_memory storage.old) address page
         × IsRefused (lent_pool storage.new).supply (user_of storage.new) page) }
     ensures supply { (pages : List ℕ) × Supplied storage.old pages storage.new
-        × AllSuch (HoldNeeds (guest_memory storage.old) address) pages }
-    ensures bytes { lent_bytes storage.new ≡ lent_bytes storage.old }
-    ensures keys { lent_keys storage.new ≡ lent_keys storage.old }
+        × AllSuch (HoldNeeds (lent_memory storage.old) address) pages }
+    ensures memory { lent_memory storage.new ≡ lent_memory storage.old }
 {
     // No program is started elsewhere.
     if address % 8 != 0 {
@@ -105,19 +102,18 @@ fn hold_wanted(
     wanted: &[bool],
 ) -> Result<Program, TriedError>
     requires even { address % 8 ≡ 0 }
-    requires fixed { IsFixed (guest_memory storage.old) address }
+    requires fixed { IsFixed (lent_memory storage.old) address }
     requires size { length wanted.now * 4096 ≡ length (lent_bytes storage.old) }
-    requires all { (page : ℕ) → IsProgramPage (guest_memory storage.old) address page → is_wanted wanted.now page }
-    requires only { (page : ℕ) → is_wanted wanted.now page → IsProgramPage (guest_memory storage.old) address page }
+    requires all { (page : ℕ) → IsProgramPage (lent_memory storage.old) address page → is_wanted wanted.now page }
+    requires only { (page : ℕ) → is_wanted wanted.now page → IsProgramPage (lent_memory storage.old) address page }
     ensures fixed { IfOk result (λ found. IfFixed found
-        (IsFixedProgram (guest_memory storage.old) address (is_lent_page storage.new))) }
+        (IsFixedProgram (lent_memory storage.old) address (is_lent_page storage.new))) }
     ensures found { IfOk result (λ found. IfOpen found ⊥) }
-    ensures out { result ≡ Err errors.FramesOut → ((page : ℕ) × HoldNeeds (guest_memory storage.old) address page
+    ensures out { result ≡ Err errors.FramesOut → ((page : ℕ) × HoldNeeds (lent_memory storage.old) address page
         × IsRefused (lent_pool storage.new).supply (user_of storage.new) page) }
     ensures supply { (pages : List ℕ) × Supplied storage.old pages storage.new
-        × AllSuch (HoldNeeds (guest_memory storage.old) address) pages }
-    ensures bytes { lent_bytes storage.new ≡ lent_bytes storage.old }
-    ensures keys { lent_keys storage.new ≡ lent_keys storage.old }
+        × AllSuch (HoldNeeds (lent_memory storage.old) address) pages }
+    ensures memory { lent_memory storage.new ≡ lent_memory storage.old }
 {
     match bring_wanted(storage, wanted) {
         Ok(()) => {}

@@ -13,7 +13,8 @@ use Rattle.s370_walk.specs.declared.parts.Position.{Position}
 use Rattle.s370_walk.specs.declared.parts.Progress.{Progress}
 use Rattle.s370_walk.specs.declared.parts.Progress.TheVariants.{At, Ended}
 use Rattle.s370_walk.specs.declared.parts.Word.{Word}
-use Rattle.s370_walk.specs.Hardware.{Memory, fault_of, area}
+use Rattle.s370_store.specs.Memory.{Memory}
+use Rattle.s370_walk.specs.Hardware.{fault_of, area}
 use Rattle.s370_walk.specs.Walk.{Form, Setting, State, Fetching, Moving, Over, Verdict, Bad, Jump, Good, next, walk, Reaches, fetched, obeyed, entered, answered, judged, fails, closed, closes, state_of, moved, rest, tells_length, chains_data, order_of, no_status, given_at, given_to, taken_at, taken_from, byte_moved, stepped, skips}
 use Rattle.cp_minidisk.specs.Kept.{device_in, Keeps}
 

@@ -17,7 +17,8 @@ use Rattle.s370_walk.specs.declared.parts.Progress.TheVariants.{At, Ended}
 use Rattle.s370_walk.specs.declared.parts.Word.{Word}
 use Rattle.s370_walk.specs.declared.bits.UnitStatus.{UnitStatus}
 use Rattle.s370_walk.specs.declared.bits.ChannelStatus.{ChannelStatus}
-use Rattle.s370_walk.specs.Hardware.{Memory, Machine, fault_of, area, put_byte}
+use Rattle.s370_store.specs.Memory.{Memory}
+use Rattle.s370_walk.specs.Hardware.{Machine, fault_of, area, put_byte}
 use Rattle.s370_walk.specs.Walk.{Form, Setting, State, Fetching, Moving, Over, Verdict, Bad, Jump, Good, next, walk, Reaches, fetched, obeyed, entered, answered, judged, fails, stops, ending, program_check, protection_check, closed, closes, state_of, moved, counted_out, rest, tells_length, chains_data, order_of, no_status, given_at, given_to, taken_at, taken_from, byte_moved, stepped, skips}
 use Rattle.cp_minidisk.specs.Projected.{IsPartOf, seen, on_device}
 

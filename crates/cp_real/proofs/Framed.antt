@@ -267,10 +267,6 @@ key_area storage keys owners user area block le =
     let long : length framed ≡ 2 * length owners = length-map-range_with_len f 0 (2 * length owners) in
     get_or-append_right framed none (2 * length owners) block 0 long le ∙ zeros ((area + 2047) / 2048) (block - 2 * length owners)
 
-pub keys_by_size : (storage other keys : List ℕ) (owners : List (Option UserPage)) (user area : ℕ) → length storage ≡ length other → real_keys storage keys owners user area ≡ real_keys other keys owners user area
-unfolding real_keys
-keys_by_size storage other keys owners user area e = ap (λ n. map (λ b. key_of keys (page_at owners user n (b / 2)) (b % 2)) (range_with_len 0 (2 * length owners)) ++ replicate ((area + 2047) / 2048) 0) e
-
 -- all of a write in one frame
 pub real_put : (storage after area xs : List ℕ) (owners owners' : List (Option UserPage)) (user user' start page : ℕ) → page_at owners user (length storage) (start / 4096) ≡ Some page → start / 4096 < length owners → start % 4096 + length xs ≤ 4096
     → after ≡ put storage (page * 4096 + start % 4096) xs → owners' ≡ owners → user' ≡ user → real_bytes after owners' user' area ≡ put (real_bytes storage owners user area) start xs
@@ -281,11 +277,6 @@ real_put storage after area xs owners owners' user user' start page at frame one
     ∙ ap (λ s. real_bytes s owners user area) bytes
     ∙ ap (λ l. l ++ area) (framed_put storage xs owners user start page at frame one)
     ∙ sym (put_first (framed_bytes storage owners user) area xs start (omega (arith, long, frame, one)))
-
-pub real_keys_put : (storage after keys keys' : List ℕ) (owners owners' : List (Option UserPage)) (user user' area : ℕ) → length after ≡ length storage → keys' ≡ keys → owners' ≡ owners → user' ≡ user → real_keys after keys' owners' user' area ≡ real_keys storage keys owners user area
-real_keys_put storage after keys keys' owners owners' user user' area size same_keys same_owners same_user =
-    ap (λ o. real_keys after keys' o user' area) same_owners ∙ ap (λ u. real_keys after keys' owners u area) same_user ∙ ap (λ k. real_keys after k owners user area) same_keys
-    ∙ keys_by_size after storage keys owners user area size
 
 -- the address of a byte whose page stands in a frame
 pub real_is : (owners : List (Option UserPage)) (user size a f : ℕ) → frame_of owners user (a / 4096) ≡ Some f → a / 4096 * 4096 + 4096 ≤ size → real_of owners user size a ≡ Some (f * 4096 + a % 4096)

@@ -12,7 +12,8 @@ use Rattle.cp_frames.proofs.Layouts.{frame_found, same_frame}
 use Rattle.cp_real.specs.Layout.{at_frame, real_of, is_real_page, real_bytes, real_keys, page_at, byte_of, key_of, framed_bytes}
 use Rattle.cp_real.proofs.Framed.{real_is, page_at_some, get_framed, key_framed}
 use Rattle.cp_real.specs.Layout.{length-framed}
-use Rattle.s370_walk.specs.Hardware.{memory_of, fault_of, area}
+use Rattle.s370_store.specs.Memory.{memory_of}
+use Rattle.s370_walk.specs.Hardware.{fault_of, area}
 use Rattle.channel_laws.specs.Mapped.{IsMapped, Named, Program}
 use Rattle.channel_laws.specs.Unstuck.{ArePresent}
 use Rattle.s370_store.specs.declared.Fault.TheVariants.{Addressing}

@@ -52,6 +52,11 @@ unfoldable pub real_keys : List ℕ → List ℕ → List (Option UserPage) → 
 real_keys storage keys owners user area =
     map (λ b. key_of keys (page_at owners user (length storage) (b / 2)) (b % 2)) (range_with_len 0 (2 * length owners)) ++ replicate ((area + 2047) / 2048) 0
 
+-- they depend on the user's storage by its size alone
+pub keys_by_size : (storage other keys : List ℕ) (owners : List (Option UserPage)) (user area : ℕ) → length storage ≡ length other → real_keys storage keys owners user area ≡ real_keys other keys owners user area
+unfolding real_keys
+keys_by_size storage other keys owners user area e = ap (λ n. map (λ b. key_of keys (page_at owners user n (b / 2)) (b % 2)) (range_with_len 0 (2 * length owners)) ++ replicate ((area + 2047) / 2048) 0) e
+
 -- a frame is present if one of the user's pages stands in it; the area is present
 abbrev pub is_page_shown : List (Option UserPage) → ℕ → ℕ → ℕ → Bool
 is_page_shown owners user size page = if nat_lt page (length owners) then is_some (page_at owners user size page) else true

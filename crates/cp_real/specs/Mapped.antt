@@ -4,7 +4,8 @@ use Rattle.s370_store.specs.declared.Access.{Access}
 use Rattle.cp_frames.specs.declared.numbers.UserPage.{UserPage}
 use Rattle.cp_frames.specs.Layout.{is_there}
 use Rattle.cp_real.specs.Layout.{real_of, real_bytes, real_keys}
-use Rattle.s370_walk.specs.Hardware.{memory_of, fault_of, area, byte_at}
+use Rattle.s370_store.specs.Memory.{memory_of}
+use Rattle.s370_walk.specs.Hardware.{fault_of, area, byte_at}
 use Rattle.channel_laws.specs.Mapped.{IsPaged, Named, Program}
 
 -- a user's storage stands in real storage

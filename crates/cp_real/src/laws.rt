@@ -1,7 +1,7 @@
 //! Real storage holds the guest's: what a run over real addresses takes for granted.
 ghost use Rattle.std.specs.Prelude.{◌≡◌, ℕ, ◌≤◌, ◌%◌, List, Option, length};
 ghost use Rattle.cp_frames.specs.declared.numbers.UserPage.{UserPage};
-ghost use Rattle.s370_walk.specs.Hardware.{memory_of};
+ghost use Rattle.s370_store.specs.Memory.{memory_of};
 ghost use Rattle.channel_laws.specs.Mapped.{IsMapped, Named, Program};
 ghost use Rattle.channel_laws.specs.Unstuck.{ArePresent};
 ghost use Rattle.cp_real.specs.Layout.{real_bytes, real_keys, is_real_page, real_of};

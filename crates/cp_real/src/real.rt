@@ -1,7 +1,8 @@
 //! The storage of a channel program that was given real addresses.
 ghost use Rattle.std.specs.Prelude.{◌≡◌, ℕ, ◌+◌, ◌*◌, ◌/◌, ◌%◌, ◌<◌, ◌≤◌, Option, Some, None, true, length, slice_index, slice_range, IsSome, IfSome};
 ghost use Rattle.cp_dat.specs.Lent.{lent_bytes, lent_pool, lent_keys, user_of};
-ghost use Rattle.s370_store.specs.Access.{IsGranted, put};
+ghost use Rattle.s370_store.specs.Access.{IsGranted};
+ghost use Rattle.s370_store.specs.Memory.{with_stored};
 ghost use Rattle.cp_real.specs.Layout.{page_of};
 
 use cp_dat::Dat;
@@ -26,7 +27,7 @@ pub struct Real<'a, 'b, 'c> {
 }
 
 impl<'a, 'b, 'c> Real<'a, 'b, 'c> {
-    ghost use Rattle.cp_real.specs.Shown.{real_bytes_of, real_keys_of, is_real_page_of, KeepsReal};
+    ghost use Rattle.cp_real.specs.Shown.{real_bytes_of, real_memory_of, is_real_page_of, KeepsReal};
 
     /// The user's page in a frame.
     fn page_at(&self, frame: u32) -> Option<u32>
@@ -102,8 +103,7 @@ impl<'a, 'b, 'c> Real<'a, 'b, 'c> {
     fn store_area(&mut self, start: u32, from: &[u8])
         requires begins { self.old.frames * 4096 ≤ start }
         requires inside { start + length from.now ≤ length (real_bytes_of self.old) }
-        ensures bytes { real_bytes_of self.new ≡ put (real_bytes_of self.old) start from.now }
-        ensures keys { real_keys_of self.new ≡ real_keys_of self.old }
+        ensures stored { real_memory_of self.new ≡ with_stored (real_memory_of self.old) start from.now }
         ensures rest { KeepsReal self.old self.new }
     {
         put_at(self.area, (start - self.frames * 4096) as usize, from);
@@ -116,9 +116,8 @@ impl<'a, 'b, 'c> Real<'a, 'b, 'c> {
         requires one_page { start % 4096 + length from.now ≤ 4096 }
         requires inside { start + length from.now ≤ length (real_bytes_of self.old) }
         requires here { is_real_page_of self.old (start / 4096) ≡ true }
-        ensures bytes { real_bytes_of self.new ≡ put (real_bytes_of self.old) start from.now }
+        ensures stored { real_memory_of self.new ≡ with_stored (real_memory_of self.old) start from.now }
         ensures size { length (real_bytes_of self.new) ≡ length (real_bytes_of self.old) }
-        ensures keys { real_keys_of self.new ≡ real_keys_of self.old }
         ensures present { is_real_page_of self.new ≡ is_real_page_of self.old }
         ensures rest { KeepsReal self.old self.new }
     {
@@ -158,11 +157,9 @@ impl<'a, 'b, 'c, 'd> Keyring for RealKeys<'a, 'b, 'c, 'd> {
 }
 
 impl<'a, 'b, 'c> Storage for Real<'a, 'b, 'c> {
-    ghost use Rattle.cp_real.specs.Shown.{real_bytes_of, real_keys_of, is_real_page_of, KeepsReal, keeps_real_same, keeps_real_size, keeps_real_present, keeps_real_on, IsInArea, in_area_kept};
+    ghost use Rattle.cp_real.specs.Shown.{real_memory_of, is_real_page_of, KeepsReal, keeps_real_same, keeps_real_size, keeps_real_keys, keeps_real_present, keeps_real_on, IsInArea, in_area_kept};
 
-    ghost bytes = { real_bytes_of };
-
-    ghost keys = { real_keys_of };
+    ghost memory = { real_memory_of };
 
     ghost present = { is_real_page_of };
 
@@ -235,6 +232,8 @@ impl<'a, 'b, 'c> Storage for Real<'a, 'b, 'c> {
     ghost keeps_same = { keeps_real_same };
 
     ghost keeps_size = { keeps_real_size };
+
+    ghost keeps_keys = { keeps_real_keys };
 
     ghost keeps_present = { keeps_real_present };
 

@@ -4,22 +4,20 @@ use Rattle.std.specs.Prelude.{IfErr, IfOk, OnOk, slice_get}
 use Rattle.std.proofs.lemmas.Option.{slice_get_cases}
 use Rattle.s370_channel.specs.declared.words.Caw.{Caw}
 use Rattle.s370_store.specs.declared.Page.{Page}
-use Rattle.s370_walk.specs.Hardware.{Memory}
+use Rattle.s370_store.specs.Memory.{Memory}
 use Rattle.machine_channels.specs.Disks.{DiskAt}
-use Rattle.cp_dat.specs.Lent.{is_lent_page, lent_keys}
-use Rattle.cp_hold.specs.Holding.{HoldNeeds, IsFixedProgram, guest_memory}
-use Rattle.cp_hold.proofs.Holds.{memory_same}
+use Rattle.cp_hold.specs.Holding.{HoldNeeds, IsFixedProgram}
 use Rattle.cp_needs.specs.declared.kept.Fullword.{Fullword}
 use Rattle.cp_volumes.specs.Running.{DiskLoadTouches, DiskTouches}
 use Rattle.s370_channel.specs.declared.running.ChannelError.{ChannelError}
 use Rattle.s370_channel.specs.declared.running.ChannelError.TheVariants as errors
-use Rattle.s370_channel.specs.Supplied.{AllSuch, EachSuch}
+use Rattle.s370_channel.specs.Supplied.{AllSuch}
 use Rattle.s370_walk.specs.declared.parts.Ending.{Ending}
-use Rattle.machine_channels.specs.Channels.{Brings, DiskLoads, DiskNeeds, LacksRoom, WhereOut}
+use Rattle.machine_channels.specs.Channels.{Brings, DiskLoads, DiskNeeds, WhereOut}
 use Rattle.cp_dat.specs.declared.dat.Dat.{Dat}
 use Rattle.cp_dat.specs.Bringing.{supplied_none, supplied_on}
 use Rattle.cp_dat.specs.Copies.{CameOnly}
-use Rattle.cp_dat.specs.Lent.{KeepsRest, lent_bytes, lent_pool, user_of}
+use Rattle.cp_dat.specs.Lent.{KeepsStored, is_lent_page, lent_bytes, lent_memory, lent_pool, user_of}
 use Rattle.cp_dat.specs.Letting.{let_go_between, let_go_came}
 use Rattle.cp_dat.specs.Supplied.{IsBetweenUnits, Supplied, TakesPins}
 use Rattle.cp_frames.specs.Paging.{IsRefused}
@@ -37,7 +35,7 @@ memory_whole (Err error) size Needs Out P is = subst (λ (e : ChannelError). Whe
 
 -- ---- nothing was brought
 
-pub still_came : (d0 d1 : Dat) (Needs : ℕ → Type 0) → IsBetweenUnits (lent_pool d0).supply → KeepsRest d0 d1 → Brings CameIn d0 Needs d1
+pub still_came : (d0 d1 : Dat) (Needs : ℕ → Type 0) → IsBetweenUnits (lent_pool d0).supply → KeepsStored d0 d1 → Brings CameIn d0 Needs d1
 still_came d0 d1 Needs between kept = ([], came_further d0 d0 d1 [] (came_nowhere d0 between) kept, tt)
 
 -- ---- pages that were held
@@ -50,30 +48,30 @@ such_for : (P Q : ℕ → Type 0) → ((page : ℕ) → P page → Q page) → (
 such_for P Q more [] all = tt
 such_for P Q more (page ∷ pages) all = (more page all.0, such_for P Q more pages all.1)
 
-pub held_came : (d0 d1 d2 d3 : Dat) (Holds Needs : ℕ → Type 0) → ((page : ℕ) → Holds page → Needs page) → ((pages : List ℕ) × Supplied d0 pages d1 × AllSuch Holds pages) → lent_bytes d1 ≡ lent_bytes d0 → KeepsRest d1 d2 → TakesPins d2 d3 → lent_bytes d3 ≡ lent_bytes d2
+pub held_came : (d0 d1 d2 d3 : Dat) (Holds Needs : ℕ → Type 0) → ((page : ℕ) → Holds page → Needs page) → ((pages : List ℕ) × Supplied d0 pages d1 × AllSuch Holds pages) → lent_memory d1 ≡ lent_memory d0 → KeepsStored d1 d2 → TakesPins d2 d3 → lent_memory d3 ≡ lent_memory d2
     → Brings CameIn d0 Needs d3
-held_came d0 d1 d2 d3 Holds Needs more held bytes kept taken same =
+held_came d0 d1 d2 d3 Holds Needs more held first kept taken last =
     let pages = held.0 ++ [] in (
       pages ∷ [],
       record {
-        came = let_go_came d0 d2 d3 pages (supplied_on d0 d1 d2 held.0 [] held.1 (supplied_none d1 d2 kept)) taken;
-        size = ap (λ (xs : List ℕ). length xs) same ∙ kept.same_size ∙ ap (λ (xs : List ℕ). length xs) bytes;
+        came = let_go_came d0 d2 d3 pages (supplied_on d0 d1 d2 held.0 [] held.1 (supplied_none d1 d2 kept.rest)) taken;
+        keys = ap (λ (m : Memory). m.keys) last ∙ kept.keys ∙ ap (λ (m : Memory). m.keys) first;
       },
       (such_on Needs held.0 [] (such_for Holds Needs more held.0 held.2) tt, tt),
     )
 
-pub held_between : (d0 d1 d2 d3 : Dat) (Holds : ℕ → Type 0) → ((pages : List ℕ) × Supplied d0 pages d1 × AllSuch Holds pages) → IsBetweenUnits (lent_pool d0).supply → KeepsRest d1 d2 → TakesPins d2 d3 → IsBetweenUnits (lent_pool d3).supply
-held_between d0 d1 d2 d3 Holds held between kept taken = let_go_between d0 d2 d3 (held.0 ++ []) between (supplied_on d0 d1 d2 held.0 [] held.1 (supplied_none d1 d2 kept)) taken
+pub held_between : (d0 d1 d2 d3 : Dat) (Holds : ℕ → Type 0) → ((pages : List ℕ) × Supplied d0 pages d1 × AllSuch Holds pages) → IsBetweenUnits (lent_pool d0).supply → KeepsStored d1 d2 → TakesPins d2 d3 → IsBetweenUnits (lent_pool d3).supply
+held_between d0 d1 d2 d3 Holds held between kept taken = let_go_between d0 d2 d3 (held.0 ++ []) between (supplied_on d0 d1 d2 held.0 [] held.1 (supplied_none d1 d2 kept.rest)) taken
 
 -- ---- pages that were to be held, for one of which there was no room
 
-pub refused_came : (d0 d1 d2 : Dat) (Holds Needs : ℕ → Type 0) → ((page : ℕ) → Holds page → Needs page) → ((pages : List ℕ) × Supplied d0 pages d1 × AllSuch Holds pages) → lent_bytes d1 ≡ lent_bytes d0 → TakesPins d1 d2 → lent_bytes d2 ≡ lent_bytes d1
+pub refused_came : (d0 d1 d2 : Dat) (Holds Needs : ℕ → Type 0) → ((page : ℕ) → Holds page → Needs page) → ((pages : List ℕ) × Supplied d0 pages d1 × AllSuch Holds pages) → lent_memory d1 ≡ lent_memory d0 → TakesPins d1 d2 → lent_memory d2 ≡ lent_memory d1
     → Brings CameIn d0 Needs d2
-refused_came d0 d1 d2 Holds Needs more held bytes taken same = (
+refused_came d0 d1 d2 Holds Needs more held first taken last = (
   held.0 ∷ [],
   record {
     came = let_go_came d0 d1 d2 held.0 held.1 taken;
-    size = ap (λ (xs : List ℕ). length xs) (same ∙ bytes);
+    keys = ap (λ (m : Memory). m.keys) (last ∙ first);
   },
   (such_for Holds Needs more held.0 held.2, tt),
 )
@@ -99,8 +97,8 @@ refused_whole tries.FramesOut d0 d1 d2 Holds Needs P more inside between held ta
 
 -- ---- pages that were touched
 
-pub tried_came : (d0 d1 : Dat) (Touched Needs : ℕ → Type 0) → ((page : ℕ) → Touched page → Needs page) → CameOnly d0 Touched d1 → length (lent_bytes d1) ≡ length (lent_bytes d0) → Brings CameIn d0 Needs d1
-tried_came d0 d1 Touched Needs more came size = (came.units, record { came = came.came; size = size }, each_for Touched Needs more came.units came.only)
+pub tried_came : (d0 d1 : Dat) (Touched Needs : ℕ → Type 0) → ((page : ℕ) → Touched page → Needs page) → CameOnly d0 Touched d1 → Brings CameIn d0 Needs d1
+tried_came d0 d1 Touched Needs more came = (came.units, record { came = came.came; keys = came.keys }, each_for Touched Needs more came.units came.only)
 
 pub tried_whole : (ran : Result Ending TriedError) (d0 d1 : Dat) (Touched Needs : ℕ → Type 0) (P : Type 0) → ((page : ℕ) → Touched page → Needs page) → length (lent_bytes d1) ≡ length (lent_bytes d0)
     → (ran ≡ Err tries.FramesOut → LacksSuch Touched d1) → (ran ≡ Err tries.FramesOut → P)
@@ -138,20 +136,17 @@ stopped_whole tries.FramesOut d0 d1 Touched Needs P more size lacking same =
       same refl,
     )
 
--- ---- the same bytes
+-- ---- the same bytes and keys
 
-pub memory_of_same : (old new : Dat) → lent_bytes new ≡ lent_bytes old → lent_keys new ≡ lent_keys old → guest_memory new ≡ guest_memory old
-memory_of_same old new bytes keys = memory_same (lent_bytes new) (lent_keys new) (lent_bytes old) (lent_keys old) bytes keys
-
--- a walk between two storages is one between storages of the same bytes
+-- a walk between two storages is one between storages that are as they are
 pub walk_moved : (r : Result Ending ChannelError) (W : Memory → Memory → Ending → Type 0) (m0 m1 m2 m3 : Memory) → m1 ≡ m0 → m3 ≡ m2 → IfOk r (W m1 m2) → IfOk r (W m0 m3)
 walk_moved r W m0 m1 m2 m3 first last walk = subst (λ (m : Memory). IfOk r (W m0 m)) (sym last) (subst (λ (m : Memory). IfOk r (W m m2)) first walk)
 
-pub fixed_there : (old new : Dat) (a b : ℕ) (words : List Fullword) (pages : List Page) → lent_bytes new ≡ lent_bytes old → lent_keys new ≡ lent_keys old → a ≡ b
-    → IsFixedProgram (guest_memory old) a (is_lent_page new) words pages → IsFixedProgram (guest_memory new) b (is_lent_page new) words pages
-fixed_there old new a b words pages bytes keys at fixed =
-    subst (λ (m : Memory). IsFixedProgram m b (is_lent_page new) words pages) (sym (memory_of_same old new bytes keys))
-    (subst (λ (n : ℕ). IsFixedProgram (guest_memory old) n (is_lent_page new) words pages) at fixed)
+pub fixed_there : (old new : Dat) (a b : ℕ) (words : List Fullword) (pages : List Page) → lent_memory new ≡ lent_memory old → a ≡ b
+    → IsFixedProgram (lent_memory old) a (is_lent_page new) words pages → IsFixedProgram (lent_memory new) b (is_lent_page new) words pages
+fixed_there old new a b words pages same at fixed =
+    subst (λ (m : Memory). IsFixedProgram m b (is_lent_page new) words pages) (sym same)
+    (subst (λ (n : ℕ). IsFixedProgram (lent_memory old) n (is_lent_page new) words pages) at fixed)
 
 -- ---- disks
 

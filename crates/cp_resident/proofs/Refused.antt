@@ -1,5 +1,5 @@
 -- Why a page is refused for which a fixed program's pages are held.
-use Rattle.std.proofs.Common.{◌≡◌, ◌∙◌, ap, sym, subst, ℕ, zero, suc, ◌*◌, ◌<◌, ◌≤◌, ◌⊎◌, Bool, true, false, List, [], ◌∷◌, get_or, length, replicate, refl, Option, None, Some, arith, inl, inr}
+use Rattle.std.proofs.Common.{◌≡◌, ◌∙◌, ap, sym, subst, ℕ, zero, suc, ◌<◌, ◌⊎◌, Bool, true, false, List, [], ◌∷◌, get_or, length, replicate, refl, Option, None, Some, arith, inl, inr}
 use Rattle.std.specs.Prelude.{All, Contains, is_some}
 use Rattle.std.proofs.lemmas.List.{length-replicate}
 use Rattle.std.proofs.lemmas.List.Elements.{All-get_or}
@@ -9,10 +9,10 @@ use Rattle.cp_frames.specs.Layout.{FrameSupply, Holds, frame_of, is_there, owned
 use Rattle.cp_frames.specs.Paging.{IsPinned, IsRefused}
 use Rattle.cp_frames.proofs.Tables.{page_is}
 use Rattle.cp_frames.proofs.Moves.{held_place}
-use Rattle.machine_channels.specs.Channels.{LacksRoom, NoRoom}
+use Rattle.machine_channels.specs.Channels.{NoRoom}
 use Rattle.cp_dat.specs.declared.dat.Dat.{Dat}
-use Rattle.cp_dat.specs.Copies.{AllAre, CameOnly, EachAre}
-use Rattle.cp_dat.specs.Lent.{is_lent_page, lent_bytes, lent_pool, user_of}
+use Rattle.cp_dat.specs.Copies.{AllAre, EachAre}
+use Rattle.cp_dat.specs.Lent.{is_lent_page, lent_pool, user_of}
 use Rattle.cp_dat.specs.Supplied.{HasNoRoom, HasSuch, IsBetweenUnits, IsPagedFor, Supplied, TakesPins, unpinned}
 use Rattle.cp_resident.specs.Resident.{IsFilled}
 

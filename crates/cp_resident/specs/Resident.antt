@@ -6,7 +6,7 @@ use Rattle.s370_channel.specs.declared.running.ChannelError.TheVariants as error
 use Rattle.s370_walk.specs.declared.parts.Ending.{Ending}
 use Rattle.cp_frames.specs.Layout.{FrameSupply, is_there}
 use Rattle.cp_dat.specs.declared.dat.Dat.{Dat}
-use Rattle.cp_dat.specs.Lent.{KeepsFrames, KeepsRest, keeps_frames, keeps_frames_on, keeps_rest_same, lent_bytes, lent_pool, user_of}
+use Rattle.cp_dat.specs.Lent.{KeepsStored, keeps_frames, keeps_frames_on, keeps_rest_same, lent_keys, lent_pool, user_of}
 use Rattle.cp_dat.specs.Letting.{came_none}
 use Rattle.cp_dat.specs.Supplied.{HasSuch, IsBetweenUnits, IsBroughtInUnits, SuppliedUnits}
 use Rattle.cp_trial.specs.declared.TriedError.{TriedError}
@@ -56,19 +56,19 @@ pub record IsFilled (supply : FrameSupply) (user page : ℕ) : Type 0 where
 
 -- ---- pages that come in units
 
--- just these pages came, in these units, to a storage of as many bytes
+-- just these pages came, in these units, and no key was set
 pub record CameIn (old : Dat) (units : List (List ℕ)) (new : Dat) : Type 0 where
   pub came : SuppliedUnits old units new
-  pub size : length (lent_bytes new) ≡ length (lent_bytes old)
+  pub keys : lent_keys new ≡ lent_keys old
 
 pub came_nowhere : (d : Dat) → IsBetweenUnits (lent_pool d).supply → CameIn d [] d
-came_nowhere d between = record { came = came_none d d 0 between (keeps_rest_same d); size = refl }
+came_nowhere d between = record { came = came_none d d 0 between (keeps_rest_same d); keys = refl }
 
-pub came_further : (s t u : Dat) (units : List (List ℕ)) → CameIn s units t → KeepsRest t u → CameIn s units u
+pub came_further : (s t u : Dat) (units : List (List ℕ)) → CameIn s units t → KeepsStored t u → CameIn s units u
 came_further s t u units c kept = record {
   came = record {
-    kept = keeps_frames_on s t u c.came.kept (keeps_frames t u kept);
-    brought = subst (λ (supply : FrameSupply). IsBroughtInUnits (user_of s) units (lent_pool s).supply supply) (sym kept.same_supply) c.came.brought;
+    kept = keeps_frames_on s t u c.came.kept (keeps_frames t u kept.rest);
+    brought = subst (λ (supply : FrameSupply). IsBroughtInUnits (user_of s) units (lent_pool s).supply supply) (sym kept.rest.same_supply) c.came.brought;
   };
-  size = kept.same_size ∙ c.size;
+  keys = kept.keys ∙ c.keys;
 }

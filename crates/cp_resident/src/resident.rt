@@ -3,10 +3,9 @@ ghost use Rattle.std.specs.Prelude.{◌≡◌, ◌<◌, IfErr, IfOk, List, lengt
 ghost use Rattle.s370_channel.specs.Reading.{as_reached};
 ghost use Rattle.s370_channel.specs.Runs.{Walks};
 ghost use Rattle.s370_channel.specs.declared.running.ChannelError.TheVariants as errors;
-ghost use Rattle.s370_walk.specs.Hardware.{memory_of};
 ghost use Rattle.machine_channels.specs.Channels.{WalksDisk};
-ghost use Rattle.cp_dat.specs.Lent.{KeepsRest, is_lent_page, lent_bytes, lent_keys};
-ghost use Rattle.cp_hold.specs.Holding.{IsFixedProgram, guest_memory};
+ghost use Rattle.cp_dat.specs.Lent.{KeepsStored, is_lent_page, lent_memory};
+ghost use Rattle.cp_hold.specs.Holding.{IsFixedProgram};
 ghost use Rattle.s370_store.specs.declared.Page.{Page};
 ghost use Rattle.cp_ccw.specs.Kept.{IsAtBase};
 ghost use Rattle.cp_resident.specs.Resident.{KeepsHung, disks_on, told_by, told_of};
@@ -232,9 +231,11 @@ impl<'a> Channels<Dat<'a>> for Resident {
 
     ghost came_kept = { came_further };
 
-    ghost ready_kept = { laws.between_kept };
+    ghost ready_kept = { λ s t k. laws.between_kept s t k.rest };
 
-    ghost came_size = { λ s t units came. came.size };
+    ghost came_size = { λ s t units came. came.came.kept.same_size };
+
+    ghost came_keys = { λ s t units came. came.keys };
 }
 
 /// Why a program does not run that was tried.
@@ -269,13 +270,12 @@ fn run_copied<D: Device>(
     device: &mut D,
 ) -> Result<Ending, ChannelError>
     requires fixed { (pages : List Page)
-        × IsFixedProgram (guest_memory storage.old) start.now.address (is_lent_page storage.old) text.items pages }
+        × IsFixedProgram (lent_memory storage.old) start.now.address (is_lent_page storage.old) text.items pages }
     ensures walk { IfOk result
-        (λ ending. Walks as_reached D.machine start.now (guest_memory storage.old) device.old ending
-        (guest_memory storage.new) device.new) }
+        (λ ending. Walks as_reached D.machine start.now (lent_memory storage.old) device.old ending
+        (lent_memory storage.new) device.new) }
     ensures memory { IfErr result (λ error. error ≡ errors.Memory) }
-    ensures keys { lent_keys storage.new ≡ lent_keys storage.old }
-    ensures rest { KeepsRest storage.old storage.new }
+    ensures rest { KeepsStored storage.old storage.new }
 {
     match keep(alloc, storage, copy_of(start), text) {
         Ok(kept) => {
@@ -298,15 +298,14 @@ fn run_known(
     pages: &[Page],
 ) -> Result<Ending, ChannelError>
     requires inside { index < length (disks_on channels.old) }
-    requires fixed { IsFixedProgram (guest_memory storage.old) start.address (is_lent_page storage.old) text.items
+    requires fixed { IsFixedProgram (lent_memory storage.old) start.address (is_lent_page storage.old) text.items
         pages.now }
     ensures walk { IfOk result
-        (λ ending. WalksDisk as_reached start (guest_memory storage.old) (disks_on channels.old) index ending
-        (guest_memory storage.new) (disks_on channels.new)) }
+        (λ ending. WalksDisk as_reached start (lent_memory storage.old) (disks_on channels.old) index ending
+        (lent_memory storage.new) (disks_on channels.new)) }
     ensures memory { IfErr result (λ error. error ≡ errors.Memory) }
     ensures others { KeepsHung channels.old channels.new }
-    ensures keys { lent_keys storage.new ≡ lent_keys storage.old }
-    ensures rest { KeepsRest storage.old storage.new }
+    ensures rest { KeepsStored storage.old storage.new }
 {
     match know(channels.alloc, storage, copy_of(&start), text, pages) {
         Ok(known) => {
@@ -332,13 +331,10 @@ fn run_again<D: Device>(
     device: &mut D,
 ) -> Result<Ending, ChannelError>
     requires { IsAtBase kept.now storage.old start.now }
-    ensures walk { IfOk result
-        (λ ending. Walks as_reached D.machine start.now
-        (memory_of (lent_bytes storage.old) (lent_keys storage.old)) device.old ending
-        (memory_of (lent_bytes storage.new) (lent_keys storage.new)) device.new) }
+    ensures walk { IfOk result (λ ending. Walks as_reached D.machine start.now
+        (lent_memory storage.old) device.old ending (lent_memory storage.new) device.new) }
     ensures memory { IfErr result (λ error. error ≡ errors.Memory) }
-    ensures keys { lent_keys storage.new ≡ lent_keys storage.old }
-    ensures rest { KeepsRest storage.old storage.new }
+    ensures rest { KeepsStored storage.old storage.new }
 {
     let limits = Limits {
         key: start.key,

@@ -2,9 +2,8 @@
 ghost use Rattle.std.specs.Prelude.{◌≡◌, All, IfSome, None, true};
 ghost use Rattle.cp_ccw.specs.Kept.{IsAtBase};
 ghost use Rattle.cp_resident.specs.Reuse.{IsEmpty};
-ghost use Rattle.cp_dat.specs.Lent.{is_lent_page, lent_bytes, lent_keys};
+ghost use Rattle.cp_dat.specs.Lent.{is_lent_page, lent_memory};
 ghost use Rattle.cp_needs.specs.Words.{IsFixedStill};
-ghost use Rattle.s370_walk.specs.Hardware.{memory_of};
 
 use cp_ccw::{Kept, Known, reusable, runs_still};
 use cp_dat::Dat;
@@ -106,9 +105,7 @@ impl Reuse {
 
     /// Whether the program of a minidisk may run again.
     pub fn has_disk(&self, index: usize, storage: &Dat<'_>, start: &Caw) -> bool
-        ensures { result ≡ true
-            → IsFixedStill (memory_of (lent_bytes storage.now) (lent_keys storage.now)) (is_lent_page storage.now)
-            start.now.address }
+        ensures { result ≡ true → IsFixedStill (lent_memory storage.now) (is_lent_page storage.now) start.now.address }
     {
         match self.disks.get(index) {
             Some(Some(known)) => runs_still(known, storage, *start),

@@ -19,7 +19,8 @@ use Rattle.s370_walk.specs.declared.parts.Position.{Position}
 use Rattle.s370_walk.specs.declared.parts.Progress.{Progress}
 use Rattle.s370_walk.specs.declared.parts.Progress.TheVariants.{At, Ended}
 use Rattle.s370_walk.specs.declared.parts.Word.{Word}
-use Rattle.s370_walk.specs.Hardware.{Memory, Machine, put_byte, fault_of, area}
+use Rattle.s370_store.specs.Memory.{Memory}
+use Rattle.s370_walk.specs.Hardware.{Machine, put_byte, fault_of, area}
 use Rattle.s370_store.specs.declared.Access.TheVariants.{Fetch, Store}
 use Rattle.s370_walk.specs.Walk.{Form, Setting, State, Fetching, Moving, Over, Verdict, Bad, Jump, Good, ending, state_of, stops, fails, closed, closes, answered, order_of, entered, obeyed, fetched, judged, stepped, given_at, given_to, taken_at, taken_from, byte_moved, skips, chains_data, tells_length, counted_out, moved, rest, next, walk, moving, transfer_of, Written, Reaches, live}
 

@@ -1,6 +1,6 @@
 -- A reader that feeds from a queue is a reader that has the decks of the queue itself.
 use Rattle.std.specs.Prelude.{ℕ, Bool}
-use Rattle.s370_walk.specs.Hardware.{Memory}
+use Rattle.s370_store.specs.Memory.{Memory}
 use Rattle.s370_walk.specs.declared.parts.Ending.{Ending}
 use Rattle.s370_channel.specs.declared.words.Caw.{Caw}
 use Rattle.s370_channel.specs.Reading.{Reading}

@@ -33,19 +33,18 @@
 
 mod open;
 
-ghost use Rattle.std.specs.Prelude.{◌≡◌, ℕ, Bool, false, Err, IfOk, OnErr, length};
+ghost use Rattle.std.specs.Prelude.{◌≡◌, ℕ, Bool, false, Err, IfOk, OnErr};
 ghost use Rattle.s370_channel.specs.Guest.{guest_written};
 ghost use Rattle.s370_channel.specs.Loading.{loading, loading_limits};
 ghost use Rattle.s370_channel.specs.Progress.{setting};
 ghost use Rattle.s370_channel.specs.Reading.{as_reached};
 ghost use Rattle.s370_channel.specs.Runs.{Walks, begun, limited};
 ghost use Rattle.s370_walk.specs.declared.parts.Order.{Order};
-ghost use Rattle.s370_walk.specs.Hardware.{memory_of};
 ghost use Rattle.s370_walk.specs.Walk.{Over, Reaches, live};
 ghost use Rattle.cp_dat.specs.Copies.{CameOnly, is_wanted};
-ghost use Rattle.cp_dat.specs.Lent.{lent_bytes, lent_keys, lent_pool};
+ghost use Rattle.cp_dat.specs.Lent.{lent_pool, lent_memory};
 ghost use Rattle.cp_dat.specs.Supplied.{IsBetweenUnits};
-ghost use Rattle.channel_trial.specs.Trial.{is_touched, trial_bytes, trial_flags, trial_keys};
+ghost use Rattle.channel_trial.specs.Trial.{is_touched, trial_bytes, trial_flags, trial_memory};
 ghost use Rattle.channel_trial.specs.Tried.{IsLoadingTried, IsProgramTried};
 ghost use Rattle.cp_trial.specs.Tried.{EndsSomehow, LacksSuch};
 ghost use Rattle.cp_trial.specs.declared.TriedError.TheVariants as errors;
@@ -69,8 +68,7 @@ pub enum TriedError {
 
 /// A copy of a user's storage, no page of which was touched.
 fn copy_of(alloc: Global, storage: &Dat<'_>) -> Result<TrialStorage, AllocError>
-    ensures bytes { IfOk result (λ copy. trial_bytes copy ≡ lent_bytes storage.now) }
-    ensures keys { IfOk result (λ copy. trial_keys copy ≡ lent_keys storage.now) }
+    ensures memory { IfOk result (λ copy. trial_memory copy ≡ lent_memory storage.now) }
     ensures flags { IfOk result (λ copy. (page : ℕ) → is_touched copy page ≡ false) }
 {
     let bytes = storage.copy_out(alloc)?;
@@ -86,7 +84,7 @@ pub fn try_program<T: Device>(
     trial: &mut T,
 ) -> Result<TrialStorage, AllocError>
     ensures { IfOk result (λ tried. IsProgramTried T.machine start
-        (memory_of (lent_bytes storage.now) (lent_keys storage.now)) trial.old (trial_bytes tried) (trial_flags tried)) }
+        (lent_memory storage.now) trial.old (trial_bytes tried) (trial_flags tried)) }
 {
     let mut copy = copy_of(alloc, storage)?;
     channel_trial::try_program(&mut copy, start, trial)?;
@@ -101,7 +99,7 @@ pub fn try_device<D: Tried>(
     device: &D,
 ) -> Result<TrialStorage, AllocError>
     ensures { IfOk result (λ tried. IsProgramTried D.Device.machine start
-        (memory_of (lent_bytes storage.now) (lent_keys storage.now)) device.now (trial_bytes tried) (trial_flags tried)) }
+        (lent_memory storage.now) device.now (trial_bytes tried) (trial_flags tried)) }
 {
     let mut copy = copy_of(alloc, storage)?;
     device.try_on(&mut copy, start)?;
@@ -117,22 +115,18 @@ pub fn run_tried<D: Device>(
     device: &mut D,
     tried: &TrialStorage,
 ) -> Result<Ending, TriedError>
-    requires tried { IsProgramTried D.machine start (memory_of (lent_bytes storage.old) (lent_keys storage.old))
+    requires tried { IsProgramTried D.machine start (lent_memory storage.old)
         device.old (trial_bytes tried.now) (trial_flags tried.now) }
     requires between { IsBetweenUnits (lent_pool storage.old).supply }
-    ensures walk { IfOk result
-        (λ ending. Walks as_reached D.machine start
-        (memory_of (lent_bytes storage.old) (lent_keys storage.old)) device.old ending
-        (memory_of (lent_bytes storage.new) (lent_keys storage.new)) device.new) }
-    ensures same { result ≡ Err errors.FramesOut → (lent_bytes storage.new ≡ lent_bytes storage.old)
+    ensures walk { IfOk result (λ ending. Walks as_reached D.machine start (lent_memory storage.old) device.old ending
+        (lent_memory storage.new) device.new) }
+    ensures same { result ≡ Err errors.FramesOut → (lent_memory storage.new ≡ lent_memory storage.old)
         × (device.new ≡ device.old) }
     ensures spared { ((d : D) (o : Order) → D.needs_memory d o ≡ false) → result ≡ Err errors.Memory
         → device.new ≡ device.old }
     ensures lacking { result ≡ Err errors.FramesOut → LacksSuch (is_wanted (trial_flags tried.now)) storage.new }
     ensures came { CameOnly storage.old (is_wanted (trial_flags tried.now)) storage.new }
     ensures between { IsBetweenUnits (lent_pool storage.new).supply }
-    ensures keys { lent_keys storage.new ≡ lent_keys storage.old }
-    ensures size { length (lent_bytes storage.new) ≡ length (lent_bytes storage.old) }
 {
     match storage.place(tried.touched()) {
         Ok(()) => {}
@@ -155,7 +149,7 @@ fn run_apart<D: Device>(
 ) -> Result<Ending, AllocError>
     ensures spared { ((d : D) (o : Order) → D.needs_memory d o ≡ false) → OnErr result (device.new ≡ device.old) }
     ensures ends { IfOk result (λ ending. EndsSomehow (limited D.machine start)
-        (begun start (memory_of (lent_bytes storage.now) (lent_keys storage.now)) device.old) ending device.new) }
+        (begun start (lent_memory storage.now) device.old) ending device.new) }
 {
     let mut copy = copy_of(alloc, storage)?;
     match run_supplied(&mut copy, start.address.get(), &limits_of(start), device) {
@@ -171,7 +165,7 @@ pub fn try_loading<T: Device>(
     trial: &mut T,
 ) -> Result<TrialStorage, AllocError>
     ensures { IfOk result (λ tried. IsLoadingTried T.machine
-        (memory_of (lent_bytes storage.now) (lent_keys storage.now)) trial.old (trial_bytes tried) (trial_flags tried)) }
+        (lent_memory storage.now) trial.old (trial_bytes tried) (trial_flags tried)) }
 {
     let mut copy = copy_of(alloc, storage)?;
     channel_trial::try_loading(&mut copy, trial)?;
@@ -185,7 +179,7 @@ pub fn try_load<D: TriedLoading>(
     device: &D,
 ) -> Result<TrialStorage, AllocError>
     ensures { IfOk result (λ tried. IsLoadingTried D.Device.machine
-        (memory_of (lent_bytes storage.now) (lent_keys storage.now)) device.now (trial_bytes tried) (trial_flags tried)) }
+        (lent_memory storage.now) device.now (trial_bytes tried) (trial_flags tried)) }
 {
     let mut copy = copy_of(alloc, storage)?;
     device.try_load(&mut copy)?;
@@ -199,22 +193,18 @@ pub fn load_tried<D: Device>(
     device: &mut D,
     tried: &TrialStorage,
 ) -> Result<Ending, TriedError>
-    requires tried { IsLoadingTried D.machine (memory_of (lent_bytes storage.old) (lent_keys storage.old))
+    requires tried { IsLoadingTried D.machine (lent_memory storage.old)
         device.old (trial_bytes tried.now) (trial_flags tried.now) }
     requires between { IsBetweenUnits (lent_pool storage.old).supply }
-    ensures walk { IfOk result
-        (λ ending. Reaches (live guest_written) (setting D.machine loading_limits)
-        (loading D.machine (memory_of (lent_bytes storage.old) (lent_keys storage.old)) device.old)
-        (Over ending (memory_of (lent_bytes storage.new) (lent_keys storage.new)) device.new)) }
-    ensures same { result ≡ Err errors.FramesOut → (lent_bytes storage.new ≡ lent_bytes storage.old)
+    ensures walk { IfOk result (λ ending. Reaches (live guest_written) (setting D.machine loading_limits)
+        (loading D.machine (lent_memory storage.old) device.old) (Over ending (lent_memory storage.new) device.new)) }
+    ensures same { result ≡ Err errors.FramesOut → (lent_memory storage.new ≡ lent_memory storage.old)
         × (device.new ≡ device.old) }
     ensures spared { ((d : D) (o : Order) → D.needs_memory d o ≡ false) → result ≡ Err errors.Memory
         → device.new ≡ device.old }
     ensures lacking { result ≡ Err errors.FramesOut → LacksSuch (is_wanted (trial_flags tried.now)) storage.new }
     ensures came { CameOnly storage.old (is_wanted (trial_flags tried.now)) storage.new }
     ensures between { IsBetweenUnits (lent_pool storage.new).supply }
-    ensures keys { lent_keys storage.new ≡ lent_keys storage.old }
-    ensures size { length (lent_bytes storage.new) ≡ length (lent_bytes storage.old) }
 {
     match storage.place(tried.touched()) {
         Ok(()) => {}
@@ -236,7 +226,7 @@ fn load_apart<D: Device>(
 ) -> Result<Ending, AllocError>
     ensures spared { ((d : D) (o : Order) → D.needs_memory d o ≡ false) → OnErr result (device.new ≡ device.old) }
     ensures ends { IfOk result (λ ending. EndsSomehow (setting D.machine loading_limits)
-        (loading D.machine (memory_of (lent_bytes storage.now) (lent_keys storage.now)) device.old) ending device.new) }
+        (loading D.machine (lent_memory storage.now) device.old) ending device.new) }
 {
     let mut copy = copy_of(alloc, storage)?;
     match load_supplied(&mut copy, device) {

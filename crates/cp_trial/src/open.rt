@@ -6,10 +6,9 @@ ghost use Rattle.s370_channel.specs.Progress.{setting};
 ghost use Rattle.s370_channel.specs.Reading.{as_reached};
 ghost use Rattle.s370_channel.specs.Runs.{Walks, begun, limited};
 ghost use Rattle.s370_channel.specs.Supplied.{IsTouched};
-ghost use Rattle.s370_walk.specs.Hardware.{memory_of};
 ghost use Rattle.s370_walk.specs.Walk.{Over, Reaches, live};
 ghost use Rattle.cp_dat.specs.Copies.{CameOnly};
-ghost use Rattle.cp_dat.specs.Lent.{is_lent_page, lent_bytes, lent_keys, lent_pool, user_of};
+ghost use Rattle.cp_dat.specs.Lent.{is_lent_page, lent_bytes, lent_pool, user_of, lent_memory};
 ghost use Rattle.cp_dat.specs.Supplied.{IsBetweenUnits, Stands};
 ghost use Rattle.cp_trial.specs.Tried.{LacksSuch, LoadTouches};
 ghost use Rattle.cp_trial.specs.declared.TriedError.TheVariants as errors;
@@ -31,20 +30,15 @@ pub fn run_open<D: Tried>(
     device: &mut D,
 ) -> Result<Ending, TriedError>
     requires { IsBetweenUnits (lent_pool storage.old).supply }
-    ensures walk { IfOk result
-        (λ ending. Walks as_reached D.Device.machine start
-        (memory_of (lent_bytes storage.old) (lent_keys storage.old)) device.old ending
-        (memory_of (lent_bytes storage.new) (lent_keys storage.new)) device.new) }
-    ensures same { result ≡ Err errors.FramesOut → (lent_bytes storage.new ≡ lent_bytes storage.old)
+    ensures walk { IfOk result (λ ending. Walks as_reached D.Device.machine start
+        (lent_memory storage.old) device.old ending (lent_memory storage.new) device.new) }
+    ensures same { result ≡ Err errors.FramesOut → (lent_memory storage.new ≡ lent_memory storage.old)
         × (device.new ≡ device.old) }
     ensures lacking { result ≡ Err errors.FramesOut → LacksSuch (IsTouched guest_written
-        (limited D.Device.machine start) (begun start (memory_of (lent_bytes storage.old) (lent_keys storage.old))
-        device.old)) storage.new }
+        (limited D.Device.machine start) (begun start (lent_memory storage.old) device.old)) storage.new }
     ensures came { CameOnly storage.old (IsTouched guest_written (limited D.Device.machine start)
-        (begun start (memory_of (lent_bytes storage.old) (lent_keys storage.old)) device.old)) storage.new }
+        (begun start (lent_memory storage.old) device.old)) storage.new }
     ensures between { IsBetweenUnits (lent_pool storage.new).supply }
-    ensures keys { lent_keys storage.new ≡ lent_keys storage.old }
-    ensures size { length (lent_bytes storage.new) ≡ length (lent_bytes storage.old) }
 {
     let again = Caw {
         key: start.key,
@@ -64,20 +58,17 @@ pub fn load_open<D: TriedLoading>(
     device: &mut D,
 ) -> Result<Ending, TriedError>
     requires { IsBetweenUnits (lent_pool storage.old).supply }
-    ensures walk { IfOk result
-        (λ ending. Reaches (live guest_written) (setting D.Device.machine loading_limits)
-        (loading D.Device.machine (memory_of (lent_bytes storage.old) (lent_keys storage.old)) device.old)
-        (Over ending (memory_of (lent_bytes storage.new) (lent_keys storage.new)) device.new)) }
-    ensures same { result ≡ Err errors.FramesOut → (lent_bytes storage.new ≡ lent_bytes storage.old)
+    ensures walk { IfOk result (λ ending. Reaches (live guest_written) (setting D.Device.machine loading_limits)
+        (loading D.Device.machine (lent_memory storage.old) device.old)
+        (Over ending (lent_memory storage.new) device.new)) }
+    ensures same { result ≡ Err errors.FramesOut → (lent_memory storage.new ≡ lent_memory storage.old)
         × (device.new ≡ device.old) }
     ensures lacking { result ≡ Err errors.FramesOut → LacksSuch (LoadTouches D.Device.machine
-        (memory_of (lent_bytes storage.old) (lent_keys storage.old)) device.old) storage.new }
+        (lent_memory storage.old) device.old) storage.new }
     ensures came { CameOnly storage.old (LoadTouches D.Device.machine
-        (memory_of (lent_bytes storage.old) (lent_keys storage.old)) device.old) storage.new }
+        (lent_memory storage.old) device.old) storage.new }
     ensures there { OnOk result (is_lent_page storage.new 0 ≡ true) }
     ensures between { IsBetweenUnits (lent_pool storage.new).supply }
-    ensures keys { lent_keys storage.new ≡ lent_keys storage.old }
-    ensures size { length (lent_bytes storage.new) ≡ length (lent_bytes storage.old) }
 {
     fetch_first(storage)?;
     let tried = match try_load(alloc, storage, device) {
@@ -97,8 +88,7 @@ pub fn fetch_first(storage: &mut Dat<'_>) -> Result<(), TriedError>
     ensures lacking { result ≡ Err errors.FramesOut → LacksSuch (λ page. page ≡ 0) storage.new }
     ensures came { CameOnly storage.old (λ page. page ≡ 0) storage.new }
     ensures between { IsBetweenUnits (lent_pool storage.new).supply }
-    ensures bytes { lent_bytes storage.new ≡ lent_bytes storage.old }
-    ensures keys { lent_keys storage.new ≡ lent_keys storage.old }
+    ensures memory { lent_memory storage.new ≡ lent_memory storage.old }
 {
     // No machine is without storage.
     if storage.size() == 0 {
@@ -118,8 +108,7 @@ pub fn fetch_again(storage: &mut Dat<'_>)
     ensures there { is_lent_page storage.new 0 ≡ true }
     ensures came { CameOnly storage.old (λ page. page ≡ 0) storage.new }
     ensures between { IsBetweenUnits (lent_pool storage.new).supply }
-    ensures bytes { lent_bytes storage.new ≡ lent_bytes storage.old }
-    ensures keys { lent_keys storage.new ≡ lent_keys storage.old }
+    ensures memory { lent_memory storage.new ≡ lent_memory storage.old }
 {
     match storage.fetch(Page(0)) {
         Ok(()) => {}

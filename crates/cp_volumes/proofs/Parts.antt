@@ -1,8 +1,8 @@
 -- What a program leaves of a minidisk that is mounted on the unit of its volume.
-use Rattle.std.specs.Prelude.{ℕ, ◌≡◌, refl, None, IfOk, Result, Ok, Err}
+use Rattle.std.specs.Prelude.{◌≡◌, refl, None, IfOk, Result, Ok, Err}
 use Rattle.std.proofs.Common.{subst, sym}
 use Rattle.s370_walk.specs.declared.parts.Ending.{Ending}
-use Rattle.s370_walk.specs.Hardware.{Memory}
+use Rattle.s370_store.specs.Memory.{Memory}
 use Rattle.s370_walk.specs.Walk.{Setting, State, Over, Reaches, live, start_spot}
 use Rattle.s370_channel.specs.declared.words.Caw.{Caw}
 use Rattle.s370_channel.specs.Guest.{guest_written}

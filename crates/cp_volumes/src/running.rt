@@ -1,13 +1,12 @@
 //! Programs of a minidisk that is mounted on the unit of its volume: one that was tried runs to its end or not at all, one
 //! whose pages are held to its end.
-ghost use Rattle.std.specs.Prelude.{◌≡◌, IfOk, OnErr, Err, length};
+ghost use Rattle.std.specs.Prelude.{◌≡◌, IfOk, OnErr, Err};
 ghost use Rattle.s370_channel.specs.Reading.{as_reached};
 ghost use Rattle.s370_channel.specs.Runs.{Walks};
-ghost use Rattle.s370_walk.specs.Hardware.{memory_of};
 ghost use Rattle.ckd_volume.specs.Unit.{disk_machine};
 ghost use Rattle.machine_channels.specs.Channels.{WalksLoading};
 ghost use Rattle.cp_dat.specs.Copies.{CameOnly, is_wanted};
-ghost use Rattle.cp_dat.specs.Lent.{lent_bytes, lent_keys, lent_pool};
+ghost use Rattle.cp_dat.specs.Lent.{lent_pool, lent_memory};
 ghost use Rattle.cp_dat.specs.Supplied.{IsBetweenUnits};
 ghost use Rattle.channel_trial.specs.Trial.{trial_bytes, trial_flags};
 ghost use Rattle.channel_trial.specs.Tried.{IsLoadingTried, IsProgramTried};
@@ -32,11 +31,10 @@ pub(crate) fn run_mounted_held<S: Storage>(
     storage: &mut S,
     start: Caw,
 ) -> Ending
-    requires { IsFixedStill (memory_of (S.bytes storage.old) (S.keys storage.old)) (S.present storage.old) start.address }
-    ensures walk { Walks as_reached disk_machine start (memory_of (S.bytes storage.old) (S.keys storage.old))
-        mounted.old.disk result (memory_of (S.bytes storage.new) (S.keys storage.new)) mounted.new.disk }
+    requires { IsFixedStill (S.memory storage.old) (S.present storage.old) start.address }
+    ensures walk { Walks as_reached disk_machine start (S.memory storage.old)
+        mounted.old.disk result (S.memory storage.new) mounted.new.disk }
     ensures volume { KeepsVolume mounted.old mounted.new }
-    ensures keys { S.keys storage.new ≡ S.keys storage.old }
     ensures rest { S.Keeps storage.old storage.new }
 {
     let limits = Limits {
@@ -59,20 +57,17 @@ pub(crate) fn run_mounted(
     start: Caw,
     tried: &TrialStorage,
 ) -> Result<Ending, TriedError>
-    requires tried { IsProgramTried disk_machine start (memory_of (lent_bytes storage.old) (lent_keys storage.old))
+    requires tried { IsProgramTried disk_machine start (lent_memory storage.old)
         mounted.old.disk (trial_bytes tried.now) (trial_flags tried.now) }
     requires between { IsBetweenUnits (lent_pool storage.old).supply }
     ensures walk { IfOk result (λ ending. Walks as_reached disk_machine start
-        (memory_of (lent_bytes storage.old) (lent_keys storage.old)) mounted.old.disk ending
-        (memory_of (lent_bytes storage.new) (lent_keys storage.new)) mounted.new.disk) }
+        (lent_memory storage.old) mounted.old.disk ending (lent_memory storage.new) mounted.new.disk) }
     ensures same { OnErr result (mounted.new ≡ mounted.old) }
-    ensures bytes { result ≡ Err errors.FramesOut → lent_bytes storage.new ≡ lent_bytes storage.old }
+    ensures memory { result ≡ Err errors.FramesOut → lent_memory storage.new ≡ lent_memory storage.old }
     ensures lacking { result ≡ Err errors.FramesOut → LacksSuch (is_wanted (trial_flags tried.now)) storage.new }
     ensures volume { KeepsVolume mounted.old mounted.new }
     ensures came { CameOnly storage.old (is_wanted (trial_flags tried.now)) storage.new }
     ensures between { IsBetweenUnits (lent_pool storage.new).supply }
-    ensures keys { lent_keys storage.new ≡ lent_keys storage.old }
-    ensures size { length (lent_bytes storage.new) ≡ length (lent_bytes storage.old) }
 {
     run_tried(alloc, storage, start, mounted, tried)
 }
@@ -84,20 +79,17 @@ pub(crate) fn load_mounted(
     storage: &mut Dat<'_>,
     tried: &TrialStorage,
 ) -> Result<Ending, TriedError>
-    requires tried { IsLoadingTried disk_machine (memory_of (lent_bytes storage.old) (lent_keys storage.old))
+    requires tried { IsLoadingTried disk_machine (lent_memory storage.old)
         mounted.old.disk (trial_bytes tried.now) (trial_flags tried.now) }
     requires between { IsBetweenUnits (lent_pool storage.old).supply }
-    ensures walk { IfOk result (λ ending. WalksLoading disk_machine
-        (memory_of (lent_bytes storage.old) (lent_keys storage.old)) mounted.old.disk ending
-        (memory_of (lent_bytes storage.new) (lent_keys storage.new)) mounted.new.disk) }
+    ensures walk { IfOk result (λ ending. WalksLoading disk_machine (lent_memory storage.old) mounted.old.disk ending
+        (lent_memory storage.new) mounted.new.disk) }
     ensures same { OnErr result (mounted.new ≡ mounted.old) }
-    ensures bytes { result ≡ Err errors.FramesOut → lent_bytes storage.new ≡ lent_bytes storage.old }
+    ensures memory { result ≡ Err errors.FramesOut → lent_memory storage.new ≡ lent_memory storage.old }
     ensures lacking { result ≡ Err errors.FramesOut → LacksSuch (is_wanted (trial_flags tried.now)) storage.new }
     ensures volume { KeepsVolume mounted.old mounted.new }
     ensures came { CameOnly storage.old (is_wanted (trial_flags tried.now)) storage.new }
     ensures between { IsBetweenUnits (lent_pool storage.new).supply }
-    ensures keys { lent_keys storage.new ≡ lent_keys storage.old }
-    ensures size { length (lent_bytes storage.new) ≡ length (lent_bytes storage.old) }
 {
     load_tried(alloc, storage, mounted, tried)
 }

@@ -2,11 +2,10 @@
 ghost use Rattle.std.specs.Prelude.{◌≡◌, ◌==◌, ◌<◌, Err, IfOk, IfSome, OnErr, length, map, slice_get};
 ghost use Rattle.std.specs.List.{position};
 ghost use Rattle.s370_channel.specs.Reading.{as_reached};
-ghost use Rattle.s370_walk.specs.Hardware.{memory_of};
 ghost use Rattle.machine_channels.specs.Channels.{LoadsDisk, WalksDisk};
 ghost use Rattle.machine_channels.specs.Disks.{cleared_disk, is_disk_at, reset_disk};
 ghost use Rattle.cp_dat.specs.Copies.{CameOnly};
-ghost use Rattle.cp_dat.specs.Lent.{lent_bytes, lent_keys, lent_pool};
+ghost use Rattle.cp_dat.specs.Lent.{lent_pool, lent_memory};
 ghost use Rattle.cp_dat.specs.Supplied.{IsBetweenUnits};
 ghost use Rattle.cp_trial.specs.Tried.{LacksSuch};
 ghost use Rattle.cp_trial.specs.declared.TriedError.TheVariants as errors;
@@ -87,12 +86,10 @@ impl UserDisks {
     /// pages which it needs.
     pub fn run_held<S: Storage>(&mut self, storage: &mut S, start: Caw, index: usize) -> Ending
         requires inside { index < length (seen self.old) }
-        requires still { IsFixedStill (memory_of (S.bytes storage.old) (S.keys storage.old)) (S.present storage.old)
-            start.address }
-        ensures walk { WalksDisk as_reached start (memory_of (S.bytes storage.old) (S.keys storage.old))
-            (seen self.old) index result (memory_of (S.bytes storage.new) (S.keys storage.new)) (seen self.new) }
+        requires still { IsFixedStill (S.memory storage.old) (S.present storage.old) start.address }
+        ensures walk { WalksDisk as_reached start (S.memory storage.old)
+            (seen self.old) index result (S.memory storage.new) (seen self.new) }
         ensures others { KeepsNeighbours self.old self.new }
-        ensures keys { S.keys storage.new ≡ S.keys storage.old }
         ensures rest { S.Keeps storage.old storage.new }
     {
         self.volumes
@@ -111,18 +108,15 @@ impl UserDisks {
         requires inside { index < length (seen self.old) }
         requires between { IsBetweenUnits (lent_pool storage.old).supply }
         ensures walk { IfOk result (λ ending. WalksDisk as_reached start
-            (memory_of (lent_bytes storage.old) (lent_keys storage.old)) (seen self.old) index ending
-            (memory_of (lent_bytes storage.new) (lent_keys storage.new)) (seen self.new)) }
+            (lent_memory storage.old) (seen self.old) index ending (lent_memory storage.new) (seen self.new)) }
         ensures same { OnErr result (self.new ≡ self.old) }
-        ensures bytes { result ≡ Err errors.FramesOut → lent_bytes storage.new ≡ lent_bytes storage.old }
+        ensures memory { result ≡ Err errors.FramesOut → lent_memory storage.new ≡ lent_memory storage.old }
         ensures lacking { result ≡ Err errors.FramesOut → LacksSuch (DiskTouches start
-            (memory_of (lent_bytes storage.old) (lent_keys storage.old)) (slice_get (seen self.old) index)) storage.new }
+            (lent_memory storage.old) (slice_get (seen self.old) index)) storage.new }
         ensures came { CameOnly storage.old (DiskTouches start
-            (memory_of (lent_bytes storage.old) (lent_keys storage.old)) (slice_get (seen self.old) index)) storage.new }
+            (lent_memory storage.old) (slice_get (seen self.old) index)) storage.new }
         ensures between { IsBetweenUnits (lent_pool storage.new).supply }
         ensures others { KeepsNeighbours self.old self.new }
-        ensures keys { lent_keys storage.new ≡ lent_keys storage.old }
-        ensures size { length (lent_bytes storage.new) ≡ length (lent_bytes storage.old) }
     {
         let mut seat = self.minidisks[index];
         match self.volumes.run(alloc, &mut seat, storage, start) {
@@ -144,18 +138,16 @@ impl UserDisks {
         requires inside { index < length (seen self.old) }
         requires between { IsBetweenUnits (lent_pool storage.old).supply }
         ensures walk { IfOk result (λ ending. LoadsDisk
-            (memory_of (lent_bytes storage.old) (lent_keys storage.old)) (map reset_disk (seen self.old)) index ending
-            (memory_of (lent_bytes storage.new) (lent_keys storage.new)) (seen self.new)) }
+            (lent_memory storage.old) (map reset_disk (seen self.old)) index ending
+            (lent_memory storage.new) (seen self.new)) }
         ensures same { OnErr result (self.new ≡ self.old) }
-        ensures bytes { result ≡ Err errors.FramesOut → lent_bytes storage.new ≡ lent_bytes storage.old }
+        ensures memory { result ≡ Err errors.FramesOut → lent_memory storage.new ≡ lent_memory storage.old }
         ensures lacking { result ≡ Err errors.FramesOut → LacksSuch (DiskLoadTouches
-            (memory_of (lent_bytes storage.old) (lent_keys storage.old)) (slice_get (map reset_disk (seen self.old)) index)) storage.new }
+            (lent_memory storage.old) (slice_get (map reset_disk (seen self.old)) index)) storage.new }
         ensures came { CameOnly storage.old (DiskLoadTouches
-            (memory_of (lent_bytes storage.old) (lent_keys storage.old)) (slice_get (map reset_disk (seen self.old)) index)) storage.new }
+            (lent_memory storage.old) (slice_get (map reset_disk (seen self.old)) index)) storage.new }
         ensures between { IsBetweenUnits (lent_pool storage.new).supply }
         ensures others { KeepsNeighbours self.old self.new }
-        ensures keys { lent_keys storage.new ≡ lent_keys storage.old }
-        ensures size { length (lent_bytes storage.new) ≡ length (lent_bytes storage.old) }
     {
         let mut seat = self.minidisks[index];
         seat.reset();

@@ -6,11 +6,10 @@ ghost use Rattle.s370_channel.specs.Progress.{setting};
 ghost use Rattle.s370_channel.specs.Reading.{as_reached};
 ghost use Rattle.s370_channel.specs.Runs.{begun, limited};
 ghost use Rattle.s370_channel.specs.Supplied.{IsTouched};
-ghost use Rattle.s370_walk.specs.Hardware.{memory_of};
 ghost use Rattle.ckd_volume.specs.Unit.{disk_machine, rested, volume_of};
 ghost use Rattle.machine_channels.specs.Channels.{RestsAfter, RestsLoaded};
 ghost use Rattle.cp_dat.specs.Copies.{CameOnly};
-ghost use Rattle.cp_dat.specs.Lent.{lent_bytes, lent_keys, lent_pool};
+ghost use Rattle.cp_dat.specs.Lent.{lent_pool, lent_memory};
 ghost use Rattle.cp_dat.specs.Supplied.{IsBetweenUnits};
 ghost use Rattle.cp_minidisk.specs.Minidisk.{users_disk};
 ghost use Rattle.cp_minidisk.specs.Part.{minidisk_of, part_on, unit_of};
@@ -140,8 +139,7 @@ impl Volumes {
     ) -> Result<TrialStorage, AllocError>
         requires { IsSeated self.now (stand_of disk.now) }
         ensures { IfOk result (λ tried. IsProgramTried disk_machine start
-            (memory_of (lent_bytes storage.now) (lent_keys storage.now)) (disk_on self.now disk.now).unit
-            (trial_bytes tried) (trial_flags tried)) }
+            (lent_memory storage.now) (disk_on self.now disk.now).unit (trial_bytes tried) (trial_flags tried)) }
     {
         let mut trial = self.trial(alloc, disk)?;
         try_program(alloc, storage, start, &mut trial)
@@ -156,8 +154,7 @@ impl Volumes {
     ) -> Result<TrialStorage, AllocError>
         requires { IsSeated self.now (stand_of disk.now) }
         ensures { IfOk result (λ tried. IsLoadingTried disk_machine
-            (memory_of (lent_bytes storage.now) (lent_keys storage.now)) (disk_on self.now disk.now).unit
-            (trial_bytes tried) (trial_flags tried)) }
+            (lent_memory storage.now) (disk_on self.now disk.now).unit (trial_bytes tried) (trial_flags tried)) }
     {
         let mut trial = self.trial(alloc, disk)?;
         try_loading(alloc, storage, &mut trial)
@@ -172,14 +169,11 @@ impl Volumes {
         start: Caw,
     ) -> Ending
         requires seated { IsSeated self.old (stand_of disk.old) }
-        requires enough { IsFixedStill (memory_of (S.bytes storage.old) (S.keys storage.old)) (S.present storage.old)
-            start.address }
-        ensures walk { RestsAfter as_reached start (memory_of (S.bytes storage.old) (S.keys storage.old))
-            (disk_on self.old disk.old) result (memory_of (S.bytes storage.new) (S.keys storage.new))
-            (disk_on self.new disk.new) }
+        requires enough { IsFixedStill (S.memory storage.old) (S.present storage.old) start.address }
+        ensures walk { RestsAfter as_reached start (S.memory storage.old)
+            (disk_on self.old disk.old) result (S.memory storage.new) (disk_on self.new disk.new) }
         ensures stands { stand_of disk.new ≡ stand_of disk.old }
         ensures confined { IsConfined (stand_of disk.old ∷ []) self.old self.new }
-        ensures keys { S.keys storage.new ≡ S.keys storage.old }
         ensures rest { S.Keeps storage.old storage.new }
     {
         let mut mounted = self.mount(disk);
@@ -200,21 +194,18 @@ impl Volumes {
         requires seated { IsSeated self.old (stand_of disk.old) }
         requires between { IsBetweenUnits (lent_pool storage.old).supply }
         ensures walk { IfOk result (λ ending. RestsAfter as_reached start
-            (memory_of (lent_bytes storage.old) (lent_keys storage.old)) (disk_on self.old disk.old) ending
-            (memory_of (lent_bytes storage.new) (lent_keys storage.new)) (disk_on self.new disk.new)) }
+            (lent_memory storage.old) (disk_on self.old disk.old) ending
+            (lent_memory storage.new) (disk_on self.new disk.new)) }
         ensures same { OnErr result (self.new ≡ self.old) }
-        ensures bytes { result ≡ Err errors.FramesOut → lent_bytes storage.new ≡ lent_bytes storage.old }
-        ensures lacking { result ≡ Err errors.FramesOut → LacksSuch (IsTouched guest_written (limited disk_machine start)
-            (begun start (memory_of (lent_bytes storage.old) (lent_keys storage.old)) (disk_on self.old disk.old).unit))
-            storage.new }
+        ensures memory { result ≡ Err errors.FramesOut → lent_memory storage.new ≡ lent_memory storage.old }
+        ensures lacking { result ≡ Err errors.FramesOut
+            → LacksSuch (IsTouched guest_written (limited disk_machine start)
+            (begun start (lent_memory storage.old) (disk_on self.old disk.old).unit)) storage.new }
         ensures stands { stand_of disk.new ≡ stand_of disk.old }
         ensures confined { IsConfined (stand_of disk.old ∷ []) self.old self.new }
         ensures came { CameOnly storage.old (IsTouched guest_written (limited disk_machine start)
-            (begun start (memory_of (lent_bytes storage.old) (lent_keys storage.old)) (disk_on self.old disk.old).unit))
-            storage.new }
+            (begun start (lent_memory storage.old) (disk_on self.old disk.old).unit)) storage.new }
         ensures between { IsBetweenUnits (lent_pool storage.new).supply }
-        ensures keys { lent_keys storage.new ≡ lent_keys storage.old }
-        ensures size { length (lent_bytes storage.new) ≡ length (lent_bytes storage.old) }
     {
         let again = Caw {
             key: start.key,
@@ -246,22 +237,18 @@ impl Volumes {
     ) -> Result<Ending, TriedError>
         requires seated { IsSeated self.old (stand_of disk.old) }
         requires between { IsBetweenUnits (lent_pool storage.old).supply }
-        ensures walk { IfOk result (λ ending. RestsLoaded
-            (memory_of (lent_bytes storage.old) (lent_keys storage.old)) (disk_on self.old disk.old) ending
-            (memory_of (lent_bytes storage.new) (lent_keys storage.new)) (disk_on self.new disk.new)) }
+        ensures walk { IfOk result (λ ending. RestsLoaded (lent_memory storage.old) (disk_on self.old disk.old) ending
+            (lent_memory storage.new) (disk_on self.new disk.new)) }
         ensures same { OnErr result (self.new ≡ self.old) }
-        ensures bytes { result ≡ Err errors.FramesOut → lent_bytes storage.new ≡ lent_bytes storage.old }
-        ensures lacking { result ≡ Err errors.FramesOut → LacksSuch (IsTouched guest_written (setting disk_machine loading_limits)
-            (loading disk_machine (memory_of (lent_bytes storage.old) (lent_keys storage.old)) (disk_on self.old disk.old).unit))
-            storage.new }
+        ensures memory { result ≡ Err errors.FramesOut → lent_memory storage.new ≡ lent_memory storage.old }
+        ensures lacking { result ≡ Err errors.FramesOut
+            → LacksSuch (IsTouched guest_written (setting disk_machine loading_limits)
+            (loading disk_machine (lent_memory storage.old) (disk_on self.old disk.old).unit)) storage.new }
         ensures stands { stand_of disk.new ≡ stand_of disk.old }
         ensures confined { IsConfined (stand_of disk.old ∷ []) self.old self.new }
         ensures came { CameOnly storage.old (IsTouched guest_written (setting disk_machine loading_limits)
-            (loading disk_machine (memory_of (lent_bytes storage.old) (lent_keys storage.old)) (disk_on self.old disk.old).unit))
-            storage.new }
+            (loading disk_machine (lent_memory storage.old) (disk_on self.old disk.old).unit)) storage.new }
         ensures between { IsBetweenUnits (lent_pool storage.new).supply }
-        ensures keys { lent_keys storage.new ≡ lent_keys storage.old }
-        ensures size { length (lent_bytes storage.new) ≡ length (lent_bytes storage.old) }
     {
         let tried = match self.try_load(alloc, disk, storage) {
             Ok(tried) => tried,

@@ -1,10 +1,11 @@
-use Rattle.std.proofs.Common.{ℕ, false, ap, sym, ◌∙◌}
+use Rattle.std.proofs.Common.{ℕ, false, ap, ap₂, sym, ◌∙◌}
 use Rattle.std.specs.Prelude.{slice_index_or}
 use Rattle.s370_channel.specs.Loading.{loading, loading_limits}
 use Rattle.s370_channel.specs.Progress.{setting}
+use Rattle.s370_store.specs.Memory.{Memory, memory_of}
 use Rattle.channel_trial.specs.Trial.{trial_bytes, trial_flags}
 use Rattle.cp_dat.specs.Copies.{is_wanted}
-use Rattle.cp_dat.specs.Lent.{keeps_rest_same, lent_bytes, lent_keys}
+use Rattle.cp_dat.specs.Lent.{keeps_stored_same, lent_memory}
 use Rattle.cp_dat.proofs.Copying.{came_more, came_nothing}
 use Rattle.cp_trial.proofs.Trying.{walk_for}
 use Rattle.cp_trial.proofs.load_tried.Goals as goal
@@ -13,22 +14,22 @@ pub returns-in-Err-clause-came : goal.returns-in-Err-clause-came
 returns-in-Err-clause-came g c =
     let old = c.args.storage.now in
     let Flagged : ℕ → Type 0 = is_wanted (trial_flags c.args.tried.now) in
-    came_more old old c.place.new.self (is_wanted c.touched.result.now) Flagged (λ page it. ap (λ flags. slice_index_or flags page false) (sym c.touched.ensures.flags) ∙ it) (came_nothing old old Flagged c.requires.between (keeps_rest_same old)) c.place.ensures.came
+    came_more old old c.place.new.self (is_wanted c.touched.result.now) Flagged (λ page it. ap (λ flags. slice_index_or flags page false) (sym c.touched.ensures.flags) ∙ it) (came_nothing old old Flagged c.requires.between (keeps_stored_same old)) c.place.ensures.came
 
 pub returns-in_default-clause-came : goal.returns-in_default-clause-came
 returns-in_default-clause-came g c =
     let old = c.args.storage.now in
     let Flagged : ℕ → Type 0 = is_wanted (trial_flags c.args.tried.now) in
-    came_more old old c.place.new.self (is_wanted c.touched.result.now) Flagged (λ page it. ap (λ flags. slice_index_or flags page false) (sym c.touched.ensures.flags) ∙ it) (came_nothing old old Flagged c.requires.between (keeps_rest_same old)) c.place.ensures.came
+    came_more old old c.place.new.self (is_wanted c.touched.result.now) Flagged (λ page it. ap (λ flags. slice_index_or flags page false) (sym c.touched.ensures.flags) ∙ it) (came_nothing old old Flagged c.requires.between (keeps_stored_same old)) c.place.ensures.came
 
 pub returns-clause-came : goal.returns-clause-came
 returns-clause-came g c =
     let old = c.args.storage.now in
     let Flagged : ℕ → Type 0 = is_wanted (trial_flags c.args.tried.now) in
-    let placed = came_more old old c.place.new.self (is_wanted c.touched.result.now) Flagged (λ page it. ap (λ flags. slice_index_or flags page false) (sym c.touched.ensures.flags) ∙ it) (came_nothing old old Flagged c.requires.between (keeps_rest_same old)) c.place.ensures.came in
+    let placed = came_more old old c.place.new.self (is_wanted c.touched.result.now) Flagged (λ page it. ap (λ flags. slice_index_or flags page false) (sym c.touched.ensures.flags) ∙ it) (came_nothing old old Flagged c.requires.between (keeps_stored_same old)) c.place.ensures.came in
     came_more old c.place.new.self c.put_back.new.self (is_wanted c.touched-2.result.now) Flagged (λ page it. ap (λ flags. slice_index_or flags page false) (sym c.touched-2.ensures.flags) ∙ it) placed c.put_back.ensures.came
 
 pub returns-clause-walk : goal.returns-clause-walk
 returns-clause-walk g c =
-    let old = c.args.storage.now in
-    walk_for (setting g.D.Device.machine loading_limits) (λ m. loading g.D.Device.machine m c.args.device.now) c.load_apart-ran.new.device (lent_bytes old) (lent_keys old) (trial_bytes c.args.tried.now) (trial_flags c.args.tried.now) c.in-Ok-ran.ending (lent_bytes c.place.new.self) (lent_keys c.place.new.self) (lent_bytes c.put_back.new.self) (lent_keys c.put_back.new.self) c.requires.tried c.place.ensures.bytes c.place.ensures.keys c.in-Ok-ran.ensures.ends (c.put_back.ensures.bytes ∙ c.bytes.ensures) (c.put_back.ensures.keys ∙ c.place.ensures.keys)
+    walk_for (setting g.D.Device.machine loading_limits) (λ m. loading g.D.Device.machine m c.args.device.now) c.load_apart-ran.new.device (lent_memory c.args.storage.now) (lent_memory c.place.new.self) (lent_memory c.put_back.new.self) (trial_bytes c.args.tried.now) (trial_flags c.args.tried.now) c.in-Ok-ran.ending c.requires.tried c.place.ensures.memory c.in-Ok-ran.ensures.ends
+    (ap₂ memory_of (c.put_back.ensures.bytes ∙ c.bytes.ensures) (c.put_back.ensures.came.keys ∙ ap (λ (m : Memory). m.keys) c.place.ensures.memory))

@@ -1,7 +1,6 @@
-use Rattle.std.proofs.Common.{◌≡◌, ◌%◌, ℕ, arith, length, subst, sym}
-use Rattle.cp_dat.specs.Lent.{lent_bytes}
+use Rattle.std.proofs.Common.{ℕ, arith, subst, sym}
+use Rattle.cp_dat.specs.Lent.{lent_memory}
 use Rattle.cp_ccw.specs.Known.{ArePlaced}
-use Rattle.cp_ccw.specs.Runs.{lent_memory}
 use Rattle.cp_ccw.proofs.Knowing.{data_held}
 use Rattle.cp_ccw.proofs.direct.know.Goals as goal
 

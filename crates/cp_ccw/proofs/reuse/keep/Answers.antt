@@ -1,7 +1,6 @@
 use Rattle.std.proofs.Common.{◌≡◌, ◌%◌, arith, length, refl, sym, ◌∙◌}
 use Rattle.cp_graph.specs.Table.{program_of}
-use Rattle.cp_dat.specs.Lent.{is_lent_page, lent_bytes}
-use Rattle.cp_ccw.specs.Runs.{lent_memory}
+use Rattle.cp_dat.specs.Lent.{is_lent_page, lent_bytes, lent_memory}
 use Rattle.cp_ccw.proofs.Keeping.{translated_for}
 use Rattle.cp_ccw.proofs.Served.{none_is_served}
 use Rattle.cp_ccw.proofs.reuse.keep.Goals as goal

@@ -1,10 +1,10 @@
-use Rattle.std.proofs.Common.{◌≡◌, rules, subst, sym}
+use Rattle.std.proofs.Common.{rules, subst, sym}
 use Rattle.std.specs.Prelude.{IfOk}
-use Rattle.s370_walk.specs.Hardware.{Memory}
+use Rattle.s370_store.specs.Memory.{Memory}
 use Rattle.s370_channel.specs.Guest.{guest_text}
 use Rattle.channel_laws.specs.Copy.{guest_of, IsPlace}
 use Rattle.cp_dat.specs.declared.dat.Dat.{Dat}
-use Rattle.cp_dat.specs.Lent.{KeepsRest, lent_keys}
+use Rattle.cp_dat.specs.Lent.{KeepsStored}
 use Rattle.cp_ccw.specs.Runs.{IsGuestsRun}
 use Rattle.cp_ccw.specs.Translated.{IsTranslatedFor}
 use Rattle.cp_ccw.proofs.running.run_lent.Goals as goal
@@ -17,12 +17,7 @@ returns-clause-runs g c =
     → IsGuestsRun g.D.Device.machine c.args.limits.now m0 (guest_of t.places.items t.start) c.args.storage.now c.args.device.now end d c.run_translated.new.device))
     (sym is) c.run_translated.ensures.runs
 
-pub returns-clause-keys : goal.returns-clause-keys
-returns-clause-keys g c =
-    let kept : lent_keys c.run_translated.new.real.dat.now ≡ lent_keys c.args.storage.now = c.run_translated.ensures.rest.keys in
-    search rules
-
 pub returns-clause-rest : goal.returns-clause-rest
 returns-clause-rest g c =
-    let kept : KeepsRest c.args.storage.now c.run_translated.new.real.dat.now = c.run_translated.ensures.rest.lent in
+    let kept : KeepsStored c.args.storage.now c.run_translated.new.real.dat.now = c.run_translated.ensures.rest.lent in
     search rules

@@ -1,11 +1,10 @@
 use Rattle.std.proofs.Common.{◌≡◌, ◌<◌, ◌≤◌, ◌-◌, ℕ, true, false}
-use Rattle.channel_trial.specs.Trial.{is_touched, trial_bytes, trial_keys}
+use Rattle.channel_trial.specs.Trial.{is_touched, trial_memory}
 use Rattle.cp_hold.proofs.apart.fill.Given as goal
 
 abbrev pub invariant-loop-page : goal.invariant-loop-page
 invariant-loop-page l = record {
-  bytes : trial_bytes l.copy ≡ trial_bytes l.fn.copy;
-  keys : trial_keys l.copy ≡ trial_keys l.fn.copy;
+  memory : trial_memory l.copy ≡ trial_memory l.fn.copy;
   there : (page : ℕ) → page < l.page → is_touched l.copy page ≡ true;
   away : (page : ℕ) → l.page ≤ page → is_touched l.copy page ≡ false;
 }

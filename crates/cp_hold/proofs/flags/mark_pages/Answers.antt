@@ -1,4 +1,3 @@
-use Rattle.std.proofs.Common.{◌/◌}
 use Rattle.cp_hold.proofs.Flagging.{flagged_all, flagged_more, none_flagged}
 use Rattle.cp_hold.proofs.flags.mark_pages.Goals as goal
 

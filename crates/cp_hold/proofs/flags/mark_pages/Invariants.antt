@@ -1,4 +1,4 @@
-use Rattle.std.proofs.Common.{◌/◌, take}
+use Rattle.std.proofs.Common.{take}
 use Rattle.cp_hold.specs.Flags.{AreFlagged}
 use Rattle.cp_hold.proofs.flags.mark_pages.Given as goal
 

@@ -9,8 +9,7 @@ loop-page-preserved c =
     let s = c.loop-page.invariant.supply in
     let page = c.in-Some.page.0 in
     record {
-      bytes = c.bring.ensures.bytes ∙ c.loop-page.invariant.bytes;
-      keys = c.bring.ensures.keys ∙ c.loop-page.invariant.keys;
+      memory = c.bring.ensures.memory ∙ c.loop-page.invariant.memory;
       supply = (
         s.0 ++ (page ∷ []),
         supplied_on _ _ _ s.0 (page ∷ []) s.1 c.in_ok-bring-in-Some.ensures.brought,

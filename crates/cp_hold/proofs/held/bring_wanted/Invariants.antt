@@ -2,14 +2,13 @@ use Rattle.std.proofs.Common.{◌≡◌, ℕ, List}
 use Rattle.s370_channel.specs.Supplied.{AllSuch}
 use Rattle.cp_frames.specs.Paging.{unpinned_count}
 use Rattle.cp_dat.specs.Copies.{is_wanted}
-use Rattle.cp_dat.specs.Lent.{lent_bytes, lent_keys, lent_pool}
+use Rattle.cp_dat.specs.Lent.{lent_pool, lent_memory}
 use Rattle.cp_dat.specs.Supplied.{Supplied}
 use Rattle.cp_hold.proofs.held.bring_wanted.Given as goal
 
 abbrev pub invariant-loop-page : goal.invariant-loop-page
 invariant-loop-page l = record {
-  bytes : lent_bytes l.storage ≡ lent_bytes l.fn.storage;
-  keys : lent_keys l.storage ≡ lent_keys l.fn.storage;
+  memory : lent_memory l.storage ≡ lent_memory l.fn.storage;
   supply : (pages : List ℕ) × Supplied l.fn.storage pages l.storage × AllSuch (is_wanted l.fn.wanted) pages;
 }
 

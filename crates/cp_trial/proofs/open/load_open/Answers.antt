@@ -1,12 +1,7 @@
-use Rattle.std.proofs.Common.{◌≡◌, ◌∙◌, ℕ, ◌*◌, ◌<◌, ◌⊎◌, List, arith, ap, length, refl, subst, sym, inl, inr}
-use Rattle.s370_channel.specs.Guest.{guest_written}
-use Rattle.s370_channel.specs.Loading.{loading, loading_limits}
-use Rattle.s370_channel.specs.Progress.{setting}
-use Rattle.s370_channel.specs.Supplied.{IsTouched}
-use Rattle.s370_walk.specs.Hardware.{memory_of}
+use Rattle.std.proofs.Common.{◌≡◌, ℕ, ◌<◌, subst, sym, inl}
 use Rattle.channel_trial.specs.Trial.{trial_flags}
-use Rattle.cp_dat.specs.Copies.{CameOnly, is_wanted}
-use Rattle.cp_dat.specs.Lent.{keeps_rest_same, lent_bytes, lent_keys}
+use Rattle.cp_dat.specs.Copies.{is_wanted}
+use Rattle.cp_dat.specs.Lent.{keeps_stored_same, lent_memory}
 use Rattle.cp_dat.proofs.Copying.{came_more, came_nothing, stands_on}
 use Rattle.cp_trial.specs.Tried.{LoadTouches}
 use Rattle.cp_trial.proofs.Opening.{loads_flagged}
@@ -15,27 +10,27 @@ use Rattle.cp_trial.proofs.open.load_open.Goals as goal
 pub returns-in_err-fetch_first-clause-came : goal.returns-in_err-fetch_first-clause-came
 returns-in_err-fetch_first-clause-came g c =
     let old = c.args.storage.now in
-    let Needs : ℕ → Type 0 = LoadTouches g.D.Device.machine (memory_of (lent_bytes old) (lent_keys old)) c.args.device.now in
-    came_more old old c.fetch_first.new.storage (λ page. page ≡ 0) Needs (λ page it. inl it) (came_nothing old old Needs c.requires (keeps_rest_same old)) c.fetch_first.ensures.came
+    let Needs : ℕ → Type 0 = LoadTouches g.D.Device.machine (lent_memory old) c.args.device.now in
+    came_more old old c.fetch_first.new.storage (λ page. page ≡ 0) Needs (λ page it. inl it) (came_nothing old old Needs c.requires (keeps_stored_same old)) c.fetch_first.ensures.came
 
 pub returns-in-Err-clause-came : goal.returns-in-Err-clause-came
 returns-in-Err-clause-came g c =
     let old = c.args.storage.now in
-    let Needs : ℕ → Type 0 = LoadTouches g.D.Device.machine (memory_of (lent_bytes old) (lent_keys old)) c.args.device.now in
-    came_more old old c.fetch_first.new.storage (λ page. page ≡ 0) Needs (λ page it. inl it) (came_nothing old old Needs c.requires (keeps_rest_same old)) c.fetch_first.ensures.came
+    let Needs : ℕ → Type 0 = LoadTouches g.D.Device.machine (lent_memory old) c.args.device.now in
+    came_more old old c.fetch_first.new.storage (λ page. page ≡ 0) Needs (λ page it. inl it) (came_nothing old old Needs c.requires (keeps_stored_same old)) c.fetch_first.ensures.came
 
 pub returns-in_err-ending-clause-came : goal.returns-in_err-ending-clause-came
 returns-in_err-ending-clause-came g c =
     let old = c.args.storage.now in
-    let Needs : ℕ → Type 0 = LoadTouches g.D.Device.machine (memory_of (lent_bytes old) (lent_keys old)) c.args.device.now in
-    let first = came_more old old c.fetch_first.new.storage (λ page. page ≡ 0) Needs (λ page it. inl it) (came_nothing old old Needs c.requires (keeps_rest_same old)) c.fetch_first.ensures.came in
+    let Needs : ℕ → Type 0 = LoadTouches g.D.Device.machine (lent_memory old) c.args.device.now in
+    let first = came_more old old c.fetch_first.new.storage (λ page. page ≡ 0) Needs (λ page it. inl it) (came_nothing old old Needs c.requires (keeps_stored_same old)) c.fetch_first.ensures.came in
     came_more old c.fetch_first.new.storage c.load_tried.new.storage (is_wanted (trial_flags c.in-Ok.tried)) Needs
-    (loads_flagged g.D.Device.machine old c.fetch_first.new.storage c.args.device.now c.in-Ok.tried c.fetch_first.ensures.bytes c.fetch_first.ensures.keys c.in-Ok.ensures) first c.load_tried.ensures.came
+    (loads_flagged g.D.Device.machine old c.fetch_first.new.storage c.args.device.now c.in-Ok.tried c.fetch_first.ensures.memory c.in-Ok.ensures) first c.load_tried.ensures.came
 
 pub fetch_again-requires-clause-some : goal.fetch_again-requires-clause-some
 fetch_again-requires-clause-some g c =
     let some = c.in_ok-fetch_first.ensures.some in
-    subst (λ (n : ℕ). 0 < n) (sym c.load_tried.ensures.size) some
+    subst (λ (n : ℕ). 0 < n) (sym c.load_tried.ensures.came.came.kept.same_size) some
 
 pub fetch_again-requires-clause-stands : goal.fetch_again-requires-clause-stands
 fetch_again-requires-clause-stands g c = stands_on c.fetch_first.new.storage c.load_tried.new.storage (is_wanted (trial_flags c.in-Ok.tried)) 0 c.load_tried.ensures.came (inl c.in_ok-fetch_first.ensures.there)
@@ -43,8 +38,8 @@ fetch_again-requires-clause-stands g c = stands_on c.fetch_first.new.storage c.l
 pub returns-clause-came : goal.returns-clause-came
 returns-clause-came g c =
     let old = c.args.storage.now in
-    let Needs : ℕ → Type 0 = LoadTouches g.D.Device.machine (memory_of (lent_bytes old) (lent_keys old)) c.args.device.now in
-    let first = came_more old old c.fetch_first.new.storage (λ page. page ≡ 0) Needs (λ page it. inl it) (came_nothing old old Needs c.requires (keeps_rest_same old)) c.fetch_first.ensures.came in
+    let Needs : ℕ → Type 0 = LoadTouches g.D.Device.machine (lent_memory old) c.args.device.now in
+    let first = came_more old old c.fetch_first.new.storage (λ page. page ≡ 0) Needs (λ page it. inl it) (came_nothing old old Needs c.requires (keeps_stored_same old)) c.fetch_first.ensures.came in
     let second = came_more old c.fetch_first.new.storage c.load_tried.new.storage (is_wanted (trial_flags c.in-Ok.tried)) Needs
-    (loads_flagged g.D.Device.machine old c.fetch_first.new.storage c.args.device.now c.in-Ok.tried c.fetch_first.ensures.bytes c.fetch_first.ensures.keys c.in-Ok.ensures) first c.load_tried.ensures.came in
+    (loads_flagged g.D.Device.machine old c.fetch_first.new.storage c.args.device.now c.in-Ok.tried c.fetch_first.ensures.memory c.in-Ok.ensures) first c.load_tried.ensures.came in
     came_more old c.load_tried.new.storage c.fetch_again.new.storage (λ page. page ≡ 0) Needs (λ page it. inl it) second c.fetch_again.ensures.came

@@ -1,7 +1,6 @@
 use Rattle.std.proofs.Common.{refl}
-use Rattle.s370_walk.specs.Hardware.{memory_of}
 use Rattle.ckd_volume.specs.Unit.{disk_machine}
-use Rattle.cp_dat.specs.Lent.{lent_bytes, lent_keys}
+use Rattle.cp_dat.specs.Lent.{lent_memory}
 use Rattle.cp_minidisk.specs.Part.{disk_seen, part_machine}
 use Rattle.channel_trial.specs.Trial.{trial_bytes, trial_flags}
 use Rattle.channel_trial.proofs.Trying.{loaded_back}
@@ -10,17 +9,17 @@ use Rattle.cp_volumes.proofs.running.load_mounted.Goals as goal
 
 pub load_tried-requires-clause-tried : goal.load_tried-requires-clause-tried
 load_tried-requires-clause-tried c =
-    let m = memory_of (lent_bytes c.args.storage.now) (lent_keys c.args.storage.now) in
+    let m = lent_memory c.args.storage.now in
     loaded_back part_machine disk_machine disk_seen m c.args.mounted.now (trial_bytes c.args.tried.now) (trial_flags c.args.tried.now) part_viewed c.requires.tried
 
 pub returns-clause-walk : goal.returns-clause-walk
 returns-clause-walk c =
-    let m = memory_of (lent_bytes c.args.storage.now) (lent_keys c.args.storage.now) in
-    let n = memory_of (lent_bytes c.load_tried.new.storage) (lent_keys c.load_tried.new.storage) in
+    let m = lent_memory c.args.storage.now in
+    let n = lent_memory c.load_tried.new.storage in
     loads_ok m n c.args.mounted.now c.load_tried.new.device c.load_tried.result c.load_tried.ensures.walk
 
 pub returns-clause-volume : goal.returns-clause-volume
 returns-clause-volume c =
-    let m = memory_of (lent_bytes c.args.storage.now) (lent_keys c.args.storage.now) in
-    let n = memory_of (lent_bytes c.load_tried.new.storage) (lent_keys c.load_tried.new.storage) in
+    let m = lent_memory c.args.storage.now in
+    let n = lent_memory c.load_tried.new.storage in
     load_keeps_ok m n c.args.mounted.now c.load_tried.new.device c.load_tried.result c.load_tried.ensures.walk (c.load_tried.ensures.spared (λ d o. refl)) (λ out. (c.load_tried.ensures.same out).1)

@@ -1,7 +1,6 @@
 use Rattle.std.proofs.Common.{refl}
-use Rattle.s370_walk.specs.Hardware.{memory_of}
 use Rattle.ckd_volume.specs.Unit.{disk_machine}
-use Rattle.cp_dat.specs.Lent.{lent_bytes, lent_keys}
+use Rattle.cp_dat.specs.Lent.{lent_memory}
 use Rattle.cp_minidisk.specs.Part.{disk_seen, part_machine}
 use Rattle.channel_trial.specs.Trial.{trial_bytes, trial_flags}
 use Rattle.channel_trial.proofs.Trying.{tried_back}
@@ -10,17 +9,17 @@ use Rattle.cp_volumes.proofs.running.run_mounted.Goals as goal
 
 pub run_tried-requires-clause-tried : goal.run_tried-requires-clause-tried
 run_tried-requires-clause-tried c =
-    let m = memory_of (lent_bytes c.args.storage.now) (lent_keys c.args.storage.now) in
+    let m = lent_memory c.args.storage.now in
     tried_back part_machine disk_machine disk_seen c.args.start m c.args.mounted.now (trial_bytes c.args.tried.now) (trial_flags c.args.tried.now) part_viewed c.requires.tried
 
 pub returns-clause-walk : goal.returns-clause-walk
 returns-clause-walk c =
-    let m = memory_of (lent_bytes c.args.storage.now) (lent_keys c.args.storage.now) in
-    let n = memory_of (lent_bytes c.run_tried.new.storage) (lent_keys c.run_tried.new.storage) in
+    let m = lent_memory c.args.storage.now in
+    let n = lent_memory c.run_tried.new.storage in
     walks_ok c.args.start m n c.args.mounted.now c.run_tried.new.device c.run_tried.result c.run_tried.ensures.walk
 
 pub returns-clause-volume : goal.returns-clause-volume
 returns-clause-volume c =
-    let m = memory_of (lent_bytes c.args.storage.now) (lent_keys c.args.storage.now) in
-    let n = memory_of (lent_bytes c.run_tried.new.storage) (lent_keys c.run_tried.new.storage) in
+    let m = lent_memory c.args.storage.now in
+    let n = lent_memory c.run_tried.new.storage in
     keeps_ok c.args.start m n c.args.mounted.now c.run_tried.new.device c.run_tried.result c.run_tried.ensures.walk (c.run_tried.ensures.spared (λ d o. refl)) (λ out. (c.run_tried.ensures.same out).1)

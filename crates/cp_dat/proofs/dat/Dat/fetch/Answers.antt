@@ -1,3 +1,5 @@
+use Rattle.std.proofs.Common.{◌∙◌, ap}
+use Rattle.s370_store.specs.Memory.{Memory}
 use Rattle.cp_dat.proofs.Copying.{came_told, out_told}
 use Rattle.cp_dat.proofs.dat.Dat.fetch.Goals as goal
 
@@ -7,4 +9,4 @@ returns-clause-out c =
 
 pub returns-clause-came : goal.returns-clause-came
 returns-clause-came c =
-    came_told c.args.self.now c.bring-brought.new.self c.let_go.new.self c.args.page.0 c.bring-brought.result c.bring-brought.ensures.brought c.bring-brought.ensures.refused c.let_go.ensures.let_go
+    came_told c.args.self.now c.bring-brought.new.self c.let_go.new.self c.args.page.0 c.bring-brought.result c.bring-brought.ensures.brought c.bring-brought.ensures.refused c.let_go.ensures.let_go (ap (λ (m : Memory). m.keys) (c.let_go.ensures.memory ∙ c.bring-brought.ensures.memory))

@@ -19,6 +19,6 @@ loop-page-preserved c =
     elim c.if-wanted-page.branch [
       | then-wanted-page+in_ok-fetch w ↦ (
           let there = w.in_ok-fetch.ensures.there in
-          rw w.self-is (placed_page c.args.self.now c.args.wanted.now c.loop-page.page c.loop-page.self w.fetch.new.self low w.if-wanted-page.true c.loop-page.invariant there w.fetch.ensures.came w.fetch.ensures.between w.fetch.ensures.bytes w.fetch.ensures.keys))
+          rw w.self-is (placed_page c.args.self.now c.args.wanted.now c.loop-page.page c.loop-page.self w.fetch.new.self low w.if-wanted-page.true c.loop-page.invariant there w.fetch.ensures.came w.fetch.ensures.between w.fetch.ensures.memory))
       | else-wanted-page w ↦ rw w.self-is (placed_by c.args.self.now c.args.wanted.now c.loop-page.page c.loop-page.self low w.if-wanted-page.false c.loop-page.invariant)
     ]

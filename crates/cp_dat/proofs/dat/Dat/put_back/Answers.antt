@@ -1,5 +1,6 @@
 use Rattle.std.proofs.Common.{◌≡◌, ◌+◌, ◌/◌, ◌%◌, ◌<◌, ◌≤◌, length, ap, ◌∙◌, rules, arith}
 use Rattle.std.specs.Prelude.{slice_range}
+use Rattle.s370_store.specs.Memory.{Memory}
 use Rattle.cp_dat.specs.Lent.{lent_bytes, is_lent_page}
 use Rattle.cp_dat.proofs.Copying.{back_none, back_by, back_on, inside, put_all, length-chunk}
 use Rattle.cp_dat.proofs.dat.Dat.put_back.Goals.{then-wanted-start+in-Ok, else-wanted-start}
@@ -16,7 +17,7 @@ store-requires-clause-granted c =
     let low : c.loop-start.start < length (lent_bytes c.args.self.now) = search (rules, c.loop-start-test.true, c.loop-start.self.sized, size) in
     let within : c.loop-start.start + 256 ≤ length (lent_bytes c.args.self.now) = inside c.args.self.now c.args.from.now c.args.wanted.now c.loop-start.start c.loop-start.self whole low c.requires.long before in
     let aligned = before.aligned in
-    let same : length (lent_bytes c.fetch.new.self) ≡ length (lent_bytes c.args.self.now) = ap length c.fetch.ensures.bytes ∙ size in
+    let same : length (lent_bytes c.fetch.new.self) ≡ length (lent_bytes c.args.self.now) = ap (λ (m : Memory). length m.bytes) c.fetch.ensures.memory ∙ size in
     let long = c.requires.long in
     let count : length (slice_range c.args.from.now c.loop-start.start (c.loop-start.start + 256)) ≡ 256 = length-chunk c.args.from.now c.loop-start.start (omega (arith, long, within)) in
     record {
@@ -32,7 +33,7 @@ loop-start-preserved c =
     let size : length (lent_bytes c.loop-start.self) ≡ length (lent_bytes c.args.self.now) = before.put.size in
     let low : c.loop-start.start < length (lent_bytes c.args.self.now) = search (rules, c.loop-start-test.true, c.loop-start.self.sized, size) in
     elim c.if-wanted-start.branch [
-      | then-wanted-start+in-Ok w ↦ rw w.self-is (back_on c.args.self.now c.args.from.now c.args.wanted.now c.loop-start.start c.loop-start.self whole low c.requires.long before w.fetch.new.self w.store.new.self w.if-wanted-start.true w.fetch.ensures.came w.fetch.ensures.between w.fetch.ensures.bytes w.fetch.ensures.keys w.store.ensures.rest w.store.ensures.bytes w.store.ensures.keys)
+      | then-wanted-start+in-Ok w ↦ rw w.self-is (back_on c.args.self.now c.args.from.now c.args.wanted.now c.loop-start.start c.loop-start.self whole low c.requires.long before w.fetch.new.self w.store.new.self w.if-wanted-start.true w.fetch.ensures.came w.fetch.ensures.between w.fetch.ensures.memory w.store.ensures.rest w.store.ensures.stored)
       | else-wanted-start w ↦ rw w.self-is (back_by c.args.self.now c.args.from.now c.args.wanted.now c.loop-start.start c.loop-start.self whole low c.requires.long before c.requires.beside w.if-wanted-start.false)
     ]
 

@@ -3,8 +3,7 @@ use Rattle.std.specs.Prelude.{IfErr, IfOk, OnOk}
 use Rattle.s370_channel.specs.declared.running.ChannelError.{ChannelError}
 use Rattle.s370_walk.specs.declared.parts.Ending.{Ending}
 use Rattle.machine_channels.specs.Channels.{WalksLoading, WhereOut}
-use Rattle.cp_dat.specs.Lent.{is_lent_page, lent_bytes}
-use Rattle.cp_hold.specs.Holding.{guest_memory}
+use Rattle.cp_dat.specs.Lent.{is_lent_page, lent_bytes, lent_memory}
 use Rattle.cp_trial.specs.Tried.{LoadTouches}
 use Rattle.cp_resident.proofs.Ran.{tried_came, tried_there, tried_walk, tried_whole}
 use Rattle.cp_resident.proofs.Refused.{no_room}
@@ -12,7 +11,7 @@ use Rattle.cp_resident.proofs.resident.ResidentChannelsDat.load.Goals as goal
 
 pub returns-clause-walk : goal.returns-clause-walk
 returns-clause-walk g c =
-    let W : Ending → Type 0 = λ ending. WalksLoading g.D.Device.machine (guest_memory c.args.storage.now) c.args.device.now ending (guest_memory c.load_open.new.storage) c.load_open.new.device in
+    let W : Ending → Type 0 = λ ending. WalksLoading g.D.Device.machine (lent_memory c.args.storage.now) c.args.device.now ending (lent_memory c.load_open.new.storage) c.load_open.new.device in
     subst (λ (r : Result Ending ChannelError). IfOk r W) (sym c.told.ensures) (tried_walk c.load_open.result W c.load_open.ensures.walk)
 
 pub returns-clause-whole : goal.returns-clause-whole
@@ -20,10 +19,10 @@ returns-clause-whole g c = λ is.
     (
     let old = c.args.storage.now in
     let new = c.load_open.new.storage in
-    let Needs : ℕ → Type 0 = LoadTouches g.D.Device.machine (guest_memory old) c.args.device.now in
-    let P : Type 0 = (lent_bytes new ≡ lent_bytes old) × (c.load_open.new.device ≡ c.args.device.now) in
+    let Needs : ℕ → Type 0 = LoadTouches g.D.Device.machine (lent_memory old) c.args.device.now in
+    let P : Type 0 = (lent_memory new ≡ lent_memory old) × (c.load_open.new.device ≡ c.args.device.now) in
     subst (λ (r : Result Ending ChannelError). IfErr r (WhereOut (length (lent_bytes old)) Needs (no_room new Needs) P)) (sym c.told.ensures)
-    (tried_whole c.load_open.result old new Needs Needs P (λ page it. it) c.load_open.ensures.size c.load_open.ensures.lacking c.load_open.ensures.same))
+    (tried_whole c.load_open.result old new Needs Needs P (λ page it. it) c.load_open.ensures.came.came.kept.same_size c.load_open.ensures.lacking c.load_open.ensures.same))
 
 pub returns-clause-there : goal.returns-clause-there
 returns-clause-there g c = λ is.
@@ -34,5 +33,5 @@ pub returns-clause-came : goal.returns-clause-came
 returns-clause-came g c =
     let old = c.args.storage.now in
     let new = c.load_open.new.storage in
-    let Needs : ℕ → Type 0 = LoadTouches g.D.Device.machine (guest_memory old) c.args.device.now in
-    tried_came old new Needs Needs (λ page it. it) c.load_open.ensures.came c.load_open.ensures.size
+    let Needs : ℕ → Type 0 = LoadTouches g.D.Device.machine (lent_memory old) c.args.device.now in
+    tried_came old new Needs Needs (λ page it. it) c.load_open.ensures.came

@@ -1,25 +1,17 @@
-use Rattle.std.proofs.Common.{◌≡◌, ◌∙◌, ℕ, ◌<◌, None, Option, ap, refl, subst, sym, inl, inr, length, List, Result, Ok, Err}
+use Rattle.std.proofs.Common.{◌≡◌, ◌∙◌, ℕ, ◌<◌, None, ap, refl, subst, sym, inl, length, Result, Err}
 use Rattle.std.proofs.lemmas.List.{length-map}
-use Rattle.std.specs.Prelude.{IfErr, IfOk, OnErr, map, slice_get}
+use Rattle.std.specs.Prelude.{OnErr, map, slice_get}
 use Rattle.s370_channel.specs.declared.running.ChannelError.{ChannelError}
-use Rattle.s370_channel.specs.Reading.{as_reached}
 use Rattle.s370_walk.specs.declared.parts.Ending.{Ending}
-use Rattle.s370_walk.specs.Hardware.{Memory}
-use Rattle.machine_channels.specs.Channels.{DiskLoads, DiskNeeds, LoadsDisk, WalksDisk, WhereOut}
-use Rattle.machine_channels.specs.Disks.{DiskAt, reset_disk}
-use Rattle.cp_dat.specs.declared.dat.Dat.{Dat}
-use Rattle.cp_dat.specs.Copies.{CameOnly}
-use Rattle.cp_dat.specs.Lent.{is_lent_page, keeps_rest_same, lent_bytes, lent_keys, lent_pool}
-use Rattle.cp_dat.specs.Letting.{between_kept}
-use Rattle.cp_dat.specs.Supplied.{IsBetweenUnits}
+use Rattle.s370_store.specs.Memory.{Memory}
+use Rattle.machine_channels.specs.Channels.{DiskLoads, WhereOut}
+use Rattle.machine_channels.specs.Disks.{reset_disk}
+use Rattle.cp_dat.specs.Lent.{keeps_stored_same, lent_bytes, lent_memory}
 use Rattle.cp_dat.proofs.Copying.{came_more, came_nothing, stands_on}
-use Rattle.cp_hold.specs.declared.held.Program.{Program}
-use Rattle.cp_hold.specs.Holding.{HoldNeeds, IfFixed, IfOpen, IsFixedProgram, guest_memory}
 use Rattle.cp_trial.specs.declared.TriedError.{TriedError}
 use Rattle.cp_trial.specs.declared.TriedError.TheVariants as tries
-use Rattle.cp_trial.specs.Tried.{LacksSuch}
-use Rattle.cp_volumes.specs.Running.{DiskLoadTouches, DiskTouches}
-use Rattle.cp_resident.specs.Resident.{disks_on, hung_on, told_by}
+use Rattle.cp_volumes.specs.Running.{DiskLoadTouches}
+use Rattle.cp_resident.specs.Resident.{disks_on, hung_on}
 use Rattle.cp_volumes.specs.Shared.{seen}
 use Rattle.cp_resident.proofs.Ran
 use Rattle.cp_resident.proofs.Refused.{no_room}
@@ -30,97 +22,91 @@ returns-in-Err-clause-whole c = λ is.
     (
     let old = c.args.storage.now in
     let fetched = c.fetch_first.new.storage in
-    let m = guest_memory old in
+    let m = lent_memory old in
     let disks = disks_on c.args.self.now in
     let o = slice_get (map reset_disk disks) c.args.index in
     let Needs : ℕ → Type 0 = DiskLoads m o in
     let there : o ≡ None → ⊥ = Ran.disk_there (map reset_disk disks) c.args.index (subst (λ (n : ℕ). c.args.index < n) (sym (length-map disks reset_disk)) c.requires.inside) in
     let at_first : (page : ℕ) → page ≡ 0 → Needs page = λ page it. Ran.disk_first o m page there it in
-    let size : length (lent_bytes fetched) ≡ length (lent_bytes old) = ap (λ (xs : List ℕ). length xs) c.fetch_first.ensures.bytes in
-    let P : Type 0 = (lent_bytes fetched ≡ lent_bytes old) × (disks ≡ disks) in
+    let size : length (lent_bytes fetched) ≡ length (lent_bytes old) = c.fetch_first.ensures.came.came.kept.same_size in
+    let P : Type 0 = (lent_memory fetched ≡ lent_memory old) × (disks ≡ disks) in
     subst (λ (e : ChannelError). WhereOut (length (lent_bytes old)) Needs (no_room fetched Needs) P e) (sym c.told_of.ensures)
-    (Ran.stopped_whole c.in-Err.error old fetched (λ page. page ≡ 0) Needs P at_first size (λ e. c.fetch_first.ensures.lacking (c.in-Err.is ∙ ap Err e)) (λ e. (c.fetch_first.ensures.bytes, refl))))
+    (Ran.stopped_whole c.in-Err.error old fetched (λ page. page ≡ 0) Needs P at_first size (λ e. c.fetch_first.ensures.lacking (c.in-Err.is ∙ ap Err e)) (λ e. (c.fetch_first.ensures.memory, refl))))
 
 pub returns-in-Err-clause-came : goal.returns-in-Err-clause-came
 returns-in-Err-clause-came c =
     let old = c.args.storage.now in
     let fetched = c.fetch_first.new.storage in
-    let m = guest_memory old in
+    let m = lent_memory old in
     let disks = disks_on c.args.self.now in
     let o = slice_get (map reset_disk disks) c.args.index in
     let Needs : ℕ → Type 0 = DiskLoads m o in
     let there : o ≡ None → ⊥ = Ran.disk_there (map reset_disk disks) c.args.index (subst (λ (n : ℕ). c.args.index < n) (sym (length-map disks reset_disk)) c.requires.inside) in
     let at_first : (page : ℕ) → page ≡ 0 → Needs page = λ page it. Ran.disk_first o m page there it in
-    let size : length (lent_bytes fetched) ≡ length (lent_bytes old) = ap (λ (xs : List ℕ). length xs) c.fetch_first.ensures.bytes in
-    Ran.tried_came old fetched (λ page. page ≡ 0) Needs at_first c.fetch_first.ensures.came size
+    Ran.tried_came old fetched (λ page. page ≡ 0) Needs at_first c.fetch_first.ensures.came
 
 pub fetch_again-requires-clause-stands : goal.fetch_again-requires-clause-stands
 fetch_again-requires-clause-stands c =
-    stands_on c.fetch_first.new.storage c.load_disk.new.storage (DiskLoadTouches (guest_memory c.fetch_first.new.storage) (slice_get (map reset_disk (disks_on c.args.self.now)) c.args.index)) 0 c.load_disk.ensures.came (inl c.in-Ok.ensures.there)
+    stands_on c.fetch_first.new.storage c.load_disk.new.storage (DiskLoadTouches (lent_memory c.fetch_first.new.storage) (slice_get (map reset_disk (disks_on c.args.self.now)) c.args.index)) 0 c.load_disk.ensures.came (inl c.in-Ok.ensures.there)
 
 pub returns-in-Ok-load_disk-clause-came : goal.returns-in-Ok-load_disk-clause-came
 returns-in-Ok-load_disk-clause-came c =
     let old = c.args.storage.now in
     let fetched = c.fetch_first.new.storage in
-    let m = guest_memory old in
+    let m = lent_memory old in
     let disks = disks_on c.args.self.now in
     let o = slice_get (map reset_disk disks) c.args.index in
     let Needs : ℕ → Type 0 = DiskLoads m o in
     let there : o ≡ None → ⊥ = Ran.disk_there (map reset_disk disks) c.args.index (subst (λ (n : ℕ). c.args.index < n) (sym (length-map disks reset_disk)) c.requires.inside) in
     let at_first : (page : ℕ) → page ≡ 0 → Needs page = λ page it. Ran.disk_first o m page there it in
-    let size : length (lent_bytes fetched) ≡ length (lent_bytes old) = ap (λ (xs : List ℕ). length xs) c.fetch_first.ensures.bytes in
     let loaded = c.load_disk.new.storage in
-    let Touched : ℕ → Type 0 = DiskLoadTouches (guest_memory fetched) o in
-    let same : guest_memory fetched ≡ m = Ran.memory_of_same old fetched c.fetch_first.ensures.bytes c.fetch_first.ensures.keys in
+    let Touched : ℕ → Type 0 = DiskLoadTouches (lent_memory fetched) o in
+    let same : lent_memory fetched ≡ m = c.fetch_first.ensures.memory in
     let touches : (page : ℕ) → Touched page → Needs page = λ page it. Ran.disk_loads o m page (subst (λ (n : Memory). DiskLoadTouches n o page) same it) in
-    let first = came_more old old fetched (λ page. page ≡ 0) Needs at_first (came_nothing old old Needs c.requires.ready (keeps_rest_same old)) c.fetch_first.ensures.came in
+    let first = came_more old old fetched (λ page. page ≡ 0) Needs at_first (came_nothing old old Needs c.requires.ready (keeps_stored_same old)) c.fetch_first.ensures.came in
     let second = came_more old fetched loaded Touched Needs touches first c.load_disk.ensures.came in
-    let long : length (lent_bytes loaded) ≡ length (lent_bytes old) = c.load_disk.ensures.size ∙ size in
     let again = c.fetch_again.new.storage in
     let third = came_more old loaded again (λ page. page ≡ 0) Needs at_first second c.fetch_again.ensures.came in
-    Ran.tried_came old again Needs Needs (λ page it. it) third (ap (λ (xs : List ℕ). length xs) c.fetch_again.ensures.bytes ∙ long)
+    Ran.tried_came old again Needs Needs (λ page it. it) third
 
 pub returns-in-Err-load_disk-clause-whole : goal.returns-in-Err-load_disk-clause-whole
 returns-in-Err-load_disk-clause-whole c = λ is.
     (
     let old = c.args.storage.now in
     let fetched = c.fetch_first.new.storage in
-    let m = guest_memory old in
+    let m = lent_memory old in
     let disks = disks_on c.args.self.now in
     let o = slice_get (map reset_disk disks) c.args.index in
     let Needs : ℕ → Type 0 = DiskLoads m o in
     let there : o ≡ None → ⊥ = Ran.disk_there (map reset_disk disks) c.args.index (subst (λ (n : ℕ). c.args.index < n) (sym (length-map disks reset_disk)) c.requires.inside) in
     let at_first : (page : ℕ) → page ≡ 0 → Needs page = λ page it. Ran.disk_first o m page there it in
-    let size : length (lent_bytes fetched) ≡ length (lent_bytes old) = ap (λ (xs : List ℕ). length xs) c.fetch_first.ensures.bytes in
     let loaded = c.load_disk.new.storage in
-    let Touched : ℕ → Type 0 = DiskLoadTouches (guest_memory fetched) o in
-    let same : guest_memory fetched ≡ m = Ran.memory_of_same old fetched c.fetch_first.ensures.bytes c.fetch_first.ensures.keys in
+    let Touched : ℕ → Type 0 = DiskLoadTouches (lent_memory fetched) o in
+    let same : lent_memory fetched ≡ m = c.fetch_first.ensures.memory in
     let touches : (page : ℕ) → Touched page → Needs page = λ page it. Ran.disk_loads o m page (subst (λ (n : Memory). DiskLoadTouches n o page) same it) in
-    let first = came_more old old fetched (λ page. page ≡ 0) Needs at_first (came_nothing old old Needs c.requires.ready (keeps_rest_same old)) c.fetch_first.ensures.came in
+    let first = came_more old old fetched (λ page. page ≡ 0) Needs at_first (came_nothing old old Needs c.requires.ready (keeps_stored_same old)) c.fetch_first.ensures.came in
     let second = came_more old fetched loaded Touched Needs touches first c.load_disk.ensures.came in
-    let long : length (lent_bytes loaded) ≡ length (lent_bytes old) = c.load_disk.ensures.size ∙ size in
-    let P : Type 0 = (lent_bytes loaded ≡ lent_bytes old) × (seen c.load_disk.new.self ≡ disks) in
+    let long : length (lent_bytes loaded) ≡ length (lent_bytes old) = c.load_disk.ensures.came.came.kept.same_size ∙ c.fetch_first.ensures.came.came.kept.same_size in
+    let P : Type 0 = (lent_memory loaded ≡ lent_memory old) × (seen c.load_disk.new.self ≡ disks) in
     let out : c.in-Err-load_disk.error ≡ tries.FramesOut → c.load_disk.result ≡ Err tries.FramesOut = λ e. c.in-Err-load_disk.is ∙ ap Err e in
     subst (λ (e : ChannelError). WhereOut (length (lent_bytes old)) Needs (no_room loaded Needs) P e) (sym c.told_of-in-Err-load_disk.ensures)
     (Ran.stopped_whole c.in-Err-load_disk.error old loaded Touched Needs P touches long (λ e. c.load_disk.ensures.lacking (out e))
-    (λ e. (c.load_disk.ensures.bytes (out e) ∙ c.fetch_first.ensures.bytes, ap seen (subst (λ (r : Result Ending TriedError). OnErr r (c.load_disk.new.self ≡ hung_on c.args.self.now)) (out e) c.load_disk.ensures.same)))))
+    (λ e. (c.load_disk.ensures.memory (out e) ∙ same, ap seen (subst (λ (r : Result Ending TriedError). OnErr r (c.load_disk.new.self ≡ hung_on c.args.self.now)) (out e) c.load_disk.ensures.same)))))
 
 pub returns-in-Err-load_disk-clause-came : goal.returns-in-Err-load_disk-clause-came
 returns-in-Err-load_disk-clause-came c =
     let old = c.args.storage.now in
     let fetched = c.fetch_first.new.storage in
-    let m = guest_memory old in
+    let m = lent_memory old in
     let disks = disks_on c.args.self.now in
     let o = slice_get (map reset_disk disks) c.args.index in
     let Needs : ℕ → Type 0 = DiskLoads m o in
     let there : o ≡ None → ⊥ = Ran.disk_there (map reset_disk disks) c.args.index (subst (λ (n : ℕ). c.args.index < n) (sym (length-map disks reset_disk)) c.requires.inside) in
     let at_first : (page : ℕ) → page ≡ 0 → Needs page = λ page it. Ran.disk_first o m page there it in
-    let size : length (lent_bytes fetched) ≡ length (lent_bytes old) = ap (λ (xs : List ℕ). length xs) c.fetch_first.ensures.bytes in
     let loaded = c.load_disk.new.storage in
-    let Touched : ℕ → Type 0 = DiskLoadTouches (guest_memory fetched) o in
-    let same : guest_memory fetched ≡ m = Ran.memory_of_same old fetched c.fetch_first.ensures.bytes c.fetch_first.ensures.keys in
+    let Touched : ℕ → Type 0 = DiskLoadTouches (lent_memory fetched) o in
+    let same : lent_memory fetched ≡ m = c.fetch_first.ensures.memory in
     let touches : (page : ℕ) → Touched page → Needs page = λ page it. Ran.disk_loads o m page (subst (λ (n : Memory). DiskLoadTouches n o page) same it) in
-    let first = came_more old old fetched (λ page. page ≡ 0) Needs at_first (came_nothing old old Needs c.requires.ready (keeps_rest_same old)) c.fetch_first.ensures.came in
+    let first = came_more old old fetched (λ page. page ≡ 0) Needs at_first (came_nothing old old Needs c.requires.ready (keeps_stored_same old)) c.fetch_first.ensures.came in
     let second = came_more old fetched loaded Touched Needs touches first c.load_disk.ensures.came in
-    let long : length (lent_bytes loaded) ≡ length (lent_bytes old) = c.load_disk.ensures.size ∙ size in
-    Ran.tried_came old loaded Needs Needs (λ page it. it) second long
+    Ran.tried_came old loaded Needs Needs (λ page it. it) second

@@ -1,4 +1,4 @@
-use Rattle.std.proofs.Common.{◌≡◌, ◌∙◌, ℕ, ap, refl, subst, sym, inl, inr, length, Result, Ok, Err}
+use Rattle.std.proofs.Common.{◌≡◌, ◌∙◌, ℕ, ap, refl, subst, sym, inl, inr, length, Result, Err}
 use Rattle.std.specs.Prelude.{IfErr, IfOk}
 use Rattle.s370_channel.specs.declared.running.ChannelError.{ChannelError}
 use Rattle.s370_channel.specs.Guest.{guest_written}
@@ -6,20 +6,18 @@ use Rattle.s370_channel.specs.Reading.{as_reached}
 use Rattle.s370_channel.specs.Runs.{Walks, begun, limited}
 use Rattle.s370_channel.specs.Supplied.{IsTouched}
 use Rattle.s370_walk.specs.declared.parts.Ending.{Ending}
-use Rattle.s370_walk.specs.Hardware.{Memory}
+use Rattle.s370_store.specs.Memory.{Memory}
 use Rattle.machine_channels.specs.Channels.{ProgramNeeds, WhereOut}
 use Rattle.cp_dat.specs.declared.dat.Dat.{Dat}
 use Rattle.cp_dat.specs.Copies.{CameOnly}
-use Rattle.cp_dat.specs.Lent.{is_lent_page, lent_bytes, lent_keys, lent_pool}
+use Rattle.cp_dat.specs.Lent.{is_lent_page, lent_bytes, lent_pool, lent_memory}
 use Rattle.cp_dat.specs.Letting.{between_kept}
 use Rattle.cp_dat.specs.Supplied.{IsBetweenUnits}
 use Rattle.cp_hold.specs.declared.held.Program.{Program}
-use Rattle.cp_hold.specs.Holding.{HoldNeeds, IfFixed, IfOpen, IsFixedProgram, guest_memory}
-use Rattle.cp_trial.specs.declared.TriedError.{TriedError}
+use Rattle.cp_hold.specs.Holding.{HoldNeeds, IfFixed, IfOpen, IsFixedProgram}
 use Rattle.cp_trial.specs.declared.TriedError.TheVariants as tries
 use Rattle.cp_trial.specs.Tried.{LacksSuch}
-use Rattle.cp_resident.specs.Resident.{told_by}
-use Rattle.cp_resident.proofs.Ran.{fixed_there, held_between, held_came, memory_of_same, memory_whole, refused_between, refused_came, refused_whole, still_came, tried_came, tried_walk, tried_whole, walk_moved}
+use Rattle.cp_resident.proofs.Ran.{fixed_there, held_between, held_came, memory_whole, refused_between, refused_came, refused_whole, still_came, tried_came, tried_walk, tried_whole, walk_moved}
 use Rattle.cp_resident.proofs.Refused.{no_room}
 use Rattle.cp_resident.proofs.resident.ResidentChannelsDat.run.Goals as goal
 
@@ -27,25 +25,25 @@ pub returns-in-Some-clause-whole : goal.returns-in-Some-clause-whole
 returns-in-Some-clause-whole g c = λ is. memory_whole c.run_again-ended.result _ _ _ _ c.run_again-ended.ensures.memory
 
 pub returns-in-Some-clause-came : goal.returns-in-Some-clause-came
-returns-in-Some-clause-came g c = still_came c.args.storage.now c.run_again-ended.new.storage (ProgramNeeds HoldNeeds g.D.Device.machine c.args.start (guest_memory c.args.storage.now) c.args.device.now) c.requires c.run_again-ended.ensures.rest
+returns-in-Some-clause-came g c = still_came c.args.storage.now c.run_again-ended.new.storage (ProgramNeeds HoldNeeds g.D.Device.machine c.args.start (lent_memory c.args.storage.now) c.args.device.now) c.requires c.run_again-ended.ensures.rest
 
 pub returns-in-Some-clause-ready : goal.returns-in-Some-clause-ready
-returns-in-Some-clause-ready g c = between_kept c.args.storage.now c.run_again-ended.new.storage c.run_again-ended.ensures.rest c.requires
+returns-in-Some-clause-ready g c = between_kept c.args.storage.now c.run_again-ended.new.storage c.run_again-ended.ensures.rest.rest c.requires
 
 pub run_copied-ended-requires : goal.run_copied-ended-requires
 run_copied-ended-requires g c =
     let old = c.args.storage.now in
     let new = c.hold.new.storage in
-    let fixed = subst (λ (p : Program). IfFixed p (IsFixedProgram (guest_memory old) c.get.result (is_lent_page new))) c.in-Ok-Fixed.field-0-is c.in-Ok-Fixed.ensures.fixed in
-    record { fixed = (_, fixed_there old new c.get.result c.args.start.address _ _ c.hold.ensures.bytes c.hold.ensures.keys c.get.ensures.value fixed) }
+    let fixed = subst (λ (p : Program). IfFixed p (IsFixedProgram (lent_memory old) c.get.result (is_lent_page new))) c.in-Ok-Fixed.field-0-is c.in-Ok-Fixed.ensures.fixed in
+    record { fixed = (_, fixed_there old new c.get.result c.args.start.address _ _ c.hold.ensures.memory c.get.ensures.value fixed) }
 
 pub returns-in-Ok-Fixed-clause-walk : goal.returns-in-Ok-Fixed-clause-walk
 returns-in-Ok-Fixed-clause-walk g c =
     let old = c.args.storage.now in
     let middle = c.run_copied-ended.new.storage in
     walk_moved c.run_copied-ended.result (λ (m n : Memory) (ending : Ending). Walks as_reached g.D.Device.machine c.args.start m c.args.device.now ending n c.run_copied-ended.new.device)
-    (guest_memory old) (guest_memory c.hold.new.storage) (guest_memory middle) (guest_memory c.let_go.new.self)
-    (memory_of_same old c.hold.new.storage c.hold.ensures.bytes c.hold.ensures.keys) (memory_of_same middle c.let_go.new.self c.let_go.ensures.bytes c.let_go.ensures.keys) c.run_copied-ended.ensures.walk
+    (lent_memory old) (lent_memory c.hold.new.storage) (lent_memory middle) (lent_memory c.let_go.new.self)
+    c.hold.ensures.memory c.let_go.ensures.memory c.run_copied-ended.ensures.walk
 
 pub returns-in-Ok-Fixed-clause-whole : goal.returns-in-Ok-Fixed-clause-whole
 returns-in-Ok-Fixed-clause-whole g c = λ is. memory_whole c.run_copied-ended.result _ _ _ _ c.run_copied-ended.ensures.memory
@@ -54,15 +52,15 @@ pub returns-in-Ok-Fixed-clause-came : goal.returns-in-Ok-Fixed-clause-came
 returns-in-Ok-Fixed-clause-came g c =
     let old = c.args.storage.now in
     let start = c.args.start in
-    let m = guest_memory old in
+    let m = lent_memory old in
     let Holds : ℕ → Type 0 = HoldNeeds m c.get.result in
     let Needs : ℕ → Type 0 = ProgramNeeds HoldNeeds g.D.Device.machine start m c.args.device.now in
     let more : (page : ℕ) → Holds page → Needs page = λ page it. inl (subst (λ (a : ℕ). HoldNeeds m a page) c.get.ensures.value it) in
-    held_came old c.hold.new.storage c.run_copied-ended.new.storage c.let_go.new.self Holds Needs more c.hold.ensures.supply c.hold.ensures.bytes c.run_copied-ended.ensures.rest c.let_go.ensures.let_go c.let_go.ensures.bytes
+    held_came old c.hold.new.storage c.run_copied-ended.new.storage c.let_go.new.self Holds Needs more c.hold.ensures.supply c.hold.ensures.memory c.run_copied-ended.ensures.rest c.let_go.ensures.let_go c.let_go.ensures.memory
 
 pub returns-in-Ok-Fixed-clause-ready : goal.returns-in-Ok-Fixed-clause-ready
 returns-in-Ok-Fixed-clause-ready g c =
-    held_between c.args.storage.now c.hold.new.storage c.run_copied-ended.new.storage c.let_go.new.self (HoldNeeds (guest_memory c.args.storage.now) c.get.result) c.hold.ensures.supply c.requires c.run_copied-ended.ensures.rest c.let_go.ensures.let_go
+    held_between c.args.storage.now c.hold.new.storage c.run_copied-ended.new.storage c.let_go.new.self (HoldNeeds (lent_memory c.args.storage.now) c.get.result) c.hold.ensures.supply c.requires c.run_copied-ended.ensures.rest c.let_go.ensures.let_go
 
 pub run_open-requires : goal.run_open-requires
 run_open-requires g c =
@@ -74,12 +72,12 @@ pub returns-in-Ok-Open-clause-walk : goal.returns-in-Ok-Open-clause-walk
 returns-in-Ok-Open-clause-walk g c =
     let old = c.args.storage.now in
     let start = c.args.start in
-    let m = guest_memory old in
+    let m = lent_memory old in
     let Touched : ℕ → Type 0 = IsTouched guest_written (limited g.D.Device.machine start) (begun start m c.args.device.now) in
     let Needs : ℕ → Type 0 = ProgramNeeds HoldNeeds g.D.Device.machine start m c.args.device.now in
     let same : c.hold.new.storage ≡ old = subst (λ (p : Program). IfOpen p (c.hold.new.storage ≡ old)) c.in-Ok-Open.field-0-is c.in-Ok-Open.ensures.untouched in
     let new = c.run_open.new.storage in
-    let W : Dat → Ending → Type 0 = λ d ending. Walks as_reached g.D.Device.machine start (guest_memory d) c.args.device.now ending (guest_memory new) c.run_open.new.device in
+    let W : Dat → Ending → Type 0 = λ d ending. Walks as_reached g.D.Device.machine start (lent_memory d) c.args.device.now ending (lent_memory new) c.run_open.new.device in
     subst (λ (r : Result Ending ChannelError). IfOk r (W old)) (sym c.told.ensures)
     (tried_walk c.run_open.result (W old) (subst (λ (d : Dat). IfOk c.run_open.result (W d)) same c.run_open.ensures.walk))
 
@@ -88,55 +86,54 @@ returns-in-Ok-Open-clause-whole g c = λ is.
     (
     let old = c.args.storage.now in
     let start = c.args.start in
-    let m = guest_memory old in
+    let m = lent_memory old in
     let Touched : ℕ → Type 0 = IsTouched guest_written (limited g.D.Device.machine start) (begun start m c.args.device.now) in
     let Needs : ℕ → Type 0 = ProgramNeeds HoldNeeds g.D.Device.machine start m c.args.device.now in
     let same : c.hold.new.storage ≡ old = subst (λ (p : Program). IfOpen p (c.hold.new.storage ≡ old)) c.in-Ok-Open.field-0-is c.in-Ok-Open.ensures.untouched in
     let new = c.run_open.new.storage in
-    let size = subst (λ (d : Dat). length (lent_bytes new) ≡ length (lent_bytes d)) same c.run_open.ensures.size in
-    let lacking = subst (λ (d : Dat). c.run_open.result ≡ Err tries.FramesOut → LacksSuch (IsTouched guest_written (limited g.D.Device.machine start) (begun start (guest_memory d) c.args.device.now)) new) same c.run_open.ensures.lacking in
-    let kept = subst (λ (d : Dat). c.run_open.result ≡ Err tries.FramesOut → (lent_bytes new ≡ lent_bytes d) × (c.run_open.new.device ≡ c.args.device.now)) same c.run_open.ensures.same in
-    subst (λ (r : Result Ending ChannelError). IfErr r (WhereOut (length (lent_bytes old)) Needs (no_room new Needs) ((lent_bytes new ≡ lent_bytes old) × (c.run_open.new.device ≡ c.args.device.now)))) (sym c.told.ensures)
-    (tried_whole c.run_open.result old new Touched Needs ((lent_bytes new ≡ lent_bytes old) × (c.run_open.new.device ≡ c.args.device.now)) (λ page it. inr it) size lacking kept))
+    let size = subst (λ (d : Dat). length (lent_bytes new) ≡ length (lent_bytes d)) same c.run_open.ensures.came.came.kept.same_size in
+    let lacking = subst (λ (d : Dat). c.run_open.result ≡ Err tries.FramesOut → LacksSuch (IsTouched guest_written (limited g.D.Device.machine start) (begun start (lent_memory d) c.args.device.now)) new) same c.run_open.ensures.lacking in
+    let kept = subst (λ (d : Dat). c.run_open.result ≡ Err tries.FramesOut → (lent_memory new ≡ lent_memory d) × (c.run_open.new.device ≡ c.args.device.now)) same c.run_open.ensures.same in
+    subst (λ (r : Result Ending ChannelError). IfErr r (WhereOut (length (lent_bytes old)) Needs (no_room new Needs) ((lent_memory new ≡ lent_memory old) × (c.run_open.new.device ≡ c.args.device.now)))) (sym c.told.ensures)
+    (tried_whole c.run_open.result old new Touched Needs ((lent_memory new ≡ lent_memory old) × (c.run_open.new.device ≡ c.args.device.now)) (λ page it. inr it) size lacking kept))
 
 pub returns-in-Ok-Open-clause-came : goal.returns-in-Ok-Open-clause-came
 returns-in-Ok-Open-clause-came g c =
     let old = c.args.storage.now in
     let start = c.args.start in
-    let m = guest_memory old in
+    let m = lent_memory old in
     let Touched : ℕ → Type 0 = IsTouched guest_written (limited g.D.Device.machine start) (begun start m c.args.device.now) in
     let Needs : ℕ → Type 0 = ProgramNeeds HoldNeeds g.D.Device.machine start m c.args.device.now in
     let same : c.hold.new.storage ≡ old = subst (λ (p : Program). IfOpen p (c.hold.new.storage ≡ old)) c.in-Ok-Open.field-0-is c.in-Ok-Open.ensures.untouched in
     let new = c.run_open.new.storage in
-    let size = subst (λ (d : Dat). length (lent_bytes new) ≡ length (lent_bytes d)) same c.run_open.ensures.size in
-    let came = subst (λ (d : Dat). CameOnly d (IsTouched guest_written (limited g.D.Device.machine start) (begun start (guest_memory d) c.args.device.now)) new) same c.run_open.ensures.came in
-    tried_came old new Touched Needs (λ page it. inr it) came size
+    let came = subst (λ (d : Dat). CameOnly d (IsTouched guest_written (limited g.D.Device.machine start) (begun start (lent_memory d) c.args.device.now)) new) same c.run_open.ensures.came in
+    tried_came old new Touched Needs (λ page it. inr it) came
 
 pub returns-clause-whole : goal.returns-clause-whole
 returns-clause-whole g c = λ is.
     (
     let old = c.args.storage.now in
     let start = c.args.start in
-    let m = guest_memory old in
+    let m = lent_memory old in
     let Holds : ℕ → Type 0 = HoldNeeds m c.get.result in
     let Needs : ℕ → Type 0 = ProgramNeeds HoldNeeds g.D.Device.machine start m c.args.device.now in
     let more : (page : ℕ) → Holds page → Needs page = λ page it. inl (subst (λ (a : ℕ). HoldNeeds m a page) c.get.ensures.value it) in
     let new = c.let_go-in-Err.new.self in
-    let P : Type 0 = (lent_bytes new ≡ lent_bytes old) × (c.args.device.now ≡ c.args.device.now) in
+    let P : Type 0 = (lent_memory new ≡ lent_memory old) × (c.args.device.now ≡ c.args.device.now) in
     subst (λ (e : ChannelError). WhereOut (length (lent_bytes old)) Needs (no_room new Needs) P e) (sym c.told_of.ensures)
     (refused_whole c.in-Err.error old c.hold.new.storage new Holds Needs P more (λ page it. it.needed.inside) c.requires c.hold.ensures.supply c.let_go-in-Err.ensures.let_go
-    (λ e. c.hold.ensures.out (c.in-Err.is ∙ ap Err e)) (c.let_go-in-Err.ensures.bytes ∙ c.hold.ensures.bytes, refl)))
+    (λ e. c.hold.ensures.out (c.in-Err.is ∙ ap Err e)) (c.let_go-in-Err.ensures.memory ∙ c.hold.ensures.memory, refl)))
 
 pub returns-clause-came : goal.returns-clause-came
 returns-clause-came g c =
     let old = c.args.storage.now in
     let start = c.args.start in
-    let m = guest_memory old in
+    let m = lent_memory old in
     let Holds : ℕ → Type 0 = HoldNeeds m c.get.result in
     let Needs : ℕ → Type 0 = ProgramNeeds HoldNeeds g.D.Device.machine start m c.args.device.now in
     let more : (page : ℕ) → Holds page → Needs page = λ page it. inl (subst (λ (a : ℕ). HoldNeeds m a page) c.get.ensures.value it) in
-    refused_came old c.hold.new.storage c.let_go-in-Err.new.self Holds Needs more c.hold.ensures.supply c.hold.ensures.bytes c.let_go-in-Err.ensures.let_go c.let_go-in-Err.ensures.bytes
+    refused_came old c.hold.new.storage c.let_go-in-Err.new.self Holds Needs more c.hold.ensures.supply c.hold.ensures.memory c.let_go-in-Err.ensures.let_go c.let_go-in-Err.ensures.memory
 
 pub returns-clause-ready : goal.returns-clause-ready
 returns-clause-ready g c =
-    refused_between c.args.storage.now c.hold.new.storage c.let_go-in-Err.new.self (HoldNeeds (guest_memory c.args.storage.now) c.get.result) c.hold.ensures.supply c.requires c.let_go-in-Err.ensures.let_go
+    refused_between c.args.storage.now c.hold.new.storage c.let_go-in-Err.new.self (HoldNeeds (lent_memory c.args.storage.now) c.get.result) c.hold.ensures.supply c.requires c.let_go-in-Err.ensures.let_go

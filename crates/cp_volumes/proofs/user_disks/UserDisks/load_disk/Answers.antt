@@ -1,10 +1,9 @@
 use Rattle.std.proofs.Common.{◌≡◌, ◌∙◌, ◌<◌, ap, arith, length, List, map, set, subst, sym, refl, Option, Some}
 use Rattle.std.specs.Prelude.{[], ◌∷◌, slice_get}
 use Rattle.std.proofs.lemmas.Option.{slice_get_read}
-use Rattle.s370_walk.specs.Hardware.{memory_of}
 use Rattle.machine_channels.specs.Disks.{DiskAt, reset_disk}
 use Rattle.cp_dat.specs.Copies.{CameOnly}
-use Rattle.cp_dat.specs.Lent.{lent_bytes, lent_keys}
+use Rattle.cp_dat.specs.Lent.{lent_memory}
 use Rattle.cp_trial.specs.Tried.{LacksSuch}
 use Rattle.cp_volumes.specs.Shared.{DisksValue, IsConfined, IsSeated, IsUsers, KeepsNeighbours, SharedMinidisk, disk_on, disks_on, reset_minidisk, seen, stand_of, stands_of}
 use Rattle.std.specs.Vec.{with_items}
@@ -49,7 +48,7 @@ returns-in-Ok-clause-walk c =
     let volumes = c.self.inside.volumes in
     let inside : c.args.index < length ds = omega (arith, c.requires.inside, as_many c.args.self.now, ap (λ (v : DisksValue). length v.minidisks) c.self.view_is) in
     let is : slice_get ds c.args.index ≡ Some d = slice_get_read ds (length ds) c.args.index d refl inside c.index.ensures in
-    let m = memory_of (lent_bytes c.args.storage.now) (lent_keys c.args.storage.now) in
+    let m = lent_memory c.args.storage.now in
     let seat : c.reset.new.self ≡ reset_minidisk d = c.reset.ensures in
     let new = c.reset_each.new.minidisks in
     let same : (with_items c.self.inside.minidisks new).items ≡ new = with_items_is c.self.inside.minidisks new (omega (arith, c.reset_each.auto.minidisks, c.deref_mut.ensures.len)) in
@@ -58,7 +57,7 @@ returns-in-Ok-clause-walk c =
     let is' = reset_at ds c.args.index d is in
     let stands : stand_of c.load.new.disk ≡ stand_of (reset_minidisk d) = c.load.ensures.stands ∙ ap stand_of seat in
     let confined : IsConfined (stand_of (reset_minidisk d) ∷ []) volumes c.load.new.self = subst (λ (s : SharedMinidisk). IsConfined (stand_of s ∷ []) volumes c.load.new.self) seat c.load.ensures.confined in
-    let n = memory_of (lent_bytes c.load.new.storage) (lent_keys c.load.new.storage) in
+    let n = lent_memory c.load.new.storage in
     let ran : RestsLoaded m (disk_on volumes (reset_minidisk d)) c.in-Ok.ending n (disk_on c.load.new.self c.load.new.disk) = subst (λ (s : SharedMinidisk). RestsLoaded m (disk_on volumes s) c.in-Ok.ending n (disk_on c.load.new.self c.load.new.disk)) seat c.in-Ok.ensures.walk in
     let End : List SharedMinidisk → List DiskAt = λ xs. disks_on c.load.new.self (set xs c.args.index c.load.new.disk) in
     subst (λ (v : DisksValue). LoadsDisk m (map reset_disk (seen v)) c.args.index c.in-Ok.ending n (End (with_items c.self.inside.minidisks new).items)) c.self.view_is
@@ -94,7 +93,7 @@ returns-in-Err-clause-lacking c = λ out.
     let volumes = c.self.inside.volumes in
     let inside : c.args.index < length ds = omega (arith, c.requires.inside, as_many c.args.self.now, ap (λ (v : DisksValue). length v.minidisks) c.self.view_is) in
     let is : slice_get ds c.args.index ≡ Some d = slice_get_read ds (length ds) c.args.index d refl inside c.index.ensures in
-    let m = memory_of (lent_bytes c.args.storage.now) (lent_keys c.args.storage.now) in
+    let m = lent_memory c.args.storage.now in
     let seat : c.reset.new.self ≡ reset_minidisk d = c.reset.ensures in
     let at : slice_get (map reset_disk (seen c.args.self.now)) c.args.index ≡ Some (disk_on volumes c.reset.new.self) =
     subst (λ (v : DisksValue). slice_get (map reset_disk (seen v)) c.args.index ≡ Some (disk_on volumes c.reset.new.self)) c.self.view_is (reset_seen_at volumes ds c.args.index d is ∙ ap (λ (s : SharedMinidisk). Some (disk_on volumes s)) (sym seat)) in
@@ -107,7 +106,7 @@ returns-in-Ok-clause-came c =
     let volumes = c.self.inside.volumes in
     let inside : c.args.index < length ds = omega (arith, c.requires.inside, as_many c.args.self.now, ap (λ (v : DisksValue). length v.minidisks) c.self.view_is) in
     let is : slice_get ds c.args.index ≡ Some d = slice_get_read ds (length ds) c.args.index d refl inside c.index.ensures in
-    let m = memory_of (lent_bytes c.args.storage.now) (lent_keys c.args.storage.now) in
+    let m = lent_memory c.args.storage.now in
     let seat : c.reset.new.self ≡ reset_minidisk d = c.reset.ensures in
     let at : slice_get (map reset_disk (seen c.args.self.now)) c.args.index ≡ Some (disk_on volumes c.reset.new.self) =
     subst (λ (v : DisksValue). slice_get (map reset_disk (seen v)) c.args.index ≡ Some (disk_on volumes c.reset.new.self)) c.self.view_is (reset_seen_at volumes ds c.args.index d is ∙ ap (λ (s : SharedMinidisk). Some (disk_on volumes s)) (sym seat)) in
@@ -120,7 +119,7 @@ returns-in-Err-clause-came c =
     let volumes = c.self.inside.volumes in
     let inside : c.args.index < length ds = omega (arith, c.requires.inside, as_many c.args.self.now, ap (λ (v : DisksValue). length v.minidisks) c.self.view_is) in
     let is : slice_get ds c.args.index ≡ Some d = slice_get_read ds (length ds) c.args.index d refl inside c.index.ensures in
-    let m = memory_of (lent_bytes c.args.storage.now) (lent_keys c.args.storage.now) in
+    let m = lent_memory c.args.storage.now in
     let seat : c.reset.new.self ≡ reset_minidisk d = c.reset.ensures in
     let at : slice_get (map reset_disk (seen c.args.self.now)) c.args.index ≡ Some (disk_on volumes c.reset.new.self) =
     subst (λ (v : DisksValue). slice_get (map reset_disk (seen v)) c.args.index ≡ Some (disk_on volumes c.reset.new.self)) c.self.view_is (reset_seen_at volumes ds c.args.index d is ∙ ap (λ (s : SharedMinidisk). Some (disk_on volumes s)) (sym seat)) in

@@ -1,10 +1,9 @@
 use Rattle.std.proofs.Common.{◌≡◌, ◌<◌, ap, arith, length, set, subst, sym, refl, Option, Some}
 use Rattle.std.specs.Prelude.{slice_get}
 use Rattle.std.proofs.lemmas.Option.{slice_get_read}
-use Rattle.s370_walk.specs.Hardware.{memory_of}
 use Rattle.machine_channels.specs.Disks.{DiskAt}
 use Rattle.cp_dat.specs.Copies.{CameOnly}
-use Rattle.cp_dat.specs.Lent.{lent_bytes, lent_keys}
+use Rattle.cp_dat.specs.Lent.{lent_memory}
 use Rattle.cp_trial.specs.Tried.{LacksSuch}
 use Rattle.cp_volumes.specs.Shared.{DisksValue, KeepsNeighbours, disk_on, seen}
 use Rattle.s370_channel.specs.Reading.{as_reached}
@@ -38,8 +37,8 @@ returns-in-Ok-clause-walk c =
     let volumes = c.self.inside.volumes in
     let inside : c.args.index < length ds = omega (arith, c.requires.inside, as_many c.args.self.now, ap (λ (v : DisksValue). length v.minidisks) c.self.view_is) in
     let is : slice_get ds c.args.index ≡ Some d = slice_get_read ds (length ds) c.args.index d refl inside c.index.ensures in
-    let m = memory_of (lent_bytes c.args.storage.now) (lent_keys c.args.storage.now) in
-    let n = memory_of (lent_bytes c.run.new.storage) (lent_keys c.run.new.storage) in
+    let m = lent_memory c.args.storage.now in
+    let n = lent_memory c.run.new.storage in
     let left : DisksValue = record { volumes = c.run.new.self; minidisks = set ds c.args.index c.run.new.disk } in
     subst (λ (v : DisksValue). WalksDisk as_reached c.args.start m (seen v) c.args.index c.in-Ok.ending n (seen left)) c.self.view_is
     (walks volumes c.run.new.self ds c.args.index d c.run.new.disk c.self.invariant is c.run.ensures.stands c.run.ensures.confined as_reached c.args.start m n c.in-Ok.ending c.in-Ok.ensures.walk)
@@ -62,7 +61,7 @@ returns-in-Err-clause-lacking c = λ out.
     let volumes = c.self.inside.volumes in
     let inside : c.args.index < length ds = omega (arith, c.requires.inside, as_many c.args.self.now, ap (λ (v : DisksValue). length v.minidisks) c.self.view_is) in
     let is : slice_get ds c.args.index ≡ Some d = slice_get_read ds (length ds) c.args.index d refl inside c.index.ensures in
-    let m = memory_of (lent_bytes c.args.storage.now) (lent_keys c.args.storage.now) in
+    let m = lent_memory c.args.storage.now in
     let at : slice_get (seen c.args.self.now) c.args.index ≡ Some (disk_on volumes d) = subst (λ (v : DisksValue). slice_get (seen v) c.args.index ≡ Some (disk_on volumes d)) c.self.view_is (seen_at volumes ds c.args.index d is) in
     subst (λ (o : Option DiskAt). LacksSuch (DiskTouches c.args.start m o) c.run.new.storage) (sym at) (c.in-Err.ensures.lacking out)
 
@@ -73,7 +72,7 @@ returns-in-Ok-clause-came c =
     let volumes = c.self.inside.volumes in
     let inside : c.args.index < length ds = omega (arith, c.requires.inside, as_many c.args.self.now, ap (λ (v : DisksValue). length v.minidisks) c.self.view_is) in
     let is : slice_get ds c.args.index ≡ Some d = slice_get_read ds (length ds) c.args.index d refl inside c.index.ensures in
-    let m = memory_of (lent_bytes c.args.storage.now) (lent_keys c.args.storage.now) in
+    let m = lent_memory c.args.storage.now in
     let at : slice_get (seen c.args.self.now) c.args.index ≡ Some (disk_on volumes d) = subst (λ (v : DisksValue). slice_get (seen v) c.args.index ≡ Some (disk_on volumes d)) c.self.view_is (seen_at volumes ds c.args.index d is) in
     subst (λ (o : Option DiskAt). CameOnly c.args.storage.now (DiskTouches c.args.start m o) c.run.new.storage) (sym at) c.run.ensures.came
 
@@ -84,6 +83,6 @@ returns-in-Err-clause-came c =
     let volumes = c.self.inside.volumes in
     let inside : c.args.index < length ds = omega (arith, c.requires.inside, as_many c.args.self.now, ap (λ (v : DisksValue). length v.minidisks) c.self.view_is) in
     let is : slice_get ds c.args.index ≡ Some d = slice_get_read ds (length ds) c.args.index d refl inside c.index.ensures in
-    let m = memory_of (lent_bytes c.args.storage.now) (lent_keys c.args.storage.now) in
+    let m = lent_memory c.args.storage.now in
     let at : slice_get (seen c.args.self.now) c.args.index ≡ Some (disk_on volumes d) = subst (λ (v : DisksValue). slice_get (seen v) c.args.index ≡ Some (disk_on volumes d)) c.self.view_is (seen_at volumes ds c.args.index d is) in
     subst (λ (o : Option DiskAt). CameOnly c.args.storage.now (DiskTouches c.args.start m o) c.run.new.storage) (sym at) c.run.ensures.came

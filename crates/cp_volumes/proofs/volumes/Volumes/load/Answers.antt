@@ -3,11 +3,10 @@ use Rattle.s370_channel.specs.Guest.{guest_written}
 use Rattle.s370_channel.specs.Loading.{loading, loading_limits}
 use Rattle.s370_channel.specs.Progress.{setting}
 use Rattle.s370_channel.specs.Supplied.{IsTouched}
-use Rattle.s370_walk.specs.Hardware.{memory_of}
 use Rattle.channel_trial.specs.Trial.{trial_flags}
 use Rattle.ckd_volume.specs.Unit.{disk_machine}
 use Rattle.cp_dat.specs.Copies.{is_wanted}
-use Rattle.cp_dat.specs.Lent.{keeps_rest_same, lent_bytes, lent_keys}
+use Rattle.cp_dat.specs.Lent.{keeps_stored_same, lent_memory}
 use Rattle.cp_dat.proofs.Copying.{came_more, came_nothing}
 use Rattle.cp_minidisk.specs.Minidisk.{users_disk}
 use Rattle.cp_volumes.specs.Shared.{volume_at}
@@ -17,22 +16,22 @@ use Rattle.cp_volumes.proofs.volumes.Volumes.load.Goals as goal
 pub returns-in-Err-clause-came : goal.returns-in-Err-clause-came
 returns-in-Err-clause-came c =
     let old = c.args.storage.now in
-    let Touched : ℕ → Type 0 = IsTouched guest_written (setting disk_machine loading_limits) (loading disk_machine (memory_of (lent_bytes old) (lent_keys old)) (users_disk (volume_at c.args.self.now c.args.disk.now.volume) c.args.disk.now.minidisk)) in
-    let nothing = came_nothing old old Touched c.requires.between (keeps_rest_same old) in
+    let Touched : ℕ → Type 0 = IsTouched guest_written (setting disk_machine loading_limits) (loading disk_machine (lent_memory old) (users_disk (volume_at c.args.self.now c.args.disk.now.volume) c.args.disk.now.minidisk)) in
+    let nothing = came_nothing old old Touched c.requires.between (keeps_stored_same old) in
     nothing
 
 pub returns-in-Ok-load_mounted-clause-came : goal.returns-in-Ok-load_mounted-clause-came
 returns-in-Ok-load_mounted-clause-came c =
     let old = c.args.storage.now in
-    let Touched : ℕ → Type 0 = IsTouched guest_written (setting disk_machine loading_limits) (loading disk_machine (memory_of (lent_bytes old) (lent_keys old)) (users_disk (volume_at c.args.self.now c.args.disk.now.volume) c.args.disk.now.minidisk)) in
-    let nothing = came_nothing old old Touched c.requires.between (keeps_rest_same old) in
+    let Touched : ℕ → Type 0 = IsTouched guest_written (setting disk_machine loading_limits) (loading disk_machine (lent_memory old) (users_disk (volume_at c.args.self.now c.args.disk.now.volume) c.args.disk.now.minidisk)) in
+    let nothing = came_nothing old old Touched c.requires.between (keeps_stored_same old) in
     came_more old old c.load_mounted.new.storage (is_wanted (trial_flags c.in-Ok.tried)) Touched (λ page it. c.in-Ok.ensures.touches page it) nothing c.load_mounted.ensures.came
 
 pub returns-clause-came : goal.returns-clause-came
 returns-clause-came c =
     let old = c.args.storage.now in
-    let Touched : ℕ → Type 0 = IsTouched guest_written (setting disk_machine loading_limits) (loading disk_machine (memory_of (lent_bytes old) (lent_keys old)) (users_disk (volume_at c.args.self.now c.args.disk.now.volume) c.args.disk.now.minidisk)) in
-    let nothing = came_nothing old old Touched c.requires.between (keeps_rest_same old) in
+    let Touched : ℕ → Type 0 = IsTouched guest_written (setting disk_machine loading_limits) (loading disk_machine (lent_memory old) (users_disk (volume_at c.args.self.now c.args.disk.now.volume) c.args.disk.now.minidisk)) in
+    let nothing = came_nothing old old Touched c.requires.between (keeps_stored_same old) in
     came_more old old c.load_mounted.new.storage (is_wanted (trial_flags c.in-Ok.tried)) Touched (λ page it. c.in-Ok.ensures.touches page it) nothing c.load_mounted.ensures.came
 
 pub returns-in-Ok-load_mounted-clause-confined : goal.returns-in-Ok-load_mounted-clause-confined

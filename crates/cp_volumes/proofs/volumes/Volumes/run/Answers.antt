@@ -2,11 +2,10 @@ use Rattle.std.proofs.Common.{ℕ}
 use Rattle.s370_channel.specs.Guest.{guest_written}
 use Rattle.s370_channel.specs.Runs.{begun, limited}
 use Rattle.s370_channel.specs.Supplied.{IsTouched}
-use Rattle.s370_walk.specs.Hardware.{memory_of}
 use Rattle.channel_trial.specs.Trial.{trial_flags}
 use Rattle.ckd_volume.specs.Unit.{disk_machine}
 use Rattle.cp_dat.specs.Copies.{is_wanted}
-use Rattle.cp_dat.specs.Lent.{keeps_rest_same, lent_bytes, lent_keys}
+use Rattle.cp_dat.specs.Lent.{keeps_stored_same, lent_memory}
 use Rattle.cp_dat.proofs.Copying.{came_more, came_nothing}
 use Rattle.cp_minidisk.specs.Minidisk.{users_disk}
 use Rattle.cp_volumes.specs.Shared.{volume_at}
@@ -16,22 +15,22 @@ use Rattle.cp_volumes.proofs.volumes.Volumes.run.Goals as goal
 pub returns-in-Err-clause-came : goal.returns-in-Err-clause-came
 returns-in-Err-clause-came c =
     let old = c.args.storage.now in
-    let Touched : ℕ → Type 0 = IsTouched guest_written (limited disk_machine c.args.start) (begun c.args.start (memory_of (lent_bytes old) (lent_keys old)) (users_disk (volume_at c.args.self.now c.args.disk.now.volume) c.args.disk.now.minidisk)) in
-    let nothing = came_nothing old old Touched c.requires.between (keeps_rest_same old) in
+    let Touched : ℕ → Type 0 = IsTouched guest_written (limited disk_machine c.args.start) (begun c.args.start (lent_memory old) (users_disk (volume_at c.args.self.now c.args.disk.now.volume) c.args.disk.now.minidisk)) in
+    let nothing = came_nothing old old Touched c.requires.between (keeps_stored_same old) in
     nothing
 
 pub returns-in-Ok-run_mounted-clause-came : goal.returns-in-Ok-run_mounted-clause-came
 returns-in-Ok-run_mounted-clause-came c =
     let old = c.args.storage.now in
-    let Touched : ℕ → Type 0 = IsTouched guest_written (limited disk_machine c.args.start) (begun c.args.start (memory_of (lent_bytes old) (lent_keys old)) (users_disk (volume_at c.args.self.now c.args.disk.now.volume) c.args.disk.now.minidisk)) in
-    let nothing = came_nothing old old Touched c.requires.between (keeps_rest_same old) in
+    let Touched : ℕ → Type 0 = IsTouched guest_written (limited disk_machine c.args.start) (begun c.args.start (lent_memory old) (users_disk (volume_at c.args.self.now c.args.disk.now.volume) c.args.disk.now.minidisk)) in
+    let nothing = came_nothing old old Touched c.requires.between (keeps_stored_same old) in
     came_more old old c.run_mounted.new.storage (is_wanted (trial_flags c.in-Ok.tried)) Touched (λ page it. c.in-Ok.ensures.touches page it) nothing c.run_mounted.ensures.came
 
 pub returns-clause-came : goal.returns-clause-came
 returns-clause-came c =
     let old = c.args.storage.now in
-    let Touched : ℕ → Type 0 = IsTouched guest_written (limited disk_machine c.args.start) (begun c.args.start (memory_of (lent_bytes old) (lent_keys old)) (users_disk (volume_at c.args.self.now c.args.disk.now.volume) c.args.disk.now.minidisk)) in
-    let nothing = came_nothing old old Touched c.requires.between (keeps_rest_same old) in
+    let Touched : ℕ → Type 0 = IsTouched guest_written (limited disk_machine c.args.start) (begun c.args.start (lent_memory old) (users_disk (volume_at c.args.self.now c.args.disk.now.volume) c.args.disk.now.minidisk)) in
+    let nothing = came_nothing old old Touched c.requires.between (keeps_stored_same old) in
     came_more old old c.run_mounted.new.storage (is_wanted (trial_flags c.in-Ok.tried)) Touched (λ page it. c.in-Ok.ensures.touches page it) nothing c.run_mounted.ensures.came
 
 pub returns-in-Ok-run_mounted-clause-confined : goal.returns-in-Ok-run_mounted-clause-confined
