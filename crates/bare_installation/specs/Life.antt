@@ -7,15 +7,14 @@ use Rattle.machine_panel.specs.Tick.{ticked}
 use Rattle.machine_devices.specs.Comes.{LineMay}
 use Rattle.machine_devices.specs.Attention.{AttentionAgrees}
 use Rattle.machine_devices.specs.Coming.{comes_by_line, comes_from_operator, coming_of}
-use Rattle.machine_devices.specs.declared.line.Told.TheVariants.{Silent}
+use Rattle.machine_devices.specs.declared.reply.Saying.TheVariants.{Nothing}
 use Rattle.machine_devices.specs.declared.reply.Delivery.{Delivery}
 use Rattle.machine_devices.specs.declared.reply.Ended.{Ended}
 use Rattle.machine_devices.specs.declared.reply.Ended.TheVariants.{Ran, Served, Done}
 use Rattle.machine_devices.specs.declared.reply.Reply.{Reply}
 use Rattle.machine_devices.specs.Life.{Event as Local, Units, Serve as Serves, Line as Types, Tick as Ticks, Lives}
-use Rattle.machine_devices.specs.Lines.{said}
 use Rattle.machine_devices.specs.Notes.{next_file}
-use Rattle.machine_devices.specs.Replies.{given}
+use Rattle.machine_devices.specs.Replies.{given, saying}
 use Rattle.machine_devices.specs.Serve.{IsServedAt}
 use Rattle.machine_devices.specs.Stopped.{StopsAt}
 use Rattle.bare_installation.specs.declared.happening.Happening.{Happening}
@@ -30,7 +29,7 @@ IsRun count old reply (Ran ran) new =
     × (new.equipped.devices ≡ old.equipped.devices)
     × (new.equipped.disks ≡ old.equipped.disks)
     × (new.files ≡ old.files)
-    × (reply.said ≡ said (notice_of ran.reason))
+    × (reply.said ≡ saying (notice_of ran.reason))
     × (reply.delivered ≡ None)
 IsRun count old reply other new = ⊥
 
@@ -40,7 +39,7 @@ IsAnswer typed old reply other new = ⊥
 
 abbrev pub IsService : ℕ → Bare → Reply → Ended → Bare → Type 0
 IsService device old reply (Served done) new =
-    IsServedAt as_reached device old.equipped done new.equipped × (new.files ≡ old.files) × (reply.said ≡ Silent) × (reply.delivered ≡ None)
+    IsServedAt as_reached device old.equipped done new.equipped × (new.files ≡ old.files) × (reply.said ≡ Nothing) × (reply.delivered ≡ None)
 IsService device old reply other new = ⊥
 
 abbrev pub IsTicked : Bare → Reply → Ended → Bare → Type 0
@@ -49,13 +48,13 @@ IsTicked old reply Done new =
     × (new.equipped.devices ≡ old.equipped.devices)
     × (new.equipped.disks ≡ old.equipped.disks)
     × (new.files ≡ old.files)
-    × (reply.said ≡ Silent)
+    × (reply.said ≡ Nothing)
     × (reply.delivered ≡ None)
 IsTicked old reply other new = ⊥
 
 abbrev pub IsGiven : List (List ℕ) → Bare → Reply → Ended → Bare → Type 0
 IsGiven cards old reply Done new =
-    (new ≡ with_deck cards old) × (reply.said ≡ Silent) × (reply.delivered ≡ given 0 (next_file old.files) cards)
+    (new ≡ with_deck cards old) × (reply.said ≡ Nothing) × (reply.delivered ≡ given 0 (next_file old.files) cards)
 IsGiven cards old reply other new = ⊥
 
 -- each event ends in its own way

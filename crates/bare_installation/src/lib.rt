@@ -9,11 +9,11 @@
 //! ```
 //! use bare_installation::Bare;
 //! use cp_console::responses::Response;
-//! use machine_devices::Told;
+//! use machine_devices::Saying;
 //! use s370_store::PlainStorage;
 //!
 //! let mut machine = Bare::without_devices(alloc, PlainStorage::new(alloc, 4)?)?;
-//! assert_eq!(rt; machine.line(alloc, b"LOGON")?.said, Told::Said(Response::LogonOk));
+//! assert_eq!(rt; machine.line(alloc, b"LOGON")?.said, Saying::Said(Response::LogonOk));
 //! machine.line(alloc, b"STORE 100 47F00100")?; // a branch to itself
 //! machine.line(alloc, b"BEGIN 100")?;
 //! assert_eq!(rt; machine.units(100).ran.units, 100);

@@ -5,12 +5,11 @@ use Rattle.s370_intr.specs.Run.{IsLacking}
 use Rattle.cp_dat.specs.Supplied.{HasNoRoom}
 use Rattle.machine_panel.specs.Run.{TellsRun, notice_of}
 use Rattle.machine_panel.specs.Tick.{TickNeeds}
-use Rattle.machine_devices.specs.declared.line.Told.TheVariants.{Silent}
-use Rattle.machine_devices.specs.Lines.{said}
+use Rattle.machine_devices.specs.declared.reply.Saying.TheVariants.{Nothing}
 use Rattle.machine_devices.specs.Serve.{IsServedAt}
 use Rattle.cp_core.specs.Events.{user_of}
 use Rattle.machine_devices.specs.Notes.{closed_by, deck_noted, next_file}
-use Rattle.machine_devices.specs.Replies.{IsLineTold, given}
+use Rattle.machine_devices.specs.Replies.{IsLineTold, given, saying}
 use Rattle.cp_core.specs.Local.{Step}
 use Rattle.cp_core.specs.Supply.{IsShort}
 use Rattle.cp_core.specs.Wants.{DeviceNeeds, LineWants}
@@ -29,7 +28,7 @@ use Rattle.machine_devices.specs.declared.files.FileNote.{FileNote}
 -- nothing is said, and nothing has happened but that pages came: the event needs one for which there is no room. (The volumes are as
 -- they were: each minidisk of this user by `users`, and the rest as the event is confined.)
 pub record IsOut (needs : ℕ → Type 0) (size : ℕ) (old : SystemView) (reply : Reply) (new : SystemView) (is_short : ℕ → Type 0) : Type 0 where
-  pub silent : reply.said ≡ Silent
+  pub silent : reply.said ≡ Nothing
   pub none : reply.delivered ≡ None
   pub same : new ≡ record old { supply = new.supply; volumes = new.volumes }
   pub lacking : IsLacking needs size is_short
@@ -40,14 +39,14 @@ pub record IsOut (needs : ℕ → Type 0) (size : ℕ) (old : SystemView) (reply
 abbrev pub TellsOfRun : ℕ → ℕ → SystemView → Reply → Ended → SystemView → Type 0
 TellsOfRun user asked old reply (Ran ran) new =
     TellsRun asked (machine_at old user) (record { machine = machine_at new user; units = ran.units; reason = ran.reason; notice = notice_of ran.reason }) (HasNoRoom new.supply user)
-    × (reply.said ≡ said (notice_of ran.reason))
+    × (reply.said ≡ saying (notice_of ran.reason))
     × (reply.delivered ≡ None)
 TellsOfRun user asked old reply (Served done) new = ⊥
 TellsOfRun user asked old reply Done new = ⊥
 TellsOfRun user asked old reply FramesOut new = ⊥
 
 abbrev pub TellsOfTick : ℕ → SystemView → Reply → Ended → SystemView → Type 0
-TellsOfTick user old reply Done new = (reply.said ≡ Silent) × (reply.delivered ≡ None)
+TellsOfTick user old reply Done new = (reply.said ≡ Nothing) × (reply.delivered ≡ None)
 TellsOfTick user old reply FramesOut new =
     IsOut (TickNeeds (machine_at old user)) (length (machine_at old user).core.processor.bytes) old reply new (HasNoRoom new.supply user)
 TellsOfTick user old reply (Ran ran) new = ⊥
@@ -68,7 +67,7 @@ TellsOfLine user typed old reply (Served done) new = ⊥
 -- ---- a deck of the operator
 
 abbrev pub TellsOfDeck : ℕ → List (List ℕ) → SystemView → Reply → Ended → Type 0
-TellsOfDeck user cards old reply Done = (reply.said ≡ Silent) × (reply.delivered ≡ given user (next_file old.files) cards)
+TellsOfDeck user cards old reply Done = (reply.said ≡ Nothing) × (reply.delivered ≡ given user (next_file old.files) cards)
 TellsOfDeck user cards old reply FramesOut = ⊥
 TellsOfDeck user cards old reply (Ran ran) = ⊥
 TellsOfDeck user cards old reply (Served done) = ⊥
@@ -78,7 +77,7 @@ TellsOfDeck user cards old reply (Served done) = ⊥
 -- the device is served as that of a machine of its own whose program was as it stood when it began, and tells whether there was one
 abbrev pub TellsOfServe : ℕ → ℕ → SystemView → Reply → Ended → SystemView → Type 0
 TellsOfServe user device old reply (Served done) new =
-    IsServedAt as_reached device (user_at old user) done (user_at new user) × (reply.said ≡ Silent) × (reply.delivered ≡ None)
+    IsServedAt as_reached device (user_at old user) done (user_at new user) × (reply.said ≡ Nothing) × (reply.delivered ≡ None)
 TellsOfServe user device old reply FramesOut new =
     let needs = DeviceNeeds device (user_at old user) in
     IsOut needs (length (machine_at old user).core.processor.bytes) old reply new (IsShort new.supply user needs)

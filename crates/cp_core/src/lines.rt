@@ -23,7 +23,7 @@ use crate::user_machine::UserMachine;
 use crate::work::Line;
 use arrayvec::ArrayVec;
 use machine_devices::{
-    ClosedFiles, Delivered, Delivery, Ended, FileKind, Reply, Told, copy_of, is_logged_on,
+    ClosedFiles, Delivered, Delivery, Ended, FileKind, Reply, Saying, Told, copy_of, is_logged_on,
     said_to_line,
 };
 use machine_panel::LineError;
@@ -238,7 +238,7 @@ impl System {
         let delivered = self.give(user, number, cards)?;
         Ok(Reply {
             ended: Ended::Done,
-            said: Told::Silent,
+            said: Saying::Nothing,
             lines: 0,
             delivered: Some(delivered),
         })

@@ -25,7 +25,7 @@ use cp_directory::Directory;
 use cp_frames::Frames;
 use cp_spool::Queues;
 use cp_volumes::Volumes;
-use machine_devices::{Ended, FileKind, FileNote, Reply, SeenDevices, Told};
+use machine_devices::{Ended, FileKind, FileNote, Reply, Saying, SeenDevices};
 use machine_panel::{LineError, notice_of};
 use s370_num::DevAddr;
 use std::alloc::{AllocError, Global};
@@ -399,7 +399,7 @@ impl System {
         let ran = self.lend(user, &Units(units));
         Reply {
             ended: Ended::Ran(ran),
-            said: Told::of(notice_of(ran.reason)),
+            said: Saying::of(notice_of(ran.reason)),
             lines: self.printed_by(user).saturating_sub(before),
             delivered: None,
         }
@@ -440,7 +440,7 @@ impl System {
         match self.lend(user, &service) {
             Ok(done) => Ok(Reply {
                 ended: Ended::Served(done),
-                said: Told::Silent,
+                said: Saying::Nothing,
                 lines: self.printed_by(user).saturating_sub(before),
                 delivered: None,
             }),

@@ -3,6 +3,7 @@ use Rattle.std.specs.Prelude.{◌≡◌, ℕ, nat_lt, if◌then◌else◌, List,
 use Rattle.unit_record.specs.declared.output.Target.{Target}
 use Rattle.unit_record.specs.declared.output.Target.TheVariants as targets
 use Rattle.unit_record.specs.Output.{FileValue}
+use Rattle.cp_console.specs.declared.responses.Response.{Response}
 use Rattle.cp_console.specs.declared.responses.Response.TheVariants as responses
 use Rattle.machine_devices.specs.declared.line.Told.{Told}
 use Rattle.machine_devices.specs.declared.line.Told.TheVariants.{Silent, Said, Files, Sent, Closed, LoggedOff}
@@ -11,24 +12,31 @@ use Rattle.machine_devices.specs.declared.reply.Delivery.{Delivery}
 use Rattle.machine_devices.specs.declared.reply.Delivery.TheVariants as deliveries
 use Rattle.machine_devices.specs.declared.reply.Ended.{Ended}
 use Rattle.machine_devices.specs.declared.reply.Reply.{Reply}
+use Rattle.machine_devices.specs.declared.reply.Saying.{Saying}
+use Rattle.machine_devices.specs.declared.reply.Saying.TheVariants as sayings
 use Rattle.machine_devices.specs.Equipped.{Equipped}
 use Rattle.machine_devices.specs.Lines.{IsLine}
 use Rattle.machine_devices.specs.World.{World}
 
 -- it tells no more than how the event ended
 abbrev pub silent : Ended → Reply
-silent ended = record { ended = ended; said = Silent; lines = 0; delivered = None }
+silent ended = record { ended = ended; said = sayings.Nothing; lines = 0; delivered = None }
+
+-- a response that is said, where there is one
+abbrev pub saying : Option Response → Saying
+saying None = sayings.Nothing
+saying (Some response) = sayings.Said response
 
 -- ---- a line
 
 -- a message is sent to its receiver, and a file that was closed has this number
-abbrev pub said_to_line : ℕ → Told → Told
-said_to_line number Silent = Silent
-said_to_line number (Said response) = Said response
-said_to_line number Files = Files
-said_to_line number (Sent user line) = Said responses.Sent
-said_to_line number (Closed files) = Said (responses.FileClosed number)
-said_to_line number (LoggedOff files) = Said responses.LogoffOk
+abbrev pub said_to_line : ℕ → Told → Saying
+said_to_line number Silent = sayings.Nothing
+said_to_line number (Said response) = sayings.Said response
+said_to_line number Files = sayings.Files
+said_to_line number (Sent user line) = sayings.Said responses.Sent
+said_to_line number (Closed files) = sayings.Said (responses.FileClosed number)
+said_to_line number (LoggedOff files) = sayings.Said responses.LogoffOk
 
 -- what is for a user of whom there are fewer comes to nobody
 abbrev pub delivery_to : ℕ → ℕ → Delivery → Option Delivered

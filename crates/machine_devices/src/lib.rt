@@ -45,7 +45,7 @@ pub use files::{ClosedFiles, FileKind, FileNote, deck_line};
 pub use laws::attention_agrees;
 pub use line::Told;
 pub use places::{Kind, Places};
-pub use reply::{Delivered, Delivery, Ended, Reply, said_to_line};
+pub use reply::{Delivered, Delivery, Ended, Reply, Saying, said_to_line};
 pub use seen::SeenDevices;
 pub use spooling::copy_of;
 pub use world::{World, is_logged_on};

@@ -1,6 +1,6 @@
 //! What a machine of one user, or the system of many, answers to an event.
 ghost use Rattle.std.specs.Prelude.{◌≡◌};
-ghost use Rattle.machine_devices.specs.Replies.{said_to_line, silent};
+ghost use Rattle.machine_devices.specs.Replies.{said_to_line, saying, silent};
 
 use crate::line::Told;
 use cp_console::console_line::ConsoleLine;
@@ -21,14 +21,37 @@ pub enum Ended {
     FramesOut,
 }
 
+/// What is said to a user.
+#[derive(Clone, Copy, Debug, PartialEq, Eq)]
+pub enum Saying {
+    /// Nothing.
+    Nothing,
+    /// A response.
+    Said(Response),
+    /// His files, one line each: the decks of his reader, in their order.
+    Files,
+}
+
+impl Saying {
+    /// A response that is said, where there is one.
+    #[inline]
+    pub fn of(response: Option<Response>) -> Saying
+        ensures { result ≡ saying response }
+    {
+        match response {
+            None => Saying::Nothing,
+            Some(response) => Saying::Said(response),
+        }
+    }
+}
+
 /// What an installation answers to an event. It has no memory of its own.
 #[derive(Clone, Copy, PartialEq, Eq)]
 pub struct Reply {
     /// How the event ended.
     pub ended: Ended,
     /// What is said to the user whom the event names: the answer to his line, or the notice of a machine that stopped.
-    /// Of his files only that they are to be listed is told; they are the decks of his reader.
-    pub said: Told,
+    pub said: Saying,
     /// How many lines have joined the console of that user, the last of its output.
     pub lines: usize,
     /// What was delivered, and to whom. The cards of a deck are those of the last deck of his reader.
@@ -42,7 +65,7 @@ impl Reply {
     {
         Reply {
             ended,
-            said: Told::Silent,
+            said: Saying::Nothing,
             lines: 0,
             delivered: None,
         }
@@ -68,13 +91,15 @@ pub struct Delivered {
 }
 
 /// What is said to a line that was answered so, where the next file has this number.
-pub fn said_to_line(number: u64, told: &Told) -> Told
+pub fn said_to_line(number: u64, told: &Told) -> Saying
     ensures { result ≡ said_to_line number told.now }
 {
     match told {
-        Told::Sent(_, _) => Told::Said(Response::Sent),
-        Told::Closed(_) => Told::Said(Response::FileClosed(number)),
-        Told::LoggedOff(_) => Told::Said(Response::LogoffOk),
-        Told::Silent | Told::Said(_) | Told::Files => *told,
+        Told::Silent => Saying::Nothing,
+        Told::Said(response) => Saying::Said(*response),
+        Told::Files => Saying::Files,
+        Told::Sent(_, _) => Saying::Said(Response::Sent),
+        Told::Closed(_) => Saying::Said(Response::FileClosed(number)),
+        Told::LoggedOff(_) => Saying::Said(Response::LogoffOk),
     }
 }

@@ -10,8 +10,8 @@ use Rattle.user_names.specs.Users.{name_of}
 use Rattle.cp_console.specs.Responses.{text_of}
 use Rattle.cp_console.specs.ConsoleLine.{characters_of}
 use Rattle.unit_record.specs.Reader.{DeckValue}
-use Rattle.machine_devices.specs.declared.line.Told.{Told}
-use Rattle.machine_devices.specs.declared.line.Told.TheVariants.{Silent, Said, Files, Sent, Closed, LoggedOff}
+use Rattle.machine_devices.specs.declared.reply.Saying.{Saying}
+use Rattle.machine_devices.specs.declared.reply.Saying.TheVariants.{Nothing, Said, Files}
 use Rattle.machine_devices.specs.Files.{file_lines}
 use Rattle.machine_devices.specs.declared.reply.Ended.{Ended}
 use Rattle.machine_devices.specs.declared.reply.Ended.TheVariants.{Ran, Served, Done, FramesOut}
@@ -35,13 +35,10 @@ abbrev pub queue_lines : List (List ℕ) → List ℕ → List DeckValue → Lis
 queue_lines names name decks = map (told_line name) (file_lines names decks)
 
 -- the lines at the user's terminal, where something was said to him, whose reader has these decks
-abbrev pub said_lines : List (List ℕ) → List ℕ → List DeckValue → Told → List (List ℕ)
-said_lines names name decks Silent = []
+abbrev pub said_lines : List (List ℕ) → List ℕ → List DeckValue → Saying → List (List ℕ)
+said_lines names name decks Nothing = []
 said_lines names name decks (Said response) = told_line name (text_of response) ∷ []
 said_lines names name decks Files = queue_lines names name decks
-said_lines names name decks (Sent user line) = []
-said_lines names name decks (Closed files) = []
-said_lines names name decks (LoggedOff files) = []
 
 -- a message stands at its receiver's terminal, and a deck at nobody's
 abbrev pub delivery_lines : List (List ℕ) → ℕ → Delivery → List (List ℕ)

@@ -9,7 +9,7 @@ ghost use Rattle.sessions.specs.Transcript.{CutsBack, delivered_lines, ended, en
 use crate::installation::Installation;
 use crate::schedule::Detail;
 use cp_console::printing;
-use machine_devices::{Delivered, Delivery, Ended, Reply, Told, deck_line};
+use machine_devices::{Delivered, Delivery, Ended, Reply, Saying, deck_line};
 use s370_intr::{Ran, Reason};
 use s370_num::DevAddr;
 use session_script::ScriptEvent;
@@ -53,22 +53,22 @@ fn print_said<I: Installation>(
     out: &mut Vec<u8>,
     installation: &I,
     user: UserNo,
-    said: Told,
+    said: Saying,
 ) -> Result<(), AllocError>
     requires { user < length (I.goes.seen installation.now).users }
     ensures { let names = names_of (I.goes.seen installation.now) in OnOk result (out.new.items ≡ out.old.items
         ++ ended (said_lines names (name_of names user) (user_at (I.goes.seen installation.now) user).devices.reader.decks said)) }
 {
     match said {
-        Told::Said(response) => {
+        Saying::Said(response) => {
             let text = printing::reply(alloc, &response)?;
             print_line(out, installation.name(user), &text)
         }
-        Told::Files => {
+        Saying::Files => {
             let names = names(alloc, installation)?;
             print_queue(alloc, out, installation, &names, user)
         }
-        Told::Silent | Told::Sent(_, _) | Told::Closed(_) | Told::LoggedOff(_) => Ok(()),
+        Saying::Nothing => Ok(()),
     }
 }
 

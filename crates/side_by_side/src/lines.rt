@@ -7,7 +7,7 @@ use cp_console::console_line::ConsoleLine;
 use cp_console::responses::Response;
 use cp_core::Event;
 use cp_spool::SpoolFile;
-use machine_devices::{Delivered, Delivery, Ended, Told, copy_of, is_logged_on};
+use machine_devices::{Delivered, Delivery, Ended, Saying, Told, copy_of, is_logged_on};
 use s370_num::DevAddr;
 use std::alloc::{AllocError, Global};
 use unit_record::{Card, Sender, Target};
@@ -31,21 +31,23 @@ impl Before {
     }
 }
 
-/// The response that was told, if there was one.
-fn response_of(told: &Told) -> Option<Response> {
-    match told {
-        Told::Said(response) => Some(*response),
+/// The response that was said, if there was one.
+fn response_of(said: &Saying) -> Option<Response> {
+    match said {
+        Saying::Said(response) => Some(*response),
         _ => None,
     }
 }
 
 /// What a user is told where his bare machine tells this, and the next file has this number.
-fn said(told: Told, number: u64) -> Told {
+fn said(told: Told, number: u64) -> Saying {
     match told {
-        Told::Sent(_, _) => Told::Said(Response::Sent),
-        Told::Closed(_) => Told::Said(Response::FileClosed(number)),
-        Told::LoggedOff(_) => Told::Said(Response::LogoffOk),
-        other => other,
+        Told::Silent => Saying::Nothing,
+        Told::Said(response) => Saying::Said(response),
+        Told::Files => Saying::Files,
+        Told::Sent(_, _) => Saying::Said(Response::Sent),
+        Told::Closed(_) => Saying::Said(Response::FileClosed(number)),
+        Told::LoggedOff(_) => Saying::Said(Response::LogoffOk),
     }
 }
 
@@ -85,12 +87,12 @@ impl SideBySide {
         let number = self.files.saturating_add(1);
         let told = self.type_line(alloc, user, typed)?;
         self.delivered = self.follow(alloc, user, before, told)?;
-        let told = said(told, number);
+        let said = said(told, number);
         let lines = self.bare(user)?.printed().saturating_sub(before.lines);
-        let mut wanted = reply(Ended::Done, told, lines);
+        let mut wanted = reply(Ended::Done, said, lines);
         wanted.delivered = self.delivered;
         same(answered == wanted, View::Answer)?;
-        Ok(response_of(&told))
+        Ok(response_of(&said))
     }
 
     /// Types a line at the bare machine of a user, in the world of all.
@@ -203,7 +205,7 @@ impl SideBySide {
             let copy = copy_of(alloc, cards)?;
             self.delivered = self.take_deck(user.number(), self.files, Sender::System, copy)?;
         }
-        let mut wanted = reply(Ended::Done, Told::Silent, 0);
+        let mut wanted = reply(Ended::Done, Saying::Nothing, 0);
         wanted.delivered = self.delivered;
         same(answered == wanted, View::Answer)
     }

@@ -6,7 +6,7 @@ use ckd_volume::Volume;
 use cp_console::responses::Response;
 use cp_core::{Event, Sizes, System};
 use cp_directory::{User, UserDevices, read_directory};
-use machine_devices::{Delivered, Delivery, Ended, Places, Reply, Told};
+use machine_devices::{Delivered, Delivery, Ended, Places, Reply, Saying};
 use s370_intr::{Ran, Reason};
 use s370_num::DevAddr;
 use s370_store::PlainStorage;
@@ -65,7 +65,7 @@ fn machines_of(
 }
 
 /// The reply to an event that ended so, where this was told and so many lines joined the console.
-pub(crate) fn reply(ended: Ended, said: Told, lines: usize) -> Reply {
+pub(crate) fn reply(ended: Ended, said: Saying, lines: usize) -> Reply {
     Reply {
         ended,
         said,
@@ -162,7 +162,7 @@ impl SideBySide {
             return Ok(false);
         }
         self.out_of_frames = self.out_of_frames.saturating_add(1);
-        let nothing = reply(Ended::FramesOut, Told::Silent, 0);
+        let nothing = reply(Ended::FramesOut, Saying::Nothing, 0);
         same(answered == nothing, View::Answer)?;
         Ok(true)
     }
@@ -182,11 +182,11 @@ impl SideBySide {
         if ran.reason == Reason::FramesOut {
             self.out_of_frames = self.out_of_frames.saturating_add(1);
             same(ran.units == told.ran.units, View::Answer)?;
-            let wanted = reply(answered.ended, Told::Silent, lines);
+            let wanted = reply(answered.ended, Saying::Nothing, lines);
             same(answered == wanted, View::Answer)?;
             return Ok(ran);
         }
-        let wanted = reply(Ended::Ran(told.ran), Told::of(told.notice), lines);
+        let wanted = reply(Ended::Ran(told.ran), Saying::of(told.notice), lines);
         same(answered == wanted, View::Answer)?;
         Ok(ran)
     }
@@ -200,7 +200,7 @@ impl SideBySide {
         self.bare_mut(user)?.tick();
         // The prover finds what a reply may hold only where a function names it.
         let silence: Option<Response> = None;
-        let wanted = reply(Ended::Done, Told::of(silence), 0);
+        let wanted = reply(Ended::Done, Saying::of(silence), 0);
         same(answered == wanted, View::Answer)
     }
 
@@ -216,7 +216,7 @@ impl SideBySide {
         let lines = bare.printed().saturating_sub(before);
         // The prover finds what a reply may hold only where a function names it.
         let silence: Option<Response> = None;
-        let wanted = reply(Ended::Served(done), Told::of(silence), lines);
+        let wanted = reply(Ended::Served(done), Saying::of(silence), lines);
         same(answered == wanted, View::Answer)?;
         Ok(done)
     }

@@ -1,5 +1,5 @@
 use Rattle.std.proofs.Common.{◌∙◌, ap, arith}
-use Rattle.machine_devices.specs.Lines.{said}
+use Rattle.machine_devices.specs.Replies.{saying}
 use Rattle.cp_core.proofs.Steps.{run_step}
 use Rattle.cp_core.proofs.system.System.run.Goals as goal
 
@@ -7,4 +7,4 @@ pub returns-clause-step : goal.returns-clause-step
 returns-clause-step c =
     let l = c.lend-ran.ensures in
     run_step c.args.self.now c.lend-ran.new.self c.args.user c.args.units c.lend-ran.result c.of.result c.saturating_sub.result l.does l.rest l.between_before l.between
-    (c.of.ensures ∙ ap said c.notice_of.ensures) (omega (arith, c.saturating_sub.ensures, c.printed_by.ensures, c.printed_by-before.ensures))
+    (c.of.ensures ∙ ap saying c.notice_of.ensures) (omega (arith, c.saturating_sub.ensures, c.printed_by.ensures, c.printed_by-before.ensures))
