@@ -3,7 +3,8 @@ use Rattle.std.proofs.Common.{◌≡◌, ℕ, Bool, true, false, Option, None, S
 use Rattle.std.specs.Prelude.{slice_get}
 use Rattle.s370_store.specs.declared.Page.{Page}
 use Rattle.s370_walk.specs.declared.parts.Order.{Order}
-use Rattle.s370_walk.specs.Hardware.{Machine, Memory}
+use Rattle.s370_store.specs.Memory.{Memory}
+use Rattle.s370_walk.specs.Hardware.{Machine}
 use Rattle.s370_channel.specs.declared.running.ChannelError.{ChannelError}
 use Rattle.s370_channel.specs.declared.running.ChannelError.TheVariants as errors
 use Rattle.s370_channel.specs.declared.words.Caw.{Caw}

@@ -1,7 +1,7 @@
 //! A machine with its devices, and nobody else.
 ghost use Rattle.std.specs.Prelude.{Err, IsOk, None, false, map, ◌++◌, ◌≡◌, ◌-◌, ◌<◌, ◌≤◌, ◌^◌, [], List, Option, true, IfOk, OnErr, OnOk, length, slice_get};
 ghost use Rattle.std.specs.Option.{option_map};
-ghost use Rattle.s370_store.specs.Plain.{plain_bytes, plain_keys};
+ghost use Rattle.s370_store.specs.Plain.{plain_bytes, plain_memory};
 ghost use Rattle.s370_channel.specs.Reading.{as_reached};
 ghost use Rattle.machine_panel.specs.Machine.{unused};
 ghost use Rattle.machine_panel.specs.Ready.{is_ready};
@@ -23,8 +23,8 @@ use cp_console::responses::Response;
 use cp_spool::Queues;
 use machine_channels::{AttachedDisk, Own};
 use machine_devices::{
-    AttachError, Delivered, Delivery, Devices, Ended, FileKind, FileNote, Places, Reply,
-    SeenDevices, Told, copy_of,
+    AttachError, Delivered, Delivery, Devices, Ended, FileKind, FileNote, Places, Reply, Saying,
+    SeenDevices, copy_of,
 };
 use machine_panel::{Machine, MachineRan, Mode};
 use s370_channel::ChannelError;
@@ -51,7 +51,7 @@ pub struct Bare {
 
 impl Model for Bare {
     ghost use Rattle.std.specs.Prelude.{◌<◌, ◌≤◌, length};
-    ghost use Rattle.s370_store.specs.Plain.{plain_bytes, plain_keys};
+    ghost use Rattle.s370_store.specs.Plain.{plain_bytes, plain_memory};
     ghost use Rattle.machine_channels.specs.Own.{disks_of};
     ghost use Rattle.machine_devices.specs.Equipped.{equipped};
     ghost use Rattle.machine_devices.specs.Lent.{devices_on};
@@ -60,8 +60,7 @@ impl Model for Bare {
     ghost Value = { Whole };
 
     ghost view = { λ b. record {
-      equipped = equipped b.machine (devices_on b.devices b.queues) (disks_of b.channels) (plain_bytes b.storage)
-          (plain_keys b.storage);
+      equipped = equipped b.machine (devices_on b.devices b.queues) (disks_of b.channels) (plain_memory b.storage);
       files = b.files.items;
     } };
 
@@ -80,7 +79,7 @@ impl Bare {
         requires { 8192 ≤ length (plain_bytes storage) }
         ensures machine { IfOk result
             (λ bare. (subchannels : List Subchannel) × AreAttached (devices_new places) disks.items subchannels
-            × (bare.equipped.machine ≡ unused (plain_bytes storage) (plain_keys storage) subchannels)) }
+            × (bare.equipped.machine ≡ unused (plain_memory storage) subchannels)) }
         ensures devices { IfOk result (λ bare. bare.equipped.devices ≡ devices_new places) }
         ensures disks { IfOk result (λ bare. bare.equipped.disks ≡ disks.items) }
         ensures files { IfOk result (λ bare. bare.files ≡ []) }
@@ -115,7 +114,7 @@ impl Bare {
     ) -> Bare
         requires size { 8192 ≤ length (plain_bytes storage) }
         requires user { devices.user < length queues.users }
-        ensures machine { result.equipped.machine ≡ unused (plain_bytes storage) (plain_keys storage) subchannels }
+        ensures machine { result.equipped.machine ≡ unused (plain_memory storage) subchannels }
         ensures devices { result.equipped.devices ≡ devices_on devices queues }
         ensures disks { result.equipped.disks ≡ disks.items }
         ensures files { result.files ≡ [] }
@@ -135,7 +134,7 @@ impl Bare {
     pub fn without_devices(alloc: Global, storage: PlainStorage) -> Result<Bare, AllocError>
         requires { 8192 ≤ length (plain_bytes storage) }
         ensures machine { IfOk result
-            (λ bare. bare.equipped.machine ≡ unused (plain_bytes storage) (plain_keys storage) []) }
+            (λ bare. bare.equipped.machine ≡ unused (plain_memory storage) []) }
         ensures devices { IfOk result (λ bare. bare.equipped.devices ≡ devices_new no_places) }
         ensures disks { IfOk result (λ bare. bare.equipped.disks ≡ []) }
         ensures files { IfOk result (λ bare. bare.files ≡ []) }
@@ -160,23 +159,23 @@ impl Bare {
         match event {
             Happening::Run(count) => {
                 let told = self.units(count);
-                Ok(self.reply(printed, Ended::Ran(told.ran), Told::of(told.notice)))
+                Ok(self.reply(printed, Ended::Ran(told.ran), Saying::of(told.notice)))
             }
             Happening::Line(typed) => self.line(alloc, typed),
             Happening::Serve(device) => match self.serve(device) {
-                Ok(done) => Ok(self.reply(printed, Ended::Served(done), Told::Silent)),
+                Ok(done) => Ok(self.reply(printed, Ended::Served(done), Saying::Nothing)),
                 Err(error) => Err(error),
             },
             Happening::Tick => {
                 self.tick();
-                Ok(self.reply(printed, Ended::Done, Told::Silent))
+                Ok(self.reply(printed, Ended::Done, Saying::Nothing))
             }
             Happening::Deck(cards) => self.give(alloc, cards),
         }
     }
 
     /// The reply where nothing was delivered, this is said, and the console had printed so many lines before.
-    pub(crate) fn reply(&self, printed: usize, ended: Ended, said: Told) -> Reply
+    pub(crate) fn reply(&self, printed: usize, ended: Ended, said: Saying) -> Reply
         ensures { result ≡ record {
           ended = ended;
           said = said;
@@ -199,7 +198,7 @@ impl Bare {
         ensures reply { IfOk result
             (λ reply. reply ≡ record {
               ended = Ended.Done;
-              said = Told.Silent;
+              said = Saying.Nothing;
               lines = length self.new.equipped.machine.output - length self.old.equipped.machine.output;
               delivered = given 0 (next_file self.old.files) cards.now;
             }) }
@@ -208,10 +207,10 @@ impl Bare {
         let printed = self.printed();
         let number = self.next_file();
         if cards.is_empty() {
-            return Ok(self.reply(printed, Ended::Done, Told::Silent));
+            return Ok(self.reply(printed, Ended::Done, Saying::Nothing));
         }
         self.deck(copy_of(alloc, cards)?)?;
-        let reply = self.reply(printed, Ended::Done, Told::Silent);
+        let reply = self.reply(printed, Ended::Done, Saying::Nothing);
         Ok(Reply {
             delivered: Some(Delivered {
                 to: UserNo::new(0),

@@ -1,4 +1,5 @@
 -- The parts of a system at boot.
+use Rattle.s370_store.specs.Memory.{memory_of}
 use Rattle.std.proofs.Common.{true, All, Err, Result, ◌≡◌, ℕ, ◌*◌, ◌<◌, ◌≤◌, List, [], ◌∷◌, ◌++◌, length, map, get_or, zero, suc, refl, sym, ◌∙◌, ap, arith, replicate, subst, Bool, false, Option, None}
 use Rattle.std.specs.Prelude.{nat_le, nat_lt, reverse, slice_get}
 use Rattle.std.specs.List.{list_all, range_with_len}
@@ -136,8 +137,8 @@ off_new volumes u user k disks h d =
     let keys : List ℕ = replicate (user.pages * 2) 0 in
     let b : replicate (length bytes) 0 ≡ bytes = ap (λ (n : ℕ). replicate n 0) (length-replicate {A = ℕ} (user.pages * 4096) 0) in
     let e : replicate (length keys) 0 ≡ u.keys = ap (λ (n : ℕ). replicate n 0) (length-replicate {A = ℕ} (user.pages * 2) 0) ∙ sym k in
-    let m : machine_of u.parts bytes u.keys ≡ unused bytes keys h.subchannels =
-    sym (ap (λ (xs : List ℕ). machine_of u.parts xs (replicate (length keys) 0)) b ∙ ap (λ (xs : List ℕ). machine_of u.parts bytes xs) e) ∙ h.off bytes keys in
+    let m : machine_of u.parts (memory_of bytes u.keys) ≡ unused (memory_of bytes keys) h.subchannels =
+    sym (ap (λ (xs : List ℕ). machine_of u.parts (memory_of xs (replicate (length keys) 0))) b ∙ ap (λ (xs : List ℕ). machine_of u.parts (memory_of bytes xs)) e) ∙ h.off (memory_of bytes keys) in
     record { subchannels = h.subchannels; disks = disks; attached = h.attached; new = as_seen _ _ _ _ (disks_on volumes u.minidisks) m d }
 
 -- the system at boot, by its parts

@@ -4,12 +4,12 @@ use Rattle.std.specs.Prelude.{if◌then◌else◌}
 use Rattle.std.proofs.lemmas.Grind.{common_steps}
 use Rattle.s370_channel.specs.Reading.{Reading, as_reached}
 use Rattle.unit_record.specs.Output.{FileValue}
-use Rattle.machine_devices.specs.Equipped.{Equipped}
+use Rattle.machine_devices.specs.Equipped.{Equipped, nobody}
 use Rattle.machine_devices.specs.Life.{Event as Local, Leaves, Lives}
 use Rattle.cp_core.specs.Come.{HasCome}
 use Rattle.machine_devices.specs.Coming.{comes_by_line}
 use Rattle.cp_core.specs.Local.{Step, comes_to, coming}
-use Rattle.cp_core.specs.System.{SystemView, nobody, user_at}
+use Rattle.cp_core.specs.System.{SystemView, user_at}
 use Rattle.machine_devices.specs.declared.reply.Delivered.{Delivered}
 use Rattle.machine_devices.specs.declared.reply.Delivery.{Delivery}
 use Rattle.machine_devices.specs.declared.reply.Delivery.TheVariants as deliveries

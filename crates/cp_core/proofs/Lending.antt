@@ -8,11 +8,11 @@ use Rattle.cp_dat.specs.Supplied.{IsBetweenUnits}
 use Rattle.cp_spool.specs.Queues.{KeepsOthers, QueuesValue}
 use Rattle.cp_volumes.specs.Keeping.{there_still}
 use Rattle.cp_volumes.specs.Shared.{IsConfined, IsUsers, KeepsNeighbours, Stand, stands_of}
-use Rattle.machine_devices.specs.Equipped.{Equipped}
+use Rattle.machine_devices.specs.Equipped.{Equipped, nobody}
 use Rattle.machine_devices.specs.Lent.{KeepsBeside}
 use Rattle.machine_devices.specs.declared.files.FileNote.{FileNote}
 use Rattle.cp_core.specs.Owners.{AreOwners}
-use Rattle.cp_core.specs.System.{SystemView, nobody, stands_at, user_at, users_of}
+use Rattle.cp_core.specs.System.{SystemView, stands_at, user_at, users_of}
 use Rattle.cp_core.specs.UserMachines.{Fits, SeatParts, UserParts, seat_on, seats_on, user_with}
 use Rattle.cp_core.specs.Whole.{IsSystem, no_user}
 use Rattle.cp_core.proofs.Owned.{length-seats, owner_is, owners_on, see_same, seat_here, set-seats}

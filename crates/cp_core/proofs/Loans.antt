@@ -11,9 +11,9 @@ use Rattle.cp_frames.specs.Layout.{IsZeroPage, Pool, bytes_of, number_of, put_pa
 use Rattle.cp_frames.proofs.Layouts.{same_frame}
 use Rattle.cp_frames.specs.Layout.{written_page as pool_page, written_frame as pool_frame}
 use Rattle.cp_dat.specs.Supplied.{IsBetweenUnits}
-use Rattle.machine_devices.specs.Equipped.{Equipped}
+use Rattle.machine_devices.specs.Equipped.{Equipped, nobody}
 use Rattle.cp_core.specs.UserMachines.{UserParts, user_with, Fits}
-use Rattle.cp_core.specs.System.{SystemView, nobody, users_of}
+use Rattle.cp_core.specs.System.{SystemView, users_of}
 use Rattle.ckd_volume.specs.Volume.{VolumeFormat}
 use Rattle.cp_core.proofs.Systems.{seen}
 use Rattle.machine_devices.specs.declared.files.FileNote.{FileNote}

@@ -15,12 +15,12 @@ use Rattle.unit_record.specs.declared.reader.Sender.TheVariants as senders
 use Rattle.cp_spool.specs.Queues.{cards_of}
 use Rattle.machine_panel.specs.Machine.{nothing_pending, reset_cpu}
 use Rattle.machine_devices.specs.Devices.{no_places}
-use Rattle.machine_devices.specs.Equipped.{Equipped}
+use Rattle.machine_devices.specs.Equipped.{Equipped, nobody}
 use Rattle.machine_devices.specs.Lent.{parts_new}
 use Rattle.machine_devices.specs.World.{is_logged_on}
 use Rattle.machine_devices.specs.Life.{Event as Local, Deck as Gets}
 use Rattle.cp_core.specs.Parcels.{IsThere, IsThereIn, contents, contents_in}
-use Rattle.cp_core.specs.System.{SystemView, nobody, user_at, users_of}
+use Rattle.cp_core.specs.System.{SystemView, user_at, users_of}
 use Rattle.cp_core.specs.UserMachines.{SeatParts, UserParts, seat_on, seats_on, unowned, user_with}
 use Rattle.cp_core.specs.Whole.{IsWhole, no_user}
 use Rattle.cp_core.specs.declared.delivery.Parcel.{Parcel}

@@ -23,11 +23,12 @@ use Rattle.machine_panel.specs.Machine.{Machine}
 use Rattle.machine_panel.specs.Run.{MachineRun, TellsRun, notice_of, run}
 use Rattle.machine_panel.specs.Tick.{ticked, ticked_in}
 use Rattle.machine_devices.specs.declared.line.Told.{Told}
-use Rattle.machine_devices.specs.declared.line.Told.TheVariants.{Silent}
+use Rattle.machine_devices.specs.declared.reply.Saying.{Saying}
+use Rattle.machine_devices.specs.declared.reply.Saying.TheVariants.{Nothing}
 use Rattle.machine_devices.specs.declared.files.FileKind.TheVariants as kinds
-use Rattle.machine_devices.specs.Equipped.{Equipped}
+use Rattle.machine_devices.specs.Equipped.{Equipped, nobody}
 use Rattle.machine_devices.specs.Life.{Event as Local, Units, Serve as Serves, Line as Types, Tick as Ticks, Deck as Gets, Leaves, Lives}
-use Rattle.machine_devices.specs.Lines.{files_closed, requested, said}
+use Rattle.machine_devices.specs.Lines.{files_closed, requested}
 use Rattle.cp_spool.specs.Queues.{cards_of}
 use Rattle.machine_devices.specs.Comes.{NeedsMemory, closes, is_cut, is_ipl}
 use Rattle.cp_core.specs.Come.{HasCome}
@@ -39,9 +40,9 @@ use Rattle.cp_core.specs.Memory.{IsCutShort}
 use Rattle.machine_devices.specs.declared.request.Request.{Request}
 use Rattle.machine_devices.specs.Replies.{silent}
 use Rattle.cp_core.specs.Supply.{IsGivenBack}
-use Rattle.cp_core.specs.System.{SystemView, machine_at, nobody, user_at, world_of}
+use Rattle.cp_core.specs.System.{SystemView, machine_at, user_at, world_of}
 use Rattle.machine_devices.specs.Notes.{deck_noted}
-use Rattle.machine_devices.specs.Replies.{delivered_by, given, said_to_line}
+use Rattle.machine_devices.specs.Replies.{delivered_by, given, said_to_line, saying}
 use Rattle.cp_core.specs.Told.{with_delivered}
 use Rattle.cp_core.specs.Work.{HasRun, HasServed, HasTicked, HasTyped}
 use Rattle.machine_devices.specs.declared.reply.Delivered.{Delivered}
@@ -88,7 +89,7 @@ run_lives : (asked user : ℕ) (old new : Equipped) (before after : FrameSupply)
 run_lives asked user old new before after ran h =
     (new, (sym (run_is asked ran.units ran.reason (notice_of ran.reason) old.machine new.machine _ h.told), h.devices, h.disks), refl)
 
-pub run_step : (old new : SystemView) (user asked : ℕ) (ran : RanUnits) (told : Told) (lines : ℕ) → HasRun asked user (user_at old user) old.supply ran (user_at new user) new.supply → IsLent old user new → IsBetweenUnits old.supply → IsBetweenUnits new.supply → told ≡ said (notice_of ran.reason) → lines ≡ length (machine_at new user).output - length (machine_at old user).output
+pub run_step : (old new : SystemView) (user asked : ℕ) (ran : RanUnits) (told : Saying) (lines : ℕ) → HasRun asked user (user_at old user) old.supply ran (user_at new user) new.supply → IsLent old user new → IsBetweenUnits old.supply → IsBetweenUnits new.supply → told ≡ saying (notice_of ran.reason) → lines ≡ length (machine_at new user).output - length (machine_at old user).output
     → IsStep old (record { event = Run user asked; reply = record { ended = Ran ran; said = told; lines = lines; delivered = None }; seen = new })
 run_step old new user asked ran told lines h lent rest between s l = record {
   applied = alone old new user (run_of asked (Ran ran)) lent (run_lives asked user (user_at old user) (user_at new user) old.supply new.supply ran h);
@@ -173,7 +174,7 @@ delivered_same : (d : Option Delivered) (s t : SystemView) → s.deliveries ≡ 
 delivered_same None s t h = h
 delivered_same (Some d) s t h = ap (λ (ds : List (List Delivery)). set ds d.to (get_or ds d.to [] ++ d.what ∷ [])) h
 
-pub line_done : (old middle new : SystemView) (user : ℕ) (typed : Bor (List ℕ)) (told said' : Told) (lines : ℕ) (delivered : Option Delivered)
+pub line_done : (old middle new : SystemView) (user : ℕ) (typed : Bor (List ℕ)) (told : Told) (said' : Saying) (lines : ℕ) (delivered : Option Delivered)
     → HasTyped (world_of old user) user typed.now (user_at old user) old.supply (Ok told) (user_at middle user) middle.supply
     → IsLent old user middle → IsBetweenUnits old.supply → IsBetweenUnits middle.supply
     → delivered ≡ delivered_by (length middle.users) (next_file middle.files) (stands_in (files_closed told).punched (user_at middle user).devices.punched) told (user_at middle user)
@@ -299,7 +300,7 @@ line_cut old middle new user typed told h lent rest between needs users supply =
 
 pub serve_done : (old new : SystemView) (user device : ℕ) (done : Bool) (lines : ℕ) → HasServed device user (user_at old user) old.supply (Ok done) (user_at new user) new.supply → IsLent old user new → IsBetweenUnits old.supply → IsBetweenUnits new.supply
     → lines ≡ length (machine_at new user).output - length (machine_at old user).output
-    → IsStep old (record { event = Serve user device; reply = record { ended = Served done; said = Silent; lines = lines; delivered = None }; seen = new })
+    → IsStep old (record { event = Serve user device; reply = record { ended = Served done; said = Nothing; lines = lines; delivered = None }; seen = new })
 serve_done old new user device done lines h lent rest between l = record {
   applied = alone old new user (Serves device ∷ []) lent (user_at new user, (done, h.leaves), refl);
   told = record {
@@ -397,9 +398,9 @@ pub deck_given : (old new : SystemView) (user : ℕ) (cards : Bor (List (List �
     → delivered ≡ record { to = user; what = deliveries.Deck (next_file old.files) }
     → HasCome (comes_from_operator cards.now) (Some delivered) old new
     → new ≡ record old { users = new.users; files = old.files ++ record { user = user; kind = kinds.Deck } ∷ []; deliveries = with_delivered (Some delivered) old }
-    → IsStep old (record { event = Deck user cards; reply = record { ended = Done; said = Silent; lines = 0; delivered = Some delivered }; seen = new })
+    → IsStep old (record { event = Deck user cards; reply = record { ended = Done; said = Nothing; lines = 0; delivered = Some delivered }; seen = new })
 deck_given old new user cards delivered rest some is come left =
-    let step : Step = record { event = Deck user cards; reply = record { ended = Done; said = Silent; lines = 0; delivered = Some delivered }; seen = new } in
+    let step : Step = record { event = Deck user cards; reply = record { ended = Done; said = Nothing; lines = 0; delivered = Some delivered }; seen = new } in
     let supply : new.supply ≡ old.supply = ap (λ (x : SystemView). x.supply) left in
     let to : delivered.to ≡ user = ap (λ (x : Delivered). x.to) is in
     let came : Leaves as_reached (comes_from_operator cards.now (deliveries.Deck (next_file old.files))) (user_at old user) (user_at new user) =

@@ -6,10 +6,10 @@ use Rattle.ckd_volume.specs.Volume.{VolumeFormat}
 use Rattle.cp_directory.specs.Users.{DirectoryUser}
 use Rattle.cp_frames.specs.Layout.{FrameSupply}
 use Rattle.cp_dat.specs.Lent.{set_own}
-use Rattle.machine_devices.specs.Equipped.{Equipped}
+use Rattle.machine_devices.specs.Equipped.{Equipped, nobody}
 use Rattle.machine_devices.specs.World.{is_logged_on}
 use Rattle.cp_core.specs.UserMachines.{Fits, UserParts, user_with}
-use Rattle.cp_core.specs.System.{SystemView, deliveries_of, logged_on_of, nobody, stands_among, users_of}
+use Rattle.cp_core.specs.System.{SystemView, deliveries_of, logged_on_of, stands_among, users_of}
 use Rattle.machine_channels.specs.Disks.{DiskAt}
 use Rattle.cp_volumes.specs.Shared.{AllLeaveBe, DisksValue, IsConfined, IsUsers, KeepsNeighbours, SharedMinidisk, Stand, disks_on, stand_of, stands_of}
 use Rattle.cp_volumes.proofs.Seats.{disks_stay, stand_at, users_on}

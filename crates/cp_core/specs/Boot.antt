@@ -1,6 +1,7 @@
 -- The system at boot.
 use Rattle.std.specs.Prelude.{◌≡◌, ℕ, ◌*◌, false, List, [], ◌∷◌, map, replicate, reverse, Option, Some, None}
 use Rattle.std.specs.List.{range_with_len}
+use Rattle.s370_store.specs.Memory.{memory_of}
 use Rattle.s370_subchannels.specs.declared.subchannel.Subchannel.{Subchannel}
 use Rattle.cp_directory.specs.Users.{DirectoryUser}
 use Rattle.cp_directory.specs.declared.devices.UserDevices.{UserDevices}
@@ -30,7 +31,7 @@ pub record IsNewUser (volumes : List VolumeFormat) (user : DirectoryUser) (e : E
   pub disks : AreDisks volumes user.minidisks e.disks
   pub attached : AreAttached (devices_new (places_in user.devices)) e.disks subchannels
   pub new : e ≡ record {
-    machine = unused (replicate (user.pages * 4096) 0) (replicate (user.pages * 2) 0) subchannels;
+    machine = unused (memory_of (replicate (user.pages * 4096) 0) (replicate (user.pages * 2) 0)) subchannels;
     devices = devices_new (places_in user.devices);
     disks = e.disks;
   }

@@ -1,4 +1,5 @@
 -- What is lent to a work, what has to be so of it, and what stays.
+use Rattle.s370_store.specs.Memory.{Memory}
 use Rattle.std.specs.Prelude.{◌≡◌, ℕ, ◌<◌, ◌≤◌, List, length}
 use Rattle.cp_frames.specs.Layout.{FrameSupply}
 use Rattle.cp_dat.specs.Supplied.{IsBetweenUnits}
@@ -8,8 +9,8 @@ use Rattle.cp_volumes.specs.Shared.{DisksValue, IsUsers, KeepsNeighbours, disks_
 use Rattle.cp_core.specs.declared.work.Lent.{Lent}
 
 -- the machine with its devices, where its storage has these bytes and keys
-abbrev pub machine_of : Lent → List ℕ → List ℕ → Equipped
-machine_of l bytes keys = equipped l.machine.now (devices_on l.devices.now l.queues.now) (disks_on l.volumes.now l.minidisks.now.items) bytes keys
+abbrev pub machine_of : Lent → Memory → Equipped
+machine_of l m = equipped l.machine.now (devices_on l.devices.now l.queues.now) (disks_on l.volumes.now l.minidisks.now.items) m
 
 -- its minidisks, on the volumes that users share
 abbrev pub disks_of : Lent → DisksValue

@@ -4,9 +4,8 @@ use Rattle.ckd_volume.specs.Volume.{VolumeFormat}
 use Rattle.user_names.specs.Users.{name_of}
 use Rattle.cp_directory.specs.Users.{DirectoryUser}
 use Rattle.cp_frames.specs.Layout.{FrameSupply}
-use Rattle.machine_panel.specs.Machine.{Machine, unused}
-use Rattle.machine_devices.specs.Devices.{devices_new, no_places}
-use Rattle.machine_devices.specs.Equipped.{Equipped}
+use Rattle.machine_panel.specs.Machine.{Machine}
+use Rattle.machine_devices.specs.Equipped.{Equipped, nobody}
 use Rattle.machine_devices.specs.World.{World, is_logged_on}
 use Rattle.cp_volumes.specs.Shared.{Stand, stands_of}
 use Rattle.cp_core.specs.UserMachines.{UserParts, user_with}
@@ -37,10 +36,6 @@ deliveries_of users = map (λ (u : UserParts). u.deliveries) users
 
 abbrev pub stands_among : List UserParts → List (List Stand)
 stands_among users = map (λ (u : UserParts). stands_of u.minidisks) users
-
--- the machine of nobody
-abbrev pub nobody : Equipped
-nobody = record { machine = unused [] [] []; devices = devices_new no_places; disks = [] }
 
 -- a user's machine with its devices
 abbrev pub user_at : SystemView → ℕ → Equipped

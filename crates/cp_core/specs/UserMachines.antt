@@ -1,5 +1,6 @@
 -- A user's machine with its devices, of which the storage stands in frames.
-use Rattle.std.specs.Prelude.{◌≡◌, ℕ, ◌*◌, ◌≤◌, List, [], length, map, replicate}
+use Rattle.std.specs.Prelude.{◌≡◌, ℕ, ◌*◌, ◌≤◌, List, [], length, map}
+use Rattle.s370_store.specs.Memory.{Memory, cleared_memory, memory_of}
 use Rattle.s370_subchannels.specs.declared.subchannel.Subchannel.{Subchannel}
 use Rattle.machine_panel.specs.Machine.{Parts, machine_of, unused}
 use Rattle.machine_devices.specs.Devices.{AreAttached, DevicesValue}
@@ -45,7 +46,7 @@ seats_on queues seats = map (seat_on queues) seats
 
 -- the machine with its devices that it is with these volumes and this storage
 abbrev pub user_with : UserParts → List VolumeFormat → List ℕ → Equipped
-user_with u volumes bytes = equipped u.parts u.devices (disks_on volumes u.minidisks) bytes u.keys
+user_with u volumes bytes = equipped u.parts u.devices (disks_on volumes u.minidisks) (memory_of bytes u.keys)
 
 -- a storage that such a machine can have: of 8K at least, with a key for each block
 pub record Fits (u : UserParts) (bytes : List ℕ) : Type 0 where
@@ -56,4 +57,4 @@ pub record Fits (u : UserParts) (bytes : List ℕ) : Type 0 where
 pub record IsUnused (parts : Parts) (devices : DevicesValue) (disks : List DiskAt) : Type 0 where
   pub subchannels : List Subchannel
   pub attached : AreAttached devices disks subchannels
-  pub off : (bytes keys : List ℕ) → machine_of parts (replicate (length bytes) 0) (replicate (length keys) 0) ≡ unused bytes keys subchannels
+  pub off : (m : Memory) → machine_of parts (cleared_memory m) ≡ unused m subchannels

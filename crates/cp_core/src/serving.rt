@@ -6,7 +6,7 @@ ghost use Rattle.machine_devices.specs.Equipped.{equipped};
 ghost use Rattle.machine_devices.specs.Lent.{KeepsBeside, devices_on};
 ghost use Rattle.machine_devices.specs.Serve.{IsServedAt, ServeNeeds};
 ghost use Rattle.machine_panel.specs.declared.line.LineError.TheVariants as errors;
-ghost use Rattle.cp_dat.specs.Lent.{lent_bytes, lent_keys, lent_pool};
+ghost use Rattle.cp_dat.specs.Lent.{lent_bytes, lent_memory, lent_pool};
 ghost use Rattle.cp_dat.specs.Supplied.{IsBetweenUnits};
 ghost use Rattle.machine_devices.specs.Lines.{IsLine, requested};
 ghost use Rattle.cp_resident.specs.Resident.{KeepsHung, disks_on};
@@ -37,23 +37,24 @@ pub(crate) fn serve_supplied<S: Storage, C: Channels<S>>(
     requires ready { C.IsReady storage.old }
     requires owner { devices.old.user < length queues.old.users }
     ensures served { let before = equipped machine.old (devices_on devices.old queues.old) (C.Disks.disks channels.old)
-        (S.bytes storage.old) (S.keys storage.old) in
-        let after = equipped machine.new (devices_on devices.new queues.new) (C.Disks.disks channels.new) (S.bytes storage.new)
-        (S.keys storage.new) in
+        (S.memory storage.old) in
+        let after = equipped machine.new (devices_on devices.new queues.new) (C.Disks.disks channels.new)
+        (S.memory storage.new) in
         IfOk result (λ done. IsServedAt C.reads device before done after) }
     ensures same { let before = equipped machine.old (devices_on devices.old queues.old) (C.Disks.disks channels.old)
-        (S.bytes storage.old) (S.keys storage.old) in
-        let after = equipped machine.new (devices_on devices.new queues.new) (C.Disks.disks channels.new) (S.bytes storage.new)
-        (S.keys storage.new) in
+        (S.memory storage.old) in
+        let after = equipped machine.new (devices_on devices.new queues.new) (C.Disks.disks channels.new)
+        (S.memory storage.new) in
         result ≡ Err errors.FramesOut → after ≡ before }
     ensures frames { let before = equipped machine.old (devices_on devices.old queues.old) (C.Disks.disks channels.old)
-        (S.bytes storage.old) (S.keys storage.old) in
+        (S.memory storage.old) in
         let needs = ServeNeeds C.holds device before in
         result ≡ Err errors.FramesOut
-        → LacksRoom (length (S.bytes storage.old)) needs (NoRoom C.IsOut C.IsFilled S.present storage.new needs) }
+        → LacksRoom (length (S.memory storage.old).bytes) needs
+        (NoRoom C.IsOut C.IsFilled S.present storage.new needs) }
     ensures memory { result ≡ Err errors.Memory → IsSome (program_of device machine.old.subchannels) }
     ensures came { let before = equipped machine.old (devices_on devices.old queues.old) (C.Disks.disks channels.old)
-        (S.bytes storage.old) (S.keys storage.old) in
+        (S.memory storage.old) in
         Brings C.Came storage.old (ServeNeeds C.holds device before) storage.new }
     ensures ready { C.IsReady storage.new }
     ensures others { C.Disks.KeepsOthers channels.old channels.new }
@@ -83,28 +84,27 @@ pub(crate) fn type_supplied<W: World>(
     requires size { 8192 ≤ length (lent_bytes storage.old) }
     requires owner { devices.old.user < length queues.old.users }
     requires between { IsBetweenUnits (lent_pool storage.old).supply }
-    ensures ok { let before = equipped machine.old (devices_on devices.old queues.old) (disks_on channels.old) (lent_bytes storage.old)
-        (lent_keys storage.old) in
-        let after = equipped machine.new (devices_on devices.new queues.new) (disks_on channels.new) (lent_bytes storage.new)
-        (lent_keys storage.new) in
+    ensures ok { let before = equipped machine.old (devices_on devices.old queues.old) (disks_on channels.old)
+        (lent_memory storage.old) in
+        let after = equipped machine.new (devices_on devices.new queues.new) (disks_on channels.new)
+        (lent_memory storage.new) in
         IfOk result (λ told. IsLine (W.known world.now) typed.now before told after) }
-    ensures same { let before = equipped machine.old (devices_on devices.old queues.old) (disks_on channels.old) (lent_bytes storage.old)
-        (lent_keys storage.old) in
-        let after = equipped machine.new (devices_on devices.new queues.new) (disks_on channels.new) (lent_bytes storage.new)
-        (lent_keys storage.new) in
+    ensures same { let before = equipped machine.old (devices_on devices.old queues.old) (disks_on channels.old)
+        (lent_memory storage.old) in
+        let after = equipped machine.new (devices_on devices.new queues.new) (disks_on channels.new)
+        (lent_memory storage.new) in
         result ≡ Err errors.FramesOut → after ≡ before }
-    ensures kept { let before = equipped machine.old (devices_on devices.old queues.old) (disks_on channels.old) (lent_bytes storage.old)
-        (lent_keys storage.old) in
-        let after = equipped machine.new (devices_on devices.new queues.new) (disks_on channels.new) (lent_bytes storage.new)
-        (lent_keys storage.new) in
+    ensures kept { let before = equipped machine.old (devices_on devices.old queues.old) (disks_on channels.old)
+        (lent_memory storage.old) in
+        let after = equipped machine.new (devices_on devices.new queues.new) (disks_on channels.new)
+        (lent_memory storage.new) in
         result ≡ Err errors.Memory → is_ipl (requested typed.now before) ≡ false → after ≡ before }
-    ensures memory { let before = equipped machine.old (devices_on devices.old queues.old) (disks_on channels.old) (lent_bytes storage.old)
-        (lent_keys storage.old) in
+    ensures memory { let before = equipped machine.old (devices_on devices.old queues.old) (disks_on channels.old)
+        (lent_memory storage.old) in
         result ≡ Err errors.Memory → LineMay typed.now before }
-    ensures lent { let before = equipped machine.old (devices_on devices.old queues.old) (disks_on channels.old) (lent_bytes storage.old)
-        (lent_keys storage.old) in
+    ensures lent { let before = equipped machine.old (devices_on devices.old queues.old) (disks_on channels.old)
+        (lent_memory storage.old) in
         IsLineLent typed.now before storage.old storage.new result }
-    ensures size { length (lent_bytes storage.new) ≡ length (lent_bytes storage.old) }
     ensures others { KeepsHung channels.old channels.new }
     ensures beside { KeepsBeside devices.old queues.old devices.new queues.new }
 {

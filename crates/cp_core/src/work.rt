@@ -1,9 +1,10 @@
 //! What is done with the machine of one user while its storage is lent from frames: a run, a tick, a line,
 //! a serve.
+ghost use Rattle.s370_store.specs.Memory.{memory_of};
 ghost use Rattle.std.specs.Prelude.{◌≡◌, ◌*◌, ℕ, ◌<◌, ◌≤◌, List, length, slice_set};
 ghost use Rattle.cp_directory.specs.Users.{DirectoryUser};
 ghost use Rattle.cp_frames.specs.Layout.{FrameSupply, bytes_of};
-ghost use Rattle.cp_dat.specs.Lent.{KeepsFrames, lent_bytes, lent_keys, lent_pool, user_of};
+ghost use Rattle.cp_dat.specs.Lent.{KeepsFrames, lent_bytes, lent_memory, lent_pool, user_of};
 ghost use Rattle.cp_dat.specs.Supplied.{IsBetweenUnits};
 ghost use Rattle.machine_devices.specs.Equipped.{Equipped, equipped};
 ghost use Rattle.machine_devices.specs.Lent.{KeepsBeside, devices_on};
@@ -57,12 +58,12 @@ pub(crate) trait Work {
         storage: &mut Dat<'_>,
     ) -> Self::Answer
         requires { MayBeLent lent.old (lent_bytes storage.old) (lent_pool storage.old).supply }
-        ensures does { let before = machine_of lent.old (lent_bytes storage.old) (lent_keys storage.old) in
-            let after = machine_of lent.new (lent_bytes storage.new) (lent_keys storage.new) in
-            Does self.now directory.now (user_of storage.old) before (lent_pool storage.old).supply result after (lent_pool storage.new).supply }
+        ensures does { let before = machine_of lent.old (lent_memory storage.old) in
+            let after = machine_of lent.new (lent_memory storage.new) in
+            Does self.now directory.now (user_of storage.old) before (lent_pool storage.old).supply result
+            after (lent_pool storage.new).supply }
         ensures lent { KeepsLent lent.old lent.new }
         ensures kept { KeepsFrames storage.old storage.new }
-        ensures size { length (lent_bytes storage.new) ≡ length (lent_bytes storage.old) }
         ensures between { IsBetweenUnits (lent_pool storage.new).supply };
 }
 
@@ -87,9 +88,9 @@ pub(crate) fn lend<W: Work>(
     requires users { IsUsers volumes.old (stands_of minidisks.old.items) }
     requires owner { devices.old.user < length queues.old.users }
     ensures does { let before = equipped machine.old (devices_on devices.old queues.old) (disks_on volumes.old minidisks.old.items)
-        (bytes_of frames.old user) keys.old in
+        (memory_of (bytes_of frames.old user) keys.old) in
         let after = equipped machine.new (devices_on devices.new queues.new) (disks_on volumes.new minidisks.new.items)
-        (bytes_of frames.new user) keys.new in
+        (memory_of (bytes_of frames.new user) keys.new) in
         W.Does work.now directory.now user before frames.old.supply result after frames.new.supply }
     ensures others { frames.new.storages ≡ slice_set frames.old.storages user (bytes_of frames.new user) }
     ensures size { length (bytes_of frames.new user) ≡ length (bytes_of frames.old user) }

@@ -78,7 +78,7 @@ quiet_of : (console : ConsoleState) → console.waiting ≡ [] → wants_attenti
 quiet_of console e = rw e refl
 
 pub agrees_at_first : AttentionAgreesAtFirst
-agrees_at_first bytes keys list d disks e =
+agrees_at_first m list d disks e =
     reset_marks (waits_at d.places.console d.console) list (none_waits d.places.console d.console (quiet_of d.console e))
 
 -- ---- a run and a tick

@@ -2,7 +2,7 @@
 use Rattle.std.proofs.Common.{◌≡◌, ◌∙◌, ap, sym, subst, inl, inr, ℕ, Bool, List, [], ◌∷◌, true, Option, Result, Ok, Err}
 use Rattle.std.specs.Prelude.{◌*◌, ◌<◌, IfErr, IfOk}
 use Rattle.s370_walk.specs.declared.parts.Ending.{Ending}
-use Rattle.s370_walk.specs.Hardware.{Memory}
+use Rattle.s370_store.specs.Memory.{Memory}
 use Rattle.s370_walk.specs.Short.{nothing_needed}
 use Rattle.s370_channel.specs.declared.running.ChannelError.{ChannelError}
 use Rattle.s370_channel.specs.declared.running.ChannelError.TheVariants as errors
@@ -112,3 +112,9 @@ module _ (files : UserFiles) (part : ReaderPart) (before : FeedState) (is : befo
         → (let needs = LoadNeeds reader_machine m (reader_of files part) in WhereOut size needs (NoRoom IsOut IsFilled present new needs) B error)
     out_loaded error size A B to h =
         where_more IsOut IsFilled present new (LoadNeeds feed_machine m before) (LoadNeeds reader_machine m (reader_of files part)) loads_fed error size A B to h
+
+-- what has not happened, said otherwise
+pub out_as : {S : Type 0} (IsOut IsFilled : S → ℕ → Type 0) (present : S → ℕ → Bool) (storage : S) (P : ℕ → Type 0) (error : ChannelError) (size : ℕ) (A B : Type 0) → (A → B)
+    → WhereOut size P (NoRoom IsOut IsFilled present storage P) A error → WhereOut size P (NoRoom IsOut IsFilled present storage P) B error
+out_as IsOut IsFilled present storage P errors.Memory size A B to h = tt
+out_as IsOut IsFilled present storage P (errors.Absent page) size A B to h = (h.0, to h.1)

@@ -6,5 +6,6 @@ pub mod Marks
 pub mod Attention
 pub mod Staying
 pub mod Fed
+pub mod Loads
 pub mod Beside
 pub mod Answered

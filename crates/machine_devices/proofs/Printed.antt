@@ -3,12 +3,13 @@ use Rattle.std.proofs.Common.{◌≡◌, ◌<◌, ◌≤◌, ◌+◌, ℕ, List,
 use Rattle.std.proofs.Math.Seq.{take-suc}
 use Rattle.std.proofs.lemmas.List.{append_assoc, take_all}
 use Rattle.std.specs.Prelude.{Bool}
+use Rattle.s370_store.specs.Memory.{Memory, memory_of}
 use Rattle.s370_walk.specs.declared.parts.Ending.{Ending}
 use Rattle.s370_subchannels.specs.declared.subchannel.Subchannel.{Subchannel}
 use Rattle.s370_subchannels.specs.Programs.{program_ended}
 use Rattle.s370_subchannels.specs.Subchannels.{with_attention}
 use Rattle.unit_record.specs.Console.{ConsoleState, wants_attention}
-use Rattle.machine_devices.specs.Serve.{console_over}
+use Rattle.machine_devices.specs.Serve.{console_over, program_over}
 use Rattle.machine_panel.specs.Machine.{Parts, machine_of}
 
 -- one line more of these was printed, which has at most 132 characters
@@ -40,12 +41,18 @@ abbrev with_list : Parts → List Subchannel → Parts
 with_list p list = record p { subchannels = list }
 
 -- a machine whose console has attention to give or not, whose program has ended, and that has printed the lines that were written
-pub console_on : (p q r s : Parts) (device key : ℕ) (ending : Ending) (gives : Bool) (console : ConsoleState) (room : ℕ) (bytes bytes' keys keys' : List ℕ) → gives ≡ wants_attention console → q ≡ record p { subchannels = with_attention device gives p.subchannels } → r ≡ record q { subchannels = program_ended device key ending q.subchannels } → s ≡ record r { output = r.output ++ console.lines; room = room } → keys' ≡ keys → machine_of s bytes' keys' ≡ console_over device key ending console (machine_of p bytes keys) bytes'
-console_on p q r s device key ending gives console room bytes bytes' keys keys' is one two three same =
-    ap (λ (m : Parts). machine_of m bytes' keys')
+pub console_on : (p q r s : Parts) (device key : ℕ) (ending : Ending) (gives : Bool) (console : ConsoleState) (room : ℕ) (before after : Memory) → gives ≡ wants_attention console → q ≡ record p { subchannels = with_attention device gives p.subchannels } → r ≡ record q { subchannels = program_ended device key ending q.subchannels } → s ≡ record r { output = r.output ++ console.lines; room = room } → after.keys ≡ before.keys → machine_of s after ≡ console_over device key ending console (machine_of p before) after.bytes
+console_on p q r s device key ending gives console room before after is one two three same =
+    ap (λ (x : Parts). machine_of x after)
     (three
     ∙ ap (λ (x : Parts). with_output x (x.output ++ console.lines) room)
     (two
     ∙ ap (λ (x : Parts). with_list x (program_ended device key ending x.subchannels))
     (one ∙ ap (λ (g : Bool). with_list p (with_attention device g p.subchannels)) is)))
-    ∙ ap (λ (k : List ℕ). console_over device key ending console (machine_of p bytes k) bytes') same
+    ∙ ap (λ (keys : List ℕ). console_over device key ending console (machine_of p (memory_of before.bytes keys)) after.bytes) same
+
+-- a machine whose program has ended, which set no key
+pub program_left : (p q : Parts) (device key : ℕ) (ending : Ending) (before after : Memory) → q ≡ record p { subchannels = program_ended device key ending p.subchannels } → after.keys ≡ before.keys → machine_of q after ≡ program_over device key ending (machine_of p before) after.bytes
+program_left p q device key ending before after ended same =
+    ap (λ (x : Parts). machine_of x after) ended
+    ∙ ap (λ (keys : List ℕ). program_over device key ending (machine_of p (memory_of before.bytes keys)) after.bytes) same

@@ -1,5 +1,6 @@
 -- Attention and the lines that wait (docs/MACHINE.md, "Attention").
 use Rattle.std.specs.Prelude.{ℕ, ◌≡◌, ◌&&◌, Bool, true, List, [], bit_or, Option, IfSome}
+use Rattle.s370_store.specs.Memory.{Memory}
 use Rattle.s370_subchannels.specs.declared.subchannel.DeviceState.{DeviceState}
 use Rattle.s370_subchannels.specs.declared.subchannel.DeviceState.TheVariants.{Idle, Working, Pending}
 use Rattle.s370_subchannels.specs.declared.subchannel.Subchannel.{Subchannel}
@@ -33,8 +34,8 @@ AttentionAgrees e =
 
 -- it agrees in a machine that was never switched on, where no line waits
 abbrev pub AttentionAgreesAtFirst : Type 0
-AttentionAgreesAtFirst = (bytes keys : List ℕ) (list : List Subchannel) (d : DevicesValue) (disks : List DiskAt) →
-    d.console.waiting ≡ [] → AttentionAgrees (record { machine = unused bytes keys list; devices = d; disks = disks })
+AttentionAgreesAtFirst = (m : Memory) (list : List Subchannel) (d : DevicesValue) (disks : List DiskAt) →
+    d.console.waiting ≡ [] → AttentionAgrees (record { machine = unused m list; devices = d; disks = disks })
 
 -- and it goes on agreeing, whatever happens to the machine
 abbrev pub AttentionGoesOnAgreeing : Type 0

@@ -1,10 +1,10 @@
 -- A machine together with the parts of its devices, and its disks.
-use Rattle.std.specs.Prelude.{ℕ, List, ◌++◌}
-use Rattle.s370_walk.specs.Hardware.{Memory, memory_of}
+use Rattle.std.specs.Prelude.{ℕ, List, [], ◌++◌}
+use Rattle.s370_store.specs.Memory.{Memory, memory_of}
 use Rattle.s370_subchannels.specs.Subchannels.{attended}
-use Rattle.machine_panel.specs.Machine.{Machine, Parts, machine_of, with_subchannels}
+use Rattle.machine_panel.specs.Machine.{Machine, Parts, machine_of, unused, with_subchannels}
 use Rattle.machine_channels.specs.Disks.{DiskAt}
-use Rattle.machine_devices.specs.Devices.{DevicesValue}
+use Rattle.machine_devices.specs.Devices.{DevicesValue, devices_new, no_places}
 
 pub record Equipped : Type 0 where
   pub machine : Machine
@@ -13,8 +13,12 @@ pub record Equipped : Type 0 where
   pub disks : List DiskAt
 
 -- the parts of both, the disks of the channels, and the storage, which are lent
-abbrev pub equipped : Parts → DevicesValue → List DiskAt → List ℕ → List ℕ → Equipped
-equipped parts devices disks bytes keys = record { machine = machine_of parts bytes keys; devices = devices; disks = disks }
+abbrev pub equipped : Parts → DevicesValue → List DiskAt → Memory → Equipped
+equipped parts devices disks m = record { machine = machine_of parts m; devices = devices; disks = disks }
+
+-- the machine of nobody
+abbrev pub nobody : Equipped
+nobody = record { machine = unused (memory_of [] []) []; devices = devices_new no_places; disks = [] }
 
 -- the device has attention to give
 abbrev pub with_attended : ℕ → Machine → Machine

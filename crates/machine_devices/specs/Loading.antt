@@ -5,7 +5,8 @@ use Rattle.s370_psw.specs.Fields.{loaded as loaded_psw}
 use Rattle.s370_store.specs.Access.{Touches, put}
 use Rattle.s370_store.specs.declared.Access.TheVariants.{Store}
 use Rattle.s370_walk.specs.declared.parts.Ending.{Ending}
-use Rattle.s370_walk.specs.Hardware.{Machine as Device, area, memory_of}
+use Rattle.s370_store.specs.Memory.{memory_of}
+use Rattle.s370_walk.specs.Hardware.{Machine as Device, area}
 use Rattle.s370_channel.specs.declared.running.ChannelError.{ChannelError}
 use Rattle.s370_channel.specs.declared.running.ChannelError.TheVariants as errors
 use Rattle.cp_console.specs.Responses.{text_of}

@@ -5,7 +5,8 @@ use Rattle.unit_record.specs.Reader.{reader_machine}
 use Rattle.unit_record.specs.Punch.{punch_machine}
 use Rattle.unit_record.specs.Printer.{printer_machine}
 use Rattle.s370_walk.specs.declared.parts.Ending.{Ending}
-use Rattle.s370_walk.specs.Hardware.{Machine as Device, Memory}
+use Rattle.s370_store.specs.Memory.{Memory}
+use Rattle.s370_walk.specs.Hardware.{Machine as Device}
 use Rattle.s370_channel.specs.declared.words.Caw.{Caw}
 use Rattle.s370_channel.specs.Reading.{Reading}
 use Rattle.s370_channel.specs.Runs.{Walks}

@@ -2,7 +2,7 @@
 -- command that needs memory (docs/MACHINE.md, "Channel"). A reader and a disk have no such command.
 use Rattle.std.specs.Prelude.{ℕ, ◌<◌, ◌⊎◌, Bool, length, slice_get, Option, Some, None}
 use Rattle.s370_walk.specs.declared.parts.Ending.{Ending}
-use Rattle.s370_walk.specs.Hardware.{Memory}
+use Rattle.s370_store.specs.Memory.{Memory}
 use Rattle.s370_channel.specs.declared.running.ChannelError.{ChannelError}
 use Rattle.s370_channel.specs.declared.running.ChannelError.TheVariants as errors
 use Rattle.s370_channel.specs.declared.words.Caw.{Caw}

@@ -1,7 +1,6 @@
 //! The card reader of a machine feeds from the queue of its user.
 ghost use Rattle.std.specs.Prelude.{◌≡◌, ◌*◌, ◌<◌, false, true, IfErr, IfOk, OnErr, OnOk, length};
 ghost use Rattle.s370_channel.specs.Runs.{Walks};
-ghost use Rattle.s370_walk.specs.Hardware.{memory_of};
 ghost use Rattle.unit_record.specs.Reader.{reader_machine};
 ghost use Rattle.machine_channels.specs.Channels.{Brings, LacksPage, LoadNeeds, NoRoom, ProgramNeeds, StopsForPage, WalksLoading, WhereOut};
 ghost use Rattle.cp_spool.specs.Alike.{reader_of};
@@ -30,27 +29,27 @@ pub(crate) fn feed<S: Storage, C: Channels<S>>(
     requires user { user < length queues.old.users }
     requires ready { C.IsReady storage.old }
     ensures walk { IfOk result
-        (λ ending. Walks C.reads reader_machine start (memory_of (S.bytes storage.old) (S.keys storage.old))
+        (λ ending. Walks C.reads reader_machine start (S.memory storage.old)
         (reader_of (files_of queues.old.users user) reader.old) ending
-        (memory_of (S.bytes storage.new) (S.keys storage.new)) (reader_of (files_of queues.new.users user) reader.new)) }
+        (S.memory storage.new) (reader_of (files_of queues.new.users user) reader.new)) }
     ensures punched { (files_of queues.new.users user).punched ≡ (files_of queues.old.users user).punched }
     ensures printed { (files_of queues.new.users user).printed ≡ (files_of queues.old.users user).printed }
     ensures disks { C.disks channels.new ≡ C.disks channels.old }
     ensures stopped { C.is_whole ≡ false
         → IfErr result (StopsForPage reader_machine (S.present storage.old) start
-        (memory_of (S.bytes storage.old) (S.keys storage.old)) (reader_of (files_of queues.old.users user) reader.old)) }
+        (S.memory storage.old) (reader_of (files_of queues.old.users user) reader.old)) }
     ensures whole { let needs = ProgramNeeds C.holds reader_machine start
-        (memory_of (S.bytes storage.old) (S.keys storage.old)) (reader_of (files_of queues.old.users user) reader.old) in
+        (S.memory storage.old) (reader_of (files_of queues.old.users user) reader.old) in
         C.is_whole ≡ true
-        → IfErr result (WhereOut (length (S.bytes storage.old)) needs (NoRoom C.IsOut C.IsFilled S.present storage.new needs)
-        ((S.bytes storage.new ≡ S.bytes storage.old) × (reader.new ≡ reader.old)
+        → IfErr result (WhereOut (length (S.memory storage.old).bytes) needs
+        (NoRoom C.IsOut C.IsFilled S.present storage.new needs)
+        ((S.memory storage.new ≡ S.memory storage.old) × (reader.new ≡ reader.old)
         × (files_of queues.new.users user ≡ files_of queues.old.users user))) }
     ensures came { Brings C.Came storage.old (ProgramNeeds C.holds reader_machine start
-        (memory_of (S.bytes storage.old) (S.keys storage.old)) (reader_of (files_of queues.old.users user) reader.old)) storage.new }
+        (S.memory storage.old) (reader_of (files_of queues.old.users user) reader.old)) storage.new }
     ensures ready { C.IsReady storage.new }
     ensures beside { KeepsOthers user queues.old.users queues.new.users }
     ensures others { C.KeepsOthers channels.old channels.new }
-    ensures keys { S.keys storage.new ≡ S.keys storage.old }
 {
     let mut fed = FedReader::new(queues, user, replace(reader, Reader::new()));
     let ended = channels.run(storage, start, UnitRecord::Reader, &mut fed);
@@ -72,28 +71,28 @@ pub(crate) fn load_fed<S: Storage, C: Channels<S>>(
     requires user { user < length queues.old.users }
     requires ready { C.IsReady storage.old }
     ensures walk { IfOk result
-        (λ ending. WalksLoading reader_machine (memory_of (S.bytes storage.old) (S.keys storage.old))
+        (λ ending. WalksLoading reader_machine (S.memory storage.old)
         (reader_of (files_of queues.old.users user) part_new) ending
-        (memory_of (S.bytes storage.new) (S.keys storage.new)) (reader_of (files_of queues.new.users user) reader.new)) }
+        (S.memory storage.new) (reader_of (files_of queues.new.users user) reader.new)) }
     ensures punched { (files_of queues.new.users user).punched ≡ (files_of queues.old.users user).punched }
     ensures printed { (files_of queues.new.users user).printed ≡ (files_of queues.old.users user).printed }
     ensures disks { C.disks channels.new ≡ C.disks channels.old }
     ensures lacks { C.is_whole ≡ false
-        → IfErr result (LacksPage (length (S.bytes storage.old)) (S.present storage.old)) }
-    ensures whole { let needs = LoadNeeds reader_machine (memory_of (S.bytes storage.old) (S.keys storage.old))
+        → IfErr result (LacksPage (length (S.memory storage.old).bytes) (S.present storage.old)) }
+    ensures whole { let needs = LoadNeeds reader_machine (S.memory storage.old)
         (reader_of (files_of queues.old.users user) part_new) in
         C.is_whole ≡ true
-        → IfErr result (WhereOut (length (S.bytes storage.old)) needs (NoRoom C.IsOut C.IsFilled S.present storage.new needs)
-        (S.bytes storage.new ≡ S.bytes storage.old)) }
+        → IfErr result (WhereOut (length (S.memory storage.old).bytes) needs
+        (NoRoom C.IsOut C.IsFilled S.present storage.new needs)
+        (S.memory storage.new ≡ S.memory storage.old)) }
     ensures stays { OnErr result ((reader.new ≡ reader.old) × (queues.new ≡ queues.old)) }
     ensures there { C.is_whole ≡ true → OnOk result (S.present storage.new 0 ≡ true) }
     ensures same { C.is_whole ≡ false → S.present storage.new ≡ S.present storage.old }
     ensures came { Brings C.Came storage.old (LoadNeeds reader_machine
-        (memory_of (S.bytes storage.old) (S.keys storage.old)) (reader_of (files_of queues.old.users user) part_new)) storage.new }
+        (S.memory storage.old) (reader_of (files_of queues.old.users user) part_new)) storage.new }
     ensures ready { C.IsReady storage.new }
     ensures beside { KeepsOthers user queues.old.users queues.new.users }
     ensures others { C.KeepsOthers channels.old channels.new }
-    ensures keys { S.keys storage.new ≡ S.keys storage.old }
 {
     let mut fed = FedReader::new(queues, user, Reader::new());
     let ended = channels.load(storage, &mut fed);

@@ -38,7 +38,7 @@ impl Devices {
     /// is no room for a page that this needs, nothing has happened but that such pages came; else, where it is not
     /// obeyed, nothing is said of the machine. Memory is taken only for a reader or a disk: where the channels are not
     /// whole, for the answer and the notice of the machine's stop alone.
-    pub fn ipl<S: Storage, C: Channels<S>>(
+    pub(crate) fn ipl<S: Storage, C: Channels<S>>(
         &mut self,
         queues: &mut Queues,
         machine: &mut Machine,
@@ -46,28 +46,29 @@ impl Devices {
         channels: &mut C,
         device: DevAddr,
     ) -> Result<Told, LineError>
-        requires size { 8192 ≤ length (S.bytes storage.old) }
+        requires size { 8192 ≤ length (S.memory storage.old).bytes }
         requires user { self.old.user < length queues.old.users }
         requires ready { C.IsReady storage.old }
-        ensures ok { let before = equipped machine.old (devices_on self.old queues.old) (C.disks channels.old) (S.bytes storage.old)
-            (S.keys storage.old) in
-            let after = equipped machine.new (devices_on self.new queues.new) (C.disks channels.new) (S.bytes storage.new)
-            (S.keys storage.new) in
+        ensures ok { let before = equipped machine.old (devices_on self.old queues.old) (C.disks channels.old)
+            (S.memory storage.old) in
+            let after = equipped machine.new (devices_on self.new queues.new) (C.disks channels.new)
+            (S.memory storage.new) in
             IfOk result (λ told. IsIpl device before told after) }
         ensures lacks { C.is_whole ≡ false → result ≡ Err LineError.FramesOut
-            → ((page : ℕ) × IsAway (length (S.bytes storage.old)) (S.present storage.old) page) }
-        ensures same { let before = equipped machine.old (devices_on self.old queues.old) (C.disks channels.old) (S.bytes storage.old)
-            (S.keys storage.old) in
-            let after = equipped machine.new (devices_on self.new queues.new) (C.disks channels.new) (S.bytes storage.new)
-            (S.keys storage.new) in
+            → ((page : ℕ) × IsAway (length (S.memory storage.old).bytes) (S.present storage.old) page) }
+        ensures same { let before = equipped machine.old (devices_on self.old queues.old) (C.disks channels.old)
+            (S.memory storage.old) in
+            let after = equipped machine.new (devices_on self.new queues.new) (C.disks channels.new)
+            (S.memory storage.new) in
             C.is_whole ≡ true → result ≡ Err LineError.FramesOut → after ≡ before }
-        ensures out { let before = equipped machine.old (devices_on self.old queues.old) (C.disks channels.old) (S.bytes storage.old)
-            (S.keys storage.old) in
+        ensures out { let before = equipped machine.old (devices_on self.old queues.old) (C.disks channels.old)
+            (S.memory storage.old) in
             let needs = IplNeeds device before in
             C.is_whole ≡ true → result ≡ Err LineError.FramesOut
-            → LacksRoom (length (S.bytes storage.old)) needs (NoRoom C.IsOut C.IsFilled S.present storage.new needs) }
-        ensures came { let before = equipped machine.old (devices_on self.old queues.old) (C.disks channels.old) (S.bytes storage.old)
-            (S.keys storage.old) in
+            → LacksRoom (length (S.memory storage.old).bytes) needs
+            (NoRoom C.IsOut C.IsFilled S.present storage.new needs) }
+        ensures came { let before = equipped machine.old (devices_on self.old queues.old) (C.disks channels.old)
+            (S.memory storage.old) in
             Brings C.Came storage.old (IplNeeds device before) storage.new }
         ensures ready { C.IsReady storage.new }
         ensures others { C.KeepsOthers channels.old channels.new }
@@ -94,28 +95,29 @@ impl Devices {
         channels: &mut C,
         device: DevAddr,
     ) -> Result<Told, LineError>
-        requires size { 8192 ≤ length (S.bytes storage.old) }
+        requires size { 8192 ≤ length (S.memory storage.old).bytes }
         requires user { self.old.user < length queues.old.users }
         requires ready { C.IsReady storage.old }
-        ensures ok { let before = equipped machine.old (devices_on self.old queues.old) (C.disks channels.old) (S.bytes storage.old)
-            (S.keys storage.old) in
-            let after = equipped machine.new (devices_on self.new queues.new) (C.disks channels.new) (S.bytes storage.new)
-            (S.keys storage.new) in
+        ensures ok { let before = equipped machine.old (devices_on self.old queues.old) (C.disks channels.old)
+            (S.memory storage.old) in
+            let after = equipped machine.new (devices_on self.new queues.new) (C.disks channels.new)
+            (S.memory storage.new) in
             IfOk result (λ told. LoadsReader device before told after) }
         ensures lacks { C.is_whole ≡ false → result ≡ Err LineError.FramesOut
-            → ((page : ℕ) × IsAway (length (S.bytes storage.old)) (S.present storage.old) page) }
-        ensures same { let before = equipped machine.old (devices_on self.old queues.old) (C.disks channels.old) (S.bytes storage.old)
-            (S.keys storage.old) in
-            let after = equipped machine.new (devices_on self.new queues.new) (C.disks channels.new) (S.bytes storage.new)
-            (S.keys storage.new) in
+            → ((page : ℕ) × IsAway (length (S.memory storage.old).bytes) (S.present storage.old) page) }
+        ensures same { let before = equipped machine.old (devices_on self.old queues.old) (C.disks channels.old)
+            (S.memory storage.old) in
+            let after = equipped machine.new (devices_on self.new queues.new) (C.disks channels.new)
+            (S.memory storage.new) in
             C.is_whole ≡ true → result ≡ Err LineError.FramesOut → after ≡ before }
-        ensures out { let before = equipped machine.old (devices_on self.old queues.old) (C.disks channels.old) (S.bytes storage.old)
-            (S.keys storage.old) in
+        ensures out { let before = equipped machine.old (devices_on self.old queues.old) (C.disks channels.old)
+            (S.memory storage.old) in
             let needs = KindLoads (Some kinds.Reader) before in
             C.is_whole ≡ true → result ≡ Err LineError.FramesOut
-            → LacksRoom (length (S.bytes storage.old)) needs (NoRoom C.IsOut C.IsFilled S.present storage.new needs) }
-        ensures came { let before = equipped machine.old (devices_on self.old queues.old) (C.disks channels.old) (S.bytes storage.old)
-            (S.keys storage.old) in
+            → LacksRoom (length (S.memory storage.old).bytes) needs
+            (NoRoom C.IsOut C.IsFilled S.present storage.new needs) }
+        ensures came { let before = equipped machine.old (devices_on self.old queues.old) (C.disks channels.old)
+            (S.memory storage.old) in
             Brings C.Came storage.old (KindLoads (Some kinds.Reader) before) storage.new }
         ensures ready { C.IsReady storage.new }
         ensures others { C.KeepsOthers channels.old channels.new }
@@ -151,28 +153,29 @@ impl Devices {
         device: DevAddr,
         index: usize,
     ) -> Result<Told, LineError>
-        requires size { 8192 ≤ length (S.bytes storage.old) }
+        requires size { 8192 ≤ length (S.memory storage.old).bytes }
         requires ready { C.IsReady storage.old }
         requires inside { index < length (C.disks channels.old) }
-        ensures ok { let before = equipped machine.old (devices_on self.old queues.now) (C.disks channels.old) (S.bytes storage.old)
-            (S.keys storage.old) in
-            let after = equipped machine.new (devices_on self.new queues.now) (C.disks channels.new) (S.bytes storage.new)
-            (S.keys storage.new) in
+        ensures ok { let before = equipped machine.old (devices_on self.old queues.now) (C.disks channels.old)
+            (S.memory storage.old) in
+            let after = equipped machine.new (devices_on self.new queues.now) (C.disks channels.new)
+            (S.memory storage.new) in
             IfOk result (λ told. LoadsDisk index (slice_get (map reset_disk (C.disks channels.old)) index) device before told after) }
         ensures lacks { C.is_whole ≡ false → result ≡ Err LineError.FramesOut
-            → ((page : ℕ) × IsAway (length (S.bytes storage.old)) (S.present storage.old) page) }
-        ensures same { let before = equipped machine.old (devices_on self.old queues.now) (C.disks channels.old) (S.bytes storage.old)
-            (S.keys storage.old) in
-            let after = equipped machine.new (devices_on self.new queues.now) (C.disks channels.new) (S.bytes storage.new)
-            (S.keys storage.new) in
+            → ((page : ℕ) × IsAway (length (S.memory storage.old).bytes) (S.present storage.old) page) }
+        ensures same { let before = equipped machine.old (devices_on self.old queues.now) (C.disks channels.old)
+            (S.memory storage.old) in
+            let after = equipped machine.new (devices_on self.new queues.now) (C.disks channels.new)
+            (S.memory storage.new) in
             C.is_whole ≡ true → result ≡ Err LineError.FramesOut → after ≡ before }
-        ensures out { let before = equipped machine.old (devices_on self.old queues.now) (C.disks channels.old) (S.bytes storage.old)
-            (S.keys storage.old) in
+        ensures out { let before = equipped machine.old (devices_on self.old queues.now) (C.disks channels.old)
+            (S.memory storage.old) in
             let needs = KindLoads (Some (kinds.Disk index)) before in
             C.is_whole ≡ true → result ≡ Err LineError.FramesOut
-            → LacksRoom (length (S.bytes storage.old)) needs (NoRoom C.IsOut C.IsFilled S.present storage.new needs) }
-        ensures came { let before = equipped machine.old (devices_on self.old queues.now) (C.disks channels.old) (S.bytes storage.old)
-            (S.keys storage.old) in
+            → LacksRoom (length (S.memory storage.old).bytes) needs
+            (NoRoom C.IsOut C.IsFilled S.present storage.new needs) }
+        ensures came { let before = equipped machine.old (devices_on self.old queues.now) (C.disks channels.old)
+            (S.memory storage.old) in
             Brings C.Came storage.old (KindLoads (Some (kinds.Disk index)) before) storage.new }
         ensures ready { C.IsReady storage.new }
         ensures others { C.KeepsOthers channels.old channels.new }

@@ -1,5 +1,6 @@
 //! Lines that are typed to a machine with devices.
 ghost use Rattle.std.specs.Prelude.{◌≡◌, ◌<◌, ◌≤◌, ℕ, List, [], IfOk, OnErr, OnOk, Err, false, true, length};
+ghost use Rattle.s370_store.specs.Memory.{Memory};
 ghost use Rattle.s370_store.specs.Access.{IsAway, Touches};
 ghost use Rattle.machine_channels.specs.Channels.{Brings, LacksRoom, NoRoom};
 ghost use Rattle.machine_channels.specs.Disks.{DiskAt};
@@ -79,60 +80,62 @@ impl Devices {
         world: &W,
         typed: &[u8],
     ) -> Result<Told, LineError>
-        requires size { 8192 ≤ length (S.Storage.bytes storage.old) }
+        requires size { 8192 ≤ length (S.Storage.memory storage.old).bytes }
         requires user { self.old.user < length queues.old.users }
         requires ready { C.IsReady storage.old }
-        ensures ok { let before = equipped machine.old (devices_on self.old queues.old) (C.disks channels.old) (S.Storage.bytes storage.old)
-            (S.Storage.keys storage.old) in
-            let after = equipped machine.new (devices_on self.new queues.new) (C.disks channels.new) (S.Storage.bytes storage.new)
-            (S.Storage.keys storage.new) in
+        ensures ok { let before = equipped machine.old (devices_on self.old queues.old) (C.disks channels.old)
+            (S.Storage.memory storage.old) in
+            let after = equipped machine.new (devices_on self.new queues.new) (C.disks channels.new)
+            (S.Storage.memory storage.new) in
             IfOk result (λ told. IsLine (W.known world.now) typed.now before told after) }
-        ensures err { let before = equipped machine.old (devices_on self.old queues.old) (C.disks channels.old) (S.Storage.bytes storage.old)
-            (S.Storage.keys storage.old) in
-            let after = equipped machine.new (devices_on self.new queues.new) (C.disks channels.new) (S.Storage.bytes storage.new)
-            (S.Storage.keys storage.new) in
+        ensures err { let before = equipped machine.old (devices_on self.old queues.old) (C.disks channels.old)
+            (S.Storage.memory storage.old) in
+            let after = equipped machine.new (devices_on self.new queues.new) (C.disks channels.new)
+            (S.Storage.memory storage.new) in
             is_ipl (requested typed.now before) ≡ false → OnErr result (after ≡ before) }
-        ensures same { let before = equipped machine.old (devices_on self.old queues.old) (C.disks channels.old) (S.Storage.bytes storage.old)
-            (S.Storage.keys storage.old) in
-            let after = equipped machine.new (devices_on self.new queues.new) (C.disks channels.new) (S.Storage.bytes storage.new)
-            (S.Storage.keys storage.new) in
+        ensures same { let before = equipped machine.old (devices_on self.old queues.old) (C.disks channels.old)
+            (S.Storage.memory storage.old) in
+            let after = equipped machine.new (devices_on self.new queues.new) (C.disks channels.new)
+            (S.Storage.memory storage.new) in
             C.is_whole ≡ true → result ≡ Err LineError.FramesOut → after ≡ before }
-        ensures memory { let before = equipped machine.old (devices_on self.old queues.old) (C.disks channels.old) (S.Storage.bytes storage.old)
-            (S.Storage.keys storage.old) in
+        ensures memory { let before = equipped machine.old (devices_on self.old queues.old) (C.disks channels.old)
+            (S.Storage.memory storage.old) in
             result ≡ Err LineError.Memory → LineMay typed.now before }
-        ensures frames { let before = equipped machine.old (devices_on self.old queues.old) (C.disks channels.old) (S.Storage.bytes storage.old)
-            (S.Storage.keys storage.old) in
+        ensures frames { let before = equipped machine.old (devices_on self.old queues.old) (C.disks channels.old)
+            (S.Storage.memory storage.old) in
             let asked = requested typed.now before in
             is_ipl asked ≡ false → result ≡ Err LineError.FramesOut
-            → IsLacking (Touches (needs_of asked)) (length (S.Storage.bytes storage.old)) (S.IsShort storage.new) }
-        ensures lacks { let before = equipped machine.old (devices_on self.old queues.old) (C.disks channels.old) (S.Storage.bytes storage.old)
-            (S.Storage.keys storage.old) in
+            → IsLacking (Touches (needs_of asked)) (length (S.Storage.memory storage.old).bytes)
+            (S.IsShort storage.new) }
+        ensures lacks { let before = equipped machine.old (devices_on self.old queues.old) (C.disks channels.old)
+            (S.Storage.memory storage.old) in
             is_ipl (requested typed.now before) ≡ true → C.is_whole ≡ false → result ≡ Err LineError.FramesOut
-            → ((page : ℕ) × IsAway (length (S.Storage.bytes storage.old)) (S.Storage.present storage.old) page) }
-        ensures out { let before = equipped machine.old (devices_on self.old queues.old) (C.disks channels.old) (S.Storage.bytes storage.old)
-            (S.Storage.keys storage.old) in
+            → ((page : ℕ) × IsAway (length (S.Storage.memory storage.old).bytes) (S.Storage.present storage.old) page) }
+        ensures out { let before = equipped machine.old (devices_on self.old queues.old) (C.disks channels.old)
+            (S.Storage.memory storage.old) in
             let needs = LoadWants (requested typed.now before) before in
             is_ipl (requested typed.now before) ≡ true → C.is_whole ≡ true → result ≡ Err LineError.FramesOut
-            → LacksRoom (length (S.Storage.bytes storage.old)) needs (NoRoom C.IsOut C.IsFilled S.Storage.present storage.new needs) }
-        ensures cleared { let before = equipped machine.old (devices_on self.old queues.old) (C.disks channels.old) (S.Storage.bytes storage.old)
-            (S.Storage.keys storage.old) in
+            → LacksRoom (length (S.Storage.memory storage.old).bytes) needs
+            (NoRoom C.IsOut C.IsFilled S.Storage.present storage.new needs) }
+        ensures cleared { let before = equipped machine.old (devices_on self.old queues.old) (C.disks channels.old)
+            (S.Storage.memory storage.old) in
             switches (requested typed.now before) ≡ true → OnOk result (S.Cleared storage.old storage.new) }
         ensures not_cleared { let before = equipped machine.old (devices_on self.old queues.old) (C.disks channels.old)
-            (S.Storage.bytes storage.old) (S.Storage.keys storage.old) in
+            (S.Storage.memory storage.old) in
             switches (requested typed.now before) ≡ true → OnErr result (S.Brought storage.old [] storage.new) }
-        ensures supply { let before = equipped machine.old (devices_on self.old queues.old) (C.disks channels.old) (S.Storage.bytes storage.old)
-            (S.Storage.keys storage.old) in
+        ensures supply { let before = equipped machine.old (devices_on self.old queues.old) (C.disks channels.old)
+            (S.Storage.memory storage.old) in
             let asked = requested typed.now before in
             switches asked ≡ false → is_ipl asked ≡ false
             → ((pages : List ℕ) × S.Brought storage.old pages storage.new × AllNeeded (Touches (needs_of asked)) pages) }
-        ensures came { let before = equipped machine.old (devices_on self.old queues.old) (C.disks channels.old) (S.Storage.bytes storage.old)
-            (S.Storage.keys storage.old) in
+        ensures came { let before = equipped machine.old (devices_on self.old queues.old) (C.disks channels.old)
+            (S.Storage.memory storage.old) in
             let asked = requested typed.now before in
             is_ipl asked ≡ true
             → Brings C.Came storage.old (LoadWants asked before) storage.new × C.IsReady storage.new }
         ensures others { C.KeepsOthers channels.old channels.new }
         ensures beside { KeepsBeside self.old queues.old self.new queues.new }
-        ensures size { length (S.Storage.bytes storage.new) ≡ length (S.Storage.bytes storage.old) }
+        ensures size { length (S.Storage.memory storage.new).bytes ≡ length (S.Storage.memory storage.old).bytes }
     {
         let text = ConsoleText::new(typed);
         let has_console = self.places().console.is_some();
@@ -165,22 +168,22 @@ impl Devices {
         disks: &mut D,
     ) -> Result<Told, LineError>
         requires { self.old.user < length queues.old.users }
-        ensures ok { let before = equipped machine.old (devices_on self.old queues.old) (D.disks disks.old) (S.Storage.bytes storage.old)
-            (S.Storage.keys storage.old) in
-            let after = equipped machine.new (devices_on self.new queues.new) (D.disks disks.new) (S.Storage.bytes storage.new)
-            (S.Storage.keys storage.new) in
+        ensures ok { let before = equipped machine.old (devices_on self.old queues.old) (D.disks disks.old)
+            (S.Storage.memory storage.old) in
+            let after = equipped machine.new (devices_on self.new queues.new) (D.disks disks.new)
+            (S.Storage.memory storage.new) in
             IfOk result (λ told. outcome after told ≡ logged_off before) }
-        ensures err { let before = equipped machine.old (devices_on self.old queues.old) (D.disks disks.old) (S.Storage.bytes storage.old)
-            (S.Storage.keys storage.old) in
-            let after = equipped machine.new (devices_on self.new queues.new) (D.disks disks.new) (S.Storage.bytes storage.new)
-            (S.Storage.keys storage.new) in
+        ensures err { let before = equipped machine.old (devices_on self.old queues.old) (D.disks disks.old)
+            (S.Storage.memory storage.old) in
+            let after = equipped machine.new (devices_on self.new queues.new) (D.disks disks.new)
+            (S.Storage.memory storage.new) in
             OnErr result (after ≡ before) }
         ensures memory { result ≡ Err LineError.FramesOut → ⊥ }
         ensures cleared { OnOk result (S.Cleared storage.old storage.new) }
         ensures not_cleared { OnErr result (S.Brought storage.old [] storage.new) }
         ensures others { D.KeepsOthers disks.old disks.new }
         ensures beside { KeepsBeside self.old queues.old self.new queues.new }
-        ensures size { length (S.Storage.bytes storage.new) ≡ length (S.Storage.bytes storage.old) }
+        ensures size { length (S.Storage.memory storage.new).bytes ≡ length (S.Storage.memory storage.old).bytes }
     {
         let closed = self.open_files(queues);
         match self.log_off(alloc, queues) {
@@ -199,12 +202,12 @@ impl Devices {
         machine: &mut Machine,
         disks: &mut D,
     ) -> Result<Told, LineError>
-        ensures ok { (files : UserFiles) (bytes keys : List ℕ)
-            → IfOk result (λ told. outcome (equipped machine.new (devices_with self.new files) (D.disks disks.new) bytes keys) told
-            ≡ was_reset (equipped machine.old (devices_with self.old files) (D.disks disks.old) bytes keys)) }
-        ensures err { (files : UserFiles) (bytes keys : List ℕ)
-            → OnErr result (equipped machine.new (devices_with self.new files) (D.disks disks.new) bytes keys
-            ≡ equipped machine.old (devices_with self.old files) (D.disks disks.old) bytes keys) }
+        ensures ok { (files : UserFiles) (m : Memory)
+            → IfOk result (λ told. outcome (equipped machine.new (devices_with self.new files) (D.disks disks.new) m) told
+            ≡ was_reset (equipped machine.old (devices_with self.old files) (D.disks disks.old) m)) }
+        ensures err { (files : UserFiles) (m : Memory)
+            → OnErr result (equipped machine.new (devices_with self.new files) (D.disks disks.new) m
+            ≡ equipped machine.old (devices_with self.old files) (D.disks disks.old) m) }
         ensures memory { result ≡ Err LineError.FramesOut → ⊥ }
         ensures user { self.new.user ≡ self.old.user }
         ensures others { D.KeepsOthers disks.old disks.new }
@@ -221,12 +224,12 @@ impl Devices {
     /// A line for the console.
     fn type_line(&mut self, machine: &mut Machine, text: &[u8]) -> Result<Told, LineError>
         requires { length text.now ≤ 132 }
-        ensures ok { (files : UserFiles) (disks : List DiskAt) (bytes keys : List ℕ)
-            → IfOk result (λ told. outcome (equipped machine.new (devices_with self.new files) disks bytes keys) told
-            ≡ typed_at self.old.places.console text.now (equipped machine.old (devices_with self.old files) disks bytes keys)) }
-        ensures err { (files : UserFiles) (disks : List DiskAt) (bytes keys : List ℕ)
-            → OnErr result (equipped machine.new (devices_with self.new files) disks bytes keys
-            ≡ equipped machine.old (devices_with self.old files) disks bytes keys) }
+        ensures ok { (files : UserFiles) (disks : List DiskAt) (m : Memory)
+            → IfOk result (λ told. outcome (equipped machine.new (devices_with self.new files) disks m) told
+            ≡ typed_at self.old.places.console text.now (equipped machine.old (devices_with self.old files) disks m)) }
+        ensures err { (files : UserFiles) (disks : List DiskAt) (m : Memory)
+            → OnErr result (equipped machine.new (devices_with self.new files) disks m
+            ≡ equipped machine.old (devices_with self.old files) disks m) }
         ensures memory { result ≡ Err LineError.FramesOut → ⊥ }
         ensures user { self.new.user ≡ self.old.user }
     {

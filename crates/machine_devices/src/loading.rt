@@ -22,14 +22,13 @@ pub(crate) fn start_loaded<S: Storage>(
     device: DevAddr,
     ending: &Ending,
 ) -> Result<bool, ChannelError>
-    requires size { 8192 ≤ length (S.bytes storage.old) }
+    requires size { 8192 ≤ length (S.memory storage.old).bytes }
     requires room { 1 < machine.old.room }
     ensures well { IfOk result (λ well. well ≡ is_good ending.now) }
-    ensures left { let before = machine_of machine.old (S.bytes storage.old) (S.keys storage.old) in
-        let after = machine_of machine.new (S.bytes storage.new) (S.keys storage.new) in
-        IfOk result (λ well. after ≡ left_by (is_good ending.now) device before (S.bytes storage.old)) }
+    ensures left { let before = machine_of machine.old (S.memory storage.old) in
+        let after = machine_of machine.new (S.memory storage.new) in
+        IfOk result (λ well. after ≡ left_by (is_good ending.now) device before (S.memory storage.old).bytes) }
     ensures stopped { IfErr result (LacksPsw (S.present storage.old)) }
-    ensures keys { S.keys storage.new ≡ S.keys storage.old }
     ensures rest { S.Keeps storage.old storage.new }
 {
     if !is_good(ending) {

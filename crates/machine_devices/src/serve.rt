@@ -37,26 +37,26 @@ impl Devices {
     ) -> Result<bool, ChannelError>
         requires user { self.old.user < length queues.old.users }
         requires ready { C.IsReady storage.old }
-        ensures served { let before = equipped machine.old (devices_on self.old queues.old) (C.disks channels.old) (S.bytes storage.old)
-            (S.keys storage.old) in
-            let after = equipped machine.new (devices_on self.new queues.new) (C.disks channels.new) (S.bytes storage.new)
-            (S.keys storage.new) in
+        ensures served { let before = equipped machine.old (devices_on self.old queues.old) (C.disks channels.old)
+            (S.memory storage.old) in
+            let after = equipped machine.new (devices_on self.new queues.new) (C.disks channels.new)
+            (S.memory storage.new) in
             IfOk result (λ done. IsServedAt C.reads device before done after) }
-        ensures whole { let before = equipped machine.old (devices_on self.old queues.old) (C.disks channels.old) (S.bytes storage.old)
-            (S.keys storage.old) in
-            let after = equipped machine.new (devices_on self.new queues.new) (C.disks channels.new) (S.bytes storage.new)
-            (S.keys storage.new) in
+        ensures whole { let before = equipped machine.old (devices_on self.old queues.old) (C.disks channels.old)
+            (S.memory storage.old) in
+            let after = equipped machine.new (devices_on self.new queues.new) (C.disks channels.new)
+            (S.memory storage.new) in
             let needs = ServeNeeds C.holds device before in
             C.is_whole ≡ true
-            → IfErr result (WhereOut (length (S.bytes storage.old)) needs (NoRoom C.IsOut C.IsFilled S.present storage.new needs) (after ≡ before)) }
-        ensures stopped { let before = equipped machine.old (devices_on self.old queues.old) (C.disks channels.old) (S.bytes storage.old)
-            (S.keys storage.old) in
+            → IfErr result (WhereOut (length (S.memory storage.old).bytes) needs
+            (NoRoom C.IsOut C.IsFilled S.present storage.new needs) (after ≡ before)) }
+        ensures stopped { let before = equipped machine.old (devices_on self.old queues.old) (C.disks channels.old)
+            (S.memory storage.old) in
             C.is_whole ≡ false → IfErr result (StopsAt C.reads (S.present storage.old) device before) }
         ensures others { C.KeepsOthers channels.old channels.new }
         ensures beside { KeepsBeside self.old queues.old self.new queues.new }
-        ensures keys { S.keys storage.new ≡ S.keys storage.old }
-        ensures came { let before = equipped machine.old (devices_on self.old queues.old) (C.disks channels.old) (S.bytes storage.old)
-            (S.keys storage.old) in
+        ensures came { let before = equipped machine.old (devices_on self.old queues.old) (C.disks channels.old)
+            (S.memory storage.old) in
             Brings C.Came storage.old (ServeNeeds C.holds device before) storage.new }
         ensures ready { C.IsReady storage.new }
     {
@@ -86,26 +86,26 @@ impl Devices {
         requires attached { IsAttached (C.disks channels.old) kind }
         requires user { self.old.user < length queues.old.users }
         requires ready { C.IsReady storage.old }
-        ensures runs { let before = equipped machine.old (devices_on self.old queues.old) (C.disks channels.old) (S.bytes storage.old)
-            (S.keys storage.old) in
-            let after = equipped machine.new (devices_on self.new queues.new) (C.disks channels.new) (S.bytes storage.new)
-            (S.keys storage.new) in
+        ensures runs { let before = equipped machine.old (devices_on self.old queues.old) (C.disks channels.old)
+            (S.memory storage.old) in
+            let after = equipped machine.new (devices_on self.new queues.new) (C.disks channels.new)
+            (S.memory storage.new) in
             OnOk result (RunsKind C.reads kind device start before after) }
-        ensures whole { let before = equipped machine.old (devices_on self.old queues.old) (C.disks channels.old) (S.bytes storage.old)
-            (S.keys storage.old) in
-            let after = equipped machine.new (devices_on self.new queues.new) (C.disks channels.new) (S.bytes storage.new)
-            (S.keys storage.new) in
+        ensures whole { let before = equipped machine.old (devices_on self.old queues.old) (C.disks channels.old)
+            (S.memory storage.old) in
+            let after = equipped machine.new (devices_on self.new queues.new) (C.disks channels.new)
+            (S.memory storage.new) in
             let needs = KindNeeds C.holds kind start before in
             C.is_whole ≡ true
-            → IfErr result (WhereOut (length (S.bytes storage.old)) needs (NoRoom C.IsOut C.IsFilled S.present storage.new needs) (after ≡ before)) }
-        ensures stopped { let before = equipped machine.old (devices_on self.old queues.old) (C.disks channels.old) (S.bytes storage.old)
-            (S.keys storage.old) in
+            → IfErr result (WhereOut (length (S.memory storage.old).bytes) needs
+            (NoRoom C.IsOut C.IsFilled S.present storage.new needs) (after ≡ before)) }
+        ensures stopped { let before = equipped machine.old (devices_on self.old queues.old) (C.disks channels.old)
+            (S.memory storage.old) in
             C.is_whole ≡ false → IfErr result (StopsKind C.reads (S.present storage.old) kind start before) }
         ensures others { C.KeepsOthers channels.old channels.new }
         ensures beside { KeepsBeside self.old queues.old self.new queues.new }
-        ensures keys { S.keys storage.new ≡ S.keys storage.old }
-        ensures came { let before = equipped machine.old (devices_on self.old queues.old) (C.disks channels.old) (S.bytes storage.old)
-            (S.keys storage.old) in
+        ensures came { let before = equipped machine.old (devices_on self.old queues.old) (C.disks channels.old)
+            (S.memory storage.old) in
             Brings C.Came storage.old (KindNeeds C.holds kind start before) storage.new }
         ensures ready { C.IsReady storage.new }
     {
@@ -151,26 +151,26 @@ impl Devices {
     ) -> Result<(), ChannelError>
         requires user { self.old.user < length queues.old.users }
         requires ready { C.IsReady storage.old }
-        ensures runs { let before = equipped machine.old (devices_on self.old queues.old) (C.disks channels.old) (S.bytes storage.old)
-            (S.keys storage.old) in
-            let after = equipped machine.new (devices_on self.new queues.new) (C.disks channels.new) (S.bytes storage.new)
-            (S.keys storage.new) in
+        ensures runs { let before = equipped machine.old (devices_on self.old queues.old) (C.disks channels.old)
+            (S.memory storage.old) in
+            let after = equipped machine.new (devices_on self.new queues.new) (C.disks channels.new)
+            (S.memory storage.new) in
             OnOk result (RunsKind C.reads kinds.Reader device start before after) }
-        ensures whole { let before = equipped machine.old (devices_on self.old queues.old) (C.disks channels.old) (S.bytes storage.old)
-            (S.keys storage.old) in
-            let after = equipped machine.new (devices_on self.new queues.new) (C.disks channels.new) (S.bytes storage.new)
-            (S.keys storage.new) in
+        ensures whole { let before = equipped machine.old (devices_on self.old queues.old) (C.disks channels.old)
+            (S.memory storage.old) in
+            let after = equipped machine.new (devices_on self.new queues.new) (C.disks channels.new)
+            (S.memory storage.new) in
             let needs = KindNeeds C.holds kinds.Reader start before in
             C.is_whole ≡ true
-            → IfErr result (WhereOut (length (S.bytes storage.old)) needs (NoRoom C.IsOut C.IsFilled S.present storage.new needs) (after ≡ before)) }
-        ensures stopped { let before = equipped machine.old (devices_on self.old queues.old) (C.disks channels.old) (S.bytes storage.old)
-            (S.keys storage.old) in
+            → IfErr result (WhereOut (length (S.memory storage.old).bytes) needs
+            (NoRoom C.IsOut C.IsFilled S.present storage.new needs) (after ≡ before)) }
+        ensures stopped { let before = equipped machine.old (devices_on self.old queues.old) (C.disks channels.old)
+            (S.memory storage.old) in
             C.is_whole ≡ false → IfErr result (StopsKind C.reads (S.present storage.old) kinds.Reader start before) }
         ensures others { C.KeepsOthers channels.old channels.new }
         ensures beside { KeepsBeside self.old queues.old self.new queues.new }
-        ensures keys { S.keys storage.new ≡ S.keys storage.old }
-        ensures came { let before = equipped machine.old (devices_on self.old queues.old) (C.disks channels.old) (S.bytes storage.old)
-            (S.keys storage.old) in
+        ensures came { let before = equipped machine.old (devices_on self.old queues.old) (C.disks channels.old)
+            (S.memory storage.old) in
             Brings C.Came storage.old (KindNeeds C.holds kinds.Reader start before) storage.new }
         ensures ready { C.IsReady storage.new }
     {
@@ -202,26 +202,26 @@ impl Devices {
         start: Caw,
     ) -> Result<(), ChannelError>
         requires { C.IsReady storage.old }
-        ensures runs { let before = equipped machine.old (devices_on self.old queues.now) (C.disks channels.old) (S.bytes storage.old)
-            (S.keys storage.old) in
-            let after = equipped machine.new (devices_on self.new queues.now) (C.disks channels.new) (S.bytes storage.new)
-            (S.keys storage.new) in
+        ensures runs { let before = equipped machine.old (devices_on self.old queues.now) (C.disks channels.old)
+            (S.memory storage.old) in
+            let after = equipped machine.new (devices_on self.new queues.now) (C.disks channels.new)
+            (S.memory storage.new) in
             OnOk result (RunsConsole C.reads device start before after) }
-        ensures whole { let before = equipped machine.old (devices_on self.old queues.now) (C.disks channels.old) (S.bytes storage.old)
-            (S.keys storage.old) in
-            let after = equipped machine.new (devices_on self.new queues.now) (C.disks channels.new) (S.bytes storage.new)
-            (S.keys storage.new) in
+        ensures whole { let before = equipped machine.old (devices_on self.old queues.now) (C.disks channels.old)
+            (S.memory storage.old) in
+            let after = equipped machine.new (devices_on self.new queues.now) (C.disks channels.new)
+            (S.memory storage.new) in
             let needs = KindNeeds C.holds kinds.Console start before in
             C.is_whole ≡ true
-            → IfErr result (WhereOut (length (S.bytes storage.old)) needs (NoRoom C.IsOut C.IsFilled S.present storage.new needs) (after ≡ before)) }
-        ensures stopped { let before = equipped machine.old (devices_on self.old queues.now) (C.disks channels.old) (S.bytes storage.old)
-            (S.keys storage.old) in
+            → IfErr result (WhereOut (length (S.memory storage.old).bytes) needs
+            (NoRoom C.IsOut C.IsFilled S.present storage.new needs) (after ≡ before)) }
+        ensures stopped { let before = equipped machine.old (devices_on self.old queues.now) (C.disks channels.old)
+            (S.memory storage.old) in
             C.is_whole ≡ false → IfErr result (StopsConsole C.reads (S.present storage.old) start before) }
         ensures others { C.KeepsOthers channels.old channels.new }
         ensures user { self.new.user ≡ self.old.user }
-        ensures keys { S.keys storage.new ≡ S.keys storage.old }
-        ensures came { let before = equipped machine.old (devices_on self.old queues.now) (C.disks channels.old) (S.bytes storage.old)
-            (S.keys storage.old) in
+        ensures came { let before = equipped machine.old (devices_on self.old queues.now) (C.disks channels.old)
+            (S.memory storage.old) in
             Brings C.Came storage.old (KindNeeds C.holds kinds.Console start before) storage.new }
         ensures ready { C.IsReady storage.new }
     {

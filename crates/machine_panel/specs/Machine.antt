@@ -1,6 +1,7 @@
 -- A System/370 with its operator's panel (GA22-7000, "Program States", "Resets"; docs/MACHINE.md).
 use Rattle.std.specs.Prelude.{ℕ, false, List, [], ◌∷◌, ◌++◌, length, replicate}
 use Rattle.s370_psw.specs.Fields.{Fields, fields_of}
+use Rattle.s370_store.specs.Memory.{Memory}
 use Rattle.s370_rows.specs.declared.cpu.Cpu.{Cpu}
 use Rattle.s370_rows.specs.State.{State, state_of}
 use Rattle.s370_intr.specs.declared.pending.Pending.{Pending}
@@ -51,11 +52,11 @@ cleared m = let r = reset m in record r { core = record r.core { processor = zer
 abbrev pub switched_off : Machine → Machine
 switched_off m = record (cleared m) { mode = Off }
 
--- a machine that was never switched on, with a storage of this size and these devices: a cleared one that is off, and has
+-- a machine that was never switched on, with a storage as large as this and these devices: a cleared one that is off, and has
 -- printed nothing
-abbrev pub unused : List ℕ → List ℕ → List Subchannel → Machine
-unused bytes keys devices =
-    let new : Machine = record { core = core_of (state_of (reset_cpu (replicate 16 0)) bytes keys) nothing_pending devices; mode = Off; output = [] } in
+abbrev pub unused : Memory → List Subchannel → Machine
+unused m devices =
+    let new : Machine = record { core = core_of (state_of (reset_cpu (replicate 16 0)) m) nothing_pending devices; mode = Off; output = [] } in
     switched_off new
 
 -- a line more on the console
@@ -82,6 +83,6 @@ pub record Parts : Type 0 where
   pub output : List (List ℕ)
   pub room : ℕ
 
--- the machine that it is with this storage and these keys
-abbrev pub machine_of : Parts → List ℕ → List ℕ → Machine
-machine_of p bytes keys = record { core = core_of (state_of p.cpu bytes keys) p.pending p.subchannels; mode = p.mode; output = p.output }
+-- the machine that it is with this storage
+abbrev pub machine_of : Parts → Memory → Machine
+machine_of p m = record { core = core_of (state_of p.cpu m) p.pending p.subchannels; mode = p.mode; output = p.output }

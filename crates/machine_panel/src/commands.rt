@@ -1,5 +1,6 @@
 //! The commands of the panel that change or show a machine.
 ghost use Rattle.std.specs.Prelude.{◌≡◌, ◌<◌, ℕ, List, None, Some, IfOk, OnErr, OnOk, Result, length, true};
+ghost use Rattle.s370_store.specs.Memory.{Memory};
 ghost use Rattle.s370_rows.specs.State.{state_of};
 ghost use Rattle.s370_store.specs.Access.{Touches};
 ghost use Rattle.s370_intr.specs.Run.{AllNeeded, IsLacking};
@@ -23,11 +24,11 @@ use std::alloc::AllocError;
 impl Machine {
     /// BEGIN: the machine runs, and the room for the notice of its stop is made.
     pub(crate) fn begin(&mut self, address: Option<Addr24>) -> Result<(), AllocError>
-        ensures ok { (bytes keys : List ℕ)
-            → OnOk result (line (lines.Begin address) (machine_of self.old bytes keys)
-            ≡ record { machine = machine_of self.new bytes keys; reply = None }) }
-        ensures err { (bytes keys : List ℕ)
-            → OnErr result (machine_of self.new bytes keys ≡ machine_of self.old bytes keys) }
+        ensures ok { (m : Memory)
+            → OnOk result (line (lines.Begin address) (machine_of self.old m)
+            ≡ record { machine = machine_of self.new m; reply = None }) }
+        ensures err { (m : Memory)
+            → OnErr result (machine_of self.new m ≡ machine_of self.old m) }
         ensures memory { OnErr result (self.old.room < 1) }
     {
         self.output.make_room(1)?;
@@ -41,11 +42,11 @@ impl Machine {
 
     /// SYSTEM RESET: general registers, storage, keys and what was printed stay.
     pub fn system_reset(&mut self) -> Result<(), AllocError>
-        ensures ok { (bytes keys : List ℕ)
-            → OnOk result (machine_of self.new bytes keys
-            ≡ printed (reset (machine_of self.old bytes keys)) (text_of SystemReset)) }
-        ensures err { (bytes keys : List ℕ)
-            → OnErr result (machine_of self.new bytes keys ≡ machine_of self.old bytes keys) }
+        ensures ok { (m : Memory)
+            → OnOk result (machine_of self.new m
+            ≡ printed (reset (machine_of self.old m)) (text_of SystemReset)) }
+        ensures err { (m : Memory)
+            → OnErr result (machine_of self.new m ≡ machine_of self.old m) }
         ensures memory { OnErr result (self.old.room < 1) }
     {
         let answer = 1;
@@ -57,9 +58,9 @@ impl Machine {
 
     /// EXTERNAL: the interrupt key is pressed.
     pub(crate) fn external(&mut self)
-        ensures { (bytes keys : List ℕ)
-            → line lines.External (machine_of self.old bytes keys)
-            ≡ record { machine = machine_of self.new bytes keys; reply = None } }
+        ensures { (m : Memory)
+            → line lines.External (machine_of self.old m)
+            ≡ record { machine = machine_of self.new m; reply = None } }
     {
         self.pending.key = true;
     }
@@ -70,18 +71,18 @@ impl Machine {
         storage: &mut S,
         place: Place,
     ) -> Result<Option<Response>, LineError>
-        ensures ok { let before = machine_of self.old (S.Storage.bytes storage.old) (S.Storage.keys storage.old) in
-            let after = machine_of self.new (S.Storage.bytes storage.new) (S.Storage.keys storage.new) in
+        ensures ok { let before = machine_of self.old (S.Storage.memory storage.old) in
+            let after = machine_of self.new (S.Storage.memory storage.new) in
             IfOk result (λ reply. line (lines.Display place) before ≡ record { machine = after; reply = reply }) }
-        ensures err { let before = machine_of self.old (S.Storage.bytes storage.old) (S.Storage.keys storage.old) in
-            let after = machine_of self.new (S.Storage.bytes storage.new) (S.Storage.keys storage.new) in
+        ensures err { let before = machine_of self.old (S.Storage.memory storage.old) in
+            let after = machine_of self.new (S.Storage.memory storage.new) in
             OnErr result (after ≡ before) }
         ensures memory { result ≡ Err LineError.Memory → self.old.room < 2 }
         ensures frames { result ≡ Err LineError.FramesOut
-            → IsLacking (Touches (shown place)) (length (S.Storage.bytes storage.old)) (S.IsShort storage.new) }
+            → IsLacking (Touches (shown place)) (length (S.Storage.memory storage.old).bytes) (S.IsShort storage.new) }
         ensures supply { (pages : List ℕ) × S.Brought storage.old pages storage.new
             × AllNeeded (Touches (shown place)) pages }
-        ensures size { length (S.Storage.bytes storage.new) ≡ length (S.Storage.bytes storage.old) }
+        ensures size { length (S.Storage.memory storage.new).bytes ≡ length (S.Storage.memory storage.old).bytes }
     {
         match self.output.make_room(2) {
             Ok(()) => {}
@@ -102,18 +103,19 @@ impl Machine {
         storage: &mut S,
         change: Change,
     ) -> Result<Option<Response>, LineError>
-        ensures ok { let before = machine_of self.old (S.Storage.bytes storage.old) (S.Storage.keys storage.old) in
-            let after = machine_of self.new (S.Storage.bytes storage.new) (S.Storage.keys storage.new) in
+        ensures ok { let before = machine_of self.old (S.Storage.memory storage.old) in
+            let after = machine_of self.new (S.Storage.memory storage.new) in
             IfOk result (λ reply. line (lines.Store change) before ≡ record { machine = after; reply = reply }) }
-        ensures err { let before = machine_of self.old (S.Storage.bytes storage.old) (S.Storage.keys storage.old) in
-            let after = machine_of self.new (S.Storage.bytes storage.new) (S.Storage.keys storage.new) in
+        ensures err { let before = machine_of self.old (S.Storage.memory storage.old) in
+            let after = machine_of self.new (S.Storage.memory storage.new) in
             OnErr result (after ≡ before) }
         ensures memory { result ≡ Err LineError.Memory → self.old.room < 2 }
         ensures frames { result ≡ Err LineError.FramesOut
-            → IsLacking (Touches (touched change)) (length (S.Storage.bytes storage.old)) (S.IsShort storage.new) }
+            → IsLacking (Touches (touched change)) (length (S.Storage.memory storage.old).bytes)
+            (S.IsShort storage.new) }
         ensures supply { (pages : List ℕ) × S.Brought storage.old pages storage.new
             × AllNeeded (Touches (touched change)) pages }
-        ensures size { length (S.Storage.bytes storage.new) ≡ length (S.Storage.bytes storage.old) }
+        ensures size { length (S.Storage.memory storage.new).bytes ≡ length (S.Storage.memory storage.old).bytes }
     {
         match self.output.make_room(2) {
             Ok(()) => {}
@@ -135,15 +137,14 @@ fn display_supplied<S: Supply>(
     storage: &mut S,
     place: &Place,
 ) -> Result<Response, FramesOut>
-    ensures ok { let s = state_of cpu.now (S.Storage.bytes storage.old) (S.Storage.keys storage.old) in
+    ensures ok { let s = state_of cpu.now (S.Storage.memory storage.old) in
         IfOk result (λ response. response ≡ displayed place.now s) }
     ensures kept { IfOk result (λ response. is_panel response ≡ true) }
     ensures err { OnErr result
-        (IsLacking (Touches (shown place.now)) (length (S.Storage.bytes storage.old)) (S.IsShort storage.new)) }
+        (IsLacking (Touches (shown place.now)) (length (S.Storage.memory storage.old).bytes) (S.IsShort storage.new)) }
     ensures supply { (pages : List ℕ) × S.Brought storage.old pages storage.new
         × AllNeeded (Touches (shown place.now)) pages }
-    ensures bytes { S.Storage.bytes storage.new ≡ S.Storage.bytes storage.old }
-    ensures keys { S.Storage.keys storage.new ≡ S.Storage.keys storage.old }
+    ensures still { S.Storage.memory storage.new ≡ S.Storage.memory storage.old }
 {
     loop {
         match display(*place, cpu, storage) {
@@ -161,18 +162,19 @@ fn change_supplied<S: Supply>(
     storage: &mut S,
     change_of: &Change,
 ) -> Result<Response, FramesOut>
-    ensures ok { let before = state_of cpu.old (S.Storage.bytes storage.old) (S.Storage.keys storage.old) in
-        let after = state_of cpu.new (S.Storage.bytes storage.new) (S.Storage.keys storage.new) in
+    ensures ok { let before = state_of cpu.old (S.Storage.memory storage.old) in
+        let after = state_of cpu.new (S.Storage.memory storage.new) in
         IfOk result (λ response. (response ≡ stored change_of.now before) × (after ≡ changed change_of.now before)) }
     ensures kept { IfOk result (λ response. is_panel response ≡ true) }
-    ensures unchanged { let before = state_of cpu.old (S.Storage.bytes storage.old) (S.Storage.keys storage.old) in
-        let after = state_of cpu.new (S.Storage.bytes storage.new) (S.Storage.keys storage.new) in
+    ensures unchanged { let before = state_of cpu.old (S.Storage.memory storage.old) in
+        let after = state_of cpu.new (S.Storage.memory storage.new) in
         OnErr result (after ≡ before) }
     ensures err { OnErr result
-        (IsLacking (Touches (touched change_of.now)) (length (S.Storage.bytes storage.old)) (S.IsShort storage.new)) }
+        (IsLacking (Touches (touched change_of.now)) (length (S.Storage.memory storage.old).bytes)
+        (S.IsShort storage.new)) }
     ensures supply { (pages : List ℕ) × S.Brought storage.old pages storage.new
         × AllNeeded (Touches (touched change_of.now)) pages }
-    ensures size { length (S.Storage.bytes storage.new) ≡ length (S.Storage.bytes storage.old) }
+    ensures size { length (S.Storage.memory storage.new).bytes ≡ length (S.Storage.memory storage.old).bytes }
 {
     loop {
         match change(*change_of, cpu, storage) {

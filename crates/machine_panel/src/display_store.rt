@@ -14,7 +14,7 @@ use s370_store::{Access, BLOCK_SIZE, Fault, Keyed, Page, Range, Storage};
 
 /// What a place holds.
 pub fn display<S: Keyed>(place: Place, cpu: &Cpu, storage: &S) -> Result<Response, Page>
-    ensures { let s = state_of cpu.now (S.Storage.bytes storage.now) (S.Storage.keys storage.now) in
+    ensures { let s = state_of cpu.now (S.Storage.memory storage.now) in
         Displays place (S.Storage.present storage.now) s result }
 {
     match place {
@@ -34,7 +34,7 @@ pub fn display<S: Keyed>(place: Place, cpu: &Cpu, storage: &S) -> Result<Respons
 
 /// The key of the block in which an address lies.
 fn display_key<S: Keyed>(address: Addr24, cpu: &Cpu, storage: &S) -> Response
-    ensures { let s = state_of cpu.now (S.Storage.bytes storage.now) (S.Storage.keys storage.now) in
+    ensures { let s = state_of cpu.now (S.Storage.memory storage.now) in
         result ≡ displayed (Place.Key address) s }
 {
     if address.get() >= storage.size() {
@@ -45,7 +45,7 @@ fn display_key<S: Keyed>(address: Addr24, cpu: &Cpu, storage: &S) -> Response
 
 /// The sixteen bytes round an address.
 fn display_storage<S: Storage>(address: Addr24, cpu: &Cpu, storage: &S) -> Result<Response, Page>
-    ensures { let s = state_of cpu.now (S.bytes storage.now) (S.keys storage.now) in
+    ensures { let s = state_of cpu.now (S.memory storage.now) in
         Displays (Place.Storage address) (S.present storage.now) s result }
 {
     let start = address.get() / 16 * 16;
@@ -60,8 +60,8 @@ fn display_storage<S: Storage>(address: Addr24, cpu: &Cpu, storage: &S) -> Resul
 
 /// Gives a place what a command stores there.
 pub fn change<S: Storage>(change: Change, cpu: &mut Cpu, storage: &mut S) -> Result<Response, Page>
-    ensures change { let before = state_of cpu.old (S.bytes storage.old) (S.keys storage.old) in
-        let after = state_of cpu.new (S.bytes storage.new) (S.keys storage.new) in
+    ensures change { let before = state_of cpu.old (S.memory storage.old) in
+        let after = state_of cpu.new (S.memory storage.new) in
         Changes change (S.present storage.old) before result after }
     ensures rest { S.Keeps storage.old storage.new }
 {
@@ -85,8 +85,8 @@ fn change_storage<S: Storage>(
     cpu: &Cpu,
     storage: &mut S,
 ) -> Result<Response, Page>
-    ensures change { let before = state_of cpu.now (S.bytes storage.old) (S.keys storage.old) in
-        let after = state_of cpu.now (S.bytes storage.new) (S.keys storage.new) in
+    ensures change { let before = state_of cpu.now (S.memory storage.old) in
+        let after = state_of cpu.now (S.memory storage.new) in
         Changes (Change.Storage address stored) (S.present storage.old) before result after }
     ensures rest { S.Keeps storage.old storage.new }
 {
@@ -107,8 +107,8 @@ fn change_storage<S: Storage>(
 /// Leave to access a range that lies in storage, whatever its keys; or a page of it that is not present.
 fn reach<S: Storage>(storage: &S, range: Range, access: Access) -> Result<(), Page>
     requires short { range.count ≤ 256 }
-    requires inside { range.start + range.count ≤ length (S.bytes storage.now) }
-    ensures { Reaches (length (S.bytes storage.now)) (S.present storage.now) (tested access range ∷ []) result }
+    requires inside { range.start + range.count ≤ length (S.memory storage.now).bytes }
+    ensures { Reaches (length (S.memory storage.now).bytes) (S.present storage.now) (tested access range ∷ []) result }
 {
     match storage.check(range, access, AccessKey::ZERO) {
         Ok(()) => Ok(()),

@@ -50,18 +50,19 @@ impl Machine {
         storage: &mut S,
         asked: PanelLine,
     ) -> Result<Option<Response>, LineError>
-        ensures ok { let before = machine_of self.old (S.Storage.bytes storage.old) (S.Storage.keys storage.old) in
-            let after = machine_of self.new (S.Storage.bytes storage.new) (S.Storage.keys storage.new) in
+        ensures ok { let before = machine_of self.old (S.Storage.memory storage.old) in
+            let after = machine_of self.new (S.Storage.memory storage.new) in
             IfOk result (λ reply. line asked before ≡ record { machine = after; reply = reply }) }
-        ensures err { let before = machine_of self.old (S.Storage.bytes storage.old) (S.Storage.keys storage.old) in
-            let after = machine_of self.new (S.Storage.bytes storage.new) (S.Storage.keys storage.new) in
+        ensures err { let before = machine_of self.old (S.Storage.memory storage.old) in
+            let after = machine_of self.new (S.Storage.memory storage.new) in
             OnErr result (after ≡ before) }
         ensures memory { result ≡ Err LineError.Memory → self.old.room < line_room asked }
         ensures frames { result ≡ Err LineError.FramesOut
-            → IsLacking (Touches (line_needs asked)) (length (S.Storage.bytes storage.old)) (S.IsShort storage.new) }
+            → IsLacking (Touches (line_needs asked)) (length (S.Storage.memory storage.old).bytes)
+            (S.IsShort storage.new) }
         ensures supply { (pages : List ℕ) × S.Brought storage.old pages storage.new
             × AllNeeded (Touches (line_needs asked)) pages }
-        ensures size { length (S.Storage.bytes storage.new) ≡ length (S.Storage.bytes storage.old) }
+        ensures size { length (S.Storage.memory storage.new).bytes ≡ length (S.Storage.memory storage.old).bytes }
     {
         match asked {
             PanelLine::Nothing => Ok(None),

@@ -1,6 +1,7 @@
 //! A machine but for its storage.
-ghost use Rattle.std.specs.Prelude.{◌≡◌, ◌≤◌, [], List, ℕ, length, replicate, slice_get};
+ghost use Rattle.std.specs.Prelude.{◌≡◌, ◌≤◌, [], length, slice_get};
 ghost use Rattle.std.specs.Option.{option_map};
+ghost use Rattle.s370_store.specs.Memory.{Memory, cleared_memory};
 ghost use Rattle.s370_subchannels.specs.Subchannels.{AreAscending};
 ghost use Rattle.machine_panel.specs.Machine.{cleared, machine_of, reset_cpu, switched_off, unused};
 
@@ -71,9 +72,8 @@ pub(crate) fn reset_cpu(general: [u32; 16]) -> Cpu
 impl Machine {
     /// A machine with these devices that is off and was never on.
     pub fn new(alloc: Global, mut subchannels: Subchannels) -> Machine
-        ensures machine { (bytes keys : List ℕ)
-            → machine_of result (replicate (length bytes) 0) (replicate (length keys) 0)
-            ≡ unused bytes keys subchannels }
+        ensures machine { (m : Memory)
+            → machine_of result (cleared_memory m) ≡ unused m subchannels }
     {
         subchannels.reset();
         Machine {
@@ -87,11 +87,11 @@ impl Machine {
 
     /// LOGON: a reset machine with zeros everywhere; what was printed stays.
     pub fn clear<S: Supply>(&mut self, storage: &mut S)
-        ensures machine { machine_of self.new (S.Storage.bytes storage.new) (S.Storage.keys storage.new)
-            ≡ cleared (machine_of self.old (S.Storage.bytes storage.old) (S.Storage.keys storage.old)) }
+        ensures machine { machine_of self.new (S.Storage.memory storage.new)
+            ≡ cleared (machine_of self.old (S.Storage.memory storage.old)) }
         ensures cleared { S.Cleared storage.old storage.new }
-        ensures size { length (S.Storage.bytes storage.new) ≡ length (S.Storage.bytes storage.old) }
-        ensures keys { length (S.Storage.keys storage.new) ≡ length (S.Storage.keys storage.old) }
+        ensures size { length (S.Storage.memory storage.new).bytes ≡ length (S.Storage.memory storage.old).bytes }
+        ensures keys { length (S.Storage.memory storage.new).keys ≡ length (S.Storage.memory storage.old).keys }
     {
         self.cpu = reset_cpu([0; 16]);
         self.pending = Pending::NOTHING;
@@ -102,11 +102,11 @@ impl Machine {
 
     /// LOGOFF: as after LOGON, but off.
     pub fn switch_off<S: Supply>(&mut self, storage: &mut S)
-        ensures machine { machine_of self.new (S.Storage.bytes storage.new) (S.Storage.keys storage.new)
-            ≡ switched_off (machine_of self.old (S.Storage.bytes storage.old) (S.Storage.keys storage.old)) }
+        ensures machine { machine_of self.new (S.Storage.memory storage.new)
+            ≡ switched_off (machine_of self.old (S.Storage.memory storage.old)) }
         ensures cleared { S.Cleared storage.old storage.new }
-        ensures size { length (S.Storage.bytes storage.new) ≡ length (S.Storage.bytes storage.old) }
-        ensures keys { length (S.Storage.keys storage.new) ≡ length (S.Storage.keys storage.old) }
+        ensures size { length (S.Storage.memory storage.new).bytes ≡ length (S.Storage.memory storage.old).bytes }
+        ensures keys { length (S.Storage.memory storage.new).keys ≡ length (S.Storage.memory storage.old).keys }
     {
         self.clear(storage);
         self.mode = Mode::Off;

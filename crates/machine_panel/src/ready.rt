@@ -1,5 +1,6 @@
 //! Whether a machine would do something with a slice of the processor.
-ghost use Rattle.std.specs.Prelude.{◌≡◌, ℕ, List};
+ghost use Rattle.std.specs.Prelude.{◌≡◌};
+ghost use Rattle.s370_store.specs.Memory.{Memory};
 ghost use Rattle.s370_rows.specs.State.{state_of};
 ghost use Rattle.s370_intr.specs.Units.{core_of};
 ghost use Rattle.machine_panel.specs.Machine.{machine_of};
@@ -32,7 +33,7 @@ impl Machine {
     /// Whether the machine is ready for a unit: it is, unless a run of one unit would tell that it waits for an
     /// interruption or is stopped. Nothing is done.
     pub fn is_ready(&self) -> bool
-        ensures { (bytes keys : List ℕ) → result ≡ is_ready (machine_of self.now bytes keys) }
+        ensures { (m : Memory) → result ≡ is_ready (machine_of self.now m) }
     {
         match self.mode {
             Mode::Running => {}

@@ -1,5 +1,6 @@
 //! Units of a machine.
 ghost use Rattle.std.specs.Prelude.{◌≡◌, ℕ, ◌+◌, ◌≤◌, List, Option, length};
+ghost use Rattle.s370_store.specs.Memory.{Memory};
 ghost use Rattle.s370_intr.specs.Laws.{begun};
 ghost use Rattle.s370_intr.specs.Run.{EachBrings};
 ghost use Rattle.machine_panel.specs.Machine.{machine_of};
@@ -47,18 +48,17 @@ impl Machine {
     /// Lets the machine run for at most so many units. This takes no memory. What it printed, if it stopped, is
     /// [`notice_of`] the reason: a run that goes on carries no room for it.
     pub fn run<P: Processor, S: UnitSupply>(&mut self, storage: &mut S, count: u32) -> Ran
-        requires large { 8192 ≤ length (S.Storage.bytes storage.old) }
+        requires large { 8192 ≤ length (S.Storage.memory storage.old).bytes }
         requires between { S.IsBetween storage.old }
-        ensures told { let before = machine_of self.old (S.Storage.bytes storage.old) (S.Storage.keys storage.old) in
-            let after = machine_of self.new (S.Storage.bytes storage.new) (S.Storage.keys storage.new) in
+        ensures told { let before = machine_of self.old (S.Storage.memory storage.old) in
+            let after = machine_of self.new (S.Storage.memory storage.new) in
             TellsRun count before
             (record { machine = after; units = result.units; reason = result.reason; notice = notice_of result.reason })
             (S.IsOut storage.new) }
-        ensures supply { let before = machine_of self.old (S.Storage.bytes storage.old) (S.Storage.keys storage.old) in
+        ensures supply { let before = machine_of self.old (S.Storage.memory storage.old) in
             (units : List (List ℕ)) × S.Came storage.old units storage.new × EachBrings before.core 0 units
             × (length units ≤ begun result.units result.reason) }
         ensures between { S.IsBetween storage.new }
-        ensures size { length (S.Storage.bytes storage.new) ≡ length (S.Storage.bytes storage.old) }
         ensures room { length self.new.output + self.new.room ≡ length self.old.output + self.old.room }
     {
         match self.mode {
@@ -84,8 +84,8 @@ impl Machine {
     /// Stops the machine with a notice, where there is one.
     fn halt(&mut self, notice: Option<Response>)
         requires { 1 ≤ self.old.room }
-        ensures machine { (bytes keys : List ℕ)
-            → machine_of self.new bytes keys ≡ halted notice (machine_of self.old bytes keys) }
+        ensures machine { (m : Memory)
+            → machine_of self.new m ≡ halted notice (machine_of self.old m) }
         ensures room { length self.new.output + self.new.room ≡ length self.old.output + self.old.room }
     {
         match notice {

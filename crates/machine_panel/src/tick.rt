@@ -13,21 +13,21 @@ impl Machine {
     /// A tick of the interval timer, which steps where the machine runs. Where there is no room for page 0, nothing has
     /// happened. This takes no memory.
     pub fn tick<S: UnitSupply>(&mut self, storage: &mut S) -> Result<(), FramesOut>
-        requires large { 8192 ≤ length (S.Storage.bytes storage.old) }
+        requires large { 8192 ≤ length (S.Storage.memory storage.old).bytes }
         requires between { S.IsBetween storage.old }
-        ensures ok { let before = machine_of self.old (S.Storage.bytes storage.old) (S.Storage.keys storage.old) in
-            let after = machine_of self.new (S.Storage.bytes storage.new) (S.Storage.keys storage.new) in
+        ensures ok { let before = machine_of self.old (S.Storage.memory storage.old) in
+            let after = machine_of self.new (S.Storage.memory storage.new) in
             OnOk result (after ≡ ticked before) }
-        ensures err { let before = machine_of self.old (S.Storage.bytes storage.old) (S.Storage.keys storage.old) in
-            let after = machine_of self.new (S.Storage.bytes storage.new) (S.Storage.keys storage.new) in
+        ensures err { let before = machine_of self.old (S.Storage.memory storage.old) in
+            let after = machine_of self.new (S.Storage.memory storage.new) in
             OnErr result (after ≡ before) }
-        ensures frames { let before = machine_of self.old (S.Storage.bytes storage.old) (S.Storage.keys storage.old) in
-            OnErr result (IsLacking (TickNeeds before) (length (S.Storage.bytes storage.old)) (S.IsOut storage.new)) }
-        ensures supply { let before = machine_of self.old (S.Storage.bytes storage.old) (S.Storage.keys storage.old) in
+        ensures frames { let before = machine_of self.old (S.Storage.memory storage.old) in
+            OnErr result (IsLacking (TickNeeds before) (length (S.Storage.memory storage.old).bytes)
+            (S.IsOut storage.new)) }
+        ensures supply { let before = machine_of self.old (S.Storage.memory storage.old) in
             (pages : List ℕ) × S.Came storage.old (pages ∷ []) storage.new × AllNeeded (TickNeeds before) pages
             × (length pages ≤ 1) }
         ensures between { S.IsBetween storage.new }
-        ensures size { length (S.Storage.bytes storage.new) ≡ length (S.Storage.bytes storage.old) }
         ensures room { length self.new.output + self.new.room ≡ length self.old.output + self.old.room }
     {
         match self.mode {
@@ -39,19 +39,19 @@ impl Machine {
 
 /// A tick of a machine that runs, with page 0, which is held until it ends.
 fn tick_supplied<S: UnitSupply>(pending: &mut Pending, storage: &mut S) -> Result<(), FramesOut>
-    requires large { 8192 ≤ length (S.Storage.bytes storage.old) }
+    requires large { 8192 ≤ length (S.Storage.memory storage.old).bytes }
     requires between { S.IsBetween storage.old }
-    ensures ok { OnOk result (timed (S.Storage.bytes storage.new) pending.new
-        ≡ tick (timed (S.Storage.bytes storage.old) pending.old)) }
+    ensures ok { OnOk result (timed (S.Storage.memory storage.new).bytes pending.new
+        ≡ tick (timed (S.Storage.memory storage.old).bytes pending.old)) }
     ensures err { OnErr result
-        (timed (S.Storage.bytes storage.new) pending.new ≡ timed (S.Storage.bytes storage.old) pending.old) }
-    ensures keys { S.Storage.keys storage.new ≡ S.Storage.keys storage.old }
+        (timed (S.Storage.memory storage.new).bytes pending.new
+        ≡ timed (S.Storage.memory storage.old).bytes pending.old) }
+    ensures keys { (S.Storage.memory storage.new).keys ≡ (S.Storage.memory storage.old).keys }
     ensures frames { OnErr result
-        (IsLacking (λ page. page ≡ 0) (length (S.Storage.bytes storage.old)) (S.IsOut storage.new)) }
+        (IsLacking (λ page. page ≡ 0) (length (S.Storage.memory storage.old).bytes) (S.IsOut storage.new)) }
     ensures supply { (pages : List ℕ) × S.Came storage.old (pages ∷ []) storage.new × AllNeeded (λ page. page ≡ 0) pages
         × (length pages ≤ 1) }
     ensures between { S.IsBetween storage.new }
-    ensures size { length (S.Storage.bytes storage.new) ≡ length (S.Storage.bytes storage.old) }
 {
     let ticked = bring_and_tick(pending, storage);
     storage.let_go();
@@ -60,17 +60,18 @@ fn tick_supplied<S: UnitSupply>(pending: &mut Pending, storage: &mut S) -> Resul
 
 /// A tick, after page 0 was brought where it was not present.
 fn bring_and_tick<S: UnitSupply>(pending: &mut Pending, storage: &mut S) -> Result<(), FramesOut>
-    requires { 8192 ≤ length (S.Storage.bytes storage.old) }
-    ensures ok { OnOk result (timed (S.Storage.bytes storage.new) pending.new
-        ≡ tick (timed (S.Storage.bytes storage.old) pending.old)) }
+    requires { 8192 ≤ length (S.Storage.memory storage.old).bytes }
+    ensures ok { OnOk result (timed (S.Storage.memory storage.new).bytes pending.new
+        ≡ tick (timed (S.Storage.memory storage.old).bytes pending.old)) }
     ensures err { OnErr result
-        (timed (S.Storage.bytes storage.new) pending.new ≡ timed (S.Storage.bytes storage.old) pending.old) }
-    ensures keys { S.Storage.keys storage.new ≡ S.Storage.keys storage.old }
+        (timed (S.Storage.memory storage.new).bytes pending.new
+        ≡ timed (S.Storage.memory storage.old).bytes pending.old) }
+    ensures keys { (S.Storage.memory storage.new).keys ≡ (S.Storage.memory storage.old).keys }
     ensures frames { OnErr result
-        (IsLacking (λ page. page ≡ 0) (length (S.Storage.bytes storage.old)) (S.Supply.IsShort storage.new)) }
+        (IsLacking (λ page. page ≡ 0) (length (S.Storage.memory storage.old).bytes) (S.Supply.IsShort storage.new)) }
     ensures supply { (pages : List ℕ) × S.Supply.Brought storage.old pages storage.new
         × AllNeeded (λ page. page ≡ 0) pages × (length pages ≤ 1) }
-    ensures size { length (S.Storage.bytes storage.new) ≡ length (S.Storage.bytes storage.old) }
+    ensures size { length (S.Storage.memory storage.new).bytes ≡ length (S.Storage.memory storage.old).bytes }
 {
     loop {
         match tick(pending, storage) {

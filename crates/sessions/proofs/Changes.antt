@@ -1,9 +1,9 @@
 -- What has changed for users, one after another.
 use Rattle.std.proofs.Common.{◌≡◌, ℕ, ◌+◌, ◌<◌, ◌≤◌, zero, suc, List, [], ◌∷◌, ◌++◌, length, map, take, drop, get_or, refl, ap, sym, ◌∙◌, add-one, append-nil, arith}
 use Rattle.std.proofs.lemmas.List.{drop_all, length-map}
-use Rattle.machine_devices.specs.Equipped.{Equipped}
+use Rattle.machine_devices.specs.Equipped.{Equipped, nobody}
 use Rattle.machine_panel.specs.declared.machine.Mode.{Mode}
-use Rattle.sessions.specs.Installed.{Installed, machine_at, nobody, user_at}
+use Rattle.sessions.specs.Installed.{Installed, machine_at, user_at}
 use Rattle.sessions.specs.News.{change_lines, changed_lines}
 use Rattle.sessions.specs.Transcript.{ended}
 use Rattle.std.specs.Prelude.{Some, slice_get}

@@ -6,8 +6,8 @@ use Rattle.std.proofs.lemmas.List.{get_or_past, get_or-replicate, length-replica
 use Rattle.std.proofs.lemmas.Grind.{common_steps}
 use Rattle.cp_dispatch.specs.Turns.{IsDealt}
 use Rattle.cp_dispatch.specs.Policy.{is_ready}
-use Rattle.machine_devices.specs.Equipped.{Equipped}
-use Rattle.sessions.specs.Installed.{Installed, nobody, user_at}
+use Rattle.machine_devices.specs.Equipped.{Equipped, nobody}
+use Rattle.sessions.specs.Installed.{Installed, user_at}
 use Rattle.sessions.specs.Schedule.{is_on, ready_in}
 
 -- tests that agree find the same

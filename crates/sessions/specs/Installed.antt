@@ -2,9 +2,8 @@
 use Rattle.std.specs.Prelude.{ℕ, ◌≡◌, Bool, true, List, [], ◌∷◌, slice_index_or}
 use Rattle.std.specs.List.{list_all}
 use Rattle.s370_subchannels.specs.declared.subchannel.Subchannel.{Subchannel}
-use Rattle.machine_panel.specs.Machine.{Machine, unused}
-use Rattle.machine_devices.specs.Devices.{devices_new, no_places}
-use Rattle.machine_devices.specs.Equipped.{Equipped}
+use Rattle.machine_panel.specs.Machine.{Machine}
+use Rattle.machine_devices.specs.Equipped.{Equipped, nobody}
 use Rattle.machine_devices.specs.declared.files.FileNote.{FileNote}
 use Rattle.machine_devices.specs.declared.reply.Reply.{Reply}
 use Rattle.cp_dispatch.specs.declared.program.Program.{Program}
@@ -16,10 +15,6 @@ pub record Installed : Type 0 where
   pub users : List KnownUser
   pub machines : List Equipped
   pub files : List FileNote
-
--- the machine of nobody
-abbrev pub nobody : Equipped
-nobody = record { machine = unused [] [] []; devices = devices_new no_places; disks = [] }
 
 -- a user's machine with its devices
 abbrev pub user_at : Installed → ℕ → Equipped

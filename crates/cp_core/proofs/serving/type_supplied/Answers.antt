@@ -1,4 +1,4 @@
-use Rattle.cp_dat.specs.Lent.{lent_bytes, lent_keys}
+use Rattle.cp_dat.specs.Lent.{lent_memory}
 use Rattle.std.proofs.Common.{refl}
 use Rattle.machine_devices.specs.Comes.{is_ipl}
 use Rattle.machine_devices.specs.Equipped.{equipped}
@@ -12,7 +12,7 @@ use Rattle.cp_core.proofs.serving.type_supplied.Goals as goal
 
 pub returns-clause-lent : goal.returns-clause-lent
 returns-clause-lent g c =
-    let before = equipped c.args.machine.now (devices_on c.args.devices.now c.args.queues.now) (disks_on c.args.channels.now) (lent_bytes c.args.storage.now) (lent_keys c.args.storage.now) in
+    let before = equipped c.args.machine.now (devices_on c.args.devices.now c.args.queues.now) (disks_on c.args.channels.now) (lent_memory c.args.storage.now) in
     let line = c.line-told in
     let typed = c.args.typed.now in
     either (is_ipl (requested typed before)) (IsLineLent typed before c.args.storage.now c.let_go.new.self line.result)

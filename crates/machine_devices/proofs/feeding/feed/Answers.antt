@@ -1,5 +1,4 @@
 use Rattle.std.proofs.Common.{◌≡◌, ◌∙◌, ap, subst, sym}
-use Rattle.s370_walk.specs.Hardware.{memory_of}
 use Rattle.cp_spool.specs.Queues.{files_of, read_on}
 use Rattle.cp_spool.specs.Reader.{FeedState, ReaderPart, fed_by}
 use Rattle.cp_spool.proofs.Others.{files_now}
@@ -19,13 +18,13 @@ pub returns-clause-stopped : goal.returns-clause-stopped
 returns-clause-stopped g c = λ apart.
     let files = files_of c.args.queues.now.users c.args.user in
     let is : c.new-fed.result ≡ fed_by files c.args.reader.now = c.new-fed.ensures ∙ ap (λ (p : ReaderPart). fed_by files p) c.replace.ensures.value in
-    stops_fed c.run-ended.result (g.S.Storage.present c.args.storage.now) c.args.start (memory_of (g.S.Storage.bytes c.args.storage.now) (g.S.Storage.keys c.args.storage.now)) files c.args.reader.now c.new-fed.result is (c.run-ended.ensures.stopped apart)
+    stops_fed c.run-ended.result (g.S.Storage.present c.args.storage.now) c.args.start (g.S.Storage.memory c.args.storage.now) files c.args.reader.now c.new-fed.result is (c.run-ended.ensures.stopped apart)
 
 pub returns-clause-came : goal.returns-clause-came
 returns-clause-came g c =
     let files = files_of c.args.queues.now.users c.args.user in
     let is : c.new-fed.result ≡ fed_by files c.args.reader.now = c.new-fed.ensures ∙ ap (λ (p : ReaderPart). fed_by files p) c.replace.ensures.value in
-    came_fed files c.args.reader.now c.new-fed.result is (memory_of (g.S.Storage.bytes c.args.storage.now) (g.S.Storage.keys c.args.storage.now)) g.C.Channels.IsOut g.C.Channels.IsFilled g.S.Storage.present g.C.Channels.Came c.args.storage.now c.run-ended.new.storage g.C.Channels.holds c.args.start c.run-ended.ensures.came
+    came_fed files c.args.reader.now c.new-fed.result is (g.S.Storage.memory c.args.storage.now) g.C.Channels.IsOut g.C.Channels.IsFilled g.S.Storage.present g.C.Channels.Came c.args.storage.now c.run-ended.new.storage g.C.Channels.holds c.args.start c.run-ended.ensures.came
 
 pub returns-clause-whole : goal.returns-clause-whole
 returns-clause-whole g c = λ whole.
@@ -33,7 +32,7 @@ returns-clause-whole g c = λ whole.
     let is : c.new-fed.result ≡ fed_by files c.args.reader.now = c.new-fed.ensures ∙ ap (λ (p : ReaderPart). fed_by files p) c.replace.ensures.value in
     let read : files_of c.take_back.new.self.users c.args.user ≡ read_on c.into_parts-left.result.1.ended c.into_parts-left.result.1.place files = files_now c.args.queues.now.users c.take_back.new.self.users c.args.user _ c.requires.user c.take_back.ensures in
     let now : files_of c.take_back.new.self.users c.args.user ≡ read_on c.run-ended.new.device.ended c.run-ended.new.device.place files = read_is files _ _ _ _ _ c.into_parts-left.ensures.ended c.into_parts-left.ensures.place read in
-    out_fed files c.args.reader.now c.new-fed.result is (memory_of (g.S.Storage.bytes c.args.storage.now) (g.S.Storage.keys c.args.storage.now)) g.C.Channels.IsOut g.C.Channels.IsFilled g.S.Storage.present g.C.Channels.Came c.args.storage.now c.run-ended.new.storage
+    out_fed files c.args.reader.now c.new-fed.result is (g.S.Storage.memory c.args.storage.now) g.C.Channels.IsOut g.C.Channels.IsFilled g.S.Storage.present g.C.Channels.Came c.args.storage.now c.run-ended.new.storage
     c.run-ended.result g.C.Channels.holds c.args.start _ _ _
     (λ same. (let stays = same_fed files c.args.reader.now c.new-fed.result c.run-ended.new.device (files_of c.take_back.new.self.users c.args.user) c.into_parts-left.result.0 is c.into_parts-left.ensures.reader now same.1 in (same.0, stays.0, stays.1)))
     (c.run-ended.ensures.whole whole)

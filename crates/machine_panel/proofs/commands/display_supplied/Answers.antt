@@ -9,8 +9,7 @@ loop-response-preserved g c =
     let s = c.loop-response.invariant.supply in
     let page = c.in-Err.page.0 in
     record {
-      bytes = c.bring.ensures.bytes ∙ c.loop-response.invariant.bytes;
-      keys = c.bring.ensures.keys ∙ c.loop-response.invariant.keys;
+      still = c.bring.ensures.memory ∙ c.loop-response.invariant.still;
       supply = (
         s.0 ++ (page ∷ []),
         g.met.S.Supply.brought_on _ _ _ s.0 (page ∷ []) s.1 c.in_ok-bring-in-Err.ensures.brought,

@@ -6,8 +6,7 @@ use Rattle.machine_panel.proofs.commands.display_supplied.Given as goal
 
 abbrev pub invariant-loop-response : goal.invariant-loop-response
 invariant-loop-response g l = record {
-  bytes : g.S.Storage.bytes l.storage ≡ g.S.Storage.bytes l.fn.storage;
-  keys : g.S.Storage.keys l.storage ≡ g.S.Storage.keys l.fn.storage;
+  still : g.S.Storage.memory l.storage ≡ g.S.Storage.memory l.fn.storage;
   supply : (pages : List ℕ) × g.S.Supply.Brought l.fn.storage pages l.storage × AllNeeded (Touches (shown l.fn.place)) pages;
 }
 

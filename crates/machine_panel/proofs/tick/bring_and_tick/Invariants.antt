@@ -6,8 +6,8 @@ use Rattle.machine_panel.proofs.tick.bring_and_tick.Given as goal
 
 abbrev pub invariant-loop-page : goal.invariant-loop-page
 invariant-loop-page g l = record {
-  same : timed (g.S.Storage.bytes l.storage) l.pending ≡ timed (g.S.Storage.bytes l.fn.storage) l.fn.pending;
-  keys : g.S.Storage.keys l.storage ≡ g.S.Storage.keys l.fn.storage;
+  same : timed (g.S.Storage.memory l.storage).bytes l.pending ≡ timed (g.S.Storage.memory l.fn.storage).bytes l.fn.pending;
+  keys : (g.S.Storage.memory l.storage).keys ≡ (g.S.Storage.memory l.fn.storage).keys;
   supply : (pages : List ℕ) × g.S.Supply.Brought l.fn.storage pages l.storage × AllNeeded (λ page. page ≡ 0) pages × AreDistinct pages;
 }
 

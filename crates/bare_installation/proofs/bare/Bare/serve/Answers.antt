@@ -1,5 +1,5 @@
 use Rattle.std.proofs.Common.{refl, rules}
-use Rattle.s370_store.specs.Plain.{plain_bytes, plain_keys}
+use Rattle.s370_store.specs.Plain.{plain_memory}
 use Rattle.s370_channel.specs.Reading.{as_reached}
 use Rattle.machine_channels.specs.Own.{disks_of}
 use Rattle.machine_devices.specs.Equipped.{equipped}
@@ -13,5 +13,5 @@ returns-clause-served c = elim c.match-serve.branch [ in-Ok w ↦ rw w.result-is
 
 pub unreachable-requires : goal.unreachable-requires
 unreachable-requires c =
-    let before = equipped c.self.inside.machine (devices_on c.self.inside.devices c.self.inside.queues) (disks_of c.self.inside.channels) (plain_bytes c.self.inside.storage) (plain_keys c.self.inside.storage) in
+    let before = equipped c.self.inside.machine (devices_on c.self.inside.devices c.self.inside.queues) (disks_of c.self.inside.channels) (plain_memory c.self.inside.storage) in
     never_away as_reached c.args.device before c.in-Err-Absent.field-0 c.in-Err-Absent.field-0-0 c.in-Err-Absent.field-0-is (c.in-Err-Absent.ensures.stopped refl)

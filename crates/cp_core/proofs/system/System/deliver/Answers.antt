@@ -7,10 +7,10 @@ use Rattle.cp_core.specs.Whole.{IsSystem, no_user}
 use Rattle.cp_volumes.specs.Shared.{SharedMinidisk, stands_of}
 use Rattle.s370_channel.specs.Reading.{as_reached}
 use Rattle.cp_dat.specs.Lent.{set_own}
-use Rattle.machine_devices.specs.Equipped.{Equipped}
+use Rattle.machine_devices.specs.Equipped.{Equipped, nobody}
 use Rattle.machine_devices.specs.Life.{Event as Local, Leaves}
 use Rattle.cp_core.specs.Parcels.{contents, note_of}
-use Rattle.cp_core.specs.System.{SystemView, deliveries_at, nobody, user_at, users_of}
+use Rattle.cp_core.specs.System.{SystemView, deliveries_at, user_at, users_of}
 use Rattle.cp_core.proofs.Systems.{change, has_seat, is_user, seat_fits, seated_on, whole_on, on_err, on_ok, received_seen, refused_seen, seen, transported}
 use Rattle.cp_core.proofs.Owned.{contents_same, length-seats, owner_is, owners_on, punched_are, see_same, seat_here, set-seats, there_same}
 use Rattle.cp_core.proofs.system.System.deliver.Goals as goal

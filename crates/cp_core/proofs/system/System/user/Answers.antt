@@ -1,7 +1,7 @@
 use Rattle.std.proofs.Common.{◌≡◌, ◌∙◌, ap, arith, get_or, List, ℕ, [], sym}
 use Rattle.machine_devices.specs.Devices.{DevicesValue}
-use Rattle.machine_devices.specs.Equipped.{Equipped}
-use Rattle.cp_core.specs.System.{SystemView, nobody}
+use Rattle.machine_devices.specs.Equipped.{Equipped, nobody}
+use Rattle.cp_core.specs.System.{SystemView}
 use Rattle.cp_core.specs.UserMachines.{UserParts, seat_on, seat_with, seats_on, user_with}
 use Rattle.machine_devices.specs.declared.reply.Delivery.{Delivery}
 use Rattle.cp_core.proofs.Systems.{get-deliveries, is_user, seat_is}

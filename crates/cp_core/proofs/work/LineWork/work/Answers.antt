@@ -1,6 +1,6 @@
 use Rattle.std.proofs.Common.{◌≡◌, refl, subst, sym, Err, Result, false, List}
 use Rattle.std.specs.Prelude.{IfOk}
-use Rattle.cp_dat.specs.Lent.{lent_bytes, lent_keys, user_of}
+use Rattle.cp_dat.specs.Lent.{lent_memory, user_of}
 use Rattle.machine_devices.specs.Equipped.{Equipped, equipped}
 use Rattle.machine_devices.specs.Lent.{devices_on}
 use Rattle.machine_devices.specs.Lines.{IsLine, requested}
@@ -42,8 +42,8 @@ returns-clause-does c =
     let told = c.type_supplied-told in
     let r = told.result in
     let start : DisksValue = disks_of lent in
-    let from : DisksValue → Equipped = λ d. equipped lent.machine.now (devices_on lent.devices.now lent.queues.now) (seen d) (lent_bytes c.args.storage.now) (lent_keys c.args.storage.now) in
-    let after = equipped told.new.machine (devices_on told.new.devices told.new.queues) (disks_on told.new.channels) (lent_bytes told.new.storage) (lent_keys told.new.storage) in
+    let from : DisksValue → Equipped = λ d. equipped lent.machine.now (devices_on lent.devices.now lent.queues.now) (seen d) (lent_memory c.args.storage.now) in
+    let after = equipped told.new.machine (devices_on told.new.devices told.new.queues) (disks_on told.new.channels) (lent_memory told.new.storage) in
     let typed = c.args.self.now.typed.now in
     let world = world_among c.users.result.now c.args.self.now.user c.as_slice.result.now in
     let Facts : DisksValue → Type 0 = λ d.

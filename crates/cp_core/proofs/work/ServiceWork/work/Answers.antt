@@ -1,7 +1,7 @@
 use Rattle.std.proofs.Common.{◌≡◌, refl, subst, length, Err}
 use Rattle.std.specs.Prelude.{IfOk}
 use Rattle.s370_channel.specs.Reading.{as_reached}
-use Rattle.cp_dat.specs.Lent.{lent_bytes, lent_keys, user_of}
+use Rattle.cp_dat.specs.Lent.{lent_bytes, lent_memory, user_of}
 use Rattle.machine_devices.specs.Equipped.{Equipped, equipped}
 use Rattle.machine_devices.specs.Lent.{devices_on}
 use Rattle.machine_devices.specs.Serve.{IsServedAt}
@@ -16,9 +16,6 @@ use Rattle.cp_core.proofs.work.ServiceWork.work.Goals as goal
 
 pub returns-clause-kept : goal.returns-clause-kept
 returns-clause-kept c = c.serve_supplied-served.ensures.came.1.came.kept
-
-pub returns-clause-size : goal.returns-clause-size
-returns-clause-size c = c.serve_supplied-served.ensures.came.1.size
 
 pub returns-clause-between : goal.returns-clause-between
 returns-clause-between c = c.serve_supplied-served.ensures.ready
@@ -44,8 +41,8 @@ returns-clause-does c =
     let served = c.serve_supplied-served in
     let r = served.result in
     let start : DisksValue = disks_of lent in
-    let from : DisksValue → Equipped = λ d. equipped lent.machine.now (devices_on lent.devices.now lent.queues.now) (seen d) (lent_bytes c.args.storage.now) (lent_keys c.args.storage.now) in
-    let after = equipped served.new.machine (devices_on served.new.devices served.new.queues) (disks_on served.new.channels) (lent_bytes served.new.storage) (lent_keys served.new.storage) in
+    let from : DisksValue → Equipped = λ d. equipped lent.machine.now (devices_on lent.devices.now lent.queues.now) (seen d) (lent_memory c.args.storage.now) in
+    let after = equipped served.new.machine (devices_on served.new.devices served.new.queues) (disks_on served.new.channels) (lent_memory served.new.storage) in
     let Facts : DisksValue → Type 0 = λ d.
     IfOk r (λ done. IsServedAt as_reached c.args.self.now.device (from d) done after)
     × (r ≡ Err errors.FramesOut → after ≡ from d)

@@ -19,38 +19,35 @@ use Rattle.machine_devices.proofs.devices.Devices.line.Goals as goal
 pub returns-in-Resets-clause-ok : goal.returns-in-Resets-clause-ok
 returns-in-Resets-clause-ok g c =
     let files = files_of c.args.queues.now.users c.args.self.now.user in
-    let bytes = g.S.Storage.bytes c.args.storage.now in
-    let keys = g.S.Storage.keys c.args.storage.now in
-    let before : Equipped = equipped c.args.machine.now (devices_on c.args.self.now c.args.queues.now) (g.C.Disks.disks c.args.channels.now) bytes keys in
+    let memory = g.S.Storage.memory c.args.storage.now in
+    let before : Equipped = equipped c.args.machine.now (devices_on c.args.self.now c.args.queues.now) (g.C.Disks.disks c.args.channels.now) memory in
     let are = devices_are c.args.self.now c.reset_machine.new.self c.args.queues.now c.reset_machine.ensures.user in
-    let after : DevicesValue → Equipped = λ d. equipped c.reset_machine.new.machine d (g.C.Disks.disks c.reset_machine.new.disks) bytes keys in
+    let after : DevicesValue → Equipped = λ d. equipped c.reset_machine.new.machine d (g.C.Disks.disks c.reset_machine.new.disks) memory in
     let has = c.is_some-has_console.ensures ∙ ap (λ (p : Places). is_some p.console) c.places.ensures in
     let judged : requested c.args.typed.now before ≡ Resets =
     requested_is Resets before c.args.typed.now c.as_slice.result.now c.mode.result c.is_some-has_console.result c.in-Resets.ensures c.mode.ensures has (c.as_slice.ensures.value ∙ c.new-text.ensures) in
     subst (λ (d : DevicesValue). IfOk c.reset_machine.result (λ told. IsAnswered (requested c.args.typed.now before) (g.W.World.known c.args.world.now) c.args.typed.now before told (after d))) are
-    (subst (λ (q : Request). IfOk c.reset_machine.result (λ told. IsAnswered q (g.W.World.known c.args.world.now) c.args.typed.now before told (after (devices_with c.reset_machine.new.self files)))) (sym judged) (c.reset_machine.ensures.ok files bytes keys))
+    (subst (λ (q : Request). IfOk c.reset_machine.result (λ told. IsAnswered q (g.W.World.known c.args.world.now) c.args.typed.now before told (after (devices_with c.reset_machine.new.self files)))) (sym judged) (c.reset_machine.ensures.ok files memory))
 
 pub returns-in-Resets-clause-err : goal.returns-in-Resets-clause-err
 returns-in-Resets-clause-err g c = λ other. (
     let files = files_of c.args.queues.now.users c.args.self.now.user in
-    let bytes = g.S.Storage.bytes c.args.storage.now in
-    let keys = g.S.Storage.keys c.args.storage.now in
-    subst (λ (d : DevicesValue). OnErr c.reset_machine.result (equipped c.reset_machine.new.machine d (g.C.Disks.disks c.reset_machine.new.disks) bytes keys ≡ equipped c.args.machine.now (devices_on c.args.self.now c.args.queues.now) (g.C.Disks.disks c.args.channels.now) bytes keys))
-    (devices_are c.args.self.now c.reset_machine.new.self c.args.queues.now c.reset_machine.ensures.user) (c.reset_machine.ensures.err files bytes keys))
+    let memory = g.S.Storage.memory c.args.storage.now in
+    subst (λ (d : DevicesValue). OnErr c.reset_machine.result (equipped c.reset_machine.new.machine d (g.C.Disks.disks c.reset_machine.new.disks) memory ≡ equipped c.args.machine.now (devices_on c.args.self.now c.args.queues.now) (g.C.Disks.disks c.args.channels.now) memory))
+    (devices_are c.args.self.now c.reset_machine.new.self c.args.queues.now c.reset_machine.ensures.user) (c.reset_machine.ensures.err files memory))
 
 pub returns-in-Types-clause-ok : goal.returns-in-Types-clause-ok
 returns-in-Types-clause-ok g c =
     let files = files_of c.args.queues.now.users c.args.self.now.user in
-    let bytes = g.S.Storage.bytes c.args.storage.now in
-    let keys = g.S.Storage.keys c.args.storage.now in
-    let before : Equipped = equipped c.args.machine.now (devices_on c.args.self.now c.args.queues.now) (g.C.Disks.disks c.args.channels.now) bytes keys in
+    let memory = g.S.Storage.memory c.args.storage.now in
+    let before : Equipped = equipped c.args.machine.now (devices_on c.args.self.now c.args.queues.now) (g.C.Disks.disks c.args.channels.now) memory in
     let are = devices_are c.args.self.now c.type_line.new.self c.args.queues.now c.type_line.ensures.user in
-    let after : DevicesValue → Equipped = λ d. equipped c.type_line.new.machine d (g.C.Disks.disks c.args.channels.now) bytes keys in
+    let after : DevicesValue → Equipped = λ d. equipped c.type_line.new.machine d (g.C.Disks.disks c.args.channels.now) memory in
     let left = devices_with c.type_line.new.self files in
     let has = c.is_some-has_console.ensures ∙ ap (λ (p : Places). is_some p.console) c.places.ensures in
     let judged : requested c.args.typed.now before ≡ Types =
     requested_is Types before c.args.typed.now c.as_slice.result.now c.mode.result c.is_some-has_console.result c.in-Types.ensures c.mode.ensures has (c.as_slice.ensures.value ∙ c.new-text.ensures) in
-    let typed = typed_is c.type_line.result c.as_slice-in-Types.result.now c.args.typed.now before (after left) (c.as_slice-in-Types.ensures.value ∙ c.new-text.ensures) (c.type_line.ensures.ok files (g.C.Disks.disks c.args.channels.now) bytes keys) in
+    let typed = typed_is c.type_line.result c.as_slice-in-Types.result.now c.args.typed.now before (after left) (c.as_slice-in-Types.ensures.value ∙ c.new-text.ensures) (c.type_line.ensures.ok files (g.C.Disks.disks c.args.channels.now) memory) in
     subst (λ (d : DevicesValue). IfOk c.type_line.result (λ told. IsAnswered (requested c.args.typed.now before) (g.W.World.known c.args.world.now) c.args.typed.now before told (after d))) are
     (subst (λ (q : Request). IfOk c.type_line.result (λ told. IsAnswered q (g.W.World.known c.args.world.now) c.args.typed.now before told (after left))) (sym judged) typed)
 
@@ -58,35 +55,33 @@ pub returns-in-Types-clause-err : goal.returns-in-Types-clause-err
 returns-in-Types-clause-err g c = λ other. (
     let files = files_of c.args.queues.now.users c.args.self.now.user in
     let disks = g.C.Disks.disks c.args.channels.now in
-    let bytes = g.S.Storage.bytes c.args.storage.now in
-    let keys = g.S.Storage.keys c.args.storage.now in
-    subst (λ (d : DevicesValue). OnErr c.type_line.result (equipped c.type_line.new.machine d disks bytes keys ≡ equipped c.args.machine.now (devices_on c.args.self.now c.args.queues.now) disks bytes keys))
-    (devices_are c.args.self.now c.type_line.new.self c.args.queues.now c.type_line.ensures.user) (c.type_line.ensures.err files disks bytes keys))
+    let memory = g.S.Storage.memory c.args.storage.now in
+    subst (λ (d : DevicesValue). OnErr c.type_line.result (equipped c.type_line.new.machine d disks memory ≡ equipped c.args.machine.now (devices_on c.args.self.now c.args.queues.now) disks memory))
+    (devices_are c.args.self.now c.type_line.new.self c.args.queues.now c.type_line.ensures.user) (c.type_line.ensures.err files disks memory))
 
 pub returns-in-Asks-clause-ok : goal.returns-in-Asks-clause-ok
 returns-in-Asks-clause-ok g c =
-    let bytes = g.S.Storage.bytes c.args.storage.now in
-    let keys = g.S.Storage.keys c.args.storage.now in
+    let memory = g.S.Storage.memory c.args.storage.now in
     let disks = g.C.Disks.disks c.args.channels.now in
-    let before : Equipped = equipped c.args.machine.now (devices_on c.args.self.now c.args.queues.now) disks bytes keys in
-    let after : Equipped = equipped c.args.machine.now (devices_on c.obey.new.self c.obey.new.queues) disks bytes keys in
+    let before : Equipped = equipped c.args.machine.now (devices_on c.args.self.now c.args.queues.now) disks memory in
+    let after : Equipped = equipped c.args.machine.now (devices_on c.obey.new.self c.obey.new.queues) disks memory in
     let has = c.is_some-has_console.ensures ∙ ap (λ (p : Places). is_some p.console) c.places.ensures in
     let judged : requested c.args.typed.now before ≡ Asks c.in-Asks.command =
     requested_is (Asks c.in-Asks.command) before c.args.typed.now c.as_slice.result.now c.mode.result c.is_some-has_console.result c.in-Asks.ensures c.mode.ensures has (c.as_slice.ensures.value ∙ c.new-text.ensures) in
-    subst (λ (q : Request). IfOk c.obey.result (λ told. IsAnswered q (g.W.World.known c.args.world.now) c.args.typed.now before told after)) (sym judged) (c.obey.ensures.ok (machine_of c.args.machine.now bytes keys) disks)
+    subst (λ (q : Request). IfOk c.obey.result (λ told. IsAnswered q (g.W.World.known c.args.world.now) c.args.typed.now before told after)) (sym judged) (c.obey.ensures.ok (machine_of c.args.machine.now memory) disks)
 
 pub returns-in-Loads-clause-ok : goal.returns-in-Loads-clause-ok
 returns-in-Loads-clause-ok g c =
-    let before : Equipped = equipped c.args.machine.now (devices_on c.args.self.now c.args.queues.now) (g.C.Disks.disks c.args.channels.now) (g.S.Storage.bytes c.args.storage.now) (g.S.Storage.keys c.args.storage.now) in
+    let before : Equipped = equipped c.args.machine.now (devices_on c.args.self.now c.args.queues.now) (g.C.Disks.disks c.args.channels.now) (g.S.Storage.memory c.args.storage.now) in
     let has = c.is_some-has_console.ensures ∙ ap (λ (p : Places). is_some p.console) c.places.ensures in
     let judged : requested c.args.typed.now before ≡ Loads c.in-Loads.device =
     requested_is (Loads c.in-Loads.device) before c.args.typed.now c.as_slice.result.now c.mode.result c.is_some-has_console.result c.in-Loads.ensures c.mode.ensures has (c.as_slice.ensures.value ∙ c.new-text.ensures) in
-    let after : Equipped = equipped c.ipl.new.machine (devices_on c.ipl.new.self c.ipl.new.queues) (g.C.Disks.disks c.ipl.new.channels) (g.S.Storage.bytes c.ipl.new.storage) (g.S.Storage.keys c.ipl.new.storage) in
+    let after : Equipped = equipped c.ipl.new.machine (devices_on c.ipl.new.self c.ipl.new.queues) (g.C.Disks.disks c.ipl.new.channels) (g.S.Storage.memory c.ipl.new.storage) in
     subst (λ (q : Request). IfOk c.ipl.result (λ told. IsAnswered q (g.W.World.known c.args.world.now) c.args.typed.now before told after)) (sym judged) c.ipl.ensures.ok
 
 pub returns-in-Loads-clause-memory : goal.returns-in-Loads-clause-memory
 returns-in-Loads-clause-memory g c =
-    let before : Equipped = equipped c.args.machine.now (devices_on c.args.self.now c.args.queues.now) (g.C.Disks.disks c.args.channels.now) (g.S.Storage.bytes c.args.storage.now) (g.S.Storage.keys c.args.storage.now) in
+    let before : Equipped = equipped c.args.machine.now (devices_on c.args.self.now c.args.queues.now) (g.C.Disks.disks c.args.channels.now) (g.S.Storage.memory c.args.storage.now) in
     let has = c.is_some-has_console.ensures ∙ ap (λ (p : Places). is_some p.console) c.places.ensures in
     let judged : requested c.args.typed.now before ≡ Loads c.in-Loads.device =
     requested_is (Loads c.in-Loads.device) before c.args.typed.now c.as_slice.result.now c.mode.result c.is_some-has_console.result c.in-Loads.ensures c.mode.ensures has (c.as_slice.ensures.value ∙ c.new-text.ensures) in
@@ -94,16 +89,16 @@ returns-in-Loads-clause-memory g c =
 
 pub returns-in-Loads-clause-out : goal.returns-in-Loads-clause-out
 returns-in-Loads-clause-out g c = λ ipl. (
-    let before : Equipped = equipped c.args.machine.now (devices_on c.args.self.now c.args.queues.now) (g.C.Disks.disks c.args.channels.now) (g.S.Storage.bytes c.args.storage.now) (g.S.Storage.keys c.args.storage.now) in
+    let before : Equipped = equipped c.args.machine.now (devices_on c.args.self.now c.args.queues.now) (g.C.Disks.disks c.args.channels.now) (g.S.Storage.memory c.args.storage.now) in
     let has = c.is_some-has_console.ensures ∙ ap (λ (p : Places). is_some p.console) c.places.ensures in
     let judged : requested c.args.typed.now before ≡ Loads c.in-Loads.device =
     requested_is (Loads c.in-Loads.device) before c.args.typed.now c.as_slice.result.now c.mode.result c.is_some-has_console.result c.in-Loads.ensures c.mode.ensures has (c.as_slice.ensures.value ∙ c.new-text.ensures) in
-    let size = length (g.S.Storage.bytes c.args.storage.now) in
+    let size = length (g.S.Storage.memory c.args.storage.now).bytes in
     subst (λ (q : Request). g.C.Channels.is_whole ≡ true → c.ipl.result ≡ Err errors.FramesOut → LacksRoom size (LoadWants q before) (NoRoom g.C.Channels.IsOut g.C.Channels.IsFilled g.S.Storage.present c.ipl.new.storage (LoadWants q before))) (sym judged) c.ipl.ensures.out)
 
 pub returns-in-Loads-clause-came : goal.returns-in-Loads-clause-came
 returns-in-Loads-clause-came g c = λ ipl. (
-    let before : Equipped = equipped c.args.machine.now (devices_on c.args.self.now c.args.queues.now) (g.C.Disks.disks c.args.channels.now) (g.S.Storage.bytes c.args.storage.now) (g.S.Storage.keys c.args.storage.now) in
+    let before : Equipped = equipped c.args.machine.now (devices_on c.args.self.now c.args.queues.now) (g.C.Disks.disks c.args.channels.now) (g.S.Storage.memory c.args.storage.now) in
     let has = c.is_some-has_console.ensures ∙ ap (λ (p : Places). is_some p.console) c.places.ensures in
     let judged : requested c.args.typed.now before ≡ Loads c.in-Loads.device =
     requested_is (Loads c.in-Loads.device) before c.args.typed.now c.as_slice.result.now c.mode.result c.is_some-has_console.result c.in-Loads.ensures c.mode.ensures has (c.as_slice.ensures.value ∙ c.new-text.ensures) in

@@ -12,9 +12,8 @@ use Rattle.machine_devices.proofs.devices.Devices.serve.Goals as goal
 
 pub returns-in-Ok-clause-came : goal.returns-in-Ok-clause-came
 returns-in-Ok-clause-came g c =
-    let bytes = g.S.Storage.bytes c.args.storage.now in
-    let keys = g.S.Storage.keys c.args.storage.now in
-    let before : Equipped = equipped c.args.machine.now (devices_on c.args.self.now c.args.queues.now) (g.C.Disks.disks c.args.channels.now) bytes keys in
+    let memory = g.S.Storage.memory c.args.storage.now in
+    let before : Equipped = equipped c.args.machine.now (devices_on c.args.self.now c.args.queues.now) (g.C.Disks.disks c.args.channels.now) memory in
     let kind : Option Kind = kind_at before.devices before.disks c.args.device in
     let program : Option Caw = program_of c.args.device before.machine.core.subchannels in
     let found : Some c.in-Some.kind ≡ kind = (let a = c.in-Some.is in let b = c.kind_at.ensures.kind in cc) in
@@ -24,9 +23,8 @@ returns-in-Ok-clause-came g c =
 
 pub returns-in-Err-clause-came : goal.returns-in-Err-clause-came
 returns-in-Err-clause-came g c =
-    let bytes = g.S.Storage.bytes c.args.storage.now in
-    let keys = g.S.Storage.keys c.args.storage.now in
-    let before : Equipped = equipped c.args.machine.now (devices_on c.args.self.now c.args.queues.now) (g.C.Disks.disks c.args.channels.now) bytes keys in
+    let memory = g.S.Storage.memory c.args.storage.now in
+    let before : Equipped = equipped c.args.machine.now (devices_on c.args.self.now c.args.queues.now) (g.C.Disks.disks c.args.channels.now) memory in
     let kind : Option Kind = kind_at before.devices before.disks c.args.device in
     let program : Option Caw = program_of c.args.device before.machine.core.subchannels in
     let found : Some c.in-Some.kind ≡ kind = (let a = c.in-Some.is in let b = c.kind_at.ensures.kind in cc) in
@@ -36,13 +34,12 @@ returns-in-Err-clause-came g c =
 
 pub returns-in-Err-clause-whole : goal.returns-in-Err-clause-whole
 returns-in-Err-clause-whole g c =
-    let bytes = g.S.Storage.bytes c.args.storage.now in
-    let keys = g.S.Storage.keys c.args.storage.now in
-    let before : Equipped = equipped c.args.machine.now (devices_on c.args.self.now c.args.queues.now) (g.C.Disks.disks c.args.channels.now) bytes keys in
+    let memory = g.S.Storage.memory c.args.storage.now in
+    let before : Equipped = equipped c.args.machine.now (devices_on c.args.self.now c.args.queues.now) (g.C.Disks.disks c.args.channels.now) memory in
     let kind : Option Kind = kind_at before.devices before.disks c.args.device in
     let program : Option Caw = program_of c.args.device before.machine.core.subchannels in
     let found : Some c.in-Some.kind ≡ kind = (let a = c.in-Some.is in let b = c.kind_at.ensures.kind in cc) in
     let begun : Some c.in-Some-program.start ≡ program = (let a = c.in-Some-program.is in let b = c.program.ensures in cc) in
-    let after : Equipped = equipped c.run_kind.new.machine (devices_on c.run_kind.new.self c.run_kind.new.queues) (g.C.Disks.disks c.run_kind.new.channels) (g.S.Storage.bytes c.run_kind.new.storage) (g.S.Storage.keys c.run_kind.new.storage) in
-    let Out : Option Kind → Option Caw → Type 0 = λ k p. WhereOut (length bytes) (StartNeeds g.C.Channels.holds k p before) (NoRoom g.C.Channels.IsOut g.C.Channels.IsFilled g.S.Storage.present c.run_kind.new.storage (StartNeeds g.C.Channels.holds k p before)) (after ≡ before) c.in-Err.error in
+    let after : Equipped = equipped c.run_kind.new.machine (devices_on c.run_kind.new.self c.run_kind.new.queues) (g.C.Disks.disks c.run_kind.new.channels) (g.S.Storage.memory c.run_kind.new.storage) in
+    let Out : Option Kind → Option Caw → Type 0 = λ k p. WhereOut (length memory.bytes) (StartNeeds g.C.Channels.holds k p before) (NoRoom g.C.Channels.IsOut g.C.Channels.IsFilled g.S.Storage.present c.run_kind.new.storage (StartNeeds g.C.Channels.holds k p before)) (after ≡ before) c.in-Err.error in
     λ whole. subst (λ (k : Option Kind). Out k program) found (subst (λ (p : Option Caw). Out (Some c.in-Some.kind) p) begun (c.in-Err.ensures.whole whole))
