@@ -1,12 +1,13 @@
 -- Bytes combined from left to right, against a string that is made apart and put in one piece.
-use Rattle.std.proofs.Common.{◌≡◌, ℕ, zero, suc, ◌+◌, ◌-◌, ◌<◌, ◌≤◌, List, length, get_or, set, ⊎_elim, refl, ap, sym, ◌∙◌, arith, length-set, add-one}
+use Rattle.std.proofs.Common.{◌≡◌, ℕ, zero, suc, ◌+◌, ◌-◌, ◌<◌, ◌≤◌, List, length, replicate, get_or, set, ⊎_elim, refl, ap, sym, ◌∙◌, arith, length-set, add-one}
 use Rattle.std.proofs.lemmas.Grind.{same_number_lists}
-use Rattle.std.proofs.lemmas.List.{get_or-set_same, get_or-set_other}
+use Rattle.std.proofs.lemmas.List.{get_or-replicate, get_or-set_same, get_or-set_other, length-replicate}
 use Rattle.std.proofs.lemmas.Bool.{cases_lt, cases_eq}
 use Rattle.std.proofs.lemmas.Bool.Decides.{nat_tests}
 use Rattle.std.specs.List.{slice_range}
 use Rattle.s370_store.specs.Access.{put}
 use Rattle.s370_bytes.specs.declared.combine.Combine.{Combine}
+use Rattle.s370_bytes.specs.declared.combine.Combine.TheVariants.{Move}
 use Rattle.s370_bytes.specs.Combine.{combined, changed, made_of, lagged, lag_of}
 use Rattle.s370_bytes.proofs.Places.{length-put, put_below, put_inside, put_above, range_inside, range_put}
 
@@ -105,3 +106,22 @@ pub made_is : (op : Combine) (bytes first source made : List ℕ) (a b n lag : �
     → made ≡ made_of op bytes a b n
 made_is op bytes first source made a b n lag l m p q r e =
     sym (ap (λ (xs : List ℕ). slice_range xs a (a + n)) (combined_is op bytes first source made a b n lag l m p q r e) ∙ range_put bytes made a n l m)
+
+-- a byte is made of the one before it, where a string is read one byte before where it is written
+pub lag_one : (a b n : ℕ) → 0 < n → a ≡ b + 1 → lag_of a b n ≡ 1
+lag_one a b n some e = grind (arith, nat_tests)
+
+-- n bytes that are all the first one of the source
+pub filled_is : (bytes first source made : List ℕ) (a b n x k : ℕ) → 0 < n → a ≡ b + 1 → a + n ≤ length bytes → first ≡ slice_range bytes a (a + n)
+    → source ≡ slice_range bytes b (b + n) → x ≡ get_or bytes b 0 → k ≡ n → made ≡ replicate k x → made ≡ made_of Move bytes a b n
+filled_is bytes first source made a b n x k some e l p q r count fill =
+    let m : length made ≡ n = ap length fill ∙ length-replicate k x ∙ count in
+    let each : (j : ℕ) → j < n → get_or made j 0 ≡ x = λ j s. ap (λ (xs : List ℕ). get_or xs j 0) fill ∙ get_or-replicate k j x 0 (omega arith) in
+    made_is Move bytes first source made a b n 1 l m p q (sym (lag_one a b n some e))
+    (λ j s. ⊎_elim
+    (λ (low : j < 1).
+    (let zero_it_is : j ≡ 0 = omega arith in
+    let h : get_or source 0 0 ≡ get_or bytes b 0 = ap (λ (xs : List ℕ). get_or xs 0 0) q ∙ range_inside bytes b n 0 some ∙ ap (λ (i : ℕ). get_or bytes i 0) (let z : b + 0 ≡ b = omega arith in z) in
+    each j s ∙ r ∙ sym h ∙ ap (λ (i : ℕ). get_or source i 0) (sym zero_it_is) ∙ sym (lagged_source source made 1 j low)))
+    (λ (high : 1 ≤ j). each j s ∙ sym (each (j - 1) (omega arith)) ∙ sym (lagged_made source made 1 j high))
+    (cases_lt j 1))

@@ -70,6 +70,23 @@ put_range xs ys a n h l below above =
     (cases_lt k (a + n)))
     (cases_lt k a))
 
+-- ---- strings that are compared in groups
+
+pub range_same : (xs ys : List ℕ) (a n k : ℕ) → slice_range xs a (a + n) ≡ slice_range ys a (a + n) → k < n → get_or xs (a + k) 0 ≡ get_or ys (a + k) 0
+range_same xs ys a n k e s = sym (range_inside xs a n k s) ∙ ap (λ (zs : List ℕ). get_or zs k 0) e ∙ range_inside ys a n k s
+
+-- one group more
+pub groups_more : (xs ys : List ℕ) (k : ℕ) → ((j : ℕ) → j < 8 * k → get_or xs j 0 ≡ get_or ys j 0) → ((j : ℕ) → j < 8 → get_or xs (8 * k + j) 0 ≡ get_or ys (8 * k + j) 0)
+    → (j : ℕ) → j < 8 * (k + 1) → get_or xs j 0 ≡ get_or ys j 0
+groups_more xs ys k before group j s =
+    ⊎_elim
+    (λ (low : j < 8 * k). before j low)
+    (λ (high : 8 * k ≤ j).
+    (let e : 8 * k + (j - 8 * k) ≡ j = omega arith in
+    let h : get_or xs (8 * k + (j - 8 * k)) 0 ≡ get_or ys (8 * k + (j - 8 * k)) 0 = group (j - 8 * k) (omega arith) in
+    rw e at h))
+    (cases_lt j (8 * k))
+
 -- ---- strings as numbers
 
 pow_some : (n : ℕ) → 1 ≤ 256 ^ n

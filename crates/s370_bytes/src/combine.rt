@@ -11,7 +11,7 @@ ghost use Rattle.s370_bytes.specs.Strings.{number};
 
 use s370_num::ConditionCode;
 use s370_rows::{Cpu, Ending, Instruction, Refusal, grant_two};
-use s370_store::{Access, Range, Storage};
+use s370_store::{Access, Block, Range, Storage};
 
 /// What is made of a byte of each operand.
 #[derive(Clone, Copy, PartialEq, Eq)]
@@ -152,6 +152,106 @@ fn combine_at<S: Storage>(
     let lag = lag_of(to, from, made.len() as u32);
     combine_all(operation, made, source, lag as usize);
     storage.store(to, made);
+}
+
+/// As `combine_at`, of ranges that each lie in a block that was found.
+#[inline(always)]
+fn combine_in<S: Storage>(
+    operation: Combine,
+    storage: &mut S,
+    target: Block,
+    to: u32,
+    source: Block,
+    from: u32,
+    made: &mut [u8],
+    other: &mut [u8],
+)
+    requires some { 0 < length made.old }
+    requires same { length made.old ≡ length other.old }
+    requires short { length made.old ≤ 256 }
+    requires source_placed { S.IsPlaced storage.old source }
+    requires source_inside { from + length made.old ≤ length (S.memory storage.old).bytes }
+    requires source_begins { source.first ≤ from }
+    requires source_ends { from + length made.old ≤ source.first + 2048 }
+    requires target_placed { S.IsPlaced storage.old target }
+    requires target_inside { to + length made.old ≤ length (S.memory storage.old).bytes }
+    requires target_begins { target.first ≤ to }
+    requires target_ends { to + length made.old ≤ target.first + 2048 }
+    ensures stored { S.memory storage.new
+        ≡ with_stored (S.memory storage.old) to
+        (made_of operation (S.memory storage.old).bytes to from (length made.old)) }
+    ensures made { made.new ≡ made_of operation (S.memory storage.old).bytes to from (length made.old) }
+    ensures rest { S.Keeps storage.old storage.new }
+{
+    storage.load_in(target, to, made);
+    storage.load_in(source, from, other);
+    let lag = lag_of(to, from, made.len() as u32);
+    combine_all(operation, made, other, lag as usize);
+    storage.store_in(target, to, made);
+}
+
+/// What NC, OC, XC, MVN and MVZ make of two strings that each lie in a block that was found.
+///
+/// A short string goes through short buffers, which take no time to make.
+#[inline(always)]
+pub fn combine_straight<S: Storage>(
+    operation: Combine,
+    cpu: &mut Cpu,
+    storage: &mut S,
+    target: Block,
+    to: u32,
+    source: Block,
+    from: u32,
+    count: u32,
+)
+    requires some { 0 < count }
+    requires short { count ≤ 256 }
+    requires source_placed { S.IsPlaced storage.old source }
+    requires source_inside { from + count ≤ length (S.memory storage.old).bytes }
+    requires source_begins { source.first ≤ from }
+    requires source_ends { from + count ≤ source.first + 2048 }
+    requires target_placed { S.IsPlaced storage.old target }
+    requires target_inside { to + count ≤ length (S.memory storage.old).bytes }
+    requires target_begins { target.first ≤ to }
+    requires target_ends { to + count ≤ target.first + 2048 }
+    ensures stored { S.memory storage.new
+        ≡ with_stored (S.memory storage.old) to (made_of operation (S.memory storage.old).bytes to from count) }
+    ensures condition { cpu.new
+        ≡ combined_condition operation cpu.old (made_of operation (S.memory storage.old).bytes to from count) }
+    ensures rest { S.Keeps storage.old storage.new }
+{
+    let count = count as usize;
+    if count <= 16 {
+        let mut bytes = [0u8; 16];
+        let mut other = [0u8; 16];
+        let made = &mut bytes[..count];
+        combine_in(
+            operation,
+            storage,
+            target,
+            to,
+            source,
+            from,
+            made,
+            &mut other[..count],
+        );
+        set_combined_condition(operation, cpu, made);
+    } else {
+        let mut bytes = [0u8; 256];
+        let mut other = [0u8; 256];
+        let made = &mut bytes[..count];
+        combine_in(
+            operation,
+            storage,
+            target,
+            to,
+            source,
+            from,
+            made,
+            &mut other[..count],
+        );
+        set_combined_condition(operation, cpu, made);
+    }
 }
 
 /// D1 MVN, D3 MVZ, D4 NC, D6 OC, D7 XC: combine a string with another; left to right.

@@ -1,12 +1,39 @@
 //! Strings of bytes against each other.
-ghost use Rattle.std.specs.Prelude.{◌≡◌, ◌≢◌, ℕ, ◌<◌, ◌≤◌, length, slice_index};
+ghost use Rattle.std.specs.Prelude.{◌≡◌, ◌≢◌, ℕ, ◌+◌, ◌<◌, ◌≤◌, true, length, slice_index, slice_range};
 ghost use Rattle.s370_rows.specs.State.{state_of};
 ghost use Rattle.s370_rows.specs.Rows.{MeetsRow};
 ghost use Rattle.s370_bytes.specs.Compare.{equal_pairs, string_order, strings_compared};
 
 use s370_num::ConditionCode;
 use s370_rows::{Cpu, Ending, Instruction, Refusal, grant_two, order_of};
-use s370_store::{Access, Range, Storage};
+use s370_store::{Access, Block, Range, Storage};
+
+/// Whether eight bytes from a place on are equal in both.
+#[inline(always)]
+fn is_equal_group(xs: &[u8], ys: &[u8], start: usize) -> bool
+    requires same { length xs.now ≡ length ys.now }
+    requires inside { start + 8 ≤ length xs.now }
+    ensures { result ≡ true
+        → (k : ℕ) → k < 8 → slice_index xs.now (start + k) ≡ slice_index ys.now (start + k) }
+{
+    xs[start..start + 8] == ys[start..start + 8]
+}
+
+/// How many bytes are equal in both before a group of eight that is not.
+#[inline]
+fn equal_groups(xs: &[u8], ys: &[u8]) -> usize
+    requires { length xs.now ≡ length ys.now }
+    ensures within { result ≤ length xs.now }
+    ensures equal { (k : ℕ) → k < result → slice_index xs.now k ≡ slice_index ys.now k }
+{
+    for k in 0..xs.len() / 8 {
+        let start = 8 * k;
+        if !is_equal_group(xs, ys, start) {
+            return start;
+        }
+    }
+    xs.len() / 8 * 8
+}
 
 /// How many bytes from the first on are equal in both.
 #[inline]
@@ -17,7 +44,7 @@ pub fn equal_front(xs: &[u8], ys: &[u8]) -> usize
     ensures equal { (k : ℕ) → k < result → slice_index xs.now k ≡ slice_index ys.now k }
     ensures first { result < length xs.now → slice_index xs.now result ≢ slice_index ys.now result }
 {
-    for k in 0..xs.len() {
+    for k in equal_groups(xs, ys)..xs.len() {
         if xs[k] != ys[k] {
             return k;
         }
@@ -68,4 +95,86 @@ pub fn compare_row<S: Storage>(
     cpu.psw
         .set_condition(string_order(&left[..count], &right[..count]));
     Ok(Ending::Done)
+}
+
+/// The order of two strings of one length that each lie in a block that was found, through buffers of that length.
+#[inline(always)]
+fn order_in<S: Storage>(
+    storage: &S,
+    left: Block,
+    first: u32,
+    right: Block,
+    second: u32,
+    xs: &mut [u8],
+    ys: &mut [u8],
+) -> ConditionCode
+    requires some { 0 < length xs.old }
+    requires same { length xs.old ≡ length ys.old }
+    requires left_placed { S.IsPlaced storage.now left }
+    requires left_inside { first + length xs.old ≤ length (S.memory storage.now).bytes }
+    requires left_begins { left.first ≤ first }
+    requires left_ends { first + length xs.old ≤ left.first + 2048 }
+    requires right_placed { S.IsPlaced storage.now right }
+    requires right_inside { second + length xs.old ≤ length (S.memory storage.now).bytes }
+    requires right_begins { right.first ≤ second }
+    requires right_ends { second + length xs.old ≤ right.first + 2048 }
+    ensures { result ≡ string_order (slice_range (S.memory storage.now).bytes first (first + length xs.old))
+        (slice_range (S.memory storage.now).bytes second (second + length xs.old)) }
+{
+    storage.load_in(left, first, xs);
+    storage.load_in(right, second, ys);
+    string_order(xs, ys)
+}
+
+/// As [`string_order`], of two strings that each lie in a block that was found.
+///
+/// Short strings go through short buffers, which take no time to make.
+#[inline(always)]
+pub fn compare_straight<S: Storage>(
+    storage: &S,
+    left: Block,
+    first: u32,
+    right: Block,
+    second: u32,
+    count: u32,
+) -> ConditionCode
+    requires some { 0 < count }
+    requires short { count ≤ 256 }
+    requires left_placed { S.IsPlaced storage.now left }
+    requires left_inside { first + count ≤ length (S.memory storage.now).bytes }
+    requires left_begins { left.first ≤ first }
+    requires left_ends { first + count ≤ left.first + 2048 }
+    requires right_placed { S.IsPlaced storage.now right }
+    requires right_inside { second + count ≤ length (S.memory storage.now).bytes }
+    requires right_begins { right.first ≤ second }
+    requires right_ends { second + count ≤ right.first + 2048 }
+    ensures { result ≡ string_order (slice_range (S.memory storage.now).bytes first (first + count))
+        (slice_range (S.memory storage.now).bytes second (second + count)) }
+{
+    let count = count as usize;
+    if count <= 16 {
+        let mut xs = [0u8; 16];
+        let mut ys = [0u8; 16];
+        order_in(
+            storage,
+            left,
+            first,
+            right,
+            second,
+            &mut xs[..count],
+            &mut ys[..count],
+        )
+    } else {
+        let mut xs = [0u8; 256];
+        let mut ys = [0u8; 256];
+        order_in(
+            storage,
+            left,
+            first,
+            right,
+            second,
+            &mut xs[..count],
+            &mut ys[..count],
+        )
+    }
 }

@@ -32,14 +32,15 @@ mod multiple;
 mod straight;
 mod translate;
 
-pub use combine::{Combine, combine_row, move_row};
-pub use compare::compare_row;
+pub use combine::{Combine, combine_row, combine_straight, move_row};
+pub use compare::{compare_row, compare_straight};
 pub use decimal::{binary_row, decimal_row};
 pub use digits::{Layout, layout_row};
 pub use long::{compare_long_row, move_long_quickly, move_long_row};
 pub use masks::{compare_characters_row, insert_characters_row, store_characters_row};
 pub use multiple::{
-    load_multiple_row, load_registers, store_multiple_row, store_registers, words_range,
+    load_multiple_row, load_registers, load_registers_in, store_multiple_row, store_registers,
+    store_registers_in, words_range,
 };
-pub use straight::move_straight;
-pub use translate::{translate_row, translate_test_row};
+pub use straight::{fill_straight, move_straight};
+pub use translate::{translate_row, translate_straight, translate_test_row};

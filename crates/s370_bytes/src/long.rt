@@ -103,7 +103,7 @@ fn destroys(first: Operand, second: Operand) -> bool
 
 /// Sets each byte.
 #[inline]
-fn set_all(bytes: &mut [u8], pad: u8)
+pub fn set_all(bytes: &mut [u8], pad: u8)
     ensures { bytes.new ≡ replicate (length bytes.old) pad }
 {
     for k in 0..bytes.len() {

@@ -1,5 +1,5 @@
 //! Several registers, loaded from or stored into the words of a storage.
-ghost use Rattle.std.specs.Prelude.{◌≡◌, ℕ, ◌*◌, ◌<◌, ◌≤◌, length, take};
+ghost use Rattle.std.specs.Prelude.{◌≡◌, ℕ, ◌+◌, ◌*◌, ◌<◌, ◌≤◌, length, take};
 ghost use Rattle.s370_store.specs.Access.{IsGranted};
 ghost use Rattle.s370_store.specs.Memory.{with_stored};
 ghost use Rattle.s370_rows.specs.Formats.{r1_of, r2_of};
@@ -9,7 +9,7 @@ ghost use Rattle.s370_bytes.specs.Multiple.{loaded_from, multiple_loaded, multip
 
 use s370_num::{Addr24, Register};
 use s370_rows::{Cpu, Ending, Instruction, Refusal, grant};
-use s370_store::{Access, Range, Storage, load_word};
+use s370_store::{Access, Block, Range, Storage, load_word, load_word_in};
 
 /// How many registers there are from one to another, where 0 follows 15.
 #[inline(always)]
@@ -67,6 +67,29 @@ pub fn store_registers<S: Storage>(
     storage.store(address.get(), &words[..4 * count as usize]);
 }
 
+/// As [`store_registers`], into words that lie in a block that was found.
+#[inline(always)]
+pub fn store_registers_in<S: Storage>(
+    registers: &[u32; 16],
+    storage: &mut S,
+    block: Block,
+    address: Addr24,
+    i: Instruction,
+)
+    requires placed { S.IsPlaced storage.old block }
+    requires begins { block.first ≤ address }
+    requires ends { address + 4 * register_count (r1_of i) (r2_of i) ≤ block.first + 2048 }
+    ensures stored { S.memory storage.new
+        ≡ with_stored (S.memory storage.old) address
+        (words_from registers.now (r1_of i) (register_count (r1_of i) (r2_of i))) }
+    ensures rest { S.Keeps storage.old storage.new }
+{
+    let count = count_of(i.r1(), i.r2());
+    let mut words = [0u8; 64];
+    fill(&mut words, registers, i.r1(), count);
+    storage.store_in(block, address.get(), &words[..4 * count as usize]);
+}
+
 /// Loads registers R1 to R3, of those given, from the words from an address on; 0 follows 15.
 #[inline(always)]
 pub fn load_registers<S: Storage>(
@@ -84,6 +107,29 @@ pub fn load_registers<S: Storage>(
     let first = i.r1();
     for k in 0..count_of(first, i.r2()) {
         let word = load_word(storage, start + 4 * k);
+        registers[(first.index() + k as usize) % 16] = word;
+    }
+}
+
+/// As [`load_registers`], from words that lie in a block that was found.
+#[inline(always)]
+pub fn load_registers_in<S: Storage>(
+    registers: &mut [u32; 16],
+    storage: &S,
+    block: Block,
+    address: Addr24,
+    i: Instruction,
+)
+    requires placed { S.IsPlaced storage.now block }
+    requires begins { block.first ≤ address }
+    requires ends { address + 4 * register_count (r1_of i) (r2_of i) ≤ block.first + 2048 }
+    ensures { registers.new ≡ loaded_from (S.memory storage.now).bytes registers.old address (r1_of i)
+        (register_count (r1_of i) (r2_of i)) }
+{
+    let start = address.get();
+    let first = i.r1();
+    for k in 0..count_of(first, i.r2()) {
+        let word = load_word_in(storage, block, start + 4 * k);
         registers[(first.index() + k as usize) % 16] = word;
     }
 }

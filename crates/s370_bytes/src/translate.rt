@@ -1,5 +1,5 @@
 //! Strings that are translated or tested by a table.
-ghost use Rattle.std.specs.Prelude.{◌≡◌, ◌≢◌, ℕ, ◌+◌, ◌^◌, ◌<◌, ◌≤◌, true, length, slice_index, slice_range};
+ghost use Rattle.std.specs.Prelude.{◌≡◌, ◌≢◌, ℕ, ◌+◌, ◌^◌, ◌<◌, ◌≤◌, true, false, length, slice_index, slice_range};
 ghost use Rattle.s370_store.specs.Access.{IsGranted};
 ghost use Rattle.s370_store.specs.Memory.{with_stored};
 ghost use Rattle.s370_rows.specs.State.{state_of};
@@ -8,7 +8,7 @@ ghost use Rattle.s370_bytes.specs.Translate.{is_apart, translation, string_trans
 
 use s370_num::{Addr24, ConditionCode};
 use s370_rows::{Cpu, Ending, Instruction, Refusal, grant_two};
-use s370_store::{Access, Range, Storage, load_byte, store_byte};
+use s370_store::{Access, Block, Range, Storage, load_byte, store_byte};
 
 /// All bytes of a table: an access to it is tested whole, whichever of them are named.
 #[inline(always)]
@@ -64,6 +64,96 @@ fn translate_apart<S: Storage>(
     storage.load(from, table);
     translate_all(bytes, table);
     storage.store(to, bytes);
+}
+
+/// As `translate_apart`, of a range and a table that each lie in a block that was found.
+#[inline(always)]
+fn translate_in<S: Storage>(
+    storage: &mut S,
+    target: Block,
+    to: u32,
+    source: Block,
+    from: u32,
+    bytes: &mut [u8],
+    table: &mut [u8],
+)
+    requires some { 0 < length bytes.old }
+    requires short { length bytes.old ≤ 256 }
+    requires whole { length table.old ≡ 256 }
+    requires apart { is_apart to (length bytes.old) from ≡ true }
+    requires source_placed { S.IsPlaced storage.old source }
+    requires source_begins { source.first ≤ from }
+    requires source_ends { from + 256 ≤ source.first + 2048 }
+    requires target_placed { S.IsPlaced storage.old target }
+    requires target_inside { to + length bytes.old ≤ length (S.memory storage.old).bytes }
+    requires target_begins { target.first ≤ to }
+    requires target_ends { to + length bytes.old ≤ target.first + 2048 }
+    ensures stored { S.memory storage.new
+        ≡ with_stored (S.memory storage.old) to (translation (S.memory storage.old).bytes to from (length bytes.old)) }
+    ensures rest { S.Keeps storage.old storage.new }
+{
+    storage.load_in(target, to, bytes);
+    storage.load_in(source, from, table);
+    translate_all(bytes, table);
+    storage.store_in(target, to, bytes);
+}
+
+/// What TR makes of a string and a table that each lie in a block that was found, if they have no byte in common. Else
+/// nothing changes.
+#[inline(always)]
+pub fn translate_straight<S: Storage>(
+    storage: &mut S,
+    target: Block,
+    to: u32,
+    source: Block,
+    from: u32,
+    count: u32,
+) -> bool
+    requires to { to < 2 ^ 24 }
+    requires table { from < 2 ^ 24 }
+    requires some { 0 < count }
+    requires short { count ≤ 256 }
+    requires source_placed { S.IsPlaced storage.old source }
+    requires source_begins { source.first ≤ from }
+    requires source_ends { from + 256 ≤ source.first + 2048 }
+    requires target_placed { S.IsPlaced storage.old target }
+    requires target_inside { to + count ≤ length (S.memory storage.old).bytes }
+    requires target_begins { target.first ≤ to }
+    requires target_ends { to + count ≤ target.first + 2048 }
+    ensures translated { result ≡ true
+        → S.memory storage.new
+        ≡ with_stored (S.memory storage.old) to (translation (S.memory storage.old).bytes to from count) }
+    ensures still { result ≡ false → S.memory storage.new ≡ S.memory storage.old }
+    ensures rest { S.Keeps storage.old storage.new }
+{
+    if !is_apart(to, count, from) {
+        return false;
+    }
+    let mut table = [0u8; 256];
+    if count <= 16 {
+        let mut bytes = [0u8; 16];
+        translate_in(
+            storage,
+            target,
+            to,
+            source,
+            from,
+            &mut bytes[..count as usize],
+            &mut table,
+        );
+    } else {
+        let mut bytes = [0u8; 256];
+        translate_in(
+            storage,
+            target,
+            to,
+            source,
+            from,
+            &mut bytes[..count as usize],
+            &mut table,
+        );
+    }
+    true
 }
 
 /// Translates a range by a table that may change with it, byte by byte.
