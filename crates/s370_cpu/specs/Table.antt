@@ -13,6 +13,11 @@ use Rattle.s370_cpu.specs.declared.conclude.Stop.{Stop}
 use Rattle.s370_cpu.specs.declared.conclude.Stop.TheVariants.{InputOutput, Privileged}
 use Rattle.s370_cpu.specs.declared.opcodes.Opcode.{Opcode}
 use Rattle.s370_cpu.specs.declared.opcodes.Opcode.TheVariants.{Invalid, Supervised, SupervisorCall, Execute, Computes, Fetches, Stores}
+use Rattle.s370_cpu.specs.declared.opcodes.RegisterRow.TheVariants.{Register, ShiftPair, ShiftWord}
+use Rattle.s370_cpu.specs.declared.opcodes.FetchRow.TheVariants.{ConvertToBinary, Halfword, Word}
+use Rattle.s370_rows.specs.declared.arithmetic.Arithmetic.{Arithmetic}
+use Rattle.s370_rows.specs.declared.arithmetic.Arithmetic.TheVariants.{LoadPositive, LoadNegative, LoadComplement, Add, Subtract}
+use Rattle.s370_rows.specs.declared.shift.Shift.TheVariants.{Left}
 use Rattle.s370_cpu.specs.Opcodes.{opcode_at}
 use Rattle.s370_cpu.specs.RegisterRows.{register_row}
 use Rattle.s370_cpu.specs.FetchRows.{fetch_row}
@@ -46,6 +51,32 @@ unit m = unit_over row_of m
 abbrev pub is_supervised : Opcode → Bool
 is_supervised (Supervised c) = true
 is_supervised _ = false
+
+-- whether the processor goes on after each instruction of an operation code that is carried out, unless it overflows:
+-- those for the supervisor state, SVC and CVB are left out
+abbrev pub is_steady : Opcode → Bool
+is_steady (Supervised c) = false
+is_steady SupervisorCall = false
+is_steady (Fetches ConvertToBinary) = false
+is_steady _ = true
+
+-- whether an operation makes a signed number, which may not fit its register (the negative of LNR always does)
+abbrev pub is_signed : Arithmetic → Bool
+is_signed LoadPositive = true
+is_signed LoadNegative = true
+is_signed LoadComplement = true
+is_signed Add = true
+is_signed Subtract = true
+is_signed _ = false
+
+-- whether an instruction of an operation code can overflow: GA22-7000, "Fixed-Point-Overflow Exception"
+abbrev pub may_overflow : Opcode → Bool
+may_overflow (Computes (Register op)) = is_signed op
+may_overflow (Computes (ShiftWord Left)) = true
+may_overflow (Computes (ShiftPair Left)) = true
+may_overflow (Fetches (Word op)) = is_signed op
+may_overflow (Fetches (Halfword op)) = is_signed op
+may_overflow _ = false
 
 -- what `step` may answer: an instruction for the supervisor state is handed back after its fetch, with nothing changed, so
 -- that no device is asked; every other instruction is the unit

@@ -28,7 +28,7 @@ fn join(cpu: &Cpu, i: Instruction, target: Instruction) -> Instruction
 
 /// 44 EX: the target, which is fetched; any other instruction is carried out itself.
 #[inline(always)]
-pub fn execute<S: Storage>(cpu: &Cpu, storage: &S, i: Instruction) -> Result<Instruction, Refusal>
+pub fn target_of<S: Storage>(cpu: &Cpu, storage: &S, i: Instruction) -> Result<Instruction, Refusal>
     ensures { let m = state_of cpu.now (S.memory storage.now) in
         MeetsFetch (executed m i) m (S.present storage.now) result }
 {

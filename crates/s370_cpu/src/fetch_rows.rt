@@ -182,7 +182,7 @@ pub fn test_byte_row<S: Storage>(
 
 /// Carries out a row that fetches its operands, but for the address.
 #[inline(always)]
-pub fn fetch_row<S: Storage>(
+pub fn fetch_row<S: Storage, const CODE: u8>(
     row: FetchRow,
     cpu: &mut Cpu,
     storage: &S,

@@ -40,13 +40,15 @@ mod unit;
 
 pub use conclude::Stop;
 pub use control::supervise;
-pub use execute::EXECUTE;
+pub use execute::{EXECUTE, target_of};
 pub use fetch::length_of;
+pub use fetch_rows::fetch_row;
 pub use known::load_known_in;
 pub use laws::{
     changed_bytes_were_tested, few_pages_are_asked_for, few_ranges_are_tested, problem_state_holds,
     protection_holds,
 };
-pub use opcodes::Branching;
-pub use register_rows::{branch_register, branch_to, load_address, register_operation};
-pub use unit::step;
+pub use opcodes::{FetchRow, Opcode, StoreRow, opcode_of};
+pub use register_rows::register_row;
+pub use store_rows::store_row;
+pub use unit::{is_steady, may_overflow, step};

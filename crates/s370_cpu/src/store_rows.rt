@@ -169,7 +169,7 @@ fn swap_doubleword_row<S: Storage>(
 
 /// Carries out a row that stores an operand, but for the address.
 #[inline(always)]
-pub fn store_row<S: Storage>(
+pub fn store_row<S: Storage, const CODE: u8>(
     row: StoreRow,
     cpu: &mut Cpu,
     storage: &mut S,

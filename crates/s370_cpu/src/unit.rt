@@ -1,23 +1,23 @@
 //! One unit of a processor: an instruction, or the program interruption that comes in its place.
-ghost use Rattle.std.specs.Prelude.{◌≡◌, ℕ, Bool, Ok, false, length, slice_index};
+ghost use Rattle.std.specs.Prelude.{◌≡◌, ℕ, Bool, Ok, false, length, slice_index, true};
 ghost use Rattle.s370_store.specs.Access.{IsGranted};
 ghost use Rattle.s370_rows.specs.State.{state_of};
 ghost use Rattle.s370_rows.specs.Rows.{MeetsRow};
 ghost use Rattle.s370_cpu.specs.Fetch.{fetched, halfwords_of, instruction_at};
 ghost use Rattle.s370_cpu.specs.Opcodes.{opcode_at};
-ghost use Rattle.s370_cpu.specs.Table.{MeetsStep, is_supervised, row_of};
+ghost use Rattle.s370_cpu.specs.Table.{MeetsStep, is_signed, is_steady, is_supervised, may_overflow, row_of};
 ghost use Rattle.s370_cpu.specs.Unit.{Carries, place_at};
 
 use crate::conclude::{Stop, conclude};
-use crate::execute::{EXECUTE, execute};
+use crate::execute::{EXECUTE, target_of};
 use crate::fetch::{fetch, length_of, may_fetch_longest};
 use crate::fetch_rows::fetch_row;
 use crate::known::load_known;
-use crate::opcodes::{Opcode, opcode_of};
+use crate::opcodes::{FetchRow, Opcode, RegisterRow, opcode_of};
 use crate::register_rows::register_row;
 use crate::store_rows::store_row;
 use s370_psw::{Ilc, ProgramCode};
-use s370_rows::{Cpu, Ending, Instruction, Place, Refusal};
+use s370_rows::{Arithmetic, Cpu, Ending, Instruction, Place, Refusal, Shift};
 use s370_store::{Storage, load_byte};
 
 /// Carries out an instruction of any state that was fetched, but for its address. The operation code is passed beside
@@ -46,8 +46,8 @@ fn perform<S: Storage>(
             Ok(ending) => Ok(ending),
             Err(code) => Err(Refusal::Program(code)),
         },
-        Opcode::Fetches(row) => fetch_row(row, cpu, storage, i),
-        Opcode::Stores(row) => store_row(row, cpu, storage, i),
+        Opcode::Fetches(row) => fetch_row::<S, 0>(row, cpu, storage, i),
+        Opcode::Stores(row) => store_row::<S, 0>(row, cpu, storage, i),
     }
 }
 
@@ -138,7 +138,7 @@ fn carry_target<S: Storage>(
         MeetsStep (S.present storage.old) before result after }
     ensures rest { S.Keeps storage.old storage.new }
 {
-    match execute(cpu, storage, first) {
+    match target_of(cpu, storage, first) {
         Ok(i) => finish(cpu, storage, place, i.opcode, i),
         Err(refusal) => conclude(cpu, place, Err(refusal)),
     }
@@ -177,6 +177,47 @@ fn is_supervised(code: u8) -> bool
 {
     match opcode_of(code) {
         Opcode::Supervised(_) => true,
+        _ => false,
+    }
+}
+
+/// Whether the processor goes on after each instruction of an operation code that is carried out, unless it overflows,
+/// and changes nobody's rights.
+#[inline(always)]
+pub fn is_steady(code: u8) -> bool
+    ensures steady { result ≡ is_steady (opcode_at code) }
+    ensures plain { result ≡ true → is_supervised (opcode_at code) ≡ false }
+{
+    match opcode_of(code) {
+        Opcode::Supervised(_) | Opcode::SupervisorCall => false,
+        Opcode::Fetches(FetchRow::ConvertToBinary) => false,
+        _ => true,
+    }
+}
+
+/// Whether an instruction of an operation code can overflow, which interrupts where the program mask has its bit.
+#[inline(always)]
+pub fn may_overflow(code: u8) -> bool
+    ensures { result ≡ may_overflow (opcode_at code) }
+{
+    match opcode_of(code) {
+        Opcode::Computes(RegisterRow::Register(operation)) => is_signed(operation),
+        Opcode::Fetches(FetchRow::Word(operation)) => is_signed(operation),
+        Opcode::Fetches(FetchRow::Halfword(operation)) => is_signed(operation),
+        Opcode::Computes(RegisterRow::ShiftWord(Shift::Left)) => true,
+        Opcode::Computes(RegisterRow::ShiftPair(Shift::Left)) => true,
+        _ => false,
+    }
+}
+
+/// Whether an operation makes a signed number, which may not fit its register.
+#[inline(always)]
+fn is_signed(operation: Arithmetic) -> bool
+    ensures { result ≡ is_signed operation }
+{
+    match operation {
+        Arithmetic::LoadPositive | Arithmetic::LoadNegative | Arithmetic::LoadComplement => true,
+        Arithmetic::Add | Arithmetic::Subtract => true,
         _ => false,
     }
 }

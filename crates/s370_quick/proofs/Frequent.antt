@@ -14,7 +14,7 @@ use Rattle.s370_rows.specs.Rows.{Left, MeetsRow, Outcome, Row, Stored, after, fa
 use Rattle.s370_cpu.specs.declared.conclude.Stop.TheVariants.{Done as DoneStop}
 use Rattle.s370_bytes.specs.Long.{long_moved}
 use Rattle.s370_cpu.specs.Laws.{rights_of}
-use Rattle.s370_quick.specs.Quick.{GoesOn, MeetsAtOnce, MeetsQuick, whole_of}
+use Rattle.s370_quick.specs.Quick.{GoesOn, MeetsAtOnce, MeetsQuick}
 use Rattle.s370_cpu.specs.Table.{row_of, unit}
 use Rattle.s370_cpu.specs.Unit.{Carries, MeetsUnit, Stopped, place_at, stopped}
 use Rattle.s370_cpu.proofs.Units.{carried_meets, whole_meets}
@@ -64,47 +64,15 @@ part_quiet : (m : State) (b : Bool) (x y : Cpu) (ss : List Stored) → rights_of
 part_quiet m true x y ss h k = record { goes_on = tt; rights = h }
 part_quiet m false x y ss h k = record { goes_on = tt; rights = k }
 
-either_quiet : (m : State) (b : Bool) (r s : Row) → LeavesQuiet m r.leaves → LeavesQuiet m s.leaves → LeavesQuiet m (if b then r else s).leaves
+pub either_quiet : (m : State) (b : Bool) (r s : Row) → LeavesQuiet m r.leaves → LeavesQuiet m s.leaves → LeavesQuiet m (if b then r else s).leaves
 either_quiet m true r s h k = h
 either_quiet m false r s h k = k
 
-over_quiet : (m : State) (cpu : Cpu) → rights_of (record m { cpu = cpu }) ≡ rights_of m → LeavesQuiet m (Ok (over (record { ending = Done; cpu = cpu })))
+pub over_quiet : (m : State) (cpu : Cpu) → rights_of (record m { cpu = cpu }) ≡ rights_of m → LeavesQuiet m (Ok (over (record { ending = Done; cpu = cpu })))
 over_quiet m cpu h = record { goes_on = tt; rights = h }
 
 pub long_quiet : (m : State) (i : Instruction) → LeavesQuiet m (long_moved m i).leaves
 long_quiet m i = search (either_quiet, over_quiet, part_quiet)
-
--- what was done, or left undone
-quick_if : (r : Row) (present : ℕ → Bool) (m : State) (did : Bool) (ending : Ending) (m' : State) → LeavesQuiet m r.leaves → (did ≡ true → MeetsRow r present m (Ok ending) m') → (did ≡ false → m' ≡ m) → MeetsQuick r present m (if did then Some ending else None) m'
-quick_if r present m true ending m' h d s = quick_done r present m ending m' h (d refl)
-quick_if r present m false ending m' h d s = s refl
-
-whole_is : (did : Bool) → whole_of did ≡ (if did then Some Done else None)
-whole_is true = refl
-whole_is false = refl
-
-pub quick_whole : (r : Row) (present : ℕ → Bool) (m : State) (did : Bool) (answer : Option Ending) (m' : State) → LeavesQuiet m r.leaves → (did ≡ true → MeetsRow r present m (Ok Done) m') → (did ≡ false → m' ≡ m) → answer ≡ whole_of did → MeetsQuick r present m answer m'
-quick_whole r present m did answer m' h d s a = subst (λ (o : Option Ending). MeetsQuick r present m o m') (sym (a ∙ whole_is did)) (quick_if r present m did Done m' h d s)
-
--- a row that leaves what is done ends so
-abbrev LeavesDone : Result Left ProgramCode → Type 0
-LeavesDone (Ok l) = l.ending ≡ Done
-LeavesDone (Err code) = Unit {0}
-
-abbrev EndsDone : Result Outcome ProgramCode → Type 0
-EndsDone (Ok o) = o.ending ≡ Done
-EndsDone (Err code) = Unit {0}
-
-ends_done : (m : State) (refused fault : Option ProgramCode) (leaves : Result Left ProgramCode) → LeavesDone leaves → EndsDone (outcome_of m (unless refused (unless fault leaves)))
-ends_done m None None (Ok l) h = h
-ends_done m None None (Err code) h = tt
-ends_done m None (Some code) leaves h = tt
-ends_done m (Some code) fault leaves h = tt
-
-pub whole_done : (r : Row) (present : ℕ → Bool) (m : State) (ending : Ending) (m' : State) → LeavesDone r.leaves → MeetsRow r present m (Ok ending) m' → MeetsRow r present m (Ok Done) m'
-whole_done r present m ending m' h e =
-    let is : ending ≡ Done = subst EndsDone e (ends_done m r.refused (fault_of m r.tests) r.leaves h) in
-    e ∙ ap (λ (x : Ending). Ok (record { ending = x; state = m' })) is
 
 -- ---- the unit
 

@@ -1,3 +1,5 @@
 pub mod Frequent
 pub mod LongMoves
+pub mod Overflow
+pub mod Quiet
 mod Holds

@@ -1,5 +1,5 @@
 -- What an instruction may answer that is done only where nothing keeps it from being done.
-use Rattle.std.specs.Prelude.{◌≡◌, ℕ, zero, suc, ◌+◌, ◌%◌, ◌<◌, ◌≤◌, Bool, true, false, length, slice_index, Option, Some, None, Ok, IfSome, IfNone}
+use Rattle.std.specs.Prelude.{◌≡◌, ℕ, zero, suc, ◌+◌, ◌%◌, ◌<◌, ◌≤◌, Bool, true, false, length, slice_index, Option, Some, None, Result, Ok, Err, IfSome, IfNone}
 use Rattle.s370_store.specs.Blocks.{MayAccess, MayFetch}
 use Rattle.s370_store.specs.Memory.{Memory}
 use Rattle.s370_store.specs.declared.Access.{Access}
@@ -7,6 +7,7 @@ use Rattle.s370_store.specs.declared.Access.TheVariants.{Fetch, Store}
 use Rattle.s370_store.specs.declared.block.Block.{Block}
 use Rattle.s370_rows.specs.declared.ending.Ending.{Ending}
 use Rattle.s370_rows.specs.declared.ending.Ending.TheVariants.{Done, Branch, Again, Interrupted, SupervisorCall, InputOutput}
+use Rattle.s370_rows.specs.declared.ending.Refusal.{Refusal}
 use Rattle.s370_rows.specs.State.{State}
 use Rattle.s370_rows.specs.Rows.{Row, MeetsRow}
 use Rattle.s370_cpu.specs.Laws.{rights_of}
@@ -24,10 +25,10 @@ GoesOn (Interrupted code) = ⊥
 GoesOn (SupervisorCall n) = ⊥
 GoesOn (InputOutput operation device) = ⊥
 
--- a row that was done
-abbrev pub whole_of : Bool → Option Ending
-whole_of true = Some Done
-whole_of false = None
+-- how a row ended that was carried out
+abbrev pub done_of : Result Ending Refusal → Option Ending
+done_of (Ok ending) = Some ending
+done_of (Err refusal) = None
 
 -- the row, where one look at its operand grants it; or nothing is changed
 abbrev pub MeetsAtOnce : Row → (ℕ → Bool) → State → Option Ending → State → Type 0

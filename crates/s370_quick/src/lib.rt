@@ -1,9 +1,12 @@
-//! The loop's processor: the most frequent instructions, each in one go, for who does one after another and holds the
-//! block from which they come.
+//! The loop's processor: carries out one instruction after another, whose bytes and operands come from blocks of
+//! storage that the caller holds.
 //!
 //! Its one theorem: [`step_quickly`] leaves what the unit of operation of `s370_cpu` leaves, and the processor then
-//! goes on with the next instruction; or nothing is changed, and whoever called it has `s370_cpu` do the unit. It may
-//! always say so: that an instruction is done here makes a way faster, and no other.
+//! goes on with the next instruction; or nothing has changed, and the caller has `s370_cpu` do the unit. The second is
+//! always allowed: carrying out an instruction here makes it faster, and changes nothing else.
+//!
+//! Left to the unit are instructions that may change rights or interrupt: privileged ones, SVC, CVB, those whose
+//! overflow would interrupt, and whatever ends in an exception or needs a page that is absent.
 //!
 //! ```
 //! use s370_num::{AccessKey, Addr24};
@@ -25,7 +28,9 @@
 #![tactic(auto)]
 
 mod held;
+mod operands;
 mod quick;
+mod strings;
 
 pub use held::Held;
 pub use quick::{move_parts_quickly, step_quickly};

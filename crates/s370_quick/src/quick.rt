@@ -1,30 +1,24 @@
-//! The most frequent instructions, each done in one go where nothing keeps it from being done.
-ghost use Rattle.std.specs.Prelude.{◌≡◌, ℕ, ◌+◌, ◌%◌, ◌<◌, ◌≤◌, [], ◌∷◌, Ok, true, false, length, slice_index};
+//! Instructions, each done in one go if nothing keeps it from being done.
+ghost use Rattle.std.specs.Prelude.{◌≡◌, ◌+◌, ◌*◌, ◌%◌, ◌≤◌, Ok, false, true, length, nat_le, slice_index};
 ghost use Rattle.s370_store.specs.Blocks.{MayFetch};
 ghost use Rattle.s370_rows.specs.State.{state_of};
 ghost use Rattle.s370_cpu.specs.declared.conclude.Stop.TheVariants as stops;
-ghost use Rattle.s370_cpu.specs.Fetch.{fetched, instruction_at};
-ghost use Rattle.s370_cpu.specs.FetchRows.{byte_tested, word_operation};
-ghost use Rattle.s370_cpu.specs.StoreRows.{word_stored};
-ghost use Rattle.s370_bytes.specs.Combine.{string_combined};
-ghost use Rattle.s370_bytes.specs.declared.combine.Combine.TheVariants as combines;
-ghost use Rattle.s370_rows.specs.Rows.{Grants, MeetsRow};
-ghost use Rattle.s370_rows.specs.declared.instruction.Instruction.{Instruction};
-ghost use Rattle.s370_rows.specs.declared.ending.Ending.TheVariants as endings;
-ghost use Rattle.s370_quick.specs.Quick.{AreHeld, DoesUnits, GoesOn, IsHeld, IsLongMoveAt, MeetsAtOnce, MeetsQuick, StepsQuickly, whole_of};
-ghost use Rattle.s370_cpu.specs.Table.{row_of};
+ghost use Rattle.s370_cpu.specs.Fetch.{fetched, halfwords_of, instruction_at};
+ghost use Rattle.s370_quick.specs.Quick.{AreHeld, DoesUnits, GoesOn, IsLongMoveAt, MeetsAtOnce, MeetsQuick, StepsQuickly};
+ghost use Rattle.s370_cpu.specs.Opcodes.{opcode_at};
+ghost use Rattle.s370_cpu.specs.Table.{may_overflow, row_of};
 ghost use Rattle.s370_cpu.specs.Unit.{Carries, place_at, stopped};
-ghost use Rattle.s370_rows.specs.declared.arithmetic.Arithmetic.TheVariants as operations;
 
-use crate::held::{Held, operand_block};
-use s370_bytes::{move_long_quickly, move_row, move_straight};
+use crate::held::Held;
+use crate::operands::{fetch_held, store_held};
+use s370_bytes::move_long_quickly;
 use s370_cpu::{
-    Branching, EXECUTE, branch_register, branch_to, length_of, load_address, load_known_in,
-    register_operation,
+    EXECUTE, Opcode, is_steady, length_of, load_known_in, may_overflow, opcode_of, register_row,
+    target_of,
 };
 use s370_num::Addr24;
-use s370_rows::{Arithmetic, ByteTest, Cpu, Ending, Instruction, Place, arithmetic_row, test_byte};
-use s370_store::{Access, Block, Storage, load_byte_in, load_word_in, store_word_in};
+use s370_rows::{Cpu, Ending, Instruction, Place};
+use s370_store::{Block, Storage, load_byte_in};
 
 /// Does one instruction of a running processor, if it is one of the most frequent, if it is done, and if the processor
 /// then goes on with the next one. Else nothing changes. It stands at an even address in a block that was found for
@@ -90,17 +84,41 @@ fn step_found_quickly<S: Storage>(
 {
     // One jump, behind which all is compiled for the one operation code.
     match load_byte_in(storage, block, start.get()) {
+        0x04 => carry_quickly::<S, 0x04>(cpu, storage, start, block, held),
+        0x05 => carry_quickly::<S, 0x05>(cpu, storage, start, block, held),
+        0x06 => carry_quickly::<S, 0x06>(cpu, storage, start, block, held),
         0x07 => carry_quickly::<S, 0x07>(cpu, storage, start, block, held),
+        0x0F => carry_apart::<S, 0x0F>(cpu, storage, start, block, held),
+        0x10 => carry_quickly::<S, 0x10>(cpu, storage, start, block, held),
+        0x11 => carry_quickly::<S, 0x11>(cpu, storage, start, block, held),
         0x12 => carry_quickly::<S, 0x12>(cpu, storage, start, block, held),
+        0x13 => carry_quickly::<S, 0x13>(cpu, storage, start, block, held),
         0x14 => carry_quickly::<S, 0x14>(cpu, storage, start, block, held),
         0x15 => carry_quickly::<S, 0x15>(cpu, storage, start, block, held),
         0x16 => carry_quickly::<S, 0x16>(cpu, storage, start, block, held),
         0x17 => carry_quickly::<S, 0x17>(cpu, storage, start, block, held),
         0x18 => carry_quickly::<S, 0x18>(cpu, storage, start, block, held),
         0x19 => carry_quickly::<S, 0x19>(cpu, storage, start, block, held),
+        0x1A => carry_quickly::<S, 0x1A>(cpu, storage, start, block, held),
+        0x1B => carry_quickly::<S, 0x1B>(cpu, storage, start, block, held),
+        0x1C => carry_quickly::<S, 0x1C>(cpu, storage, start, block, held),
+        0x1D => carry_apart::<S, 0x1D>(cpu, storage, start, block, held),
+        0x1E => carry_quickly::<S, 0x1E>(cpu, storage, start, block, held),
+        0x1F => carry_quickly::<S, 0x1F>(cpu, storage, start, block, held),
+        0x40 => carry_quickly::<S, 0x40>(cpu, storage, start, block, held),
         0x41 => carry_quickly::<S, 0x41>(cpu, storage, start, block, held),
+        0x42 => carry_quickly::<S, 0x42>(cpu, storage, start, block, held),
+        0x43 => carry_quickly::<S, 0x43>(cpu, storage, start, block, held),
+        0x44 => carry_apart::<S, 0x44>(cpu, storage, start, block, held),
+        0x45 => carry_quickly::<S, 0x45>(cpu, storage, start, block, held),
         0x46 => carry_quickly::<S, 0x46>(cpu, storage, start, block, held),
         0x47 => carry_quickly::<S, 0x47>(cpu, storage, start, block, held),
+        0x48 => carry_quickly::<S, 0x48>(cpu, storage, start, block, held),
+        0x49 => carry_quickly::<S, 0x49>(cpu, storage, start, block, held),
+        0x4A => carry_quickly::<S, 0x4A>(cpu, storage, start, block, held),
+        0x4B => carry_quickly::<S, 0x4B>(cpu, storage, start, block, held),
+        0x4C => carry_apart::<S, 0x4C>(cpu, storage, start, block, held),
+        0x4E => carry_apart::<S, 0x4E>(cpu, storage, start, block, held),
         0x50 => carry_quickly::<S, 0x50>(cpu, storage, start, block, held),
         0x54 => carry_quickly::<S, 0x54>(cpu, storage, start, block, held),
         0x55 => carry_quickly::<S, 0x55>(cpu, storage, start, block, held),
@@ -109,9 +127,47 @@ fn step_found_quickly<S: Storage>(
         0x58 => carry_quickly::<S, 0x58>(cpu, storage, start, block, held),
         0x59 => carry_quickly::<S, 0x59>(cpu, storage, start, block, held),
         0x5A => carry_quickly::<S, 0x5A>(cpu, storage, start, block, held),
+        0x5B => carry_quickly::<S, 0x5B>(cpu, storage, start, block, held),
+        0x5C => carry_apart::<S, 0x5C>(cpu, storage, start, block, held),
+        0x5D => carry_apart::<S, 0x5D>(cpu, storage, start, block, held),
+        0x5E => carry_quickly::<S, 0x5E>(cpu, storage, start, block, held),
+        0x5F => carry_quickly::<S, 0x5F>(cpu, storage, start, block, held),
+        0x86 => carry_quickly::<S, 0x86>(cpu, storage, start, block, held),
+        0x87 => carry_quickly::<S, 0x87>(cpu, storage, start, block, held),
+        0x88 => carry_quickly::<S, 0x88>(cpu, storage, start, block, held),
+        0x89 => carry_quickly::<S, 0x89>(cpu, storage, start, block, held),
+        0x8A => carry_quickly::<S, 0x8A>(cpu, storage, start, block, held),
+        0x8B => carry_quickly::<S, 0x8B>(cpu, storage, start, block, held),
+        0x8C => carry_quickly::<S, 0x8C>(cpu, storage, start, block, held),
+        0x8D => carry_quickly::<S, 0x8D>(cpu, storage, start, block, held),
+        0x8E => carry_apart::<S, 0x8E>(cpu, storage, start, block, held),
+        0x8F => carry_apart::<S, 0x8F>(cpu, storage, start, block, held),
+        0x90 => carry_apart::<S, 0x90>(cpu, storage, start, block, held),
         0x91 => carry_quickly::<S, 0x91>(cpu, storage, start, block, held),
+        0x92 => carry_quickly::<S, 0x92>(cpu, storage, start, block, held),
+        0x93 => carry_apart::<S, 0x93>(cpu, storage, start, block, held),
+        0x94 => carry_quickly::<S, 0x94>(cpu, storage, start, block, held),
         0x95 => carry_quickly::<S, 0x95>(cpu, storage, start, block, held),
+        0x96 => carry_quickly::<S, 0x96>(cpu, storage, start, block, held),
+        0x97 => carry_quickly::<S, 0x97>(cpu, storage, start, block, held),
+        0x98 => carry_apart::<S, 0x98>(cpu, storage, start, block, held),
+        0xBA => carry_apart::<S, 0xBA>(cpu, storage, start, block, held),
+        0xBB => carry_apart::<S, 0xBB>(cpu, storage, start, block, held),
+        0xBD => carry_apart::<S, 0xBD>(cpu, storage, start, block, held),
+        0xBE => carry_apart::<S, 0xBE>(cpu, storage, start, block, held),
+        0xBF => carry_apart::<S, 0xBF>(cpu, storage, start, block, held),
+        0xD1 => carry_apart::<S, 0xD1>(cpu, storage, start, block, held),
         0xD2 => carry_quickly::<S, 0xD2>(cpu, storage, start, block, held),
+        0xD3 => carry_apart::<S, 0xD3>(cpu, storage, start, block, held),
+        0xD4 => carry_apart::<S, 0xD4>(cpu, storage, start, block, held),
+        0xD5 => carry_apart::<S, 0xD5>(cpu, storage, start, block, held),
+        0xD6 => carry_apart::<S, 0xD6>(cpu, storage, start, block, held),
+        0xD7 => carry_apart::<S, 0xD7>(cpu, storage, start, block, held),
+        0xDC => carry_apart::<S, 0xDC>(cpu, storage, start, block, held),
+        0xDD => carry_apart::<S, 0xDD>(cpu, storage, start, block, held),
+        0xF1 => carry_apart::<S, 0xF1>(cpu, storage, start, block, held),
+        0xF2 => carry_apart::<S, 0xF2>(cpu, storage, start, block, held),
+        0xF3 => carry_apart::<S, 0xF3>(cpu, storage, start, block, held),
         _ => None,
     }
 }
@@ -167,13 +223,205 @@ fn carry_quickly<S: Storage, const CODE: u8>(
     ensures operands { AreHeld (S.IsPlaced storage.old) (S.memory storage.old)
         (S.present storage.old) cpu.old.psw.key held.new }
 {
-    if CODE == EXECUTE {
-        return None;
-    }
     let first = load_known_in(storage, block, start.get(), CODE);
     let ilc = length_of(CODE);
     let next = start.wrapping_add(2 * ilc.get() as u32);
+    if CODE == EXECUTE {
+        return execute_quickly(cpu, storage, Place { next, ilc }, first, held);
+    }
     finish_quickly::<S, CODE>(cpu, storage, Place { next, ilc }, first, held)
+}
+
+/// As `carry_quickly`, out of line: a call is little next to what these instructions do, and the loop keeps its
+/// registers for those that it inlines.
+#[inline(never)]
+fn carry_apart<S: Storage, const CODE: u8>(
+    cpu: &mut Cpu,
+    storage: &mut S,
+    start: Addr24,
+    block: Block,
+    held: &mut Held,
+) -> Option<Addr24>
+    requires here { start ≡ cpu.old.psw.address }
+    requires found { let m = state_of cpu.old (S.memory storage.old) in
+        (fetched m start).result ≡ Ok (instruction_at (S.memory storage.old).bytes start) }
+    requires placed { S.IsPlaced storage.old block }
+    requires begins { block.first ≤ start }
+    requires ends { start ≤ block.first + 2042 }
+    requires known { CODE ≡ slice_index (S.memory storage.old).bytes start }
+    requires operands { AreHeld (S.IsPlaced storage.old) (S.memory storage.old)
+        (S.present storage.old) cpu.old.psw.key held.old }
+    ensures step { let before = state_of cpu.old (S.memory storage.old) in
+        let after = state_of cpu.new (S.memory storage.new) in
+        StepsQuickly (S.present storage.old) before result after }
+    ensures rest { S.Keeps storage.old storage.new }
+    ensures operands { AreHeld (S.IsPlaced storage.old) (S.memory storage.old)
+        (S.present storage.old) cpu.old.psw.key held.new }
+{
+    carry_quickly::<S, CODE>(cpu, storage, start, block, held)
+}
+
+/// Goes on with EX, which was fetched: with its target, if that may be fetched.
+#[inline(always)]
+fn execute_quickly<S: Storage>(
+    cpu: &mut Cpu,
+    storage: &mut S,
+    place: Place,
+    first: Instruction,
+    held: &mut Held,
+) -> Option<Addr24>
+    requires found { let m = state_of cpu.old (S.memory storage.old) in
+        (fetched m cpu.old.psw.address).result ≡ Ok first }
+    requires length_code { place.ilc ≡ halfwords_of first.opcode }
+    requires next { let m = state_of cpu.old (S.memory storage.old) in
+        place ≡ place_at m place.ilc }
+    requires operands { AreHeld (S.IsPlaced storage.old) (S.memory storage.old)
+        (S.present storage.old) cpu.old.psw.key held.old }
+    ensures step { let before = state_of cpu.old (S.memory storage.old) in
+        let after = state_of cpu.new (S.memory storage.new) in
+        StepsQuickly (S.present storage.old) before result after }
+    ensures rest { S.Keeps storage.old storage.new }
+    ensures operands { AreHeld (S.IsPlaced storage.old) (S.memory storage.old)
+        (S.present storage.old) cpu.old.psw.key held.new }
+{
+    match target_of(cpu, storage, first) {
+        Ok(i) => finish_target(cpu, storage, place, i, held),
+        Err(_) => None,
+    }
+}
+
+/// Goes on with the target of an EX, by the way of its own operation code.
+#[inline(always)]
+fn finish_target<S: Storage>(
+    cpu: &mut Cpu,
+    storage: &mut S,
+    place: Place,
+    i: Instruction,
+    held: &mut Held,
+) -> Option<Addr24>
+    requires carried { Carries (state_of cpu.old (S.memory storage.old)) place.ilc i }
+    requires next { let m = state_of cpu.old (S.memory storage.old) in
+        place ≡ place_at m place.ilc }
+    requires operands { AreHeld (S.IsPlaced storage.old) (S.memory storage.old)
+        (S.present storage.old) cpu.old.psw.key held.old }
+    ensures step { let before = state_of cpu.old (S.memory storage.old) in
+        let after = state_of cpu.new (S.memory storage.new) in
+        StepsQuickly (S.present storage.old) before result after }
+    ensures rest { S.Keeps storage.old storage.new }
+    ensures operands { AreHeld (S.IsPlaced storage.old) (S.memory storage.old)
+        (S.present storage.old) cpu.old.psw.key held.new }
+{
+    match i.opcode {
+        0x04 => finish_apart::<S, 0x04>(cpu, storage, place, i, held),
+        0x05 => finish_apart::<S, 0x05>(cpu, storage, place, i, held),
+        0x06 => finish_apart::<S, 0x06>(cpu, storage, place, i, held),
+        0x07 => finish_apart::<S, 0x07>(cpu, storage, place, i, held),
+        0x0F => finish_apart::<S, 0x0F>(cpu, storage, place, i, held),
+        0x10 => finish_apart::<S, 0x10>(cpu, storage, place, i, held),
+        0x11 => finish_apart::<S, 0x11>(cpu, storage, place, i, held),
+        0x12 => finish_apart::<S, 0x12>(cpu, storage, place, i, held),
+        0x13 => finish_apart::<S, 0x13>(cpu, storage, place, i, held),
+        0x14 => finish_apart::<S, 0x14>(cpu, storage, place, i, held),
+        0x15 => finish_apart::<S, 0x15>(cpu, storage, place, i, held),
+        0x16 => finish_apart::<S, 0x16>(cpu, storage, place, i, held),
+        0x17 => finish_apart::<S, 0x17>(cpu, storage, place, i, held),
+        0x18 => finish_apart::<S, 0x18>(cpu, storage, place, i, held),
+        0x19 => finish_apart::<S, 0x19>(cpu, storage, place, i, held),
+        0x1A => finish_apart::<S, 0x1A>(cpu, storage, place, i, held),
+        0x1B => finish_apart::<S, 0x1B>(cpu, storage, place, i, held),
+        0x1C => finish_apart::<S, 0x1C>(cpu, storage, place, i, held),
+        0x1D => finish_apart::<S, 0x1D>(cpu, storage, place, i, held),
+        0x1E => finish_apart::<S, 0x1E>(cpu, storage, place, i, held),
+        0x1F => finish_apart::<S, 0x1F>(cpu, storage, place, i, held),
+        0x40 => finish_apart::<S, 0x40>(cpu, storage, place, i, held),
+        0x41 => finish_apart::<S, 0x41>(cpu, storage, place, i, held),
+        0x42 => finish_apart::<S, 0x42>(cpu, storage, place, i, held),
+        0x43 => finish_apart::<S, 0x43>(cpu, storage, place, i, held),
+        0x45 => finish_apart::<S, 0x45>(cpu, storage, place, i, held),
+        0x46 => finish_apart::<S, 0x46>(cpu, storage, place, i, held),
+        0x47 => finish_apart::<S, 0x47>(cpu, storage, place, i, held),
+        0x48 => finish_apart::<S, 0x48>(cpu, storage, place, i, held),
+        0x49 => finish_apart::<S, 0x49>(cpu, storage, place, i, held),
+        0x4A => finish_apart::<S, 0x4A>(cpu, storage, place, i, held),
+        0x4B => finish_apart::<S, 0x4B>(cpu, storage, place, i, held),
+        0x4C => finish_apart::<S, 0x4C>(cpu, storage, place, i, held),
+        0x4E => finish_apart::<S, 0x4E>(cpu, storage, place, i, held),
+        0x50 => finish_apart::<S, 0x50>(cpu, storage, place, i, held),
+        0x54 => finish_apart::<S, 0x54>(cpu, storage, place, i, held),
+        0x55 => finish_apart::<S, 0x55>(cpu, storage, place, i, held),
+        0x56 => finish_apart::<S, 0x56>(cpu, storage, place, i, held),
+        0x57 => finish_apart::<S, 0x57>(cpu, storage, place, i, held),
+        0x58 => finish_apart::<S, 0x58>(cpu, storage, place, i, held),
+        0x59 => finish_apart::<S, 0x59>(cpu, storage, place, i, held),
+        0x5A => finish_apart::<S, 0x5A>(cpu, storage, place, i, held),
+        0x5B => finish_apart::<S, 0x5B>(cpu, storage, place, i, held),
+        0x5C => finish_apart::<S, 0x5C>(cpu, storage, place, i, held),
+        0x5D => finish_apart::<S, 0x5D>(cpu, storage, place, i, held),
+        0x5E => finish_apart::<S, 0x5E>(cpu, storage, place, i, held),
+        0x5F => finish_apart::<S, 0x5F>(cpu, storage, place, i, held),
+        0x86 => finish_apart::<S, 0x86>(cpu, storage, place, i, held),
+        0x87 => finish_apart::<S, 0x87>(cpu, storage, place, i, held),
+        0x88 => finish_apart::<S, 0x88>(cpu, storage, place, i, held),
+        0x89 => finish_apart::<S, 0x89>(cpu, storage, place, i, held),
+        0x8A => finish_apart::<S, 0x8A>(cpu, storage, place, i, held),
+        0x8B => finish_apart::<S, 0x8B>(cpu, storage, place, i, held),
+        0x8C => finish_apart::<S, 0x8C>(cpu, storage, place, i, held),
+        0x8D => finish_apart::<S, 0x8D>(cpu, storage, place, i, held),
+        0x8E => finish_apart::<S, 0x8E>(cpu, storage, place, i, held),
+        0x8F => finish_apart::<S, 0x8F>(cpu, storage, place, i, held),
+        0x90 => finish_apart::<S, 0x90>(cpu, storage, place, i, held),
+        0x91 => finish_apart::<S, 0x91>(cpu, storage, place, i, held),
+        0x92 => finish_apart::<S, 0x92>(cpu, storage, place, i, held),
+        0x93 => finish_apart::<S, 0x93>(cpu, storage, place, i, held),
+        0x94 => finish_apart::<S, 0x94>(cpu, storage, place, i, held),
+        0x95 => finish_apart::<S, 0x95>(cpu, storage, place, i, held),
+        0x96 => finish_apart::<S, 0x96>(cpu, storage, place, i, held),
+        0x97 => finish_apart::<S, 0x97>(cpu, storage, place, i, held),
+        0x98 => finish_apart::<S, 0x98>(cpu, storage, place, i, held),
+        0xBA => finish_apart::<S, 0xBA>(cpu, storage, place, i, held),
+        0xBB => finish_apart::<S, 0xBB>(cpu, storage, place, i, held),
+        0xBD => finish_apart::<S, 0xBD>(cpu, storage, place, i, held),
+        0xBE => finish_apart::<S, 0xBE>(cpu, storage, place, i, held),
+        0xBF => finish_apart::<S, 0xBF>(cpu, storage, place, i, held),
+        0xD1 => finish_apart::<S, 0xD1>(cpu, storage, place, i, held),
+        0xD2 => finish_apart::<S, 0xD2>(cpu, storage, place, i, held),
+        0xD3 => finish_apart::<S, 0xD3>(cpu, storage, place, i, held),
+        0xD4 => finish_apart::<S, 0xD4>(cpu, storage, place, i, held),
+        0xD5 => finish_apart::<S, 0xD5>(cpu, storage, place, i, held),
+        0xD6 => finish_apart::<S, 0xD6>(cpu, storage, place, i, held),
+        0xD7 => finish_apart::<S, 0xD7>(cpu, storage, place, i, held),
+        0xDC => finish_apart::<S, 0xDC>(cpu, storage, place, i, held),
+        0xDD => finish_apart::<S, 0xDD>(cpu, storage, place, i, held),
+        0xF1 => finish_apart::<S, 0xF1>(cpu, storage, place, i, held),
+        0xF2 => finish_apart::<S, 0xF2>(cpu, storage, place, i, held),
+        0xF3 => finish_apart::<S, 0xF3>(cpu, storage, place, i, held),
+        _ => None,
+    }
+}
+
+/// As `finish_quickly`, out of line.
+#[inline(never)]
+fn finish_apart<S: Storage, const CODE: u8>(
+    cpu: &mut Cpu,
+    storage: &mut S,
+    place: Place,
+    i: Instruction,
+    held: &mut Held,
+) -> Option<Addr24>
+    requires same { i.opcode ≡ CODE }
+    requires carried { Carries (state_of cpu.old (S.memory storage.old)) place.ilc i }
+    requires next { let m = state_of cpu.old (S.memory storage.old) in
+        place ≡ place_at m place.ilc }
+    requires operands { AreHeld (S.IsPlaced storage.old) (S.memory storage.old)
+        (S.present storage.old) cpu.old.psw.key held.old }
+    ensures step { let before = state_of cpu.old (S.memory storage.old) in
+        let after = state_of cpu.new (S.memory storage.new) in
+        StepsQuickly (S.present storage.old) before result after }
+    ensures rest { S.Keeps storage.old storage.new }
+    ensures operands { AreHeld (S.IsPlaced storage.old) (S.memory storage.old)
+        (S.present storage.old) cpu.old.psw.key held.new }
+{
+    finish_quickly::<S, CODE>(cpu, storage, place, i, held)
 }
 
 /// Goes on with the instruction that is carried out, of this operation code.
@@ -224,9 +472,23 @@ fn go_on(cpu: &mut Cpu, place: Place, ending: Ending) -> Addr24
     next
 }
 
-/// Carries out a frequent instruction, but for its address, if nothing keeps it from being done.
+/// Whether an overflow of an instruction of this operation code would interrupt the program.
+#[inline(always)]
+fn overflow_interrupts<const CODE: u8>(cpu: &Cpu) -> bool
+    ensures { result ≡ false
+        → may_overflow (opcode_at CODE) ≡ true → nat_le 8 cpu.now.psw.program_mask ≡ false }
+{
+    if may_overflow(CODE) {
+        return cpu.psw.program_mask() >= 8;
+    }
+    false
+}
+
+/// Carries out an instruction, but for its address, if the processor goes on after it and its operands lie in blocks
+/// that may be accessed. Else nothing changes.
 ///
-/// Its operation code is a constant of the function's own, so that each of them is compiled by itself.
+/// Its operation code is a constant of the function's own, so that each of them is compiled by itself. An instruction
+/// whose overflow would interrupt is left to the unit, as is one that may change rights.
 #[inline(always)]
 fn perform_quickly<S: Storage, const CODE: u8>(
     cpu: &mut Cpu,
@@ -245,234 +507,41 @@ fn perform_quickly<S: Storage, const CODE: u8>(
     ensures operands { AreHeld (S.IsPlaced storage.old) (S.memory storage.old)
         (S.present storage.old) cpu.old.psw.key held.new }
 {
-    match CODE {
-        0x07 => Some(branch_register(Branching::Condition, cpu, place, i)),
-        0x12 => Some(register_operation(Arithmetic::LoadAndTest, cpu, i)),
-        0x14 => Some(register_operation(Arithmetic::And, cpu, i)),
-        0x15 => Some(register_operation(Arithmetic::CompareLogical, cpu, i)),
-        0x16 => Some(register_operation(Arithmetic::Or, cpu, i)),
-        0x17 => Some(register_operation(Arithmetic::ExclusiveOr, cpu, i)),
-        0x18 => Some(register_operation(Arithmetic::Load, cpu, i)),
-        0x19 => Some(register_operation(Arithmetic::Compare, cpu, i)),
-        0x41 => Some(load_address(cpu, i)),
-        0x46 => Some(branch_to(Branching::Count, cpu, place, i)),
-        0x47 => Some(branch_to(Branching::Condition, cpu, place, i)),
-        0x50 => store_quickly(cpu, storage, i, held),
-        0x54 => word_quickly(Arithmetic::And, cpu, storage, i, held),
-        0x55 => word_quickly(Arithmetic::CompareLogical, cpu, storage, i, held),
-        0x56 => word_quickly(Arithmetic::Or, cpu, storage, i, held),
-        0x57 => word_quickly(Arithmetic::ExclusiveOr, cpu, storage, i, held),
-        0x58 => word_quickly(Arithmetic::Load, cpu, storage, i, held),
-        0x59 => word_quickly(Arithmetic::Compare, cpu, storage, i, held),
-        0x5A => add_quickly(cpu, storage, i, held),
-        0x91 => test_byte_quickly(ByteTest::UnderMask, cpu, storage, i, held),
-        0x95 => test_byte_quickly(ByteTest::CompareLogical, cpu, storage, i, held),
-        0xD2 => whole_of(move_quickly(cpu, storage, i, held)),
-        _ => None,
-    }
-}
-
-/// How a row ended that was done.
-#[inline(always)]
-fn whole_of(did: bool) -> Option<Ending>
-    ensures { result ≡ whole_of did }
-{
-    if did { Some(Ending::Done) } else { None }
-}
-
-/// The word at the second operand's address is stored, where it lies in one block; else nothing changes.
-#[inline(always)]
-fn store_quickly<S: Storage>(
-    cpu: &Cpu,
-    storage: &mut S,
-    i: Instruction,
-    held: &mut Held,
-) -> Option<Ending>
-    requires operands { AreHeld (S.IsPlaced storage.old) (S.memory storage.old)
-        (S.present storage.old) cpu.now.psw.key held.old }
-    ensures row { let before = state_of cpu.now (S.memory storage.old) in
-        let after = state_of cpu.now (S.memory storage.new) in
-        MeetsQuick (word_stored before i) (S.present storage.old) before result after }
-    ensures rest { S.Keeps storage.old storage.new }
-    ensures operands { AreHeld (S.IsPlaced storage.old) (S.memory storage.old)
-        (S.present storage.old) cpu.now.psw.key held.new }
-{
-    let start = cpu.indexed(i.r2(), i.second_half);
-    let found = match operand_block(Access::Store, cpu, storage, held.stored, start, 4) {
-        Some(found) => found,
-        None => return None,
-    };
-    held.stored = found;
-    store_word_in(storage, found, start.get(), cpu.general[i.r1().index()]);
-    Some(Ending::Done)
-}
-
-/// An operation on a register and the word at the second operand's address, where it lies in one block; else nothing
-/// changes.
-#[inline(always)]
-fn word_quickly<S: Storage>(
-    operation: Arithmetic,
-    cpu: &mut Cpu,
-    storage: &S,
-    i: Instruction,
-    held: &mut Held,
-) -> Option<Ending>
-    requires operands { AreHeld (S.IsPlaced storage.now) (S.memory storage.now)
-        (S.present storage.now) cpu.old.psw.key held.old }
-    ensures row { let before = state_of cpu.old (S.memory storage.now) in
-        let after = state_of cpu.new (S.memory storage.now) in
-        MeetsAtOnce (word_operation operation before i) (S.present storage.now) before result after }
-    ensures operands { AreHeld (S.IsPlaced storage.now) (S.memory storage.now)
-        (S.present storage.now) cpu.old.psw.key held.new }
-{
-    let start = cpu.indexed(i.r2(), i.second_half);
-    let found = match operand_block(Access::Fetch, cpu, storage, held.fetched, start, 4) {
-        Some(found) => found,
-        None => return None,
-    };
-    held.fetched = found;
-    let b = load_word_in(storage, found, start.get());
-    Some(arithmetic_row(operation, cpu, i.r1(), b))
-}
-
-/// 5A A, where no overflow interrupts.
-#[inline(always)]
-fn add_quickly<S: Storage>(
-    cpu: &mut Cpu,
-    storage: &S,
-    i: Instruction,
-    held: &mut Held,
-) -> Option<Ending>
-    requires operands { AreHeld (S.IsPlaced storage.now) (S.memory storage.now)
-        (S.present storage.now) cpu.old.psw.key held.old }
-    ensures row { let before = state_of cpu.old (S.memory storage.now) in
-        let after = state_of cpu.new (S.memory storage.now) in
-        MeetsQuick (word_operation operations.Add before i) (S.present storage.now) before result after }
-    ensures operands { AreHeld (S.IsPlaced storage.now) (S.memory storage.now)
-        (S.present storage.now) cpu.old.psw.key held.new }
-{
-    if cpu.psw.program_mask() >= 8 {
+    if !is_steady(CODE) {
         return None;
     }
-    word_quickly(Arithmetic::Add, cpu, storage, i, held)
+    if overflow_interrupts::<CODE>(cpu) {
+        return None;
+    }
+    perform_held::<S, CODE>(cpu, storage, place, i, held)
 }
 
-/// A test of the byte at the first operand's address, where it may be fetched; else nothing changes.
+/// Carries out the row of an operation code, but for the address, over the blocks that are held for its operands.
 #[inline(always)]
-fn test_byte_quickly<S: Storage>(
-    test: ByteTest,
+fn perform_held<S: Storage, const CODE: u8>(
     cpu: &mut Cpu,
-    storage: &S,
+    storage: &mut S,
+    place: Place,
     i: Instruction,
     held: &mut Held,
 ) -> Option<Ending>
-    requires operands { AreHeld (S.IsPlaced storage.now) (S.memory storage.now)
-        (S.present storage.now) cpu.old.psw.key held.old }
-    ensures row { let before = state_of cpu.old (S.memory storage.now) in
-        let after = state_of cpu.new (S.memory storage.now) in
-        MeetsAtOnce (byte_tested test before i) (S.present storage.now) before result after }
-    ensures operands { AreHeld (S.IsPlaced storage.now) (S.memory storage.now)
-        (S.present storage.now) cpu.old.psw.key held.new }
-{
-    let start = cpu.based(i.second_half);
-    let found = match operand_block(Access::Fetch, cpu, storage, held.fetched, start, 1) {
-        Some(found) => found,
-        None => return None,
-    };
-    held.fetched = found;
-    let byte = load_byte_in(storage, found, start.get());
-    cpu.psw.set_condition(test_byte(test, byte, i.second_byte));
-    Some(Ending::Done)
-}
-
-/// D2 MVC between two blocks, where it is one copy. Else nothing changes.
-#[inline(always)]
-fn move_held<S: Storage>(cpu: &Cpu, storage: &mut S, i: Instruction, held: &mut Held) -> bool
-    requires operands { AreHeld (S.IsPlaced storage.old) (S.memory storage.old)
-        (S.present storage.old) cpu.now.psw.key held.old }
-    ensures done { let before = state_of cpu.now (S.memory storage.old) in
-        let after = state_of cpu.now (S.memory storage.new) in
-        result ≡ true → MeetsRow (string_combined combines.Move before i) (S.present storage.old) before
-        (Ok endings.Done) after }
-    ensures still { let before = state_of cpu.now (S.memory storage.old) in
-        let after = state_of cpu.now (S.memory storage.new) in
-        result ≡ false → after ≡ before }
-    ensures rest { S.Keeps storage.old storage.new }
-    ensures operands { AreHeld (S.IsPlaced storage.old) (S.memory storage.old)
-        (S.present storage.old) cpu.now.psw.key held.new }
-{
-    let to = cpu.based(i.second_half);
-    let from = cpu.based(i.third_half);
-    let count = i.second_byte as u32 + 1;
-    let target = match operand_block(Access::Store, cpu, storage, held.stored, to, count) {
-        Some(found) => found,
-        None => return false,
-    };
-    held.stored = target;
-    let source = match operand_block(Access::Fetch, cpu, storage, held.fetched, from, count) {
-        Some(found) => found,
-        None => return false,
-    };
-    held.fetched = source;
-    move_straight(storage, source, from.get(), target, to.get(), count)
-}
-
-/// D2 MVC: as one copy, where it is one.
-#[inline(always)]
-fn move_quickly<S: Storage>(cpu: &mut Cpu, storage: &mut S, i: Instruction, held: &mut Held) -> bool
-    requires opcode { i.opcode ≡ 0xD2 }
+    requires same { i.opcode ≡ CODE }
     requires operands { AreHeld (S.IsPlaced storage.old) (S.memory storage.old)
         (S.present storage.old) cpu.old.psw.key held.old }
-    ensures done { let before = state_of cpu.old (S.memory storage.old) in
+    ensures row { let before = state_of cpu.old (S.memory storage.old) in
         let after = state_of cpu.new (S.memory storage.new) in
-        result ≡ true → MeetsRow (string_combined combines.Move before i) (S.present storage.old) before
-        (Ok endings.Done) after }
-    ensures still { let before = state_of cpu.old (S.memory storage.old) in
-        let after = state_of cpu.new (S.memory storage.new) in
-        result ≡ false → after ≡ before }
+        MeetsAtOnce (row_of before place i) (S.present storage.old) before result after }
     ensures rest { S.Keeps storage.old storage.new }
     ensures operands { AreHeld (S.IsPlaced storage.old) (S.memory storage.old)
         (S.present storage.old) cpu.old.psw.key held.new }
 {
-    if move_held(cpu, storage, i, held) {
-        return true;
-    }
-    move_apart(cpu, storage, i.second_byte, i.second_half, i.third_half)
-}
-
-/// D2 MVC by its row. It is given the parts of the instruction, so that the loop need not write the instruction to
-/// memory for an MVC that is one copy.
-#[inline(never)]
-fn move_apart<S: Storage>(
-    cpu: &mut Cpu,
-    storage: &mut S,
-    second_byte: u8,
-    second_half: u16,
-    third_half: u16,
-) -> bool
-    ensures done { let before = state_of cpu.old (S.memory storage.old) in
-        let after = state_of cpu.new (S.memory storage.new) in
-        let i : Instruction = record {
-          opcode = 0xD2;
-          second_byte = second_byte;
-          second_half = second_half;
-          third_half = third_half;
-        } in
-        result ≡ true → MeetsRow (string_combined combines.Move before i) (S.present storage.old) before
-        (Ok endings.Done) after }
-    ensures still { let before = state_of cpu.old (S.memory storage.old) in
-        let after = state_of cpu.new (S.memory storage.new) in
-        result ≡ false → after ≡ before }
-    ensures rest { S.Keeps storage.old storage.new }
-{
-    let i = Instruction {
-        opcode: 0xD2,
-        second_byte,
-        second_half,
-        third_half,
-    };
-    match move_row(cpu, storage, i) {
-        Ok(_) => true,
-        Err(_) => false,
+    match opcode_of(CODE) {
+        Opcode::Computes(row) => match register_row(row, cpu, place, i) {
+            Ok(ending) => Some(ending),
+            Err(_) => None,
+        },
+        Opcode::Fetches(row) => fetch_held::<S, CODE>(row, cpu, storage, i, held),
+        Opcode::Stores(row) => store_held::<S, CODE>(row, cpu, storage, i, held),
+        _ => None,
     }
 }

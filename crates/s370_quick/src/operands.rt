@@ -1,0 +1,584 @@
+//! The rows whose operands lie in blocks that are held for them, or in others that are found.
+//!
+//! A row of s370_cpu tests its operands and loads or stores them by their addresses, since it has to say what refuses
+//! it. Here an operand is tested and found in one look at the block that is held, and what is then done with it is the
+//! row's own function. An operand that lies in two blocks is left to the unit, unless the row says otherwise.
+ghost use Rattle.std.specs.Prelude.{◌≡◌, ℕ, ◌+◌, ◌≤◌, [], ◌∷◌, Ok, IfSome, slice_index};
+ghost use Rattle.s370_store.specs.Access.{test_of};
+ghost use Rattle.s370_store.specs.declared.Access.TheVariants.{Fetch, Store};
+ghost use Rattle.s370_rows.specs.State.{state_of};
+ghost use Rattle.s370_rows.specs.Rows.{Grants, fetch_test};
+ghost use Rattle.s370_bytes.specs.Multiple.{multiple_loaded, multiple_stored};
+ghost use Rattle.s370_cpu.specs.FetchRows.{MeetsOperand, byte_tested, character_inserted, fetch_row, half_of, halfword_multiplied, halfword_operation, operand_of, word_divided, word_multiplied, word_of, word_operation};
+ghost use Rattle.s370_cpu.specs.StoreRows.{byte_changed, character_stored, halfword_stored, store_row, word_stored, word_swapped};
+ghost use Rattle.s370_quick.specs.Quick.{AreHeld, MeetsAtOnce, done_of};
+
+use crate::held::{Held, operand_block};
+use crate::strings::{combine_quickly, compare_quickly, move_quickly, translate_quickly};
+use s370_bytes::{Combine, load_registers_in, store_registers_in, words_range};
+use s370_cpu::{FetchRow, StoreRow, fetch_row, store_row};
+use s370_num::Addr24;
+use s370_rows::{
+    Arithmetic, ByteChange, ByteTest, Cpu, Ending, Instruction, Refusal, arithmetic_row,
+    change_byte, compare_and_swap, divide_row, halfword_operand, insert_byte_row,
+    multiply_halfword_row, multiply_row, test_byte,
+};
+use s370_store::{Access, Block, Storage, load_byte_in, load_word_in, store_word_in};
+
+/// The block from which an operand of so many bytes is fetched, which is held from then on; None if it lies in two
+/// blocks, or may not be fetched.
+#[inline(always)]
+pub fn source_block<S: Storage>(
+    cpu: &Cpu,
+    storage: &S,
+    held: &mut Held,
+    start: Addr24,
+    count: u32,
+) -> Option<Block>
+    requires short { count ≤ 256 }
+    requires operands { AreHeld (S.IsPlaced storage.now) (S.memory storage.now)
+        (S.present storage.now) cpu.now.psw.key held.old }
+    ensures operands { AreHeld (S.IsPlaced storage.now) (S.memory storage.now)
+        (S.present storage.now) cpu.now.psw.key held.new }
+    ensures placed { IfSome result (λ found. S.IsPlaced storage.now found) }
+    ensures granted { IfSome result
+        (λ _. Grants (state_of cpu.now (S.memory storage.now)) (S.present storage.now)
+        (test_of Fetch start count ∷ []) (Ok tt)) }
+    ensures begins { IfSome result (λ found. found.first ≤ start) }
+    ensures ends { IfSome result (λ found. start + count ≤ found.first + 2048) }
+{
+    let found = match operand_block(Access::Fetch, cpu, storage, held.fetched, start, count) {
+        Some(found) => found,
+        None => return None,
+    };
+    held.fetched = found;
+    Some(found)
+}
+
+/// The block into which an operand of so many bytes is stored, which is held from then on; None if it lies in two
+/// blocks, or may not be stored.
+#[inline(always)]
+pub fn target_block<S: Storage>(
+    cpu: &Cpu,
+    storage: &S,
+    held: &mut Held,
+    start: Addr24,
+    count: u32,
+) -> Option<Block>
+    requires short { count ≤ 256 }
+    requires operands { AreHeld (S.IsPlaced storage.now) (S.memory storage.now)
+        (S.present storage.now) cpu.now.psw.key held.old }
+    ensures operands { AreHeld (S.IsPlaced storage.now) (S.memory storage.now)
+        (S.present storage.now) cpu.now.psw.key held.new }
+    ensures placed { IfSome result (λ found. S.IsPlaced storage.now found) }
+    ensures granted { IfSome result
+        (λ _. Grants (state_of cpu.now (S.memory storage.now)) (S.present storage.now)
+        (test_of Store start count ∷ []) (Ok tt)) }
+    ensures begins { IfSome result (λ found. found.first ≤ start) }
+    ensures ends { IfSome result (λ found. start + count ≤ found.first + 2048) }
+{
+    let found = match operand_block(Access::Store, cpu, storage, held.stored, start, count) {
+        Some(found) => found,
+        None => return None,
+    };
+    held.stored = found;
+    Some(found)
+}
+
+/// The word at the address of a second operand with an index.
+#[inline(always)]
+fn held_word<S: Storage>(cpu: &Cpu, storage: &S, i: Instruction, held: &mut Held) -> Option<u32>
+    requires operands { AreHeld (S.IsPlaced storage.now) (S.memory storage.now)
+        (S.present storage.now) cpu.now.psw.key held.old }
+    ensures operand { let m = state_of cpu.now (S.memory storage.now) in
+        IfSome result (λ b. MeetsOperand m (S.present storage.now) (fetch_test (operand_of m i) 4) (word_of m i) (Ok b)) }
+    ensures operands { AreHeld (S.IsPlaced storage.now) (S.memory storage.now)
+        (S.present storage.now) cpu.now.psw.key held.new }
+{
+    let start = cpu.indexed(i.r2(), i.second_half);
+    match source_block(cpu, storage, held, start, 4) {
+        Some(found) => Some(load_word_in(storage, found, start.get())),
+        None => None,
+    }
+}
+
+/// The signed halfword at the address of a second operand with an index.
+#[inline(always)]
+fn held_halfword<S: Storage>(cpu: &Cpu, storage: &S, i: Instruction, held: &mut Held) -> Option<u32>
+    requires operands { AreHeld (S.IsPlaced storage.now) (S.memory storage.now)
+        (S.present storage.now) cpu.now.psw.key held.old }
+    ensures operand { let m = state_of cpu.now (S.memory storage.now) in
+        IfSome result (λ b. MeetsOperand m (S.present storage.now) (fetch_test (operand_of m i) 2) (half_of m i) (Ok b)) }
+    ensures operands { AreHeld (S.IsPlaced storage.now) (S.memory storage.now)
+        (S.present storage.now) cpu.now.psw.key held.new }
+{
+    let start = cpu.indexed(i.r2(), i.second_half);
+    match source_block(cpu, storage, held, start, 2) {
+        Some(found) => {
+            let mut into = [0u8; 2];
+            storage.load_in(found, start.get(), &mut into);
+            Some(halfword_operand(u16::from_be_bytes(into)))
+        }
+        None => None,
+    }
+}
+
+/// The byte at an address.
+#[inline(always)]
+fn held_byte<S: Storage>(cpu: &Cpu, storage: &S, start: Addr24, held: &mut Held) -> Option<u8>
+    requires operands { AreHeld (S.IsPlaced storage.now) (S.memory storage.now)
+        (S.present storage.now) cpu.now.psw.key held.old }
+    ensures operand { let m = state_of cpu.now (S.memory storage.now) in
+        IfSome result (λ b. MeetsOperand m (S.present storage.now) (fetch_test start 1) (slice_index m.bytes start) (Ok b)) }
+    ensures operands { AreHeld (S.IsPlaced storage.now) (S.memory storage.now)
+        (S.present storage.now) cpu.now.psw.key held.new }
+{
+    match source_block(cpu, storage, held, start, 1) {
+        Some(found) => Some(load_byte_in(storage, found, start.get())),
+        None => None,
+    }
+}
+
+/// 54 N, 55 CL, 56 O, 57 X, 58 L, 59 C, 5A A, 5B S, 5E AL, 5F SL: an operation on a register and a word of storage.
+#[inline(always)]
+fn word_quickly<S: Storage>(
+    operation: Arithmetic,
+    cpu: &mut Cpu,
+    storage: &S,
+    i: Instruction,
+    held: &mut Held,
+) -> Option<Ending>
+    requires operands { AreHeld (S.IsPlaced storage.now) (S.memory storage.now)
+        (S.present storage.now) cpu.old.psw.key held.old }
+    ensures row { let before = state_of cpu.old (S.memory storage.now) in
+        let after = state_of cpu.new (S.memory storage.now) in
+        MeetsAtOnce (word_operation operation before i) (S.present storage.now) before result after }
+    ensures operands { AreHeld (S.IsPlaced storage.now) (S.memory storage.now)
+        (S.present storage.now) cpu.old.psw.key held.new }
+{
+    match held_word(cpu, storage, i, held) {
+        Some(b) => Some(arithmetic_row(operation, cpu, i.r1(), b)),
+        None => None,
+    }
+}
+
+/// 48 LH, 49 CH, 4A AH, 4B SH: an operation on a register and a halfword of storage.
+#[inline(always)]
+fn halfword_quickly<S: Storage>(
+    operation: Arithmetic,
+    cpu: &mut Cpu,
+    storage: &S,
+    i: Instruction,
+    held: &mut Held,
+) -> Option<Ending>
+    requires operands { AreHeld (S.IsPlaced storage.now) (S.memory storage.now)
+        (S.present storage.now) cpu.old.psw.key held.old }
+    ensures row { let before = state_of cpu.old (S.memory storage.now) in
+        let after = state_of cpu.new (S.memory storage.now) in
+        MeetsAtOnce (halfword_operation operation before i) (S.present storage.now) before result after }
+    ensures operands { AreHeld (S.IsPlaced storage.now) (S.memory storage.now)
+        (S.present storage.now) cpu.old.psw.key held.new }
+{
+    match held_halfword(cpu, storage, i, held) {
+        Some(b) => Some(arithmetic_row(operation, cpu, i.r1(), b)),
+        None => None,
+    }
+}
+
+/// 4C MH: a product with a halfword of storage.
+#[inline(always)]
+fn multiply_halfword_quickly<S: Storage>(
+    cpu: &mut Cpu,
+    storage: &S,
+    i: Instruction,
+    held: &mut Held,
+) -> Option<Ending>
+    requires operands { AreHeld (S.IsPlaced storage.now) (S.memory storage.now)
+        (S.present storage.now) cpu.old.psw.key held.old }
+    ensures row { let before = state_of cpu.old (S.memory storage.now) in
+        let after = state_of cpu.new (S.memory storage.now) in
+        MeetsAtOnce (halfword_multiplied before i) (S.present storage.now) before result after }
+    ensures operands { AreHeld (S.IsPlaced storage.now) (S.memory storage.now)
+        (S.present storage.now) cpu.old.psw.key held.new }
+{
+    match held_halfword(cpu, storage, i, held) {
+        Some(b) => Some(multiply_halfword_row(cpu, i.r1(), b)),
+        None => None,
+    }
+}
+
+/// 5C M: a product with a word of storage.
+#[inline(always)]
+fn multiply_word_quickly<S: Storage>(
+    cpu: &mut Cpu,
+    storage: &S,
+    i: Instruction,
+    held: &mut Held,
+) -> Option<Ending>
+    requires operands { AreHeld (S.IsPlaced storage.now) (S.memory storage.now)
+        (S.present storage.now) cpu.old.psw.key held.old }
+    ensures row { let before = state_of cpu.old (S.memory storage.now) in
+        let after = state_of cpu.new (S.memory storage.now) in
+        MeetsAtOnce (word_multiplied before i) (S.present storage.now) before result after }
+    ensures operands { AreHeld (S.IsPlaced storage.now) (S.memory storage.now)
+        (S.present storage.now) cpu.old.psw.key held.new }
+{
+    if i.r1().number() % 2 != 0 {
+        return None;
+    }
+    match held_word(cpu, storage, i, held) {
+        Some(b) => Some(multiply_row(cpu, i.r1(), b)),
+        None => None,
+    }
+}
+
+/// 5D D: a quotient of a pair and a word of storage.
+#[inline(always)]
+fn divide_word_quickly<S: Storage>(
+    cpu: &mut Cpu,
+    storage: &S,
+    i: Instruction,
+    held: &mut Held,
+) -> Option<Ending>
+    requires operands { AreHeld (S.IsPlaced storage.now) (S.memory storage.now)
+        (S.present storage.now) cpu.old.psw.key held.old }
+    ensures row { let before = state_of cpu.old (S.memory storage.now) in
+        let after = state_of cpu.new (S.memory storage.now) in
+        MeetsAtOnce (word_divided before i) (S.present storage.now) before result after }
+    ensures operands { AreHeld (S.IsPlaced storage.now) (S.memory storage.now)
+        (S.present storage.now) cpu.old.psw.key held.new }
+{
+    if i.r1().number() % 2 != 0 {
+        return None;
+    }
+    match held_word(cpu, storage, i, held) {
+        Some(b) => match divide_row(cpu, i.r1(), b) {
+            Ok(ending) => Some(ending),
+            Err(_) => None,
+        },
+        None => None,
+    }
+}
+
+/// 43 IC: a byte of storage goes to a register.
+#[inline(always)]
+fn insert_quickly<S: Storage>(
+    cpu: &mut Cpu,
+    storage: &S,
+    i: Instruction,
+    held: &mut Held,
+) -> Option<Ending>
+    requires operands { AreHeld (S.IsPlaced storage.now) (S.memory storage.now)
+        (S.present storage.now) cpu.old.psw.key held.old }
+    ensures row { let before = state_of cpu.old (S.memory storage.now) in
+        let after = state_of cpu.new (S.memory storage.now) in
+        MeetsAtOnce (character_inserted before i) (S.present storage.now) before result after }
+    ensures operands { AreHeld (S.IsPlaced storage.now) (S.memory storage.now)
+        (S.present storage.now) cpu.old.psw.key held.new }
+{
+    match held_byte(cpu, storage, cpu.indexed(i.r2(), i.second_half), held) {
+        Some(byte) => Some(insert_byte_row(cpu, i.r1(), byte)),
+        None => None,
+    }
+}
+
+/// 91 TM, 95 CLI: a test of a byte of storage by the immediate one.
+#[inline(always)]
+fn test_byte_quickly<S: Storage>(
+    test: ByteTest,
+    cpu: &mut Cpu,
+    storage: &S,
+    i: Instruction,
+    held: &mut Held,
+) -> Option<Ending>
+    requires operands { AreHeld (S.IsPlaced storage.now) (S.memory storage.now)
+        (S.present storage.now) cpu.old.psw.key held.old }
+    ensures row { let before = state_of cpu.old (S.memory storage.now) in
+        let after = state_of cpu.new (S.memory storage.now) in
+        MeetsAtOnce (byte_tested test before i) (S.present storage.now) before result after }
+    ensures operands { AreHeld (S.IsPlaced storage.now) (S.memory storage.now)
+        (S.present storage.now) cpu.old.psw.key held.new }
+{
+    match held_byte(cpu, storage, cpu.based(i.second_half), held) {
+        Some(byte) => {
+            cpu.psw.set_condition(test_byte(test, byte, i.second_byte));
+            Some(Ending::Done)
+        }
+        None => None,
+    }
+}
+
+/// 98 LM: load registers R1 to R3; 0 follows 15.
+#[inline(always)]
+fn load_multiple_quickly<S: Storage>(
+    cpu: &mut Cpu,
+    storage: &S,
+    i: Instruction,
+    held: &mut Held,
+) -> Option<Ending>
+    requires operands { AreHeld (S.IsPlaced storage.now) (S.memory storage.now)
+        (S.present storage.now) cpu.old.psw.key held.old }
+    ensures row { let before = state_of cpu.old (S.memory storage.now) in
+        let after = state_of cpu.new (S.memory storage.now) in
+        MeetsAtOnce (multiple_loaded before i) (S.present storage.now) before result after }
+    ensures operands { AreHeld (S.IsPlaced storage.now) (S.memory storage.now)
+        (S.present storage.now) cpu.old.psw.key held.new }
+{
+    let start = cpu.based(i.second_half);
+    match source_block(cpu, storage, held, start, words_range(start, i).count) {
+        Some(found) => {
+            load_registers_in(&mut cpu.general, storage, found, start, i);
+            Some(Ending::Done)
+        }
+        None => None,
+    }
+}
+
+/// 50 ST: the store of a register.
+#[inline(always)]
+fn store_word_quickly<S: Storage>(
+    cpu: &Cpu,
+    storage: &mut S,
+    i: Instruction,
+    held: &mut Held,
+) -> Option<Ending>
+    requires operands { AreHeld (S.IsPlaced storage.old) (S.memory storage.old)
+        (S.present storage.old) cpu.now.psw.key held.old }
+    ensures row { let before = state_of cpu.now (S.memory storage.old) in
+        let after = state_of cpu.now (S.memory storage.new) in
+        MeetsAtOnce (word_stored before i) (S.present storage.old) before result after }
+    ensures rest { S.Keeps storage.old storage.new }
+    ensures operands { AreHeld (S.IsPlaced storage.old) (S.memory storage.old)
+        (S.present storage.old) cpu.now.psw.key held.new }
+{
+    let start = cpu.indexed(i.r2(), i.second_half);
+    match target_block(cpu, storage, held, start, 4) {
+        Some(found) => {
+            store_word_in(storage, found, start.get(), cpu.general[i.r1().index()]);
+            Some(Ending::Done)
+        }
+        None => None,
+    }
+}
+
+/// 40 STH: the store of the right half of a register.
+#[inline(always)]
+fn store_halfword_quickly<S: Storage>(
+    cpu: &Cpu,
+    storage: &mut S,
+    i: Instruction,
+    held: &mut Held,
+) -> Option<Ending>
+    requires operands { AreHeld (S.IsPlaced storage.old) (S.memory storage.old)
+        (S.present storage.old) cpu.now.psw.key held.old }
+    ensures row { let before = state_of cpu.now (S.memory storage.old) in
+        let after = state_of cpu.now (S.memory storage.new) in
+        MeetsAtOnce (halfword_stored before i) (S.present storage.old) before result after }
+    ensures rest { S.Keeps storage.old storage.new }
+    ensures operands { AreHeld (S.IsPlaced storage.old) (S.memory storage.old)
+        (S.present storage.old) cpu.now.psw.key held.new }
+{
+    let start = cpu.indexed(i.r2(), i.second_half);
+    match target_block(cpu, storage, held, start, 2) {
+        Some(found) => {
+            let half = (cpu.general[i.r1().index()] & 0xFFFF) as u16;
+            storage.store_in(found, start.get(), &half.to_be_bytes());
+            Some(Ending::Done)
+        }
+        None => None,
+    }
+}
+
+/// 42 STC: the store of the rightmost byte of a register.
+#[inline(always)]
+fn store_character_quickly<S: Storage>(
+    cpu: &Cpu,
+    storage: &mut S,
+    i: Instruction,
+    held: &mut Held,
+) -> Option<Ending>
+    requires operands { AreHeld (S.IsPlaced storage.old) (S.memory storage.old)
+        (S.present storage.old) cpu.now.psw.key held.old }
+    ensures row { let before = state_of cpu.now (S.memory storage.old) in
+        let after = state_of cpu.now (S.memory storage.new) in
+        MeetsAtOnce (character_stored before i) (S.present storage.old) before result after }
+    ensures rest { S.Keeps storage.old storage.new }
+    ensures operands { AreHeld (S.IsPlaced storage.old) (S.memory storage.old)
+        (S.present storage.old) cpu.now.psw.key held.new }
+{
+    let start = cpu.indexed(i.r2(), i.second_half);
+    match target_block(cpu, storage, held, start, 1) {
+        Some(found) => {
+            let byte = (cpu.general[i.r1().index()] & 0xFF) as u8;
+            storage.store_in(found, start.get(), &[byte]);
+            Some(Ending::Done)
+        }
+        None => None,
+    }
+}
+
+/// 90 STM: store registers R1 to R3; 0 follows 15.
+#[inline(always)]
+fn store_multiple_quickly<S: Storage>(
+    cpu: &Cpu,
+    storage: &mut S,
+    i: Instruction,
+    held: &mut Held,
+) -> Option<Ending>
+    requires operands { AreHeld (S.IsPlaced storage.old) (S.memory storage.old)
+        (S.present storage.old) cpu.now.psw.key held.old }
+    ensures row { let before = state_of cpu.now (S.memory storage.old) in
+        let after = state_of cpu.now (S.memory storage.new) in
+        MeetsAtOnce (multiple_stored before i) (S.present storage.old) before result after }
+    ensures rest { S.Keeps storage.old storage.new }
+    ensures operands { AreHeld (S.IsPlaced storage.old) (S.memory storage.old)
+        (S.present storage.old) cpu.now.psw.key held.new }
+{
+    let start = cpu.based(i.second_half);
+    match target_block(cpu, storage, held, start, words_range(start, i).count) {
+        Some(found) => {
+            store_registers_in(&cpu.general, storage, found, start, i);
+            Some(Ending::Done)
+        }
+        None => None,
+    }
+}
+
+/// 92 MVI, 93 TS, 94 NI, 96 OI, 97 XI: a change of a byte.
+#[inline(always)]
+fn change_byte_quickly<S: Storage>(
+    change: ByteChange,
+    cpu: &mut Cpu,
+    storage: &mut S,
+    i: Instruction,
+    held: &mut Held,
+) -> Option<Ending>
+    requires operands { AreHeld (S.IsPlaced storage.old) (S.memory storage.old)
+        (S.present storage.old) cpu.old.psw.key held.old }
+    ensures row { let before = state_of cpu.old (S.memory storage.old) in
+        let after = state_of cpu.new (S.memory storage.new) in
+        MeetsAtOnce (byte_changed change before i) (S.present storage.old) before result after }
+    ensures rest { S.Keeps storage.old storage.new }
+    ensures operands { AreHeld (S.IsPlaced storage.old) (S.memory storage.old)
+        (S.present storage.old) cpu.old.psw.key held.new }
+{
+    let start = cpu.based(i.second_half);
+    match target_block(cpu, storage, held, start, 1) {
+        Some(found) => {
+            let byte = load_byte_in(storage, found, start.get());
+            let changed = change_byte(change, cpu.psw.condition(), byte, i.second_byte);
+            cpu.psw.set_condition(changed.condition);
+            storage.store_in(found, start.get(), &[changed.byte]);
+            Some(Ending::Done)
+        }
+        None => None,
+    }
+}
+
+/// BA CS: the swap of a word.
+#[inline(always)]
+fn swap_word_quickly<S: Storage>(
+    cpu: &mut Cpu,
+    storage: &mut S,
+    i: Instruction,
+    held: &mut Held,
+) -> Option<Ending>
+    requires operands { AreHeld (S.IsPlaced storage.old) (S.memory storage.old)
+        (S.present storage.old) cpu.old.psw.key held.old }
+    ensures row { let before = state_of cpu.old (S.memory storage.old) in
+        let after = state_of cpu.new (S.memory storage.new) in
+        MeetsAtOnce (word_swapped before i) (S.present storage.old) before result after }
+    ensures rest { S.Keeps storage.old storage.new }
+    ensures operands { AreHeld (S.IsPlaced storage.old) (S.memory storage.old)
+        (S.present storage.old) cpu.old.psw.key held.new }
+{
+    let start = cpu.based(i.second_half);
+    if start.get() % 4 != 0 {
+        return None;
+    }
+    match target_block(cpu, storage, held, start, 4) {
+        Some(found) => {
+            let word = load_word_in(storage, found, start.get());
+            match compare_and_swap(cpu, i.r1(), i.r2(), word) {
+                Some(taken) => store_word_in(storage, found, start.get(), taken),
+                None => {}
+            }
+            Some(Ending::Done)
+        }
+        None => None,
+    }
+}
+
+/// Carries out a row that fetches its operands, but for the address.
+#[inline(always)]
+pub fn fetch_held<S: Storage, const CODE: u8>(
+    row: FetchRow,
+    cpu: &mut Cpu,
+    storage: &S,
+    i: Instruction,
+    held: &mut Held,
+) -> Option<Ending>
+    requires operands { AreHeld (S.IsPlaced storage.now) (S.memory storage.now)
+        (S.present storage.now) cpu.old.psw.key held.old }
+    ensures row { let before = state_of cpu.old (S.memory storage.now) in
+        let after = state_of cpu.new (S.memory storage.now) in
+        MeetsAtOnce (fetch_row row before i) (S.present storage.now) before result after }
+    ensures operands { AreHeld (S.IsPlaced storage.now) (S.memory storage.now)
+        (S.present storage.now) cpu.old.psw.key held.new }
+{
+    match row {
+        FetchRow::Word(operation) => word_quickly(operation, cpu, storage, i, held),
+        FetchRow::Halfword(operation) => halfword_quickly(operation, cpu, storage, i, held),
+        FetchRow::MultiplyWord => multiply_word_quickly(cpu, storage, i, held),
+        FetchRow::MultiplyHalfword => multiply_halfword_quickly(cpu, storage, i, held),
+        FetchRow::DivideWord => divide_word_quickly(cpu, storage, i, held),
+        FetchRow::InsertCharacter => insert_quickly(cpu, storage, i, held),
+        FetchRow::LoadMultiple => load_multiple_quickly(cpu, storage, i, held),
+        FetchRow::TestByte(test) => test_byte_quickly(test, cpu, storage, i, held),
+        FetchRow::CompareStrings => compare_quickly(cpu, storage, i, held),
+        _ => done_of(fetch_row::<S, CODE>(row, cpu, storage, i)),
+    }
+}
+
+/// Carries out a row that stores an operand, but for the address.
+#[inline(always)]
+pub fn store_held<S: Storage, const CODE: u8>(
+    row: StoreRow,
+    cpu: &mut Cpu,
+    storage: &mut S,
+    i: Instruction,
+    held: &mut Held,
+) -> Option<Ending>
+    requires operands { AreHeld (S.IsPlaced storage.old) (S.memory storage.old)
+        (S.present storage.old) cpu.old.psw.key held.old }
+    ensures row { let before = state_of cpu.old (S.memory storage.old) in
+        let after = state_of cpu.new (S.memory storage.new) in
+        MeetsAtOnce (store_row row before i) (S.present storage.old) before result after }
+    ensures rest { S.Keeps storage.old storage.new }
+    ensures operands { AreHeld (S.IsPlaced storage.old) (S.memory storage.old)
+        (S.present storage.old) cpu.old.psw.key held.new }
+{
+    match row {
+        StoreRow::StoreWord => store_word_quickly(cpu, storage, i, held),
+        StoreRow::StoreHalfword => store_halfword_quickly(cpu, storage, i, held),
+        StoreRow::StoreCharacter => store_character_quickly(cpu, storage, i, held),
+        StoreRow::StoreMultiple => store_multiple_quickly(cpu, storage, i, held),
+        StoreRow::ChangeByte(change) => change_byte_quickly(change, cpu, storage, i, held),
+        StoreRow::SwapWord => swap_word_quickly(cpu, storage, i, held),
+        StoreRow::CombineStrings(Combine::Move) => move_quickly(cpu, storage, i, held),
+        StoreRow::CombineStrings(operation) => { combine_quickly(operation, cpu, storage, i, held) }
+        StoreRow::Translate => translate_quickly(cpu, storage, i, held),
+        _ => done_of(store_row::<S, CODE>(row, cpu, storage, i)),
+    }
+}
+
+/// How a row ended that was carried out; one that was refused has changed nothing.
+#[inline(always)]
+pub fn done_of(outcome: Result<Ending, Refusal>) -> Option<Ending>
+    ensures { result ≡ done_of outcome }
+{
+    match outcome {
+        Ok(ending) => Some(ending),
+        Err(_) => None,
+    }
+}

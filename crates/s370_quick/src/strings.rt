@@ -1,0 +1,232 @@
+//! The rows of strings whose operands lie in blocks that are held for them.
+ghost use Rattle.std.specs.Prelude.{◌≡◌, ℕ, [], ◌∷◌, Ok, true, false};
+ghost use Rattle.s370_rows.specs.State.{state_of};
+ghost use Rattle.s370_rows.specs.Rows.{MeetsRow};
+ghost use Rattle.s370_rows.specs.declared.ending.Ending.TheVariants as endings;
+ghost use Rattle.s370_bytes.specs.Combine.{string_combined};
+ghost use Rattle.s370_bytes.specs.Compare.{strings_compared};
+ghost use Rattle.s370_bytes.specs.Translate.{string_translated};
+ghost use Rattle.s370_bytes.specs.declared.combine.Combine.TheVariants as combines;
+ghost use Rattle.s370_quick.specs.Quick.{AreHeld, MeetsAtOnce};
+
+use crate::held::{Held, operand_block};
+use crate::operands::{done_of, source_block, target_block};
+use s370_bytes::{
+    Combine, combine_row, combine_straight, compare_row, compare_straight, fill_straight, move_row,
+    move_straight, translate_row, translate_straight,
+};
+use s370_rows::{Cpu, Ending, Instruction};
+use s370_store::{Access, Storage};
+
+/// D2 MVC between two blocks, if it is one copy or fills its target with one byte. Else nothing changes.
+#[inline(always)]
+fn move_held<S: Storage>(cpu: &Cpu, storage: &mut S, i: Instruction, held: &mut Held) -> bool
+    requires operands { AreHeld (S.IsPlaced storage.old) (S.memory storage.old)
+        (S.present storage.old) cpu.now.psw.key held.old }
+    ensures done { let before = state_of cpu.now (S.memory storage.old) in
+        let after = state_of cpu.now (S.memory storage.new) in
+        result ≡ true → MeetsRow (string_combined combines.Move before i) (S.present storage.old) before
+        (Ok endings.Done) after }
+    ensures still { let before = state_of cpu.now (S.memory storage.old) in
+        let after = state_of cpu.now (S.memory storage.new) in
+        result ≡ false → after ≡ before }
+    ensures rest { S.Keeps storage.old storage.new }
+    ensures operands { AreHeld (S.IsPlaced storage.old) (S.memory storage.old)
+        (S.present storage.old) cpu.now.psw.key held.new }
+{
+    let to = cpu.based(i.second_half);
+    let from = cpu.based(i.third_half);
+    let count = i.second_byte as u32 + 1;
+    let target = match target_block(cpu, storage, held, to, count) {
+        Some(found) => found,
+        None => return false,
+    };
+    let source = match source_block(cpu, storage, held, from, count) {
+        Some(found) => found,
+        None => return false,
+    };
+    if move_straight(storage, source, from.get(), target, to.get(), count) {
+        return true;
+    }
+    fill_straight(storage, source, from.get(), target, to.get(), count)
+}
+
+/// D2 MVC: as one copy, if it is one.
+#[inline(always)]
+pub fn move_quickly<S: Storage>(
+    cpu: &mut Cpu,
+    storage: &mut S,
+    i: Instruction,
+    held: &mut Held,
+) -> Option<Ending>
+    requires operands { AreHeld (S.IsPlaced storage.old) (S.memory storage.old)
+        (S.present storage.old) cpu.old.psw.key held.old }
+    ensures row { let before = state_of cpu.old (S.memory storage.old) in
+        let after = state_of cpu.new (S.memory storage.new) in
+        MeetsAtOnce (string_combined combines.Move before i) (S.present storage.old) before result after }
+    ensures rest { S.Keeps storage.old storage.new }
+    ensures operands { AreHeld (S.IsPlaced storage.old) (S.memory storage.old)
+        (S.present storage.old) cpu.old.psw.key held.new }
+{
+    if move_held(cpu, storage, i, held) {
+        return Some(Ending::Done);
+    }
+    if move_apart(
+        cpu,
+        storage,
+        i.opcode,
+        i.second_byte,
+        i.second_half,
+        i.third_half,
+    ) {
+        return Some(Ending::Done);
+    }
+    None
+}
+
+/// D2 MVC by its row. It is given the parts of the instruction, so that the loop need not write the instruction to
+/// memory for an MVC that is one copy.
+#[inline(never)]
+fn move_apart<S: Storage>(
+    cpu: &mut Cpu,
+    storage: &mut S,
+    opcode: u8,
+    second_byte: u8,
+    second_half: u16,
+    third_half: u16,
+) -> bool
+    ensures done { let before = state_of cpu.old (S.memory storage.old) in
+        let after = state_of cpu.new (S.memory storage.new) in
+        let i : Instruction = record {
+          opcode = opcode;
+          second_byte = second_byte;
+          second_half = second_half;
+          third_half = third_half;
+        } in
+        result ≡ true → MeetsRow (string_combined combines.Move before i) (S.present storage.old) before
+        (Ok endings.Done) after }
+    ensures still { let before = state_of cpu.old (S.memory storage.old) in
+        let after = state_of cpu.new (S.memory storage.new) in
+        result ≡ false → after ≡ before }
+    ensures rest { S.Keeps storage.old storage.new }
+{
+    let i = Instruction {
+        opcode,
+        second_byte,
+        second_half,
+        third_half,
+    };
+    match move_row(cpu, storage, i) {
+        Ok(_) => true,
+        Err(_) => false,
+    }
+}
+
+/// D1 MVN, D3 MVZ, D4 NC, D6 OC, D7 XC: between two blocks, or else by the row.
+#[inline(always)]
+pub fn combine_quickly<S: Storage>(
+    operation: Combine,
+    cpu: &mut Cpu,
+    storage: &mut S,
+    i: Instruction,
+    held: &mut Held,
+) -> Option<Ending>
+    requires operands { AreHeld (S.IsPlaced storage.old) (S.memory storage.old)
+        (S.present storage.old) cpu.old.psw.key held.old }
+    ensures row { let before = state_of cpu.old (S.memory storage.old) in
+        let after = state_of cpu.new (S.memory storage.new) in
+        MeetsAtOnce (string_combined operation before i) (S.present storage.old) before result after }
+    ensures rest { S.Keeps storage.old storage.new }
+    ensures operands { AreHeld (S.IsPlaced storage.old) (S.memory storage.old)
+        (S.present storage.old) cpu.old.psw.key held.new }
+{
+    let to = cpu.based(i.second_half);
+    let from = cpu.based(i.third_half);
+    let count = i.second_byte as u32 + 1;
+    let target = match target_block(cpu, storage, held, to, count) {
+        Some(found) => found,
+        None => return done_of(combine_row(operation, cpu, storage, i)),
+    };
+    let source = match source_block(cpu, storage, held, from, count) {
+        Some(found) => found,
+        None => return done_of(combine_row(operation, cpu, storage, i)),
+    };
+    combine_straight(
+        operation,
+        cpu,
+        storage,
+        target,
+        to.get(),
+        source,
+        from.get(),
+        count,
+    );
+    Some(Ending::Done)
+}
+
+/// DC TR: between two blocks, or else by the row.
+#[inline(always)]
+pub fn translate_quickly<S: Storage>(
+    cpu: &Cpu,
+    storage: &mut S,
+    i: Instruction,
+    held: &mut Held,
+) -> Option<Ending>
+    requires operands { AreHeld (S.IsPlaced storage.old) (S.memory storage.old)
+        (S.present storage.old) cpu.now.psw.key held.old }
+    ensures row { let before = state_of cpu.now (S.memory storage.old) in
+        let after = state_of cpu.now (S.memory storage.new) in
+        MeetsAtOnce (string_translated before i) (S.present storage.old) before result after }
+    ensures rest { S.Keeps storage.old storage.new }
+    ensures operands { AreHeld (S.IsPlaced storage.old) (S.memory storage.old)
+        (S.present storage.old) cpu.now.psw.key held.new }
+{
+    let to = cpu.based(i.second_half);
+    let from = cpu.based(i.third_half);
+    let count = i.second_byte as u32 + 1;
+    let target = match target_block(cpu, storage, held, to, count) {
+        Some(found) => found,
+        None => return done_of(translate_row(cpu, storage, i)),
+    };
+    let source = match source_block(cpu, storage, held, from, 256) {
+        Some(found) => found,
+        None => return done_of(translate_row(cpu, storage, i)),
+    };
+    if translate_straight(storage, target, to.get(), source, from.get(), count) {
+        return Some(Ending::Done);
+    }
+    done_of(translate_row(cpu, storage, i))
+}
+
+/// D5 CLC: between two blocks, or else by the row.
+#[inline(always)]
+pub fn compare_quickly<S: Storage>(
+    cpu: &mut Cpu,
+    storage: &S,
+    i: Instruction,
+    held: &mut Held,
+) -> Option<Ending>
+    requires operands { AreHeld (S.IsPlaced storage.now) (S.memory storage.now)
+        (S.present storage.now) cpu.old.psw.key held.old }
+    ensures row { let before = state_of cpu.old (S.memory storage.now) in
+        let after = state_of cpu.new (S.memory storage.now) in
+        MeetsAtOnce (strings_compared before i) (S.present storage.now) before result after }
+    ensures operands { AreHeld (S.IsPlaced storage.now) (S.memory storage.now)
+        (S.present storage.now) cpu.old.psw.key held.new }
+{
+    let first = cpu.based(i.second_half);
+    let second = cpu.based(i.third_half);
+    let count = i.second_byte as u32 + 1;
+    let left = match source_block(cpu, storage, held, first, count) {
+        Some(found) => found,
+        None => return done_of(compare_row(cpu, storage, i)),
+    };
+    // The first operand's block stays held: two operands in two blocks would take turns in it.
+    let right = match operand_block(Access::Fetch, cpu, storage, held.fetched, second, count) {
+        Some(found) => found,
+        None => return done_of(compare_row(cpu, storage, i)),
+    };
+    let condition = compare_straight(storage, left, first.get(), right, second.get(), count);
+    cpu.psw.set_condition(condition);
+    Some(Ending::Done)
+}
