@@ -16,3 +16,4 @@ pub mod Lent
 pub mod Replies
 pub mod Notes
 pub mod Coming
+pub mod Reuses
