@@ -17,3 +17,5 @@ pub mod Replies
 pub mod Notes
 pub mod Coming
 pub mod Reuses
+pub mod OneLife
+pub mod Working
