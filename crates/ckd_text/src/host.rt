@@ -1,7 +1,7 @@
 //! What the programs share: their words, the files that they read, and what they say of a failure.
-ghost use Rattle.std.specs.Prelude.{◌≡◌};
+ghost use Rattle.std.specs.Prelude.{◌≡◌, ◌⊎◌};
 ghost use Rattle.std.specs.Process.{exit_status};
-ghost use Rattle.ckd_text.specs.Faults.{outcome_of};
+ghost use Rattle.ckd_text.specs.Faults.{IsTold, outcome_of};
 
 use crate::faults::{Failure, fault_line, outcome};
 use s370_num::host::Counted;
@@ -28,7 +28,9 @@ impl Termination for Ended {
 }
 
 /// The end of a program, whose failure is told on standard error. One that there is no memory to tell is want of memory.
-pub(crate) fn ended_of<R: AllocGlobal + Eprint>(rt: &R, ended: Result<(), Failure>) -> Ended {
+pub(crate) fn ended_of<R: AllocGlobal + Eprint>(rt: &R, ended: Result<(), Failure>) -> Ended
+    ensures { IsTold ended result.ended }
+{
     match ended {
         Ok(()) => Ended { ended: Ok(()) },
         Err(failure) => Ended {
@@ -38,7 +40,9 @@ pub(crate) fn ended_of<R: AllocGlobal + Eprint>(rt: &R, ended: Result<(), Failur
 }
 
 /// Prints the line of a failure, and gives what was told. A wrong use has been told by a longer text.
-fn tell<R: AllocGlobal + Eprint>(rt: &R, failure: Failure) -> Failure {
+fn tell<R: AllocGlobal + Eprint>(rt: &R, failure: Failure) -> Failure
+    ensures { (result ≡ failure) ⊎ (result ≡ Failure.Memory) }
+{
     if failure == Failure::Usage {
         return failure;
     }

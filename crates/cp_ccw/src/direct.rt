@@ -82,16 +82,23 @@ fn is_as_known(known: &Known, dat: &Dat, caw: Caw) -> bool
     ensures same { result ≡ true → IsAsKnown known.now dat.now caw }
     ensures other { IsAsKnown known.now dat.now caw → result ≡ true }
 {
-    if known.caw != caw {
+    // Exhaustive: a new field fails to compile here.
+    let Known {
+        caw: started,
+        size,
+        text,
+        held,
+    } = known;
+    if *started != caw {
         return false;
     }
-    if known.size != dat.size() {
+    if *size != dat.size() {
         return false;
     }
-    if !stands(dat, &known.text) {
+    if !stands(dat, text) {
         return false;
     }
-    are_in_frames(dat, &known.held)
+    are_in_frames(dat, held)
 }
 
 /// Whether a program that was known may run for this address word where it stands: yes exactly where all that is known

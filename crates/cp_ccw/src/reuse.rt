@@ -69,7 +69,9 @@ fn frames_of(alloc: Global, dat: &Dat, nodes: &[Node]) -> Result<Vec<Held>, Allo
 {
     let mut held = Vec::new(alloc);
     for node in nodes {
-        note_list(dat, &node.list, &mut held)?;
+        // Exhaustive: a new field fails to compile here.
+        let Node { word: _, list } = node;
+        note_list(dat, list, &mut held)?;
     }
     Ok(held)
 }
@@ -79,11 +81,13 @@ fn is_in_frame(dat: &Dat, held: &Held) -> bool
     ensures same { result ≡ true → IsFrame dat.now held.now }
     ensures other { IsFrame dat.now held.now → result ≡ true }
 {
-    if held.page.0 as u64 * 4096 >= dat.size() as u64 {
+    // Exhaustive: a new field fails to compile here.
+    let Held { page, frame: stood } = held;
+    if page.0 as u64 * 4096 >= dat.size() as u64 {
         return false;
     }
-    match dat.frame_of(held.page) {
-        Some(frame) => frame == held.frame,
+    match dat.frame_of(*page) {
+        Some(frame) => frame == *stood,
         None => false,
     }
 }
@@ -142,16 +146,24 @@ pub fn reusable(kept: &Kept, dat: &Dat, caw: Caw) -> bool
     ensures same { result ≡ true → IsAtBase kept.now dat.now caw }
     ensures other { IsAtBase kept.now dat.now caw → result ≡ true }
 {
-    if kept.caw != caw {
+    // Exhaustive: a new field fails to compile here.
+    let Kept {
+        caw: started,
+        size,
+        text,
+        held,
+        table: _,
+    } = kept;
+    if *started != caw {
         return false;
     }
-    if kept.size != dat.size() {
+    if *size != dat.size() {
         return false;
     }
-    if !stands(dat, &kept.text) {
+    if !stands(dat, text) {
         return false;
     }
-    are_in_frames(dat, &kept.held)
+    are_in_frames(dat, held)
 }
 
 /// Runs a program that was kept, where [`reusable`] tells that it may, or after [`keep`]: it ends as the program does
@@ -170,5 +182,11 @@ pub fn run_kept<D: Device>(
     ensures memory { IfErr result (λ error. error ≡ errors.Memory) }
     ensures rest { KeepsStored storage.old storage.new }
 {
+    // Exhaustive: a new field fails to compile here.
+    let Table {
+        start: _,
+        places: _,
+        nodes: _,
+    } = &kept.table;
     run_lent(&kept.table, storage, limits, device)
 }

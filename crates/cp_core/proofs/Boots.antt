@@ -16,12 +16,13 @@ use Rattle.machine_panel.specs.Machine.{Machine, machine_of, unused}
 use Rattle.machine_devices.specs.Devices.{DevicesValue, are_apart, can_attach, devices_new}
 use Rattle.cp_directory.specs.Grammar.{AreDifferent, HasLawfulDevices}
 use Rattle.machine_devices.specs.Equipped.{Equipped}
+use Rattle.cp_resident.specs.Reuse.{ReuseValue, kept_none}
 use Rattle.cp_core.specs.UserMachines.{Fits, IsUnused, UserParts, user_with}
 use Rattle.machine_devices.specs.declared.attaching.AttachError.{AttachError}
 use Rattle.machine_devices.specs.declared.attaching.AttachError.TheVariants as attaching
 use Rattle.cp_core.specs.declared.events.BootError.TheVariants as errors
 use Rattle.cp_core.specs.Boot.{AreNewUsers, IsNewUser, boot_error, free_supply, places_in}
-use Rattle.cp_core.specs.System.{SystemView, deliveries_of, stands_among, users_of}
+use Rattle.cp_core.specs.System.{SystemView, deliveries_of, kept_of, stands_among, users_of}
 use Rattle.cp_volumes.specs.Shared.{AllLeaveBe, IsUsers, SharedMinidisk, Stand, disks_on, stands_of}
 use Rattle.cp_seating.specs.Seating.{AreDisks, AreLawful, IsLawful, minidisks_at, seats_of, user_is_past, user_lacks}
 use Rattle.cp_seating.proofs.Seated.{are_disks, is_users, users_apart}
@@ -142,9 +143,9 @@ off_new volumes u user k disks h d =
     record { subchannels = h.subchannels; disks = disks; attached = h.attached; new = as_seen _ _ _ _ (disks_on volumes u.minidisks) m d }
 
 -- the system at boot, by its parts
-pub boot_seen : (us : List Equipped) (directory : List DirectoryUser) (volumes : List VolumeFormat) (ss : List (List Stand)) (supply supply' : FrameSupply) (ds ds' : List (List Delivery)) → supply ≡ supply' → ds ≡ ds'
-    → (let s : SystemView = record { users = us; directory = directory; supply = supply; files = []; deliveries = ds; volumes = volumes; stands = ss; is_spent = false } in s ≡ record { users = us; directory = directory; supply = supply'; files = []; deliveries = ds'; volumes = volumes; stands = ss; is_spent = false })
-boot_seen us directory volumes ss supply supply' ds ds' b c = rw (b, c) refl
+pub boot_seen : (us : List Equipped) (directory : List DirectoryUser) (volumes : List VolumeFormat) (ss : List (List Stand)) (ks ks' : List ReuseValue) (supply supply' : FrameSupply) (ds ds' : List (List Delivery)) → supply ≡ supply' → ds ≡ ds' → ks ≡ ks'
+    → (let s : SystemView = record { users = us; directory = directory; supply = supply; files = []; deliveries = ds; volumes = volumes; stands = ss; kept = ks; is_spent = false } in s ≡ record { users = us; directory = directory; supply = supply'; files = []; deliveries = ds'; volumes = volumes; stands = ss; kept = ks'; is_spent = false })
+boot_seen us directory volumes ss ks ks' supply supply' ds ds' b c e = rw (b, c, e) refl
 
 -- ---- where minidisks stand
 
@@ -165,6 +166,14 @@ stands_new volumes [] (u ∷ us) h k = absurd h
 stands_new volumes (s ∷ ss) [] h k = absurd h
 stands_new volumes (s ∷ ss) (u ∷ us) h zero = ap (λ (m : List SharedMinidisk). stands_of m) h.0.seated
 stands_new volumes (s ∷ ss) (u ∷ us) h (suc k) = stands_new volumes ss us h.1 k
+
+-- no program is kept at boot
+pub kept_new : (volumes : List VolumeFormat) (seats : List UserParts) (users : List DirectoryUser) → AreNew volumes seats users → kept_of seats ≡ map (λ (stands : List Stand). kept_none (length stands)) (stands_among seats)
+kept_new volumes [] [] h = refl
+kept_new volumes [] (u ∷ us) h = absurd h
+kept_new volumes (s ∷ ss) [] h = absurd h
+kept_new volumes (s ∷ ss) (u ∷ us) h =
+    ap (λ (r : ReuseValue). r ∷ kept_of ss) h.0.forgot ∙ ap (λ (rs : List ReuseValue). kept_none (length (stands_of s.minidisks)) ∷ rs) (kept_new volumes ss us h.1)
 
 -- those of one user more are lawful
 pub lawful_on : (users : List DirectoryUser) (user : DirectoryUser) → ((k : ℕ) → AreLawful (minidisks_at users k)) → AreLawful user.minidisks → (k : ℕ) → AreLawful (minidisks_at (users ++ user ∷ []) k)

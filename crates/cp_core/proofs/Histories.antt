@@ -10,4 +10,4 @@ pub history : EachIsBare
 history first last [] e user = ap (λ (s : SystemView). user_at s user) e
 history first last (step ∷ steps) h user =
     lives_on as_reached (local user first step) (own user step.seen steps) (user_at first user) (user_at step.seen user) (user_at last user)
-    (h.0.applied user) (history step.seen last steps h.1 user)
+    (h.0.replied.applied user) (history step.seen last steps h.1 user)

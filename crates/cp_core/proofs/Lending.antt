@@ -1,6 +1,6 @@
 -- One lending: a work is done with a user's machine, whose storage is lent, and the system goes on with what that leaves.
 use Rattle.std.proofs.Common.{◌≡◌, ◌∙◌, ◌<◌, ap, arith, get_or, length, set, subst, sym, List, ℕ, Bool}
-use Rattle.std.proofs.lemmas.List.{get_or_default}
+use Rattle.std.proofs.lemmas.List.{get_or-set_same, get_or_default, length-map}
 use Rattle.ckd_volume.specs.Volume.{VolumeFormat}
 use Rattle.cp_directory.specs.Users.{DirectoryUser}
 use Rattle.cp_frames.specs.Layout.{FrameSupply, Pool, bytes_of}
@@ -12,11 +12,12 @@ use Rattle.machine_devices.specs.Equipped.{Equipped, nobody}
 use Rattle.machine_devices.specs.Lent.{KeepsBeside}
 use Rattle.machine_devices.specs.declared.files.FileNote.{FileNote}
 use Rattle.cp_core.specs.Owners.{AreOwners}
-use Rattle.cp_core.specs.System.{SystemView, stands_at, user_at, users_of}
+use Rattle.cp_resident.specs.Reuse.{ReuseValue, kept_none}
+use Rattle.cp_core.specs.System.{SystemView, kept_of, stands_at, user_at, users_of}
 use Rattle.cp_core.specs.UserMachines.{Fits, SeatParts, UserParts, seat_on, seats_on, user_with}
 use Rattle.cp_core.specs.Whole.{IsSystem, no_user}
 use Rattle.cp_core.proofs.Owned.{length-seats, owner_is, owners_on, see_same, seat_here, set-seats}
-use Rattle.cp_core.proofs.Systems.{IsChange, change, get-stands, has_seat, lent_seen, seat_fits, seated_on, seen, sees_same, whole_on}
+use Rattle.cp_core.proofs.Systems.{IsChange, change, get-kept, get-stands, has_seat, lent_seen, seat_fits, seated_on, seen, sees_same, set-kept, whole_on}
 
 -- the seat of a user among those of a system
 pub record IsSeat (q : QueuesValue) (seats : List SeatParts) (volumes : List VolumeFormat) (pool : Pool) (directory : List DirectoryUser) (user : ℕ) (seat : SeatParts) : Type 0 where
@@ -112,12 +113,39 @@ module _ {q : QueuesValue} {seats : List SeatParts} {volumes : List VolumeFormat
           subst (λ (s : SystemView). Does s.directory (user_at old user) s.supply (get_or (users_of (seats_on q' (set seats user seat')) volumes' pool'.storages) user nobody)) is third
 
       -- nothing else that is seen has changed but the volumes and the frames
-      pub rest_seen : (let new = seen (seats_on q' (set seats user seat')) volumes' pool'.storages directory pool'.supply files is_spent in new ≡ record old { users = set old.users user (get_or new.users user nobody); supply = pool'.supply; volumes = volumes' })
+      pub rest_seen : (let new = seen (seats_on q' (set seats user seat')) volumes' pool'.storages directory pool'.supply files is_spent in new ≡ record old { users = set old.users user (get_or new.users user nobody); supply = pool'.supply; volumes = volumes'; kept = new.kept })
       rest_seen =
           let Rest : List UserParts → Type 0 =
-          λ xs. (let new = seen xs volumes' pool'.storages directory pool'.supply files is_spent in new ≡ record old { users = set old.users user (get_or new.users user nobody); supply = pool'.supply; volumes = volumes' }) in
+          λ xs. (let new = seen xs volumes' pool'.storages directory pool'.supply files is_spent in new ≡ record old { users = set old.users user (get_or new.users user nobody); supply = pool'.supply; volumes = volumes'; kept = new.kept }) in
           subst Rest (sym now)
           (lent_seen (seats_on q seats) volumes volumes' pool.storages pool'.storages directory pool.supply pool'.supply files is_spent old user (seat_on q seat) (seat_on q' seat') changed is shown left.deliveries left.neighbours.stands)
+
+      -- of the programs that are kept his alone have changed
+      pub kept_before : get_or old.kept user (kept_none 0) ≡ seat.reuse
+      kept_before =
+          ap (λ (s : SystemView). get_or s.kept user (kept_none 0)) (sym is) ∙ get-kept (seats_on q seats) user (seat_on q seat) at.inside
+          ∙ ap (λ (u : UserParts). u.reuse) (sym shown)
+
+      pub kept_now : kept_of (seats_on q' (set seats user seat')) ≡ set old.kept user seat'.reuse
+      kept_now =
+          ap kept_of now ∙ set-kept (seats_on q seats) user (seat_on q' seat') ∙ ap (λ (s : SystemView). set s.kept user seat'.reuse) is
+
+      pub kept_after : get_or (kept_of (seats_on q' (set seats user seat'))) user (kept_none 0) ≡ seat'.reuse
+      kept_after =
+          let within : user < length old.kept = omega (arith, at.inside, length-map (seats_on q seats) (λ (u : UserParts). u.reuse), ap (λ (s : SystemView). length s.kept) is) in
+          ap (λ (rs : List ReuseValue). get_or rs user (kept_none 0)) kept_now ∙ get_or-set_same old.kept user seat'.reuse (kept_none 0) within
+
+      -- what a work keeps of them it keeps of the user's
+      pub keeps_seen : (Keeps : Equipped → FrameSupply → ReuseValue → ReuseValue → Type 0) → Keeps (user_with (seat_on q seat) volumes (bytes_of pool user)) pool.supply seat.reuse seat'.reuse
+          → Keeps (user_at old user) old.supply (get_or old.kept user (kept_none 0)) (get_or (kept_of (seats_on q' (set seats user seat'))) user (kept_none 0))
+      keeps_seen Keeps keeps =
+          let first : Keeps (user_at old user) pool.supply seat.reuse seat'.reuse = subst (λ (m : Equipped). Keeps m pool.supply seat.reuse seat'.reuse) (sym changed.old) keeps in
+          let second : Keeps (user_at old user) old.supply seat.reuse seat'.reuse = subst (λ (s : SystemView). Keeps (user_at old user) s.supply seat.reuse seat'.reuse) is first in
+          let third : Keeps (user_at old user) old.supply (get_or old.kept user (kept_none 0)) seat'.reuse = subst (λ (r : ReuseValue). Keeps (user_at old user) old.supply r seat'.reuse) (sym kept_before) second in
+          subst (λ (r : ReuseValue). Keeps (user_at old user) old.supply (get_or old.kept user (kept_none 0)) r) (sym kept_after) third
+
+      pub others_seen : kept_of (seats_on q' (set seats user seat')) ≡ set old.kept user (get_or (kept_of (seats_on q' (set seats user seat'))) user (kept_none 0))
+      others_seen = kept_now ∙ ap (λ (r : ReuseValue). set old.kept user r) (sym kept_after)
 
       pub confined_seen : IsConfined (stands_at old user) old.volumes volumes'
       confined_seen =

@@ -9,3 +9,5 @@ pub mod Histories
 pub mod Loans
 pub mod Owned
 pub mod Lending
+pub mod Reused
+mod Keeping

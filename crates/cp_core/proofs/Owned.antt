@@ -59,7 +59,7 @@ set-seats q q' (s ∷ ss) (suc i) s' h =
 files_stay : (users users' : List UserFiles) (i k : ℕ) → KeepsOthers i users users' → k ≢ i → files_of users' k ≡ files_of users k
 files_stay users users' i k keeps differs = ap (λ (us : List UserFiles). files_of us k) keeps ∙ get_or-set_other users i k (files_of users' i) no_files differs
 
-seat_files : (s : SeatParts) (f g : UserFiles) → f ≡ g → (let u : UserParts = record { parts = s.parts; devices = devices_with s.devices f; minidisks = s.minidisks; keys = s.keys; deliveries = s.deliveries } in u ≡ record { parts = s.parts; devices = devices_with s.devices g; minidisks = s.minidisks; keys = s.keys; deliveries = s.deliveries })
+seat_files : (s : SeatParts) (f g : UserFiles) → f ≡ g → (let u : UserParts = record { parts = s.parts; devices = devices_with s.devices f; minidisks = s.minidisks; keys = s.keys; deliveries = s.deliveries; reuse = s.reuse } in u ≡ record { parts = s.parts; devices = devices_with s.devices g; minidisks = s.minidisks; keys = s.keys; deliveries = s.deliveries; reuse = s.reuse })
 seat_files s f g e = rw e refl
 
 pub see_same : (q q' : QueuesValue) (seats : List SeatParts) (i : ℕ) → AreOwners seats q → KeepsOthers i q.users q'.users → SeeSame q q' seats (λ k. k ≡ i → ⊥)
@@ -97,7 +97,7 @@ owner_still d d' q q' keeps inside = omega (arith, inside, keeps.user, as_many q
 -- ---- what is delivered
 
 no_seat : SeatParts
-no_seat = record { parts = no_user.parts; devices = parts_new no_places 0; minidisks = []; keys = []; deliveries = [] }
+no_seat = record { parts = no_user.parts; devices = parts_new no_places 0; minidisks = []; keys = []; deliveries = []; reuse = no_user.reuse }
 
 -- a user's closed files are those of all that are his
 pub punched_are : (q : QueuesValue) (seats : List SeatParts) (volumes : List VolumeFormat) (storages : List (List ℕ)) (directory : List DirectoryUser) (us : List Equipped) → IsWhole (seats_on q seats) storages directory → users_of (seats_on q seats) volumes storages ≡ us → AreOwners seats q → (from : ℕ) → from < length us → (get_or us from nobody).devices.punched ≡ (files_of q.users from).punched

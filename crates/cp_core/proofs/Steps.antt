@@ -34,7 +34,7 @@ use Rattle.machine_devices.specs.Comes.{NeedsMemory, closes, is_cut, is_ipl}
 use Rattle.cp_core.specs.Come.{HasCome}
 use Rattle.machine_devices.specs.Coming.{comes_by_line, comes_from_operator}
 use Rattle.machine_devices.specs.Notes.{closed_by, next_file, note_where, noted, stands_in}
-use Rattle.cp_core.specs.Histories.{IsStep}
+use Rattle.cp_core.specs.Histories.{IsReplied}
 use Rattle.cp_core.specs.Local.{Step, coming, run_of, units_of}
 use Rattle.cp_core.specs.Memory.{IsCutShort}
 use Rattle.machine_devices.specs.declared.request.Request.{Request}
@@ -59,12 +59,12 @@ use Rattle.cp_core.proofs.Switches.{switch_wants_none}
 
 -- a work on one user's machine changes him and the frames alone
 abbrev pub IsLent : SystemView → ℕ → SystemView → Type 0
-IsLent old user new = new ≡ record old { users = set old.users user (user_at new user); supply = new.supply; volumes = new.volumes }
+IsLent old user new = new ≡ record old { users = set old.users user (user_at new user); supply = new.supply; volumes = new.volumes; kept = new.kept }
 
 -- where nothing happened to him, nothing but the frames has changed
-unchanged : (old new : SystemView) (user : ℕ) → IsLent old user new → user_at new user ≡ user_at old user → new ≡ record old { supply = new.supply; volumes = new.volumes }
+unchanged : (old new : SystemView) (user : ℕ) → IsLent old user new → user_at new user ≡ user_at old user → new ≡ record old { supply = new.supply; volumes = new.volumes; kept = new.kept }
 unchanged old new user lent same =
-    lent ∙ ap (λ (us : List Equipped). record old { users = us; supply = new.supply; volumes = new.volumes }) (ap (set old.users user) same ∙ sym (set_own old.users user nobody))
+    lent ∙ ap (λ (us : List Equipped). record old { users = us; supply = new.supply; volumes = new.volumes; kept = new.kept }) (ap (set old.users user) same ∙ sym (set_own old.users user nobody))
 
 same_lines : (a b : Equipped) → a.machine.output ≡ b.machine.output → 0 ≡ length a.machine.output - length b.machine.output
 same_lines a b same = omega (arith, ap (λ (lines : List (List ℕ)). length lines) same)
@@ -90,7 +90,7 @@ run_lives asked user old new before after ran h =
     (new, (sym (run_is asked ran.units ran.reason (notice_of ran.reason) old.machine new.machine _ h.told), h.devices, h.disks), refl)
 
 pub run_step : (old new : SystemView) (user asked : ℕ) (ran : RanUnits) (told : Saying) (lines : ℕ) → HasRun asked user (user_at old user) old.supply ran (user_at new user) new.supply → IsLent old user new → IsBetweenUnits old.supply → IsBetweenUnits new.supply → told ≡ saying (notice_of ran.reason) → lines ≡ length (machine_at new user).output - length (machine_at old user).output
-    → IsStep old (record { event = Run user asked; reply = record { ended = Ran ran; said = told; lines = lines; delivered = None }; seen = new })
+    → IsReplied old (record { event = Run user asked; reply = record { ended = Ran ran; said = told; lines = lines; delivered = None }; seen = new })
 run_step old new user asked ran told lines h lent rest between s l = record {
   applied = alone old new user (run_of asked (Ran ran)) lent (run_lives asked user (user_at old user) (user_at new user) old.supply new.supply ran h);
   told = record {
@@ -114,7 +114,7 @@ ticked_output modes.Running m = refl
 ticked_output modes.Stopped m = refl
 ticked_output modes.Off m = refl
 
-pub tick_done : (old new : SystemView) (user : ℕ) (done : Unit {0}) → HasTicked user (user_at old user) old.supply (Ok done) (user_at new user) new.supply → IsLent old user new → IsBetweenUnits old.supply → IsBetweenUnits new.supply → IsStep old (record { event = Tick user; reply = silent Done; seen = new })
+pub tick_done : (old new : SystemView) (user : ℕ) (done : Unit {0}) → HasTicked user (user_at old user) old.supply (Ok done) (user_at new user) new.supply → IsLent old user new → IsBetweenUnits old.supply → IsBetweenUnits new.supply → IsReplied old (record { event = Tick user; reply = silent Done; seen = new })
 tick_done old new user done h lent rest between =
     let m : (machine_at new user).output ≡ (machine_at old user).output = ap (λ (x : Machine). x.output) h.leaves.0 ∙ ticked_output (machine_at old user).mode (machine_at old user) in
     record {
@@ -133,7 +133,7 @@ tick_done old new user done h lent rest between =
       };
     }
 
-pub tick_out : (old new : SystemView) (user : ℕ) (out : NoRoom) → HasTicked user (user_at old user) old.supply (Err out) (user_at new user) new.supply → IsLent old user new → IsBetweenUnits old.supply → IsBetweenUnits new.supply → IsStep old (record { event = Tick user; reply = silent FramesOut; seen = new })
+pub tick_out : (old new : SystemView) (user : ℕ) (out : NoRoom) → HasTicked user (user_at old user) old.supply (Err out) (user_at new user) new.supply → IsLent old user new → IsBetweenUnits old.supply → IsBetweenUnits new.supply → IsReplied old (record { event = Tick user; reply = silent FramesOut; seen = new })
 tick_out old new user out h lent rest between = record {
   applied = alone old new user [] lent h.leaves.0;
   told = record {
@@ -184,7 +184,7 @@ pub line_done : (old middle new : SystemView) (user : ℕ) (typed : Bor (List �
     → new.supply ≡ middle.supply
     → said' ≡ said_to_line (next_file old.files) told
     → lines ≡ length (machine_at new user).output - length (machine_at old user).output
-    → IsStep old (record { event = Line user typed; reply = record { ended = Done; said = said'; lines = lines; delivered = delivered }; seen = new })
+    → IsReplied old (record { event = Line user typed; reply = record { ended = Done; said = said'; lines = lines; delivered = delivered }; seen = new })
 line_done old middle new user typed told said' lines delivered h lent rest between d f come ds supply s l =
     let closed = files_closed told in
     let punched = stands_in closed.punched (user_at middle user).devices.punched in
@@ -227,7 +227,7 @@ none_closed : (user : ℕ) (e : Equipped) → closed_by user e e ≡ []
 none_closed user e = rw (none_since (length e.devices.punched), none_since (length e.devices.printed)) refl
 
 pub line_out : (old new : SystemView) (user : ℕ) (typed : Bor (List ℕ)) → HasTyped (world_of old user) user typed.now (user_at old user) old.supply (Err errors.FramesOut) (user_at new user) new.supply → IsLent old user new → IsBetweenUnits old.supply → IsBetweenUnits new.supply
-    → IsStep old (record { event = Line user typed; reply = silent FramesOut; seen = new })
+    → IsReplied old (record { event = Line user typed; reply = silent FramesOut; seen = new })
 line_out old new user typed h lent rest between = record {
   applied = alone old new user [] lent h.leaves.0;
   told = record {
@@ -300,7 +300,7 @@ line_cut old middle new user typed told h lent rest between needs users supply =
 
 pub serve_done : (old new : SystemView) (user device : ℕ) (done : Bool) (lines : ℕ) → HasServed device user (user_at old user) old.supply (Ok done) (user_at new user) new.supply → IsLent old user new → IsBetweenUnits old.supply → IsBetweenUnits new.supply
     → lines ≡ length (machine_at new user).output - length (machine_at old user).output
-    → IsStep old (record { event = Serve user device; reply = record { ended = Served done; said = Nothing; lines = lines; delivered = None }; seen = new })
+    → IsReplied old (record { event = Serve user device; reply = record { ended = Served done; said = Nothing; lines = lines; delivered = None }; seen = new })
 serve_done old new user device done lines h lent rest between l = record {
   applied = alone old new user (Serves device ∷ []) lent (user_at new user, (done, h.leaves), refl);
   told = record {
@@ -317,7 +317,7 @@ serve_done old new user device done lines h lent rest between l = record {
   };
 }
 
-pub serve_out : (old new : SystemView) (user device : ℕ) → HasServed device user (user_at old user) old.supply (Err errors.FramesOut) (user_at new user) new.supply → IsLent old user new → IsBetweenUnits old.supply → IsBetweenUnits new.supply → IsStep old (record { event = Serve user device; reply = silent FramesOut; seen = new })
+pub serve_out : (old new : SystemView) (user device : ℕ) → HasServed device user (user_at old user) old.supply (Err errors.FramesOut) (user_at new user) new.supply → IsLent old user new → IsBetweenUnits old.supply → IsBetweenUnits new.supply → IsReplied old (record { event = Serve user device; reply = silent FramesOut; seen = new })
 serve_out old new user device h lent rest between = record {
   applied = alone old new user [] lent h.leaves.0;
   told = record {
@@ -361,7 +361,7 @@ quiet user old new same = record {
   });
 }
 
-pub no_deck : (old : SystemView) (user : ℕ) (cards : Bor (List (List ℕ))) → IsBetweenUnits old.supply → cards.now ≡ [] → IsStep old (record { event = Deck user cards; reply = silent Done; seen = old })
+pub no_deck : (old : SystemView) (user : ℕ) (cards : Bor (List (List ℕ))) → IsBetweenUnits old.supply → cards.now ≡ [] → IsReplied old (record { event = Deck user cards; reply = silent Done; seen = old })
 no_deck old user cards rest none = record {
   applied = λ u. (alone old old user [] (ap (λ (us : List Equipped). record old { users = us }) (set_own old.users user nobody)) refl u);
   told = record {
@@ -398,7 +398,7 @@ pub deck_given : (old new : SystemView) (user : ℕ) (cards : Bor (List (List �
     → delivered ≡ record { to = user; what = deliveries.Deck (next_file old.files) }
     → HasCome (comes_from_operator cards.now) (Some delivered) old new
     → new ≡ record old { users = new.users; files = old.files ++ record { user = user; kind = kinds.Deck } ∷ []; deliveries = with_delivered (Some delivered) old }
-    → IsStep old (record { event = Deck user cards; reply = record { ended = Done; said = Nothing; lines = 0; delivered = Some delivered }; seen = new })
+    → IsReplied old (record { event = Deck user cards; reply = record { ended = Done; said = Nothing; lines = 0; delivered = Some delivered }; seen = new })
 deck_given old new user cards delivered rest some is come left =
     let step : Step = record { event = Deck user cards; reply = record { ended = Done; said = Nothing; lines = 0; delivered = Some delivered }; seen = new } in
     let supply : new.supply ≡ old.supply = ap (λ (x : SystemView). x.supply) left in

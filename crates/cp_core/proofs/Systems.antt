@@ -8,8 +8,9 @@ use Rattle.cp_frames.specs.Layout.{FrameSupply}
 use Rattle.cp_dat.specs.Lent.{set_own}
 use Rattle.machine_devices.specs.Equipped.{Equipped, nobody}
 use Rattle.machine_devices.specs.World.{is_logged_on}
+use Rattle.cp_resident.specs.Reuse.{ReuseValue, kept_none}
 use Rattle.cp_core.specs.UserMachines.{Fits, UserParts, user_with}
-use Rattle.cp_core.specs.System.{SystemView, deliveries_of, logged_on_of, stands_among, users_of}
+use Rattle.cp_core.specs.System.{SystemView, deliveries_of, kept_of, logged_on_of, stands_among, users_of}
 use Rattle.machine_channels.specs.Disks.{DiskAt}
 use Rattle.cp_volumes.specs.Shared.{AllLeaveBe, DisksValue, IsConfined, IsUsers, KeepsNeighbours, SharedMinidisk, Stand, disks_on, stand_of, stands_of}
 use Rattle.cp_volumes.proofs.Seats.{disks_stay, stand_at, users_on}
@@ -134,38 +135,55 @@ kept_stands (s ∷ seats) zero seat seat' same kept =
     ap (λ (d : List Stand). d ∷ stands_among seats) (kept ∙ ap (λ (x : UserParts). stands_of x.minidisks) same)
 kept_stands (s ∷ seats) (suc user) seat seat' same kept = ap (λ (ds : List (List Stand)). stands_of s.minidisks ∷ ds) (kept_stands seats user seat seat' same kept)
 
+same_kept : (seats : List UserParts) (user : ℕ) (seat seat' : UserParts) → seat ≡ get_or seats user seat → seat'.reuse ≡ seat.reuse → kept_of (set seats user seat') ≡ kept_of seats
+same_kept [] user seat seat' same kept = refl
+same_kept (s ∷ seats) zero seat seat' same kept =
+    ap (λ (r : ReuseValue). r ∷ kept_of seats) (kept ∙ ap (λ (x : UserParts). x.reuse) same)
+same_kept (s ∷ seats) (suc user) seat seat' same kept = ap (λ (rs : List ReuseValue). s.reuse ∷ rs) (same_kept seats user seat seat' same kept)
+
+-- what is kept of a user's programs, by his seat
+pub get-kept : (seats : List UserParts) (user : ℕ) (s : UserParts) → user < length seats → get_or (kept_of seats) user (kept_none 0) ≡ (get_or seats user s).reuse
+get-kept [] user s h = absurd (omega arith)
+get-kept (seat ∷ seats) zero s h = refl
+get-kept (seat ∷ seats) (suc user) s h = get-kept seats user s (omega arith)
+
+pub set-kept : (seats : List UserParts) (user : ℕ) (s : UserParts) → kept_of (set seats user s) ≡ set (kept_of seats) user s.reuse
+set-kept [] user s = refl
+set-kept (seat ∷ seats) zero s = refl
+set-kept (seat ∷ seats) (suc user) s = ap (λ (rs : List ReuseValue). seat.reuse ∷ rs) (set-kept seats user s)
+
 -- the system as it is seen, by its parts
 abbrev pub seen : List UserParts → List VolumeFormat → List (List ℕ) → List DirectoryUser → FrameSupply → List FileNote → Bool → SystemView
 seen seats volumes storages directory supply files is_spent =
-    record { users = users_of seats volumes storages; directory = directory; supply = supply; files = files; deliveries = deliveries_of seats; volumes = volumes; stands = stands_among seats; is_spent = is_spent }
+    record { users = users_of seats volumes storages; directory = directory; supply = supply; files = files; deliveries = deliveries_of seats; volumes = volumes; stands = stands_among seats; kept = kept_of seats; is_spent = is_spent }
 
-with_users : (us us' : List Equipped) (ds ds' : List (List Delivery)) (ss ss' : List (List Stand)) (directory : List DirectoryUser) (supply : FrameSupply) (files : List FileNote) (volumes : List VolumeFormat) (is_spent : Bool) → us' ≡ us → ds' ≡ ds → ss' ≡ ss → (let s : SystemView = record { users = us'; directory = directory; supply = supply; files = files; deliveries = ds'; volumes = volumes; stands = ss'; is_spent = is_spent } in s ≡ record { users = us; directory = directory; supply = supply; files = files; deliveries = ds; volumes = volumes; stands = ss; is_spent = is_spent })
-with_users us us' ds ds' ss ss' directory supply files volumes is_spent e f g = rw (e, f, g) refl
+with_users : (us us' : List Equipped) (ds ds' : List (List Delivery)) (ss ss' : List (List Stand)) (ks ks' : List ReuseValue) (directory : List DirectoryUser) (supply : FrameSupply) (files : List FileNote) (volumes : List VolumeFormat) (is_spent : Bool) → us' ≡ us → ds' ≡ ds → ss' ≡ ss → ks' ≡ ks → (let s : SystemView = record { users = us'; directory = directory; supply = supply; files = files; deliveries = ds'; volumes = volumes; stands = ss'; kept = ks'; is_spent = is_spent } in s ≡ record { users = us; directory = directory; supply = supply; files = files; deliveries = ds; volumes = volumes; stands = ss; kept = ks; is_spent = is_spent })
+with_users us us' ds ds' ss ss' ks ks' directory supply files volumes is_spent e f g h = rw (e, f, g, h) refl
 
 -- a storage that was lent changes its user, the volumes and the frames, and nothing else that is seen
 pub lent_seen : (seats : List UserParts) (volumes volumes' : List VolumeFormat) (storages storages' : List (List ℕ)) (directory : List DirectoryUser) (supply supply' : FrameSupply) (files : List FileNote) (is_spent : Bool) (old : SystemView) (user : ℕ) (seat seat' : UserParts) → IsChange seats volumes volumes' storages storages' old.users user seat seat' → seen seats volumes storages directory supply files is_spent ≡ old → seat ≡ get_or seats user seat → seat'.deliveries ≡ seat.deliveries → stands_of seat'.minidisks ≡ stands_of seat.minidisks
-    → (let new = seen (set seats user seat') volumes' storages' directory supply' files is_spent in new ≡ record old { users = set old.users user (get_or new.users user nobody); supply = supply'; volumes = volumes' })
+    → (let new = seen (set seats user seat') volumes' storages' directory supply' files is_spent in new ≡ record old { users = set old.users user (get_or new.users user nobody); supply = supply'; volumes = volumes'; kept = new.kept })
 lent_seen seats volumes volumes' storages storages' directory supply supply' files is_spent old user seat seat' changed is same kept stay =
-    with_users _ _ _ _ _ _ directory supply' files volumes' is_spent changed.users (same_deliveries seats user seat seat' same kept) (kept_stands seats user seat seat' same stay)
-    ∙ ap (λ (s : SystemView). record s { users = set old.users user (get_or (users_of (set seats user seat') volumes' storages') user nobody); supply = supply'; volumes = volumes' }) is
+    with_users _ _ _ _ _ _ _ _ directory supply' files volumes' is_spent changed.users (same_deliveries seats user seat seat' same kept) (kept_stands seats user seat seat' same stay) refl
+    ∙ ap (λ (s : SystemView). record s { users = set old.users user (get_or (users_of (set seats user seat') volumes' storages') user nobody); supply = supply'; volumes = volumes'; kept = kept_of (set seats user seat') }) is
 
 -- a parcel changes its receiver and what was delivered to him
-pub received_seen : (seats : List UserParts) (volumes : List VolumeFormat) (storages : List (List ℕ)) (directory : List DirectoryUser) (supply : FrameSupply) (files : List FileNote) (is_spent : Bool) (old : SystemView) (user : ℕ) (seat seat' : UserParts) (note : Delivery) → IsChange seats volumes volumes storages storages old.users user seat seat' → seen seats volumes storages directory supply files is_spent ≡ old → user < length seats → seat ≡ get_or seats user seat → stands_of seat'.minidisks ≡ stands_of seat.minidisks → seat'.deliveries ≡ seat.deliveries ++ note ∷ []
+pub received_seen : (seats : List UserParts) (volumes : List VolumeFormat) (storages : List (List ℕ)) (directory : List DirectoryUser) (supply : FrameSupply) (files : List FileNote) (is_spent : Bool) (old : SystemView) (user : ℕ) (seat seat' : UserParts) (note : Delivery) → IsChange seats volumes volumes storages storages old.users user seat seat' → seen seats volumes storages directory supply files is_spent ≡ old → user < length seats → seat ≡ get_or seats user seat → stands_of seat'.minidisks ≡ stands_of seat.minidisks → seat'.reuse ≡ seat.reuse → seat'.deliveries ≡ seat.deliveries ++ note ∷ []
     → (let new = seen (set seats user seat') volumes storages directory supply files is_spent in new ≡ record old { users = set old.users user (get_or new.users user nobody); deliveries = set old.deliveries user (get_or old.deliveries user [] ++ note ∷ []) })
-received_seen seats volumes storages directory supply files is_spent old user seat seat' note changed is inside same stay noted =
+received_seen seats volumes storages directory supply files is_spent old user seat seat' note changed is inside same stay reuse noted =
     let old_list : seat.deliveries ≡ get_or (deliveries_of seats) user [] = ap (λ (x : UserParts). x.deliveries) same ∙ sym (get-deliveries seats user seat inside) in
     let all : deliveries_of (set seats user seat') ≡ set (deliveries_of seats) user (get_or (deliveries_of seats) user [] ++ note ∷ []) =
     set-deliveries seats user seat' ∙ ap (λ (ds : List Delivery). set (deliveries_of seats) user ds) (noted ∙ ap (λ (ds : List Delivery). ds ++ note ∷ []) old_list) in
-    with_users _ _ _ _ _ _ directory supply files volumes is_spent changed.users all (kept_stands seats user seat seat' same stay)
+    with_users _ _ _ _ _ _ _ _ directory supply files volumes is_spent changed.users all (kept_stands seats user seat seat' same stay) (same_kept seats user seat seat' same reuse)
     ∙ ap (λ (s : SystemView). record s { users = set old.users user (get_or (users_of (set seats user seat') volumes storages) user nobody); deliveries = set s.deliveries user (get_or s.deliveries user [] ++ note ∷ []) }) is
 
 -- one that was refused changes no user
-pub refused_seen : (seats : List UserParts) (volumes : List VolumeFormat) (storages : List (List ℕ)) (directory : List DirectoryUser) (supply : FrameSupply) (files : List FileNote) (is_spent : Bool) (old : SystemView) (user : ℕ) (seat seat' : UserParts) → IsChange seats volumes volumes storages storages old.users user seat seat' → seen seats volumes storages directory supply files is_spent ≡ old → seat ≡ get_or seats user seat → stands_of seat'.minidisks ≡ stands_of seat.minidisks → user_with seat' volumes (get_or storages user []) ≡ user_with seat volumes (get_or storages user [])
+pub refused_seen : (seats : List UserParts) (volumes : List VolumeFormat) (storages : List (List ℕ)) (directory : List DirectoryUser) (supply : FrameSupply) (files : List FileNote) (is_spent : Bool) (old : SystemView) (user : ℕ) (seat seat' : UserParts) → IsChange seats volumes volumes storages storages old.users user seat seat' → seen seats volumes storages directory supply files is_spent ≡ old → seat ≡ get_or seats user seat → stands_of seat'.minidisks ≡ stands_of seat.minidisks → seat'.reuse ≡ seat.reuse → user_with seat' volumes (get_or storages user []) ≡ user_with seat volumes (get_or storages user [])
     → (let new = seen (set seats user seat') volumes storages directory supply files is_spent in new ≡ record old { deliveries = new.deliveries })
-refused_seen seats volumes storages directory supply files is_spent old user seat seat' changed is same stay refused =
+refused_seen seats volumes storages directory supply files is_spent old user seat seat' changed is same stay reuse refused =
     let kept : users_of (set seats user seat') volumes storages ≡ old.users =
     changed.users ∙ ap (λ (e : Equipped). set old.users user e) (changed.new ∙ refused ∙ sym changed.old) ∙ sym (set_own old.users user nobody) in
-    with_users _ _ _ _ _ _ directory supply files volumes is_spent kept refl (kept_stands seats user seat seat' same stay)
+    with_users _ _ _ _ _ _ _ _ directory supply files volumes is_spent kept refl (kept_stands seats user seat seat' same stay) (same_kept seats user seat seat' same reuse)
     ∙ ap (λ (s : SystemView). record s { users = old.users; deliveries = deliveries_of (set seats user seat') }) is
 
 -- ---- a seat

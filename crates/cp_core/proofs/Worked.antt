@@ -257,6 +257,7 @@ lent_still lent machine same = record {
   same_queues = refl;
   same_volumes = refl;
   same_minidisks = refl;
+  same_reuse = refl;
   beside = beside_same lent.devices.now lent.queues.now lent.queues.now refl;
   neighbours = neighbours_same (disks_of lent);
 }

@@ -1,5 +1,5 @@
 -- The system at boot.
-use Rattle.std.specs.Prelude.{◌≡◌, ℕ, ◌*◌, false, List, [], ◌∷◌, map, replicate, reverse, Option, Some, None}
+use Rattle.std.specs.Prelude.{◌≡◌, ℕ, ◌*◌, false, List, [], ◌∷◌, length, map, replicate, reverse, Option, Some, None}
 use Rattle.std.specs.List.{range_with_len}
 use Rattle.s370_store.specs.Memory.{memory_of}
 use Rattle.s370_subchannels.specs.declared.subchannel.Subchannel.{Subchannel}
@@ -15,7 +15,8 @@ use Rattle.machine_devices.specs.declared.attaching.AttachError.TheVariants as a
 use Rattle.cp_core.specs.declared.events.BootError.{BootError}
 use Rattle.cp_core.specs.declared.events.BootError.TheVariants as errors
 use Rattle.ckd_volume.specs.Volume.{VolumeFormat}
-use Rattle.cp_volumes.specs.Shared.{stands_of}
+use Rattle.cp_volumes.specs.Shared.{Stand, stands_of}
+use Rattle.cp_resident.specs.Reuse.{kept_none}
 use Rattle.cp_core.specs.System.{SystemView, stands_at}
 use Rattle.cp_seating.specs.Seating.{AreDisks, minidisks_at, seats_of}
 
@@ -54,7 +55,7 @@ free_supply frames slots = record {
   page_ins = 0;
 }
 
--- each user's minidisks stand where the directory says, no file has a number, and nothing was delivered
+-- each user's minidisks stand where the directory says, no file has a number, nothing was delivered, and no program is kept
 pub record IsBooted (directory : List DirectoryUser) (volumes : List VolumeFormat) (frames slots : ℕ) (s : SystemView) : Type 0 where
   pub users : AreNewUsers volumes directory s.users
   pub stands : (k : ℕ) → stands_at s k ≡ stands_of (seats_of volumes (minidisks_at directory k))
@@ -66,6 +67,7 @@ pub record IsBooted (directory : List DirectoryUser) (volumes : List VolumeForma
     deliveries = map (λ (user : DirectoryUser). []) directory;
     volumes = volumes;
     stands = s.stands;
+    kept = map (λ (stands : List Stand). kept_none (length stands)) s.stands;
     is_spent = false;
   }
 

@@ -4,14 +4,26 @@ use Rattle.s370_channel.specs.Reading.{as_reached}
 use Rattle.machine_devices.specs.Life.{Event as Local, Lives}
 use Rattle.cp_core.specs.Local.{IsApplied, Step, local}
 use Rattle.cp_core.specs.Supply.{IsSupplied}
-use Rattle.cp_core.specs.System.{SystemView, user_at}
+use Rattle.cp_volumes.specs.Shared.{IsConfined}
+use Rattle.cp_core.specs.Events.{user_of}
+use Rattle.cp_core.specs.Keeps.{EventKeeps}
+use Rattle.cp_core.specs.System.{SystemView, stands_at, user_at}
 use Rattle.cp_core.specs.Told.{IsTold}
 
 -- an event that was applied to a system, to each user and to the frames, as its reply tells
-pub record IsStep (old : SystemView) (step : Step) : Type 0 where
+pub record IsReplied (old : SystemView) (step : Step) : Type 0 where
   pub applied : IsApplied old step
   pub told : IsTold old step
   pub supplied : IsSupplied old step.event step.reply.ended step.seen
+
+-- and the directory and the places of minidisks are as they were; of the volumes only cylinders changed that its user may write; and
+-- programs are kept as the event says
+pub record IsStep (old : SystemView) (step : Step) : Type 0 where
+  pub replied : IsReplied old step
+  pub directory : step.seen.directory ≡ old.directory
+  pub stands : step.seen.stands ≡ old.stands
+  pub confined : IsConfined (stands_at old (user_of step.event)) old.volumes step.seen.volumes
+  pub kept : EventKeeps old step.event step.reply.ended step.seen
 
 abbrev pub IsHistory : SystemView → List Step → SystemView → Type 0
 IsHistory first [] last = last ≡ first

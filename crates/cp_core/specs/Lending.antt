@@ -6,6 +6,7 @@ use Rattle.cp_dat.specs.Supplied.{IsBetweenUnits}
 use Rattle.machine_devices.specs.Equipped.{Equipped, equipped}
 use Rattle.machine_devices.specs.Lent.{KeepsBeside, devices_on}
 use Rattle.cp_volumes.specs.Shared.{DisksValue, IsUsers, KeepsNeighbours, disks_on, stands_of}
+use Rattle.cp_resident.specs.Reuse.{ReuseValue}
 use Rattle.cp_core.specs.declared.work.Lent.{Lent}
 
 -- the machine with its devices, where its storage has these bytes and keys
@@ -15,6 +16,10 @@ machine_of l m = equipped l.machine.now (devices_on l.devices.now l.queues.now) 
 -- its minidisks, on the volumes that users share
 abbrev pub disks_of : Lent → DisksValue
 disks_of l = record { volumes = l.volumes.now; minidisks = l.minidisks.now.items }
+
+-- the programs that are kept of its devices
+abbrev pub kept_in : Lent → ReuseValue
+kept_in l = l.reuse.now
 
 -- a storage of 8K at least, no frame pinned, and devices and minidisks that are a user's
 pub record MayBeLent (l : Lent) (bytes : List ℕ) (supply : FrameSupply) : Type 0 where
@@ -30,5 +35,6 @@ pub record KeepsLent (old new : Lent) : Type 0 where
   pub same_queues : new.queues.ghost_name ≡ old.queues.ghost_name
   pub same_volumes : new.volumes.ghost_name ≡ old.volumes.ghost_name
   pub same_minidisks : new.minidisks.ghost_name ≡ old.minidisks.ghost_name
+  pub same_reuse : new.reuse.ghost_name ≡ old.reuse.ghost_name
   pub beside : KeepsBeside old.devices.now old.queues.now new.devices.now new.queues.now
   pub neighbours : KeepsNeighbours (disks_of old) (disks_of new)

@@ -19,3 +19,4 @@ pub mod Whole
 pub mod Sizes
 pub mod Owners
 pub mod Lending
+pub mod Keeps

@@ -1,5 +1,6 @@
 -- The whole system as it is seen.
-use Rattle.std.specs.Prelude.{ℕ, Bool, List, [], ◌∷◌, map, slice_index_or}
+use Rattle.std.specs.Prelude.{ℕ, Bool, List, [], ◌∷◌, map, min, slice_index_or}
+use Rattle.std.specs.List.{sum_by}
 use Rattle.ckd_volume.specs.Volume.{VolumeFormat}
 use Rattle.user_names.specs.Users.{name_of}
 use Rattle.cp_directory.specs.Users.{DirectoryUser}
@@ -8,13 +9,14 @@ use Rattle.machine_panel.specs.Machine.{Machine}
 use Rattle.machine_devices.specs.Equipped.{Equipped, nobody}
 use Rattle.machine_devices.specs.World.{World, is_logged_on}
 use Rattle.cp_volumes.specs.Shared.{Stand, stands_of}
+use Rattle.cp_resident.specs.Reuse.{ReuseValue, kept_none}
 use Rattle.cp_core.specs.UserMachines.{UserParts, user_with}
 use Rattle.machine_devices.specs.declared.reply.Delivery.{Delivery}
 use Rattle.machine_devices.specs.declared.files.FileNote.{FileNote}
 
 -- each user's machine with its devices, the users of the directory, where pages stand and how many have come, what each file
 -- was when it got its number and whose it is, what was delivered to each user, the volumes as they are now, where each user's
--- minidisks stand on them, and whether want of memory has ended the system
+-- minidisks stand on them, the programs that are kept of each user's devices, and whether want of memory has ended the system
 pub record SystemView : Type 0 where
   pub users : List Equipped
   pub directory : List DirectoryUser
@@ -23,6 +25,7 @@ pub record SystemView : Type 0 where
   pub deliveries : List (List Delivery)
   pub volumes : List VolumeFormat
   pub stands : List (List Stand)
+  pub kept : List ReuseValue
   pub is_spent : Bool
 
 -- the users that these are with these volumes and storages
@@ -36,6 +39,9 @@ deliveries_of users = map (λ (u : UserParts). u.deliveries) users
 
 abbrev pub stands_among : List UserParts → List (List Stand)
 stands_among users = map (λ (u : UserParts). stands_of u.minidisks) users
+
+abbrev pub kept_of : List UserParts → List ReuseValue
+kept_of users = map (λ (u : UserParts). u.reuse) users
 
 -- a user's machine with its devices
 abbrev pub user_at : SystemView → ℕ → Equipped
@@ -52,6 +58,14 @@ deliveries_at s user = slice_index_or s.deliveries user []
 -- where his minidisks stand
 abbrev pub stands_at : SystemView → ℕ → List Stand
 stands_at s user = slice_index_or s.stands user []
+
+-- the programs that are kept of his devices
+abbrev pub kept_at : SystemView → ℕ → ReuseValue
+kept_at s user = slice_index_or s.kept user (kept_none 0)
+
+-- how often programs of devices were run again as they were kept, which stays at its greatest value
+abbrev pub reuses_in : List ReuseValue → ℕ
+reuses_in kept = min (sum_by (λ (r : ReuseValue). r.reuses) kept) 18446744073709551615
 
 -- ---- what is known beside the machine of a user
 

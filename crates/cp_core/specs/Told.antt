@@ -30,7 +30,7 @@ use Rattle.machine_devices.specs.declared.files.FileNote.{FileNote}
 pub record IsOut (needs : ℕ → Type 0) (size : ℕ) (old : SystemView) (reply : Reply) (new : SystemView) (is_short : ℕ → Type 0) : Type 0 where
   pub silent : reply.said ≡ Nothing
   pub none : reply.delivered ≡ None
-  pub same : new ≡ record old { supply = new.supply; volumes = new.volumes }
+  pub same : new ≡ record old { supply = new.supply; volumes = new.volumes; kept = new.kept }
   pub lacking : IsLacking needs size is_short
 
 -- ---- a run and a tick
@@ -74,7 +74,7 @@ TellsOfDeck user cards old reply (Served done) = ⊥
 
 -- ---- a serve
 
--- the device is served as that of a machine of its own whose program was as it stood when it began, and tells whether there was one
+-- the device is served as that of a machine of its own whose program is read when it is reached, and tells whether there was one
 abbrev pub TellsOfServe : ℕ → ℕ → SystemView → Reply → Ended → SystemView → Type 0
 TellsOfServe user device old reply (Served done) new =
     IsServedAt as_reached device (user_at old user) done (user_at new user) × (reply.said ≡ Nothing) × (reply.delivered ≡ None)

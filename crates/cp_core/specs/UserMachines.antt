@@ -7,19 +7,21 @@ use Rattle.machine_devices.specs.Devices.{AreAttached, DevicesValue}
 use Rattle.machine_channels.specs.Disks.{DiskAt}
 use Rattle.ckd_volume.specs.Volume.{VolumeFormat}
 use Rattle.cp_volumes.specs.Shared.{SharedMinidisk, disks_on}
+use Rattle.cp_resident.specs.Reuse.{ReuseValue}
 use Rattle.machine_devices.specs.Equipped.{Equipped, equipped}
 use Rattle.cp_spool.specs.Queues.{QueuesValue, no_files}
 use Rattle.machine_devices.specs.Lent.{DevicesParts, devices_on, devices_with}
 use Rattle.machine_devices.specs.declared.reply.Delivery.{Delivery}
 
--- a machine with its devices but for the bytes of its storage and the cylinders of its minidisks, and what was delivered to its
--- user
+-- a machine with its devices but for the bytes of its storage and the cylinders of its minidisks, what was delivered to its
+-- user, and the programs of its devices that are kept
 pub record UserParts : Type 0 where
   pub parts : Parts
   pub devices : DevicesValue
   pub minidisks : List SharedMinidisk
   pub keys : List ℕ
   pub deliveries : List Delivery
+  pub reuse : ReuseValue
 
 -- the same as it is kept: its files stand among those of all users
 pub record SeatParts : Type 0 where
@@ -28,10 +30,11 @@ pub record SeatParts : Type 0 where
   pub minidisks : List SharedMinidisk
   pub keys : List ℕ
   pub deliveries : List Delivery
+  pub reuse : ReuseValue
 
 -- what it is with these devices, which have their files
 abbrev pub seat_with : DevicesValue → SeatParts → UserParts
-seat_with devices s = record { parts = s.parts; devices = devices; minidisks = s.minidisks; keys = s.keys; deliveries = s.deliveries }
+seat_with devices s = record { parts = s.parts; devices = devices; minidisks = s.minidisks; keys = s.keys; deliveries = s.deliveries; reuse = s.reuse }
 
 -- without a file
 abbrev pub unowned : SeatParts → UserParts

@@ -7,6 +7,7 @@ use Rattle.cp_dat.specs.Supplied.{IsBetweenUnits}
 use Rattle.machine_panel.specs.Machine.{nothing_pending, reset_cpu}
 use Rattle.machine_panel.specs.declared.machine.Mode.TheVariants.{Off}
 use Rattle.machine_devices.specs.Devices.{devices_new, no_places}
+use Rattle.cp_resident.specs.Reuse.{kept_none}
 use Rattle.cp_core.specs.UserMachines.{UserParts, Fits, user_with}
 use Rattle.cp_volumes.specs.Shared.{AllLeaveBe, AreThere, IsUsers, Stand, stands_of}
 use Rattle.cp_seating.specs.Seating.{seats_of}
@@ -20,6 +21,7 @@ no_user = record {
   minidisks = [];
   keys = [];
   deliveries = [];
+  reuse = kept_none 0;
 }
 
 -- each user of the directory, at most 64 of them, has a machine and a storage that fits it
@@ -47,6 +49,7 @@ pub record IsNew (volumes : List VolumeFormat) (seat : UserParts) (user : Direct
   pub off : IsNewUser volumes user (user_with seat volumes (replicate (user.pages * 4096) 0))
   pub seated : seat.minidisks ≡ seats_of volumes user.minidisks
   pub none : seat.deliveries ≡ []
+  pub forgot : seat.reuse ≡ kept_none (length (stands_of seat.minidisks))
   pub sized : 2 ≤ user.pages
 
 -- each user has a machine at boot

@@ -8,7 +8,8 @@ ghost use Rattle.cp_core.specs.Come.{HasCome};
 ghost use Rattle.machine_devices.specs.Coming.{comes_by_line, comes_from_operator};
 ghost use Rattle.machine_devices.specs.Lines.{files_closed};
 ghost use Rattle.machine_devices.specs.Notes.{next_file, noted, stands_in};
-ghost use Rattle.cp_core.specs.Histories.{IsStep};
+ghost use Rattle.cp_core.specs.Keeps.{EventKeeps, HasKept, KeepsCutShort, LineKeeps};
+ghost use Rattle.cp_core.specs.Histories.{IsReplied};
 ghost use Rattle.cp_core.specs.Memory.{IsCutShort};
 ghost use Rattle.cp_core.specs.Parcels.{IsThere, contents, note_of};
 ghost use Rattle.cp_volumes.specs.Shared.{IsConfined};
@@ -48,9 +49,12 @@ impl System {
     pub(crate) fn line(&mut self, user: usize, typed: &[u8]) -> Result<Reply, AllocError>
         requires { user < length self.old.users }
         ensures step { IfOk result
-            (λ reply. IsStep self.old
+            (λ reply. IsReplied self.old
             (record { event = happening.Line user typed.entry; reply = reply; seen = self.new })) }
         ensures cut { OnErr result (IsCutShort self.old (happening.Line user typed.entry) self.new) }
+        ensures kept { IfOk result
+            (λ reply. EventKeeps self.old (happening.Line user typed.entry) reply.ended self.new) }
+        ensures kept_without_memory { OnErr result (KeepsCutShort self.old (happening.Line user typed.entry) self.new) }
         ensures confined { IsConfined (stands_at self.old user) self.old.volumes self.new.volumes }
         ensures stands { self.new.stands ≡ self.old.stands }
         ensures directory { self.new.directory ≡ self.old.directory }
@@ -89,7 +93,9 @@ impl System {
           users = slice_set self.old.users user (user_at self.new user);
           supply = self.new.supply;
           volumes = self.new.volumes;
+          kept = self.new.kept;
         } }
+        ensures keeps { HasKept user self.old self.new (LineKeeps typed.now (user_at self.old user) result) }
         ensures confined { IsConfined (stands_at self.old user) self.old.volumes self.new.volumes }
         ensures between_before { IsBetweenUnits self.old.supply }
         ensures between { IsBetweenUnits self.new.supply }
@@ -118,6 +124,7 @@ impl System {
         ensures memory { OnErr result (NeedsMemory told.now) }
         ensures supply { self.new.supply ≡ self.old.supply }
         ensures volumes { self.new.volumes ≡ self.old.volumes }
+        ensures kept { self.new.kept ≡ self.old.kept }
         ensures stands { self.new.stands ≡ self.old.stands }
         ensures directory { self.new.directory ≡ self.old.directory }
         ensures spent { self.new.is_spent ≡ self.old.is_spent }
@@ -223,10 +230,11 @@ impl System {
     pub(crate) fn deck(&mut self, user: usize, cards: &[Card]) -> Result<Reply, AllocError>
         requires { user < length self.old.users }
         ensures step { IfOk result
-            (λ reply. IsStep self.old
+            (λ reply. IsReplied self.old
             (record { event = happening.Deck user cards.entry; reply = reply; seen = self.new })) }
         ensures cut { OnErr result (IsCutShort self.old (happening.Deck user cards.entry) self.new) }
         ensures volumes { self.new.volumes ≡ self.old.volumes }
+        ensures kept { self.new.kept ≡ self.old.kept }
         ensures stands { self.new.stands ≡ self.old.stands }
         ensures directory { self.new.directory ≡ self.old.directory }
         ensures spent { self.new.is_spent ≡ self.old.is_spent }

@@ -1,5 +1,5 @@
 //! A device of a user is served, and a line is typed.
-ghost use Rattle.std.specs.Prelude.{◌≡◌, ◌<◌, ◌≤◌, Err, IfOk, IsSome, false, length, true};
+ghost use Rattle.std.specs.Prelude.{◌≡◌, ◌<◌, ◌≤◌, Bool, Err, IfOk, IsSome, OnErr, OnOk, false, length, true};
 ghost use Rattle.s370_subchannels.specs.Programs.{program_of};
 ghost use Rattle.machine_channels.specs.Channels.{Brings, LacksRoom, NoRoom};
 ghost use Rattle.machine_devices.specs.Equipped.{equipped};
@@ -9,7 +9,9 @@ ghost use Rattle.machine_panel.specs.declared.line.LineError.TheVariants as erro
 ghost use Rattle.cp_dat.specs.Lent.{lent_bytes, lent_memory, lent_pool};
 ghost use Rattle.cp_dat.specs.Supplied.{IsBetweenUnits};
 ghost use Rattle.machine_devices.specs.Lines.{IsLine, requested};
-ghost use Rattle.cp_resident.specs.Resident.{KeepsHung, disks_on};
+ghost use Rattle.machine_devices.specs.Devices.{kind_at};
+ghost use Rattle.machine_devices.specs.Reuses.{LineForgets, StartReuses};
+ghost use Rattle.cp_resident.specs.Resident.{Forgets, KeepsHung, disks_on};
 ghost use Rattle.cp_core.specs.Typed.{IsLineLent};
 ghost use Rattle.machine_devices.specs.Comes.{LineMay, is_ipl};
 
@@ -59,6 +61,14 @@ pub(crate) fn serve_supplied<S: Storage, C: Channels<S>>(
     ensures ready { C.IsReady storage.new }
     ensures others { C.Disks.KeepsOthers channels.old channels.new }
     ensures beside { KeepsBeside devices.old queues.old devices.new queues.new }
+    ensures kept { let before = equipped machine.old (devices_on devices.old queues.old) (C.Disks.disks channels.old)
+        (S.memory storage.old) in
+        OnOk result (StartReuses C.Reuses C.ReusesDisk channels.old storage.old channels.new
+        (kind_at before.devices before.disks device) (program_of device machine.old.subchannels) true) }
+    ensures kept_if_refused { let before = equipped machine.old (devices_on devices.old queues.old) (C.Disks.disks channels.old)
+        (S.memory storage.old) in
+        OnErr result ((done : Bool) × StartReuses C.Reuses C.ReusesDisk channels.old storage.old channels.new
+        (kind_at before.devices before.disks device) (program_of device machine.old.subchannels) done) }
 {
     if machine.program(device).is_none() {
         return Ok(false);
@@ -107,6 +117,13 @@ pub(crate) fn type_supplied<W: World>(
         IsLineLent typed.now before storage.old storage.new result }
     ensures others { KeepsHung channels.old channels.new }
     ensures beside { KeepsBeside devices.old queues.old devices.new queues.new }
+    ensures forgets { let before = equipped machine.old (devices_on devices.old queues.old) (disks_on channels.old)
+        (lent_memory storage.old) in
+        OnOk result (LineForgets Forgets channels.old channels.new (requested typed.now before) before) }
+    ensures stays { let before = equipped machine.old (devices_on devices.old queues.old) (disks_on channels.old)
+        (lent_memory storage.old) in
+        is_ipl (requested typed.now before) ≡ false → OnErr result (channels.new ≡ channels.old) }
+    ensures without_room { result ≡ Err errors.FramesOut → channels.new ≡ channels.old }
 {
     let told = devices.line(alloc, queues, machine, storage, channels, world, typed);
     storage.let_go();

@@ -1,19 +1,20 @@
 //! The system: its users, their machines with their devices, and the frames that they share.
-ghost use Rattle.std.specs.Prelude.{◌≡◌, ◌<◌, ◌≤◌, ◌↔◌, ℕ, [], ◌∷◌, ◌++◌, ◌^◌, Err, Some, true, false, IfSome, IsOk, IfOk, OnErr, OnOk, length, option_copied, slice_get, slice_set};
+ghost use Rattle.std.specs.Prelude.{◌≡◌, ◌<◌, ◌≤◌, ◌↔◌, ℕ, [], ◌∷◌, ◌++◌, ◌^◌, Err, Some, true, false, IfSome, IsOk, IfOk, OnErr, OnOk, length, map, option_copied, slice_get, slice_set};
 ghost use Rattle.s370_channel.specs.Reading.{as_reached};
 ghost use Rattle.cp_dat.specs.Supplied.{IsBetweenUnits};
 ghost use Rattle.machine_devices.specs.Life.{Leaves};
 ghost use Rattle.machine_devices.specs.declared.reply.Ended.TheVariants.{Done};
 ghost use Rattle.cp_core.specs.Events.{IsNoRun, user_of};
 ghost use Rattle.machine_devices.specs.Notes.{next_file};
-ghost use Rattle.cp_core.specs.Histories.{EachIsBare, IsStep};
+ghost use Rattle.cp_core.specs.Histories.{EachIsBare, IsReplied};
+ghost use Rattle.cp_core.specs.Keeps.{EventKeeps, KeepsCutShort};
 ghost use Rattle.cp_core.specs.Local.{IsApplied};
 ghost use Rattle.cp_core.specs.Memory.{IsCutShort, MayTakeMemory, is_cut_short};
 ghost use Rattle.cp_core.specs.Parcels.{IsThere, contents, note_of};
 ghost use Rattle.cp_core.specs.Stated.{LacksDevice, states_device};
 ghost use Rattle.cp_core.specs.Supply.{IsSupplied, IsSuppliedInPart};
 ghost use Rattle.cp_volumes.specs.Shared.{IsConfined};
-ghost use Rattle.cp_core.specs.System.{SystemView, deliveries_at, machine_at, stands_at, user_at};
+ghost use Rattle.cp_core.specs.System.{SystemView, deliveries_at, kept_at, machine_at, reuses_in, stands_at, user_at};
 ghost use Rattle.cp_core.specs.Told.{IsTold};
 
 use crate::delivery::Parcel;
@@ -46,7 +47,7 @@ pub struct System {
 }
 
 impl Model for System {
-    ghost use Rattle.cp_core.specs.System.{SystemView, deliveries_of, stands_among, users_of};
+    ghost use Rattle.cp_core.specs.System.{SystemView, deliveries_of, kept_of, stands_among, users_of};
     ghost use Rattle.cp_core.specs.Owners.{AreOwners};
     ghost use Rattle.cp_core.specs.UserMachines.{seats_on};
     ghost use Rattle.cp_core.specs.Whole.{IsSystem};
@@ -61,6 +62,7 @@ impl Model for System {
       deliveries = deliveries_of (seats_on s.queues s.users.items);
       volumes = s.volumes;
       stands = stands_among (seats_on s.queues s.users.items);
+      kept = kept_of (seats_on s.queues s.users.items);
       is_spent = s.is_spent;
     } };
 
@@ -90,7 +92,7 @@ impl System {
     pub fn is_spent(&self) -> bool
         ensures { result ≡ self.now.is_spent }
     {
-        // All its fields: what is added to them is seen here. Storage of guests is in the frames alone.
+        // Exhaustive: a new field fails to compile here. Storage of guests is in the frames alone.
         let System {
             alloc: _,
             directory: _,
@@ -113,12 +115,10 @@ impl System {
 
     /// How many programs of devices were run again as they were kept, since boot. It stays at its greatest value. Nothing
     /// is said of the work that was saved.
-    pub fn reuses(&self) -> u64 {
-        let mut sum = 0u64;
-        for user in &self.users {
-            sum = sum.saturating_add(user.reuse.reuses());
-        }
-        sum
+    pub fn reuses(&self) -> u64
+        ensures { result ≡ reuses_in self.now.kept }
+    {
+        reuses_of(&self.users)
     }
 
     /// What each file was when it got its number, and whose it is: the first has number 1.
@@ -228,14 +228,18 @@ impl System {
           users = slice_set self.old.users user (user_at self.new user);
           supply = self.new.supply;
           volumes = self.new.volumes;
+          kept = self.new.kept;
         } }
+        ensures keeps { W.Keeps work.now user (user_at self.old user) self.old.supply result
+            (kept_at self.old user) (kept_at self.new user) }
+        ensures others_kept { self.new.kept ≡ slice_set self.old.kept user (kept_at self.new user) }
         ensures confined { IsConfined (stands_at self.old user) self.old.volumes self.new.volumes }
         ensures between_before { IsBetweenUnits self.old.supply }
         ensures between { IsBetweenUnits self.new.supply }
     {
         let number = self.number_of(user);
         let seat = &mut self.users[user];
-        // All its fields: what is added to them is seen here.
+        // Exhaustive: a new field fails to compile here.
         let UserMachine {
             machine,
             devices,
@@ -299,6 +303,8 @@ impl System {
         ensures directory { self.new.directory ≡ self.old.directory }
         ensures confined { IsConfined (stands_at self.old (user_of event.entry)) self.old.volumes self.new.volumes }
         ensures stands { self.new.stands ≡ self.old.stands }
+        ensures kept { IfOk result (λ reply. EventKeeps self.old event.entry reply.ended self.new) }
+        ensures kept_without_memory { result ≡ Err CpError.Memory → KeepsCutShort self.old event.entry self.new }
         ensures alive { IsOk result → self.new.is_spent ≡ false }
         ensures spent { (result ≡ Err CpError.Spent) ↔ (self.old.is_spent ≡ true) }
         ensures unchanged_if_spent { result ≡ Err CpError.Spent → self.new ≡ self.old }
@@ -331,12 +337,14 @@ impl System {
     fn apply_apart(&mut self, event: Event<'_>) -> Result<Reply, CpError>
         requires { IsNoRun event }
         ensures step { IfOk result
-            (λ reply. IsStep self.old (record { event = event.entry; reply = reply; seen = self.new })) }
+            (λ reply. IsReplied self.old (record { event = event.entry; reply = reply; seen = self.new })) }
         ensures supplied_without_memory { result ≡ Err CpError.Memory → IsSuppliedInPart self.old event.entry self.new }
         ensures user { IsOk result → user_of event.entry < length self.old.users }
         ensures directory { self.new.directory ≡ self.old.directory }
         ensures confined { IsConfined (stands_at self.old (user_of event.entry)) self.old.volumes self.new.volumes }
         ensures stands { self.new.stands ≡ self.old.stands }
+        ensures kept { IfOk result (λ reply. EventKeeps self.old event.entry reply.ended self.new) }
+        ensures kept_without_memory { result ≡ Err CpError.Memory → KeepsCutShort self.old event.entry self.new }
         ensures alive { IsOk result → self.new.is_spent ≡ false }
         ensures spent { (result ≡ Err CpError.Spent) ↔ (self.old.is_spent ≡ true) }
         ensures unchanged_if_spent { result ≡ Err CpError.Spent → self.new ≡ self.old }
@@ -389,10 +397,11 @@ impl System {
     #[inline(always)]
     fn run(&mut self, user: usize, units: u32) -> Reply
         requires { user < length self.old.users }
-        ensures step { IsStep self.old (record { event = Event.Run user units; reply = result; seen = self.new }) }
+        ensures step { IsReplied self.old (record { event = Event.Run user units; reply = result; seen = self.new }) }
         ensures directory { self.new.directory ≡ self.old.directory }
         ensures confined { IsConfined (stands_at self.old user) self.old.volumes self.new.volumes }
         ensures stands { self.new.stands ≡ self.old.stands }
+        ensures kept { self.new.kept ≡ self.old.kept }
         ensures spent { self.new.is_spent ≡ self.old.is_spent }
     {
         let before = self.printed_by(user);
@@ -408,10 +417,11 @@ impl System {
     /// The timer of a user's machine ticks. This takes no memory.
     fn tick(&mut self, user: usize) -> Reply
         requires { user < length self.old.users }
-        ensures step { IsStep self.old (record { event = Event.Tick user; reply = result; seen = self.new }) }
+        ensures step { IsReplied self.old (record { event = Event.Tick user; reply = result; seen = self.new }) }
         ensures directory { self.new.directory ≡ self.old.directory }
         ensures confined { IsConfined (stands_at self.old user) self.old.volumes self.new.volumes }
         ensures stands { self.new.stands ≡ self.old.stands }
+        ensures kept { self.new.kept ≡ self.old.kept }
         ensures spent { self.new.is_spent ≡ self.old.is_spent }
     {
         match self.lend(user, &Tick) {
@@ -424,12 +434,14 @@ impl System {
     fn serve(&mut self, user: usize, device: DevAddr) -> Result<Reply, AllocError>
         requires { user < length self.old.users }
         ensures step { IfOk result
-            (λ reply. IsStep self.old
+            (λ reply. IsReplied self.old
             (record { event = Event.Serve user device; reply = reply; seen = self.new })) }
         ensures cut { OnErr result (IsCutShort self.old (Event.Serve user device) self.new) }
         ensures directory { self.new.directory ≡ self.old.directory }
         ensures confined { IsConfined (stands_at self.old user) self.old.volumes self.new.volumes }
         ensures stands { self.new.stands ≡ self.old.stands }
+        ensures kept { IfOk result (λ reply. EventKeeps self.old (Event.Serve user device) reply.ended self.new) }
+        ensures kept_without_memory { OnErr result (KeepsCutShort self.old (Event.Serve user device) self.new) }
         ensures spent { self.new.is_spent ≡ self.old.is_spent }
     {
         let before = self.printed_by(user);
@@ -448,6 +460,17 @@ impl System {
             Err(LineError::Memory) => Err(AllocError),
         }
     }
+}
+
+/// How often programs of these users' devices were run again.
+fn reuses_of(users: &[UserMachine]) -> u64
+    ensures { result ≡ reuses_in (map (λ user. user.reuse) users.now) }
+{
+    let mut sum = 0u64;
+    for user in users {
+        sum = sum.saturating_add(user.reuse.reuses());
+    }
+    sum
 }
 
 /// Whatever the events: each user's machine with its devices is the bare machine that was given that user's own.

@@ -8,7 +8,8 @@ ghost use Rattle.machine_devices.specs.Lent.{KeepsBeside, parts_new};
 ghost use Rattle.cp_core.specs.Parcels.{IsThereIn, contents_in, note_of};
 ghost use Rattle.cp_core.specs.UserMachines.{IsUnused, seat_on, user_with};
 ghost use Rattle.ckd_volume.specs.Volume.{VolumeFormat};
-ghost use Rattle.cp_volumes.specs.Shared.{disks_on};
+ghost use Rattle.cp_volumes.specs.Shared.{disks_on, stands_of};
+ghost use Rattle.cp_resident.specs.Reuse.{kept_none};
 
 use crate::delivery::Parcel;
 use cp_console::responses::Response;
@@ -46,6 +47,7 @@ impl Model for UserMachine {
       minidisks = u.minidisks.items;
       keys = u.keys.items;
       deliveries = u.deliveries.items;
+      reuse = u.reuse;
     } };
 }
 
@@ -66,6 +68,7 @@ impl UserMachine {
         ensures devices { IfOk result (λ seat. seat.devices ≡ parts_new places user) }
         ensures minidisks { IfOk result (λ user. user.minidisks ≡ minidisks.items) }
         ensures deliveries { IfOk result (λ user. user.deliveries ≡ []) }
+        ensures kept { IfOk result (λ user. user.reuse ≡ kept_none (length (stands_of minidisks.items))) }
         ensures address { result ≡ Err attaching.Address
             → can_attach (places_of places ++ map (λ disk. disk.address) minidisks.items) ≡ false }
     {
@@ -107,6 +110,7 @@ impl UserMachine {
         ensures minidisks { self.new.minidisks ≡ self.old.minidisks }
         ensures noted { OnOk result (self.new.deliveries ≡ self.old.deliveries ++ note_of parcel ∷ []) }
         ensures keys { self.new.keys ≡ self.old.keys }
+        ensures kept { self.new.reuse ≡ self.old.reuse }
     {
         self.deliveries.push(parcel.note())?;
         match parcel {

@@ -8,7 +8,8 @@ ghost use Rattle.cp_dat.specs.Lent.{KeepsFrames, lent_bytes, lent_memory, lent_p
 ghost use Rattle.cp_dat.specs.Supplied.{IsBetweenUnits};
 ghost use Rattle.machine_devices.specs.Equipped.{Equipped, equipped};
 ghost use Rattle.machine_devices.specs.Lent.{KeepsBeside, devices_on};
-ghost use Rattle.cp_core.specs.Lending.{KeepsLent, MayBeLent, machine_of};
+ghost use Rattle.cp_core.specs.Lending.{KeepsLent, MayBeLent, kept_in, machine_of};
+ghost use Rattle.cp_resident.specs.Reuse.{ReuseValue};
 ghost use Rattle.cp_volumes.specs.Shared.{IsUsers, KeepsNeighbours, disks_on, stands_of};
 
 use crate::serving::{serve_supplied, type_supplied};
@@ -50,6 +51,9 @@ pub(crate) trait Work {
     ghost Does: { Self → List DirectoryUser → ℕ → Equipped → FrameSupply → Self.Answer → Equipped → FrameSupply
         → Type 0 };
 
+    /// To this one with this machine, over these frames, what it leaves of the programs that are kept.
+    ghost Keeps: { Self → ℕ → Equipped → FrameSupply → Self.Answer → ReuseValue → ReuseValue → Type 0 };
+
     /// Does it. No frame is pinned before and after.
     fn work(
         &self,
@@ -62,6 +66,9 @@ pub(crate) trait Work {
             let after = machine_of lent.new (lent_memory storage.new) in
             Does self.now directory.now (user_of storage.old) before (lent_pool storage.old).supply result
             after (lent_pool storage.new).supply }
+        ensures keeps { let before = machine_of lent.old (lent_memory storage.old) in
+            Keeps self.now (user_of storage.old) before (lent_pool storage.old).supply result
+            (kept_in lent.old) (kept_in lent.new) }
         ensures lent { KeepsLent lent.old lent.new }
         ensures kept { KeepsFrames storage.old storage.new }
         ensures between { IsBetweenUnits (lent_pool storage.new).supply };
@@ -92,6 +99,9 @@ pub(crate) fn lend<W: Work>(
         let after = equipped machine.new (devices_on devices.new queues.new) (disks_on volumes.new minidisks.new.items)
         (memory_of (bytes_of frames.new user) keys.new) in
         W.Does work.now directory.now user before frames.old.supply result after frames.new.supply }
+    ensures keeps { let before = equipped machine.old (devices_on devices.old queues.old) (disks_on volumes.old minidisks.old.items)
+        (memory_of (bytes_of frames.old user) keys.old) in
+        W.Keeps work.now user before frames.old.supply result reuse.old reuse.new }
     ensures others { frames.new.storages ≡ slice_set frames.old.storages user (bytes_of frames.new user) }
     ensures size { length (bytes_of frames.new user) ≡ length (bytes_of frames.old user) }
     ensures between { IsBetweenUnits frames.new.supply }
@@ -122,6 +132,8 @@ impl Work for Units {
 
     ghost Does = { λ units directory. HasRun units.0 };
 
+    ghost Keeps = { λ units user e supply ran old new. new ≡ old };
+
     #[inline(always)]
     fn work(&self, _directory: &Directory, lent: &mut Lent<'_>, storage: &mut Dat<'_>) -> Ran {
         lent.machine.run::<VirtualCpu, Dat<'_>>(storage, self.0)
@@ -138,6 +150,8 @@ impl Work for Tick {
     ghost use Rattle.cp_core.specs.Work.{HasTicked};
 
     ghost Does = { λ tick directory. HasTicked };
+
+    ghost Keeps = { λ tick user e supply done old new. new ≡ old };
 
     fn work(
         &self,
@@ -164,9 +178,12 @@ impl<'a> Work for Line<'a> {
     type Answer = Result<Told, LineError>;
 
     ghost use Rattle.cp_core.specs.Among.{world_by};
+    ghost use Rattle.cp_core.specs.Keeps.{LineKeeps};
     ghost use Rattle.cp_core.specs.Work.{HasTyped};
 
     ghost Does = { λ line directory user. HasTyped (world_by directory line) user line.typed.now };
+
+    ghost Keeps = { λ line user e supply told old new. LineKeeps line.typed.now e told old new };
 
     fn work(
         &self,
@@ -205,9 +222,12 @@ pub(crate) struct Service {
 impl Work for Service {
     type Answer = Result<bool, LineError>;
 
+    ghost use Rattle.cp_core.specs.Keeps.{ServeKeeps};
     ghost use Rattle.cp_core.specs.Work.{HasServed};
 
     ghost Does = { λ service directory. HasServed service.device };
+
+    ghost Keeps = { λ service. ServeKeeps service.device };
 
     fn work(
         &self,

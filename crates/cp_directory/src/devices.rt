@@ -49,10 +49,17 @@ impl UserDevices {
     pub fn has(&self, address: DevAddr) -> bool
         ensures { result ≡ list_any (λ other. other == address) (places_of self.now) }
     {
-        is_there(self.console, address)
-            || is_there(self.reader, address)
-            || is_there(self.punch, address)
-            || is_there(self.printer, address)
+        // Exhaustive: a new field fails to compile here.
+        let UserDevices {
+            console,
+            reader,
+            punch,
+            printer,
+        } = self;
+        is_there(*console, address)
+            || is_there(*reader, address)
+            || is_there(*punch, address)
+            || is_there(*printer, address)
     }
 
     /// How many there are.

@@ -64,7 +64,14 @@ impl User {
     pub fn storage(&self) -> StorageSize
         ensures { result ≡ self.now.pages }
     {
-        self.storage
+        // Exhaustive: a new field fails to compile here.
+        let User {
+            name: _,
+            storage,
+            devices: _,
+            minidisks: _,
+        } = self;
+        *storage
     }
 
     /// The devices that are no disks.
@@ -100,8 +107,14 @@ impl User {
         ensures { result ≡ first_conflict extent.now self.now.minidisks }
     {
         for disk in &self.minidisks {
-            if extent.conflicts_with(&disk.extent) {
-                return Some(disk.line);
+            // Exhaustive: a new field fails to compile here.
+            let Minidisk {
+                line,
+                address: _,
+                extent: other,
+            } = disk;
+            if extent.conflicts_with(other) {
+                return Some(*line);
             }
         }
         None
@@ -183,7 +196,7 @@ impl Directory {
         ensures few { length result.now ≤ MOST_USERS }
         ensures apart { AreApart self.now }
     {
-        // All its fields: what is added to them is seen here.
+        // Exhaustive: a new field fails to compile here.
         let Directory { users } = self;
         users.as_slice()
     }

@@ -195,7 +195,14 @@ impl DiskExtent {
     pub fn mode(&self) -> DiskMode
         ensures { result ≡ self.now.mode }
     {
-        self.mode
+        // Exhaustive: a new field fails to compile here.
+        let DiskExtent {
+            volser: _,
+            start: _,
+            count: _,
+            mode,
+        } = self;
+        *mode
     }
 
     /// Whether the two are of one volume and share a cylinder, and not both are read-only.

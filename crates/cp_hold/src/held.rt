@@ -1,5 +1,5 @@
 //! A program's pages are brought, and held.
-ghost use Rattle.std.specs.Prelude.{◌≡◌, ℕ, ◌%◌, ◌*◌, ◌≤◌, ◌<◌, All, Err, IfNone, IfOk, IfSome, List, OnErr, OnOk, length, false, true};
+ghost use Rattle.std.specs.Prelude.{◌≡◌, ℕ, ◌%◌, ◌*◌, ◌≤◌, ◌<◌, ◌⊎◌, All, Err, IfNone, IfOk, IfSome, List, OnErr, OnOk, length, false, true};
 ghost use Rattle.cp_dat.specs.Copies.{is_wanted};
 ghost use Rattle.cp_dat.specs.Lent.{is_lent_page, lent_bytes, lent_memory, lent_pool, user_of};
 ghost use Rattle.cp_dat.specs.Supplied.{Supplied};
@@ -73,6 +73,8 @@ pub fn hold(alloc: Global, storage: &mut Dat<'_>, address: u32) -> Result<Progra
     ensures untouched { IfOk result (λ found. IfOpen found (storage.new ≡ storage.old)) }
     ensures out { result ≡ Err errors.FramesOut → ((page : ℕ) × HoldNeeds (lent_memory storage.old) address page
         × IsRefused (lent_pool storage.new).supply (user_of storage.new) page) }
+    ensures roomy { result ≡ Err errors.Memory → (storage.new ≡ storage.old)
+        ⊎ ((page : ℕ) → IsProgramPage (lent_memory storage.old) address page → is_lent_page storage.new page ≡ true) }
     ensures supply { (pages : List ℕ) × Supplied storage.old pages storage.new
         × AllSuch (HoldNeeds (lent_memory storage.old) address) pages }
     ensures memory { lent_memory storage.new ≡ lent_memory storage.old }
@@ -111,6 +113,8 @@ fn hold_wanted(
     ensures found { IfOk result (λ found. IfOpen found ⊥) }
     ensures out { result ≡ Err errors.FramesOut → ((page : ℕ) × HoldNeeds (lent_memory storage.old) address page
         × IsRefused (lent_pool storage.new).supply (user_of storage.new) page) }
+    ensures roomy { result ≡ Err errors.Memory
+        → (page : ℕ) → is_wanted wanted.now page → is_lent_page storage.new page ≡ true }
     ensures supply { (pages : List ℕ) × Supplied storage.old pages storage.new
         × AllSuch (HoldNeeds (lent_memory storage.old) address) pages }
     ensures memory { lent_memory storage.new ≡ lent_memory storage.old }

@@ -24,9 +24,14 @@ fn is_as_it_stood<S: Storage>(storage: &S, word: &Fullword) -> bool
     ensures same { result ≡ true → IsAsItStood (S.memory storage.now).bytes (S.present storage.now) word.now }
     ensures other { IsAsItStood (S.memory storage.now).bytes (S.present storage.now) word.now → result ≡ true }
 {
+    // Exhaustive: a new field fails to compile here.
+    let Fullword {
+        start,
+        bytes: as_stood,
+    } = word;
     match storage.check(
         Range {
-            start: word.start,
+            start: *start,
             count: 4,
         },
         Access::Fetch,
@@ -36,8 +41,8 @@ fn is_as_it_stood<S: Storage>(storage: &S, word: &Fullword) -> bool
         Err(_) => return false,
     }
     let mut bytes = [0u8; 4];
-    storage.load(word.start, &mut bytes);
-    bytes == word.bytes
+    storage.load(*start, &mut bytes);
+    bytes == *as_stood
 }
 
 /// Whether each of these fullwords stands, on a page that is present, as it stood.

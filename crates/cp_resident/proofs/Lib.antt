@@ -1,3 +1,4 @@
 mod Emptied
+pub mod Kept
 pub mod Refused
 pub mod Ran

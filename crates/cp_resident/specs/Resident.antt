@@ -15,15 +15,19 @@ use Rattle.machine_channels.specs.Disks.{DiskAt}
 use Rattle.cp_volumes.specs.Keeping.{neighbours_on, neighbours_same}
 use Rattle.cp_volumes.specs.Shared.{DisksValue, KeepsNeighbours, seen}
 use Rattle.cp_resident.specs.declared.resident.Resident.{Resident}
-use Rattle.cp_resident.specs.declared.reuse.Reuse.{Reuse}
+use Rattle.cp_resident.specs.Reuse.{ReuseValue, dropped}
 
 -- the minidisks that hang on the channels of a user, and the volumes on which they stand
 abbrev pub hung_on : Resident → DisksValue
 hung_on r = r.disks
 
--- the programs of his devices that are kept
-abbrev pub reuse_of : Resident → Reuse
+-- the programs of his devices that are kept, and how often one was run again
+abbrev pub reuse_of : Resident → ReuseValue
 reuse_of r = r.reuse
+
+-- none is kept any longer
+abbrev pub Forgets : Resident → Resident → Type 0
+Forgets old new = reuse_of new ≡ dropped (reuse_of old)
 
 -- the disks that he sees
 abbrev pub disks_on : Resident → List DiskAt

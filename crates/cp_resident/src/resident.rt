@@ -1,5 +1,5 @@
 //! Channels of users: a program runs as a whole, or not at all, with the pages that it needs.
-ghost use Rattle.std.specs.Prelude.{◌≡◌, ◌<◌, IfErr, IfOk, List, length};
+ghost use Rattle.std.specs.Prelude.{◌≡◌, ◌<◌, IfErr, IfOk, List, is_ok, length};
 ghost use Rattle.s370_channel.specs.Reading.{as_reached};
 ghost use Rattle.s370_channel.specs.Runs.{Walks};
 ghost use Rattle.s370_channel.specs.declared.running.ChannelError.TheVariants as errors;
@@ -8,7 +8,8 @@ ghost use Rattle.cp_dat.specs.Lent.{KeepsStored, is_lent_page, lent_memory};
 ghost use Rattle.cp_hold.specs.Holding.{IsFixedProgram};
 ghost use Rattle.s370_store.specs.declared.Page.{Page};
 ghost use Rattle.cp_ccw.specs.Kept.{IsAtBase};
-ghost use Rattle.cp_resident.specs.Resident.{KeepsHung, disks_on, told_by, told_of};
+ghost use Rattle.cp_resident.specs.Resident.{KeepsHung, disks_on, reuse_of, told_by, told_of};
+ghost use Rattle.cp_resident.specs.Reuse.{KeepsCopy, KeepsKnown};
 
 use crate::reuse::Reuse;
 use channel_trial::{Tried, TriedLoading};
@@ -43,7 +44,7 @@ pub struct Resident {
 }
 
 impl Resident {
-    ghost use Rattle.cp_resident.specs.Resident.{hung_on};
+    ghost use Rattle.cp_resident.specs.Resident.{hung_on, reuse_of};
     ghost use Rattle.cp_volumes.specs.Shared.{IsUsers, stands_of};
 
     /// The channels on which a user's minidisks hang, with the volumes on which these stand, and the programs of his
@@ -55,7 +56,8 @@ impl Resident {
         reuse: &mut Reuse,
     ) -> Resident
         requires { IsUsers volumes.old (stands_of minidisks.old.items) }
-        ensures { hung_on result ≡ record { volumes = volumes.old; minidisks = minidisks.old.items } }
+        ensures hung { hung_on result ≡ record { volumes = volumes.old; minidisks = minidisks.old.items } }
+        ensures kept { reuse_of result ≡ reuse.old }
     {
         let taken = replace(volumes, Volumes::none(alloc));
         let disks = replace(minidisks, Vec::new(alloc));
@@ -70,6 +72,7 @@ impl Resident {
     pub fn give(self, volumes: &mut Volumes, minidisks: &mut Vec<SharedDisk>, reuse: &mut Reuse)
         ensures volumes { volumes.new ≡ (hung_on self).volumes }
         ensures minidisks { minidisks.new.items ≡ (hung_on self).minidisks }
+        ensures kept { reuse.new ≡ reuse_of self }
     {
         let (taken, disks) = self.disks.into_parts();
         *volumes = taken;
@@ -79,35 +82,26 @@ impl Resident {
 }
 
 impl Disks for Resident {
-    ghost use Rattle.std.specs.Prelude.{◌≡◌, map};
-    ghost use Rattle.machine_channels.specs.Disks.{cleared_disk, reset_disk};
-    ghost use Rattle.cp_resident.specs.Resident.{KeepsHung, disks_on, hung_further, hung_same, reuse_of};
-    ghost use Rattle.cp_resident.specs.Reuse.{IsEmpty};
+    ghost use Rattle.cp_resident.specs.Resident.{Forgets, KeepsHung, disks_on, hung_further, hung_same};
 
     ghost disks = { disks_on };
 
     ghost KeepsOthers = { KeepsHung };
+
+    ghost Forgets = { Forgets };
 
     fn disk_at(&self, device: u16) -> Option<usize> {
         self.disks.disk_at(device)
     }
 
     /// A program that was kept is kept no longer.
-    fn reset_disks(&mut self)
-        ensures reset { disks_on self.new ≡ map reset_disk (disks_on self.old) }
-        ensures others { KeepsHung self.old self.new }
-        ensures dropped { IsEmpty (reuse_of self.new) }
-    {
+    fn reset_disks(&mut self) {
         self.reuse.clear();
         self.disks.reset();
     }
 
     /// The same.
-    fn clear_disks(&mut self)
-        ensures cleared { disks_on self.new ≡ map cleared_disk (disks_on self.old) }
-        ensures others { KeepsHung self.old self.new }
-        ensures dropped { IsEmpty (reuse_of self.new) }
-    {
+    fn clear_disks(&mut self) {
         self.reuse.clear();
         self.disks.clear();
     }
@@ -123,7 +117,8 @@ impl<'a> Channels<Dat<'a>> for Resident {
     ghost use Rattle.cp_dat.specs.Lent.{lent_pool, user_of};
     ghost use Rattle.cp_dat.specs.Letting as laws;
     ghost use Rattle.cp_dat.specs.Supplied.{HasNoRoom, IsBetweenUnits};
-    ghost use Rattle.cp_resident.specs.Resident.{CameIn, IsFilled, came_further, came_nowhere};
+    ghost use Rattle.cp_resident.specs.Resident.{CameIn, IsFilled, came_further, came_nowhere, reuse_of};
+    ghost use Rattle.cp_resident.specs.Reuse.{HasReused, HasReusedDisk};
     ghost use Rattle.cp_hold.specs.Holding.{HoldNeeds};
 
     ghost reads = { as_reached };
@@ -139,6 +134,10 @@ impl<'a> Channels<Dat<'a>> for Resident {
     ghost IsFilled = { λ d page. IsFilled (lent_pool d).supply (user_of d) page };
 
     ghost Came = { CameIn };
+
+    ghost Reuses = { λ r d start unit done s. HasReused (reuse_of r) d start unit done (reuse_of s) };
+
+    ghost ReusesDisk = { λ r d start index done s. HasReusedDisk (reuse_of r) d start index done (reuse_of s) };
 
     fn run<D: Tried>(
         &mut self,
@@ -276,6 +275,7 @@ fn run_copied<D: Device>(
         (lent_memory storage.new) device.new) }
     ensures memory { IfErr result (λ error. error ≡ errors.Memory) }
     ensures rest { KeepsStored storage.old storage.new }
+    ensures kept { KeepsCopy reuse.old storage.old start.now unit (is_ok result) reuse.new }
 {
     match keep(alloc, storage, copy_of(start), text) {
         Ok(kept) => {
@@ -306,6 +306,7 @@ fn run_known(
     ensures memory { IfErr result (λ error. error ≡ errors.Memory) }
     ensures others { KeepsHung channels.old channels.new }
     ensures rest { KeepsStored storage.old storage.new }
+    ensures kept { KeepsKnown (reuse_of channels.old) storage.old start index (is_ok result) (reuse_of channels.new) }
 {
     match know(channels.alloc, storage, copy_of(&start), text, pages) {
         Ok(known) => {

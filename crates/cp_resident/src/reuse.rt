@@ -1,7 +1,7 @@
 //! The programs of a user's devices that are kept from one serve to the next.
-ghost use Rattle.std.specs.Prelude.{◌≡◌, All, IfSome, None, true};
+ghost use Rattle.std.specs.Prelude.{◌≡◌, IfOk, IfSome, IsSome, None, Some, length, replicate, true};
 ghost use Rattle.cp_ccw.specs.Kept.{IsAtBase};
-ghost use Rattle.cp_resident.specs.Reuse.{IsEmpty};
+ghost use Rattle.cp_resident.specs.Reuse.{KnowsAgain, RunsAgain, counted, dropped, kept_for, kept_none, run_again, with_disk, with_unit};
 ghost use Rattle.cp_dat.specs.Lent.{is_lent_page, lent_memory};
 ghost use Rattle.cp_needs.specs.Words.{IsFixedStill};
 
@@ -10,30 +10,40 @@ use cp_dat::Dat;
 use machine_channels::UnitRecord;
 use s370_channel::Caw;
 use std::alloc::{AllocError, Global};
+use std::marker::Model;
 use std::mem::replace;
 
 /// For each device of a user the last program of it that no input could change, and how often one was run again.
 #[derive(Drop)]
 pub struct Reuse {
-    /// Of the console, the reader, the punch and the printer.
-    pub(crate) units: Vec<Option<Kept>>,
+    pub(crate) console: Option<Kept>,
+    pub(crate) reader: Option<Kept>,
+    pub(crate) punch: Option<Kept>,
+    pub(crate) printer: Option<Kept>,
     /// Of the minidisks, in their order.
     pub(crate) disks: Vec<Option<Known>>,
-    reuses: u64,
+    pub(crate) reuses: u64,
 }
 
-/// The place of a device that is no disk.
-fn place_of(unit: UnitRecord) -> usize {
-    match unit {
-        UnitRecord::Console => 0,
-        UnitRecord::Reader => 1,
-        UnitRecord::Punch => 2,
-        UnitRecord::Printer => 3,
-    }
+impl Model for Reuse {
+    ghost use Rattle.cp_resident.specs.Reuse.{ReuseValue};
+
+    ghost Value = { ReuseValue };
+
+    ghost view = { λ r. record {
+      console = r.console;
+      reader = r.reader;
+      punch = r.punch;
+      printer = r.printer;
+      disks = r.disks.items;
+      reuses = r.reuses;
+    } };
 }
 
 /// One more, up to the greatest number.
-fn one_more(number: u64) -> u64 {
+fn one_more(number: u64) -> u64
+    ensures { result ≡ counted number }
+{
     if number == u64::MAX {
         number
     } else {
@@ -43,28 +53,31 @@ fn one_more(number: u64) -> u64 {
 
 impl Reuse {
     /// A place for each device of a user with so many minidisks; none has a program.
-    pub fn empty(alloc: Global, minidisks: usize) -> Result<Reuse, AllocError> {
-        let mut units = Vec::new(alloc);
-        for _ in 0..4usize {
-            units.push(None)?;
-        }
-        let mut disks = Vec::new(alloc);
-        for _ in 0..minidisks {
-            disks.push(None)?;
-        }
+    pub fn empty(alloc: Global, minidisks: usize) -> Result<Reuse, AllocError>
+        ensures { IfOk result (λ made. made ≡ kept_none minidisks) }
+    {
         Ok(Reuse {
-            units,
-            disks,
+            console: None,
+            reader: None,
+            punch: None,
+            printer: None,
+            disks: places_for(alloc, minidisks)?,
             reuses: 0,
         })
     }
 
-    /// Those of a user, in whose stead there are no places until they are given back. It takes no memory.
-    pub fn take(&mut self, alloc: Global) -> Reuse {
+    /// Those of a user, in whose stead none are there until they are given back. It takes no memory.
+    pub fn take(&mut self, alloc: Global) -> Reuse
+        ensures taken { result ≡ self.old }
+        ensures left { self.new ≡ kept_none 0 }
+    {
         replace(
             self,
             Reuse {
-                units: Vec::new(alloc),
+                console: None,
+                reader: None,
+                punch: None,
+                printer: None,
                 disks: Vec::new(alloc),
                 reuses: 0,
             },
@@ -72,40 +85,59 @@ impl Reuse {
     }
 
     /// How often a program was run again.
-    pub fn reuses(&self) -> u64 {
-        // All its fields: what is added to them is seen here.
+    pub fn reuses(&self) -> u64
+        ensures { result ≡ self.now.reuses }
+    {
+        // Exhaustive: a new field fails to compile here.
         let Reuse {
-            units: _,
+            console: _,
+            reader: _,
+            punch: _,
+            printer: _,
             disks: _,
             reuses,
         } = self;
         *reuses
     }
 
-    /// A program is run again.
-    pub fn count(&mut self) {
+    /// A program is run again. The number stays at its greatest value.
+    pub fn count(&mut self)
+        ensures { self.new ≡ run_again self.old }
+    {
         self.reuses = one_more(self.reuses);
     }
 
-    /// The program of a device that is no disk, where it may run again.
+    /// The program of a device that is no disk, where it may run again: exactly where it has one, and all that this was
+    /// copied from is as it was.
     pub fn of_unit(&self, unit: UnitRecord, storage: &Dat<'_>, start: &Caw) -> Option<&Kept>
-        ensures { IfSome result (λ kept. IsAtBase kept.now storage.now start.now) }
+        ensures kept { IfSome result (λ kept. kept_for self.now unit ≡ Some kept.now) }
+        ensures base { IfSome result (λ kept. IsAtBase kept.now storage.now start.now) }
+        ensures other { RunsAgain self.now unit storage.now start.now → IsSome result }
     {
-        match self.units.get(place_of(unit)) {
-            Some(Some(kept)) => {
+        let kept = match unit {
+            UnitRecord::Console => &self.console,
+            UnitRecord::Reader => &self.reader,
+            UnitRecord::Punch => &self.punch,
+            UnitRecord::Printer => &self.printer,
+        };
+        match kept {
+            Some(kept) => {
                 if reusable(kept, storage, *start) {
                     Some(kept)
                 } else {
                     None
                 }
             }
-            _ => None,
+            None => None,
         }
     }
 
-    /// Whether the program of a minidisk may run again.
+    /// Whether the program of a minidisk may run again: yes exactly where one is known, and all that is known of it is as it
+    /// was.
     pub fn has_disk(&self, index: usize, storage: &Dat<'_>, start: &Caw) -> bool
-        ensures { result ≡ true → IsFixedStill (lent_memory storage.now) (is_lent_page storage.now) start.now.address }
+        ensures same { result ≡ true → KnowsAgain self.now index storage.now start.now }
+        ensures other { KnowsAgain self.now index storage.now start.now → result ≡ true }
+        ensures still { result ≡ true → IsFixedStill (lent_memory storage.now) (is_lent_page storage.now) start.now.address }
     {
         match self.disks.get(index) {
             Some(Some(known)) => runs_still(known, storage, *start),
@@ -114,15 +146,21 @@ impl Reuse {
     }
 
     /// The program of a device that is no disk is kept, or none is. It takes no memory.
-    pub fn put_unit(&mut self, unit: UnitRecord, kept: Option<Kept>) {
-        let place = place_of(unit);
-        if place < self.units.len() {
-            self.units[place] = kept;
+    pub fn put_unit(&mut self, unit: UnitRecord, kept: Option<Kept>)
+        ensures { self.new ≡ with_unit self.old unit kept }
+    {
+        match unit {
+            UnitRecord::Console => self.console = kept,
+            UnitRecord::Reader => self.reader = kept,
+            UnitRecord::Punch => self.punch = kept,
+            UnitRecord::Printer => self.printer = kept,
         }
     }
 
-    /// The same for a minidisk.
-    pub fn put_disk(&mut self, index: usize, known: Option<Known>) {
+    /// The same for a minidisk, where there is a place for it.
+    pub fn put_disk(&mut self, index: usize, known: Option<Known>)
+        ensures { self.new ≡ with_disk self.old index known }
+    {
         if index < self.disks.len() {
             self.disks[index] = known;
         }
@@ -130,27 +168,30 @@ impl Reuse {
 
     /// No program is kept. It takes no memory.
     pub fn clear(&mut self)
-        ensures { IsEmpty self.new }
+        ensures { self.new ≡ dropped self.old }
     {
-        empty_units(&mut self.units);
+        self.console = None;
+        self.reader = None;
+        self.punch = None;
+        self.printer = None;
         empty_disks(&mut self.disks);
     }
 }
 
-/// No unit has a program.
-fn empty_units(units: &mut [Option<Kept>])
-    ensures { All (λ kept. kept ≡ None) units.new }
+/// So many places without a program.
+fn places_for(alloc: Global, minidisks: usize) -> Result<Vec<Option<Known>>, AllocError>
+    ensures { IfOk result (λ made. made.items ≡ replicate minidisks None) }
 {
-    let mut place = 0usize;
-    'places: while place < units.len() {
-        units[place] = None;
-        place += 1;
+    let mut disks = Vec::new(alloc);
+    'places: while disks.len() < minidisks {
+        disks.push(None)?;
     }
+    Ok(disks)
 }
 
 /// No minidisk has one.
 fn empty_disks(disks: &mut [Option<Known>])
-    ensures { All (λ known. known ≡ None) disks.new }
+    ensures { disks.new ≡ replicate (length disks.old) None }
 {
     let mut place = 0usize;
     'places: while place < disks.len() {

@@ -48,7 +48,12 @@ impl SpoolFile {
     pub fn target(&self) -> Target
         ensures { result ≡ self.now.target }
     {
-        self.target
+        // Exhaustive: a new field fails to compile here.
+        let SpoolFile {
+            target,
+            contents: _,
+        } = self;
+        *target
     }
 
     /// Whether it is a deck that was given.

@@ -100,7 +100,14 @@ impl UserQueue {
         ensures after { self.new ≡ without_waiting index self.old }
     {
         match self.decks.remove(index) {
-            Some(waiting) => waiting.key,
+            // Exhaustive: a new field fails to compile here.
+            Some(
+                Waiting {
+                    label: _,
+                    sender: _,
+                    key,
+                },
+            ) => key,
             None => unreachable!(),
         }
     }
@@ -116,7 +123,7 @@ impl UserQueue {
     pub(crate) fn place(&self) -> Option<usize>
         ensures { result ≡ self.now.place }
     {
-        // All its fields: what is added to them is seen here.
+        // Exhaustive: a new field fails to compile here.
         let UserQueue {
             decks: _,
             place,

@@ -62,7 +62,7 @@ impl Queues {
     pub fn users(&self) -> usize
         ensures { result ≡ length self.now.users }
     {
-        // All its fields: what is added to them is seen here.
+        // Exhaustive: a new field fails to compile here.
         let Queues { files: _, users } = self;
         users.len()
     }

@@ -70,7 +70,7 @@ impl Reader {
     pub fn sense(&self) -> u8
         ensures { result ≡ self.now.sense }
     {
-        // All its fields: what is added to them is seen here.
+        // Exhaustive: a new field fails to compile here.
         let Reader {
             sense,
             bytes: _,

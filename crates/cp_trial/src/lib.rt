@@ -41,7 +41,7 @@ ghost use Rattle.s370_channel.specs.Reading.{as_reached};
 ghost use Rattle.s370_channel.specs.Runs.{Walks, begun, limited};
 ghost use Rattle.s370_walk.specs.declared.parts.Order.{Order};
 ghost use Rattle.s370_walk.specs.Walk.{Over, Reaches, live};
-ghost use Rattle.cp_dat.specs.Copies.{CameOnly, is_wanted};
+ghost use Rattle.cp_dat.specs.Copies.{CameOnly, StandAll, is_wanted};
 ghost use Rattle.cp_dat.specs.Lent.{lent_pool, lent_memory};
 ghost use Rattle.cp_dat.specs.Supplied.{IsBetweenUnits};
 ghost use Rattle.channel_trial.specs.Trial.{is_touched, trial_bytes, trial_flags, trial_memory};
@@ -125,6 +125,7 @@ pub fn run_tried<D: Device>(
     ensures spared { ((d : D) (o : Order) → D.needs_memory d o ≡ false) → result ≡ Err errors.Memory
         → device.new ≡ device.old }
     ensures lacking { result ≡ Err errors.FramesOut → LacksSuch (is_wanted (trial_flags tried.now)) storage.new }
+    ensures roomy { result ≡ Err errors.Memory → StandAll storage.new (trial_flags tried.now) }
     ensures came { CameOnly storage.old (is_wanted (trial_flags tried.now)) storage.new }
     ensures between { IsBetweenUnits (lent_pool storage.new).supply }
 {
@@ -203,6 +204,7 @@ pub fn load_tried<D: Device>(
     ensures spared { ((d : D) (o : Order) → D.needs_memory d o ≡ false) → result ≡ Err errors.Memory
         → device.new ≡ device.old }
     ensures lacking { result ≡ Err errors.FramesOut → LacksSuch (is_wanted (trial_flags tried.now)) storage.new }
+    ensures roomy { result ≡ Err errors.Memory → StandAll storage.new (trial_flags tried.now) }
     ensures came { CameOnly storage.old (is_wanted (trial_flags tried.now)) storage.new }
     ensures between { IsBetweenUnits (lent_pool storage.new).supply }
 {

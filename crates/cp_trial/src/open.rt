@@ -1,5 +1,5 @@
 //! Programs that are tried, and then run.
-ghost use Rattle.std.specs.Prelude.{◌≡◌, ◌⊎◌, ◌<◌, Err, IfOk, OnOk, length, true};
+ghost use Rattle.std.specs.Prelude.{◌≡◌, ◌⊎◌, ◌<◌, [], Err, IfOk, OnOk, length, true};
 ghost use Rattle.s370_channel.specs.Guest.{guest_written};
 ghost use Rattle.s370_channel.specs.Loading.{loading, loading_limits};
 ghost use Rattle.s370_channel.specs.Progress.{setting};
@@ -86,6 +86,7 @@ pub fn fetch_first(storage: &mut Dat<'_>) -> Result<(), TriedError>
     ensures some { OnOk result (0 < length (lent_bytes storage.new)) }
     ensures there { OnOk result (is_lent_page storage.new 0 ≡ true) }
     ensures lacking { result ≡ Err errors.FramesOut → LacksSuch (λ page. page ≡ 0) storage.new }
+    ensures roomy { result ≡ Err errors.Memory → lent_bytes storage.old ≡ [] }
     ensures came { CameOnly storage.old (λ page. page ≡ 0) storage.new }
     ensures between { IsBetweenUnits (lent_pool storage.new).supply }
     ensures memory { lent_memory storage.new ≡ lent_memory storage.old }

@@ -1,5 +1,5 @@
 //! Who runs the programs of a machine's devices, and has its disks.
-ghost use Rattle.std.specs.Prelude.{◌≡◌, ◌*◌, ◌<◌, ℕ, Bool, true, false, List, [], length, map, slice_get, IfErr, IfOk, IfSome, OnOk};
+ghost use Rattle.std.specs.Prelude.{◌≡◌, ◌*◌, ◌<◌, ℕ, Bool, true, false, List, [], length, map, slice_get, is_ok, IfErr, IfOk, IfSome, OnErr, OnOk};
 ghost use Rattle.std.specs.List.{position};
 ghost use Rattle.s370_store.specs.Memory.{Memory};
 ghost use Rattle.s370_channel.specs.Guest.{guest_written};
@@ -8,6 +8,8 @@ ghost use Rattle.s370_channel.specs.Reading.{Reading};
 ghost use Rattle.s370_channel.specs.Runs.{IsStopped, TellsAway, Walks};
 ghost use Rattle.machine_channels.specs.Channels.{Brings, DiskLoads, DiskNeeds, LacksPage, LoadNeeds, LoadsDisk, NoRoom, ProgramNeeds, StopsDisk, WalksDisk, WalksLoading, WhereOut};
 ghost use Rattle.machine_channels.specs.Disks.{DiskAt, cleared_disk, is_disk_at, reset_disk};
+ghost use Rattle.machine_channels.specs.declared.channels.UnitRecord.{UnitRecord};
+ghost use Rattle.s370_channel.specs.declared.words.Caw.{Caw};
 
 use channel_trial::{Tried, TriedLoading};
 use s370_channel::{Caw, ChannelError};
@@ -22,6 +24,9 @@ pub trait Disks {
     /// What stands beside the disks stays: the other cylinders of the volumes on which they are.
     ghost KeepsOthers: { Self → Self → Type 0 };
 
+    /// The programs that are kept of those that ran are dropped.
+    ghost Forgets: { Self → Self → Type 0 };
+
     /// The index of the first disk with this address.
     fn disk_at(&self, device: u16) -> Option<usize>
         ensures index { result ≡ position (is_disk_at device) (disks self.now) }
@@ -30,12 +35,14 @@ pub trait Disks {
     /// A system reset of the disks: the arms stay.
     fn reset_disks(&mut self)
         ensures reset { disks self.new ≡ map reset_disk (disks self.old) }
-        ensures others { KeepsOthers self.old self.new };
+        ensures others { KeepsOthers self.old self.new }
+        ensures dropped { Forgets self.old self.new };
 
     /// As for a LOGON: the arms stand over cylinder 0, with head 0 chosen.
     fn clear_disks(&mut self)
         ensures cleared { disks self.new ≡ map cleared_disk (disks self.old) }
-        ensures others { KeepsOthers self.old self.new };
+        ensures others { KeepsOthers self.old self.new }
+        ensures dropped { Forgets self.old self.new };
 
     /// All stays where nothing changes.
     ghost others_same: { (d : Self) → KeepsOthers d d };
@@ -78,6 +85,13 @@ pub trait Channels<S: Storage>: Disks {
     /// From one storage to the other just these pages were brought, in these units.
     ghost Came: { S → List (List ℕ) → S → Type 0 };
 
+    /// What is kept of a program that starts so over this storage, for a device that is no disk; whether it ran to its
+    /// end.
+    ghost Reuses: { Self → S → Caw → UnitRecord → Bool → Self → Type 0 };
+
+    /// The same for the disk of this index.
+    ghost ReusesDisk: { Self → S → Caw → ℕ → Bool → Self → Type 0 };
+
     /// Runs the program with this start, for a device that is no disk, of which `unit` says which it is. An error is
     /// told only where memory was refused, a page is not present, or there is no room for one.
     fn run<D: Tried>(
@@ -105,7 +119,8 @@ pub trait Channels<S: Storage>: Disks {
         ensures came { Brings Came storage.old (ProgramNeeds holds D.Device.machine start
             (S.memory storage.old) device.old) storage.new }
         ensures ready { IsReady storage.new }
-        ensures others { Self.KeepsOthers self.old self.new };
+        ensures others { Self.KeepsOthers self.old self.new }
+        ensures kept { Reuses self.old storage.old start unit (is_ok result) self.new };
 
     /// The same for the disk of this index, which is at rest after its program.
     fn run_disk(
@@ -131,9 +146,11 @@ pub trait Channels<S: Storage>: Disks {
         ensures came { Brings Came storage.old (DiskNeeds holds start (S.memory storage.old)
             (slice_get (Self.disks self.old) index)) storage.new }
         ensures ready { IsReady storage.new }
-        ensures others { Self.KeepsOthers self.old self.new };
+        ensures others { Self.KeepsOthers self.old self.new }
+        ensures kept { ReusesDisk self.old storage.old start index (is_ok result) self.new };
 
-    /// The program of an initial program loading runs, for a device that is no disk.
+    /// The program of an initial program loading runs, for a device that is no disk. Nothing is kept of it, and what is
+    /// kept stays.
     fn load<D: TriedLoading>(
         &mut self,
         storage: &mut S,
@@ -144,6 +161,7 @@ pub trait Channels<S: Storage>: Disks {
             (λ ending. WalksLoading D.Device.machine (S.memory storage.old)
             device.old ending (S.memory storage.new) device.new) }
         ensures disks { Self.disks self.new ≡ Self.disks self.old }
+        ensures kept { self.new ≡ self.old }
         ensures stopped { is_whole ≡ false
             → IfErr result (MatchLoading guest_written D.Device.machine D.Device.needs_memory (S.present storage.old)
             (S.memory storage.old) device.old) }
@@ -161,7 +179,7 @@ pub trait Channels<S: Storage>: Disks {
         ensures others { Self.KeepsOthers self.old self.new };
 
     /// The disks are reset, and the program of an initial program loading runs on that of this index, which is at rest
-    /// after it. Where that is refused for want of room they aren't reset either.
+    /// after it. Where that is refused for want of room they aren't reset either, and what is kept of programs stays.
     fn load_disk(&mut self, storage: &mut S, index: usize) -> Result<Ending, ChannelError>
         requires inside { index < length (Self.disks self.old) }
         requires ready { IsReady storage.old }
@@ -182,7 +200,9 @@ pub trait Channels<S: Storage>: Disks {
         ensures came { Brings Came storage.old (DiskLoads (S.memory storage.old)
             (slice_get (map reset_disk (Self.disks self.old)) index)) storage.new }
         ensures ready { IsReady storage.new }
-        ensures others { Self.KeepsOthers self.old self.new };
+        ensures others { Self.KeepsOthers self.old self.new }
+        ensures dropped { OnOk result (Self.Forgets self.old self.new) }
+        ensures kept { is_whole ≡ true → OnErr result (self.new ≡ self.old) };
 
     /// Where nothing is done, nothing comes.
     ghost came_none: { (s : S) → IsReady s → Came s [] s };

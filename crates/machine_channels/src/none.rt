@@ -13,6 +13,8 @@ impl Disks for NoDisks {
 
     ghost KeepsOthers = { λ _ _. Unit {0} };
 
+    ghost Forgets = { λ _ _. Unit {0} };
+
     ghost others_same = { λ _. tt };
 
     ghost others_on = { λ _ _ _ _ _. tt };

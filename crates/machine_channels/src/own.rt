@@ -54,6 +54,8 @@ impl Disks for Own {
 
     ghost KeepsOthers = { λ _ _. Unit {0} };
 
+    ghost Forgets = { λ _ _. Unit {0} };
+
     ghost others_same = { λ _. tt };
 
     ghost others_on = { λ _ _ _ _ _. tt };
@@ -90,6 +92,10 @@ impl<S: Storage> Channels<S> for Own {
     ghost IsFilled = { λ _ _. ⊥ };
 
     ghost Came = { λ s _ t. S.Keeps s t };
+
+    ghost Reuses = { λ _ _ _ _ _ _. Unit {0} };
+
+    ghost ReusesDisk = { λ _ _ _ _ _ _. Unit {0} };
 
     fn run<D: Tried>(
         &mut self,

@@ -9,3 +9,5 @@ pub mod Fed
 pub mod Loads
 pub mod Beside
 pub mod Answered
+mod OneLife
+mod Working

@@ -16,3 +16,6 @@ pub mod Lent
 pub mod Replies
 pub mod Notes
 pub mod Coming
+pub mod Reuses
+pub mod OneLife
+pub mod Working

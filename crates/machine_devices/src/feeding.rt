@@ -1,8 +1,9 @@
 //! The card reader of a machine feeds from the queue of its user.
-ghost use Rattle.std.specs.Prelude.{◌≡◌, ◌*◌, ◌<◌, false, true, IfErr, IfOk, OnErr, OnOk, length};
+ghost use Rattle.std.specs.Prelude.{◌≡◌, ◌*◌, ◌<◌, false, true, IfErr, IfOk, OnErr, OnOk, is_ok, length};
 ghost use Rattle.s370_channel.specs.Runs.{Walks};
 ghost use Rattle.unit_record.specs.Reader.{reader_machine};
 ghost use Rattle.machine_channels.specs.Channels.{Brings, LacksPage, LoadNeeds, NoRoom, ProgramNeeds, StopsForPage, WalksLoading, WhereOut};
+ghost use Rattle.machine_channels.specs.declared.channels.UnitRecord.TheVariants as units;
 ghost use Rattle.cp_spool.specs.Alike.{reader_of};
 ghost use Rattle.cp_spool.specs.Queues.{KeepsOthers, files_of};
 ghost use Rattle.cp_spool.specs.Reader.{part_new};
@@ -50,6 +51,7 @@ pub(crate) fn feed<S: Storage, C: Channels<S>>(
     ensures ready { C.IsReady storage.new }
     ensures beside { KeepsOthers user queues.old.users queues.new.users }
     ensures others { C.KeepsOthers channels.old channels.new }
+    ensures kept { C.Reuses channels.old storage.old start units.Reader (is_ok result) channels.new }
 {
     let mut fed = FedReader::new(queues, user, replace(reader, Reader::new()));
     let ended = channels.run(storage, start, UnitRecord::Reader, &mut fed);
@@ -93,6 +95,7 @@ pub(crate) fn load_fed<S: Storage, C: Channels<S>>(
     ensures ready { C.IsReady storage.new }
     ensures beside { KeepsOthers user queues.old.users queues.new.users }
     ensures others { C.KeepsOthers channels.old channels.new }
+    ensures kept { channels.new ≡ channels.old }
 {
     let mut fed = FedReader::new(queues, user, Reader::new());
     let ended = channels.load(storage, &mut fed);

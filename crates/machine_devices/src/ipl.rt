@@ -1,5 +1,5 @@
 //! IPL, which the owner of a machine does for it.
-ghost use Rattle.std.specs.Prelude.{◌≡◌, ◌<◌, ◌≤◌, ℕ, false, true, Err, IfOk, Some, length, map, slice_get};
+ghost use Rattle.std.specs.Prelude.{◌≡◌, ◌<◌, ◌≤◌, ℕ, false, true, Err, IfOk, OnOk, Some, length, map, slice_get};
 ghost use Rattle.s370_store.specs.Access.{IsAway};
 ghost use Rattle.machine_channels.specs.Channels.{Brings, LacksRoom, NoRoom};
 ghost use Rattle.machine_channels.specs.Disks.{reset_disk};
@@ -7,6 +7,7 @@ ghost use Rattle.machine_devices.specs.Devices.{kind_in};
 ghost use Rattle.machine_devices.specs.Equipped.{equipped};
 ghost use Rattle.machine_devices.specs.Lent.{KeepsBeside, devices_on};
 ghost use Rattle.machine_devices.specs.Lines.{IplNeeds, IsIpl, KindLoads, LoadsDisk, LoadsReader, can_load, ipl_told};
+ghost use Rattle.machine_devices.specs.Reuses.{LoadForgets};
 ghost use Rattle.machine_devices.specs.declared.places.Kind.TheVariants as kinds;
 
 use crate::devices::Devices;
@@ -73,6 +74,9 @@ impl Devices {
         ensures ready { C.IsReady storage.new }
         ensures others { C.KeepsOthers channels.old channels.new }
         ensures beside { KeepsBeside self.old queues.old self.new queues.new }
+        ensures dropped { OnOk result (LoadForgets C.Forgets channels.old channels.new
+            (can_load (kind_in self.old.places (C.disks channels.old) device))) }
+        ensures kept { C.is_whole ≡ true → result ≡ Err LineError.FramesOut → channels.new ≡ channels.old }
         ensures takes { result ≡ Err LineError.Memory
             → can_load (kind_in self.old.places (C.disks channels.old) device) ≡ true }
         ensures memory { C.is_whole ≡ false → result ≡ Err LineError.Memory → machine.old.room < 2 }
@@ -122,6 +126,8 @@ impl Devices {
         ensures ready { C.IsReady storage.new }
         ensures others { C.KeepsOthers channels.old channels.new }
         ensures beside { KeepsBeside self.old queues.old self.new queues.new }
+        ensures dropped { OnOk result (C.Forgets channels.old channels.new) }
+        ensures kept { C.is_whole ≡ true → result ≡ Err LineError.FramesOut → channels.new ≡ channels.old }
         ensures memory { C.is_whole ≡ false → result ≡ Err LineError.Memory → machine.old.room < 2 }
     {
         match machine.make_room(1) {
@@ -180,6 +186,8 @@ impl Devices {
         ensures ready { C.IsReady storage.new }
         ensures others { C.KeepsOthers channels.old channels.new }
         ensures user { self.new.user ≡ self.old.user }
+        ensures dropped { OnOk result (C.Forgets channels.old channels.new) }
+        ensures kept { C.is_whole ≡ true → result ≡ Err LineError.FramesOut → channels.new ≡ channels.old }
         ensures memory { C.is_whole ≡ false → result ≡ Err LineError.Memory → machine.old.room < 2 }
     {
         match machine.make_room(1) {

@@ -10,6 +10,7 @@ ghost use Rattle.machine_devices.specs.Equipped.{equipped};
 ghost use Rattle.machine_devices.specs.Lent.{KeepsBeside, devices_on, devices_with};
 ghost use Rattle.machine_devices.specs.Requests.{needs_of, switches};
 ghost use Rattle.machine_devices.specs.Comes.{LineMay, LoadWants, is_ipl};
+ghost use Rattle.machine_devices.specs.Reuses.{LineForgets};
 ghost use Rattle.machine_devices.specs.Lines.{IsLine, files_closed, logged_off, outcome, said, requested, typed_at, was_reset};
 
 use crate::devices::Devices;
@@ -136,6 +137,13 @@ impl Devices {
         ensures others { C.KeepsOthers channels.old channels.new }
         ensures beside { KeepsBeside self.old queues.old self.new queues.new }
         ensures size { length (S.Storage.memory storage.new).bytes ≡ length (S.Storage.memory storage.old).bytes }
+        ensures dropped { let before = equipped machine.old (devices_on self.old queues.old) (C.disks channels.old)
+            (S.Storage.memory storage.old) in
+            OnOk result (LineForgets C.Forgets channels.old channels.new (requested typed.now before) before) }
+        ensures kept { let before = equipped machine.old (devices_on self.old queues.old) (C.disks channels.old)
+            (S.Storage.memory storage.old) in
+            is_ipl (requested typed.now before) ≡ false → OnErr result (channels.new ≡ channels.old) }
+        ensures kept_without_room { C.is_whole ≡ true → result ≡ Err LineError.FramesOut → channels.new ≡ channels.old }
     {
         let text = ConsoleText::new(typed);
         let has_console = self.places().console.is_some();
@@ -182,6 +190,8 @@ impl Devices {
         ensures cleared { OnOk result (S.Cleared storage.old storage.new) }
         ensures not_cleared { OnErr result (S.Brought storage.old [] storage.new) }
         ensures others { D.KeepsOthers disks.old disks.new }
+        ensures dropped { OnOk result (D.Forgets disks.old disks.new) }
+        ensures kept { OnErr result (disks.new ≡ disks.old) }
         ensures beside { KeepsBeside self.old queues.old self.new queues.new }
         ensures size { length (S.Storage.memory storage.new).bytes ≡ length (S.Storage.memory storage.old).bytes }
     {
@@ -211,6 +221,8 @@ impl Devices {
         ensures memory { result ≡ Err LineError.FramesOut → ⊥ }
         ensures user { self.new.user ≡ self.old.user }
         ensures others { D.KeepsOthers disks.old disks.new }
+        ensures dropped { OnOk result (D.Forgets disks.old disks.new) }
+        ensures kept { OnErr result (disks.new ≡ disks.old) }
     {
         match machine.system_reset() {
             Ok(()) => {}

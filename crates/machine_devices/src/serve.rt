@@ -1,10 +1,13 @@
 //! The devices of a machine are served.
-ghost use Rattle.std.specs.Prelude.{◌≡◌, ◌<◌, ◌++◌, false, true, IfErr, IfOk, OnErr, OnOk, length};
+ghost use Rattle.std.specs.Prelude.{◌≡◌, ◌<◌, ◌++◌, Bool, false, true, IfErr, IfOk, OnErr, OnOk, is_ok, length};
 ghost use Rattle.machine_channels.specs.Channels.{Brings, NoRoom, WhereOut};
-ghost use Rattle.machine_devices.specs.Devices.{IsAttached};
+ghost use Rattle.machine_channels.specs.declared.channels.UnitRecord.TheVariants as units;
+ghost use Rattle.s370_subchannels.specs.Programs.{program_of};
+ghost use Rattle.machine_devices.specs.Devices.{IsAttached, kind_at};
 ghost use Rattle.machine_devices.specs.declared.places.Kind.TheVariants as kinds;
 ghost use Rattle.machine_devices.specs.Equipped.{equipped};
 ghost use Rattle.machine_devices.specs.Lent.{KeepsBeside, devices_on};
+ghost use Rattle.machine_devices.specs.Reuses.{KindReuses, StartReuses};
 ghost use Rattle.machine_devices.specs.Serve.{IsServedAt, KindNeeds, RunsConsole, RunsKind, ServeNeeds};
 ghost use Rattle.machine_devices.specs.Stopped.{StopsAt, StopsConsole, StopsKind};
 
@@ -59,6 +62,14 @@ impl Devices {
             (S.memory storage.old) in
             Brings C.Came storage.old (ServeNeeds C.holds device before) storage.new }
         ensures ready { C.IsReady storage.new }
+        ensures kept { let before = equipped machine.old (devices_on self.old queues.old) (C.disks channels.old)
+            (S.memory storage.old) in
+            OnOk result (StartReuses C.Reuses C.ReusesDisk channels.old storage.old channels.new
+            (kind_at before.devices before.disks device) (program_of device machine.old.subchannels) true) }
+        ensures kept_if_refused { let before = equipped machine.old (devices_on self.old queues.old) (C.disks channels.old)
+            (S.memory storage.old) in
+            OnErr result ((done : Bool) × StartReuses C.Reuses C.ReusesDisk channels.old storage.old channels.new
+            (kind_at before.devices before.disks device) (program_of device machine.old.subchannels) done) }
     {
         let Some(kind) = self.kind_at(channels, device.get()) else {
             return Ok(false);
@@ -108,6 +119,9 @@ impl Devices {
             (S.memory storage.old) in
             Brings C.Came storage.old (KindNeeds C.holds kind start before) storage.new }
         ensures ready { C.IsReady storage.new }
+        ensures kept { OnOk result (KindReuses C.Reuses C.ReusesDisk channels.old storage.old channels.new kind start true) }
+        ensures kept_if_refused { OnErr result ((done : Bool)
+            × KindReuses C.Reuses C.ReusesDisk channels.old storage.old channels.new kind start done) }
     {
         let key = start.key;
         let ending = match kind {
@@ -173,6 +187,7 @@ impl Devices {
             (S.memory storage.old) in
             Brings C.Came storage.old (KindNeeds C.holds kinds.Reader start before) storage.new }
         ensures ready { C.IsReady storage.new }
+        ensures kept { C.Reuses channels.old storage.old start units.Reader (is_ok result) channels.new }
     {
         let key = start.key;
         match feed(
@@ -224,6 +239,9 @@ impl Devices {
             (S.memory storage.old) in
             Brings C.Came storage.old (KindNeeds C.holds kinds.Console start before) storage.new }
         ensures ready { C.IsReady storage.new }
+        ensures kept { OnOk result (C.Reuses channels.old storage.old start units.Console true channels.new) }
+        ensures kept_if_refused { OnErr result ((done : Bool)
+            × C.Reuses channels.old storage.old start units.Console done channels.new) }
     {
         let key = start.key;
         let ending = match channels.run(storage, start, UnitRecord::Console, &mut self.console) {

@@ -17,14 +17,20 @@ pub fn display<S: Keyed>(place: Place, cpu: &Cpu, storage: &S) -> Result<Respons
     ensures { let s = state_of cpu.now (S.Storage.memory storage.now) in
         Displays place (S.Storage.present storage.now) s result }
 {
+    // Exhaustive: a new field fails to compile here.
+    let Cpu {
+        general,
+        control,
+        psw,
+    } = cpu;
     match place {
-        Place::Psw => Ok(Response::Psw(cpu.psw.to_word(0, Ilc::ZERO))),
+        Place::Psw => Ok(Response::Psw(psw.to_word(0, Ilc::ZERO))),
         Place::General(register) => {
-            let contents = cpu.general[register.index()];
+            let contents = general[register.index()];
             Ok(Response::General(register, Word::from_unsigned(contents)))
         }
         Place::Control(register) => {
-            let contents = cpu.control[register.index()];
+            let contents = control[register.index()];
             Ok(Response::Control(register, Word::from_unsigned(contents)))
         }
         Place::Key(address) => Ok(display_key(address, cpu, storage)),

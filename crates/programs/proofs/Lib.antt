@@ -1,2 +1,5 @@
 pub mod Rules
 pub mod Texts
+pub mod Imaged
+pub mod Framed
+pub mod Exchanges

@@ -1,3 +1,5 @@
 pub mod Arguments
 pub mod BootFaults
 pub mod Faults
+pub mod Parts
+pub mod Opened

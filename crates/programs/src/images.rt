@@ -2,8 +2,8 @@
 ghost use Rattle.std.specs.Prelude.{◌≡◌};
 
 use crate::faults::Failure;
-use crate::program::open;
-use ckd_image::{ImageError, image, read_image};
+use crate::opener::{HostFiles, read_images};
+use ckd_image::{ImageError, image};
 use ckd_volume::Volume;
 use s370_num::host::{Counted, HostFault, read_all};
 use std::alloc::{AllocError, Global};
@@ -20,16 +20,7 @@ pub fn read_volumes<R: AllocGlobal + Files>(
     rt: &R,
     paths: &[&str],
 ) -> Result<Vec<Volume>, Failure> {
-    let alloc = rt.alloc();
-    let mut volumes = Vec::new(alloc);
-    for path in paths {
-        let mut file = open(rt, path)?;
-        let volume = read_image(alloc, &mut file)?;
-        if volumes.push(volume).is_err() {
-            return Err(Failure::Memory);
-        }
-    }
-    Ok(volumes)
+    read_images(rt.alloc(), &HostFiles::new(rt), paths)
 }
 
 /// These paths as texts of their own. They are made before an image is written, so that one that is not saved for want

@@ -15,6 +15,7 @@
 mod boot_faults;
 mod faults;
 mod images;
+pub mod opener;
 pub mod parts;
 pub mod program;
 pub mod words;

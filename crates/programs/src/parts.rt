@@ -16,6 +16,13 @@
 //! > ON A
 //! > DONE
 //! ```
+ghost use Rattle.std.specs.Prelude.{◌≡◌, ℕ, List, [], IfOk, OnErr, OnOk, length, option_map};
+ghost use Rattle.std.specs.Io.KnownBytes.{Appends, Consumes};
+ghost use Rattle.s370_num.specs.Host.{AppendsFront, Counts, ReadsFront};
+ghost use Rattle.sessions.specs.Schedule.{Scene};
+ghost use Rattle.sessions.specs.Transcript.{ended};
+ghost use Rattle.programs.specs.Parts.{Answers, GivesByte, GivesLine, GivesNext, InputAccounts, IsAnsweredPartly, IsBrokenOff, IsLeft, PartAccounts, ReadAccounts, idle_lines, news_since};
+
 use crate::faults::Failure;
 use machine_panel::Mode;
 use s370_num::host::{HostFault, HostReader, HostWriter, write_all};
@@ -38,7 +45,7 @@ pub enum Left<I> {
 }
 
 /// What an input has next.
-enum Next {
+pub(crate) enum Next {
     /// A part of the script.
     Part(Vec<u8>),
     /// The end is asked for.
@@ -55,16 +62,25 @@ pub fn follow_parts<R: HostReader, W: HostWriter, I: Installation + Drop>(
     detail: Detail,
     reader: &mut R,
     writer: &mut W,
-) -> Result<Left<I>, Failure> {
+) -> Result<Left<I>, Failure>
+    ensures ok { IfOk result (λ left. IsLeft I.goes detail installation left (R.remaining reader.old) (R.remaining reader.new)
+        (W.contents writer.old) (W.contents writer.new)) }
+    ensures flushed { OnOk result (W.held writer.new ≡ []) }
+    ensures err { OnErr result (IsBrokenOff I.goes detail installation (R.remaining reader.old) (R.remaining reader.new)
+        (W.contents writer.old) (W.contents writer.new)) }
+    ensures why { InputAccounts result (R.HostFile.failures reader.old) (R.HostFile.failures reader.new)
+        (W.HostFile.failures writer.old) (W.HostFile.failures writer.new) }
+{
     let mut follower = Follower::begin(alloc, installation, detail)?;
-    'parts: for _ in 0..u64::MAX {
+    for _ in 0..u64::MAX {
         match next_part(alloc, reader)? {
             Next::Part(part) => follower = follow_part(alloc, follower, detail, &part, writer)?,
             Next::End => return Ok(Left::Ended(follower.close(alloc, writer)?)),
-            Next::Nothing => break 'parts,
+            Next::Nothing => return Ok(Left::Cut(follower.close(alloc, writer)?)),
         }
     }
-    Ok(Left::Cut(follower.close(alloc, writer)?))
+    // No input has so many parts.
+    Err(Failure::File(1))
 }
 
 /// Follows a part, and writes behind its lines what became of it.
@@ -74,7 +90,17 @@ fn follow_part<W: HostWriter, I: Installation + Drop>(
     detail: Detail,
     part: &[u8],
     writer: &mut W,
-) -> Result<Follower<I>, Failure> {
+) -> Result<Follower<I>, Failure>
+    requires { follower.detail ≡ detail }
+    ensures ok { IfOk result (λ left. (answer : List ℕ) × Answers I.goes follower part.now answer left
+        × Appends (W.contents writer.old) (W.contents writer.new) answer) }
+    ensures detail { IfOk result (λ left. left.detail ≡ detail) }
+    ensures flushed { OnOk result (W.held writer.new ≡ []) }
+    ensures err { OnErr result (IsAnsweredPartly I.goes follower part.now (W.contents writer.old) (W.contents writer.new)) }
+    ensures why { PartAccounts result (W.HostFile.failures writer.old) (W.HostFile.failures writer.new) }
+{
+    // There are as many users as machines.
+    let _users = follower.installation().users();
     let closed = follower.installation().files();
     let modes = follower.modes(alloc)?;
     match follower.part(alloc, part, writer)? {
@@ -98,28 +124,47 @@ fn news<I: Installation + Drop>(
     detail: Detail,
     closed: usize,
     modes: &[Mode],
-) -> Result<Vec<u8>, AllocError> {
+) -> Result<Vec<u8>, AllocError>
+    requires { length modes.now ≡ length (I.goes.seen follower.now.world).users }
+    ensures { IfOk result (λ told. told.items ≡ ended (news_since I.goes detail closed modes.now follower.now)) }
+{
+    // There are as many users as machines.
+    let _users = follower.installation().users();
     let mut told = follower.closed_since(alloc, closed)?;
-    // An installation has as many users as before; of others nothing could be told.
-    if modes.len() == follower.installation().users() {
-        let changes = follower.changes_since(alloc, modes)?;
-        told.extend_from_slice(&changes)?;
-    }
-    if detail == Detail::Terminals && follower.is_idle() {
-        told.extend_from_slice(b"> IDLE\n")?;
-    }
+    let changes = follower.changes_since(alloc, modes)?;
+    told.extend_from_slice(&changes)?;
+    told.extend_from_slice(idle_line(detail, follower.is_idle()))?;
     told.extend_from_slice(b"> DONE\n")?;
     Ok(told)
 }
 
+/// The line that nobody is ready and no program waits, where such lines are told.
+fn idle_line(detail: Detail, is_idle: bool) -> &'static [u8]
+    ensures { result.now ≡ ended (idle_lines detail is_idle) }
+{
+    match (detail, is_idle) {
+        (Detail::Terminals, true) => b"> IDLE\n",
+        (Detail::Terminals, false) | (Detail::Whole, true) | (Detail::Whole, false) => &[],
+    }
+}
+
 /// Writes what became of a part, and holds nothing back.
-fn tell<W: HostWriter>(writer: &mut W, told: &[u8]) -> Result<(), HostFault> {
+fn tell<W: HostWriter>(writer: &mut W, told: &[u8]) -> Result<(), HostFault>
+    ensures ok { OnOk result (Appends (W.contents writer.old) (W.contents writer.new) told.now) }
+    ensures err { OnErr result (AppendsFront (W.contents writer.old) (W.contents writer.new) told.now) }
+    ensures flushed { OnOk result (W.held writer.new ≡ []) }
+    ensures counts { Counts (W.HostFile.failures writer.old) (W.HostFile.failures writer.new) result }
+{
     write_all(writer, told)?;
     writer.flush()
 }
 
 /// What comes next: a part behind its size, the word for the end, or nothing.
-fn next_part<R: HostReader>(alloc: Global, reader: &mut R) -> Result<Next, HostFault> {
+fn next_part<R: HostReader>(alloc: Global, reader: &mut R) -> Result<Next, HostFault>
+    ensures ok { IfOk result (λ next. GivesNext next (R.remaining reader.old) (R.remaining reader.new)) }
+    ensures err { OnErr result (ReadsFront (R.remaining reader.old) (R.remaining reader.new)) }
+    ensures why { ReadAccounts result (R.HostFile.failures reader.old) (R.HostFile.failures reader.new) }
+{
     let Some(word) = next_size(alloc, reader)? else {
         return Ok(Next::Nothing);
     };
@@ -133,7 +178,12 @@ fn next_part<R: HostReader>(alloc: Global, reader: &mut R) -> Result<Next, HostF
 }
 
 /// The line before a part, without its end, or none at the end of the input.
-fn next_size<R: HostReader>(alloc: Global, reader: &mut R) -> Result<Option<Vec<u8>>, HostFault> {
+fn next_size<R: HostReader>(alloc: Global, reader: &mut R) -> Result<Option<Vec<u8>>, HostFault>
+    ensures ok { IfOk result (λ line. GivesLine (option_map (λ line. line.items) line) (R.remaining reader.old)
+        (R.remaining reader.new)) }
+    ensures err { OnErr result (ReadsFront (R.remaining reader.old) (R.remaining reader.new)) }
+    ensures why { ReadAccounts result (R.HostFile.failures reader.old) (R.HostFile.failures reader.new) }
+{
     let mut line = Vec::new(alloc);
     for _ in 0..=MOST_DIGITS {
         match next_byte(reader)? {
@@ -151,7 +201,12 @@ fn next_bytes<R: HostReader>(
     alloc: Global,
     reader: &mut R,
     count: u32,
-) -> Result<Vec<u8>, HostFault> {
+) -> Result<Vec<u8>, HostFault>
+    ensures ok { IfOk result (λ bytes. Consumes (R.remaining reader.old) (R.remaining reader.new) bytes.items) }
+    ensures count { IfOk result (λ bytes. length bytes.items ≡ count) }
+    ensures err { OnErr result (ReadsFront (R.remaining reader.old) (R.remaining reader.new)) }
+    ensures why { ReadAccounts result (R.HostFile.failures reader.old) (R.HostFile.failures reader.new) }
+{
     let mut bytes = Vec::new(alloc);
     for _ in 0..count {
         match next_byte(reader)? {
@@ -163,7 +218,11 @@ fn next_bytes<R: HostReader>(
 }
 
 /// The next byte, or none at the end of the input.
-fn next_byte<R: HostReader>(reader: &mut R) -> Result<Option<u8>, HostFault> {
+fn next_byte<R: HostReader>(reader: &mut R) -> Result<Option<u8>, HostFault>
+    ensures ok { IfOk result (λ byte. GivesByte byte (R.remaining reader.old) (R.remaining reader.new)) }
+    ensures err { OnErr result (ReadsFront (R.remaining reader.old) (R.remaining reader.new)) }
+    ensures counts { Counts (R.HostFile.failures reader.old) (R.HostFile.failures reader.new) result }
+{
     let mut byte = [0u8; 1];
     if reader.read(&mut byte)? == 0 {
         return Ok(None);

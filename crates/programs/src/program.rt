@@ -1,7 +1,10 @@
 //! What a program does around its session: its words, its files, and what it says of a failure.
-ghost use Rattle.std.specs.Prelude.{◌≡◌};
+ghost use Rattle.std.specs.Prelude.{◌≡◌, ◌⊎◌, IfErr, IfOk, codes, not, string_bytes, take_while};
+ghost use Rattle.std.specs.List.{list_any};
+ghost use Rattle.std.specs.Str.{bytes_eq};
+ghost use Rattle.s370_num.specs.Counted.{failures_of};
 ghost use Rattle.std.specs.Process.{exit_status};
-ghost use Rattle.programs.specs.Faults.{outcome_of};
+ghost use Rattle.programs.specs.Faults.{IsTold, outcome_of};
 
 use crate::faults::{Failure, fault_line, outcome};
 use crate::parts::{Left, follow_parts};
@@ -32,7 +35,9 @@ impl Termination for Ended {
 
 /// The end of a program: a failure is told on standard error, and gives the exit status. One that there is no memory to
 /// tell is want of memory.
-pub fn finish<R: AllocGlobal + Eprint>(rt: &R, ended: Result<(), Failure>) -> Ended {
+pub fn finish<R: AllocGlobal + Eprint>(rt: &R, ended: Result<(), Failure>) -> Ended
+    ensures { IsTold ended result.ended }
+{
     match ended {
         Ok(()) => Ended { ended: Ok(()) },
         Err(failure) => Ended {
@@ -42,7 +47,9 @@ pub fn finish<R: AllocGlobal + Eprint>(rt: &R, ended: Result<(), Failure>) -> En
 }
 
 /// Prints the line of a failure, and gives what was told. A wrong use has been told by a longer text.
-fn tell<R: AllocGlobal + Eprint>(rt: &R, failure: Failure) -> Failure {
+fn tell<R: AllocGlobal + Eprint>(rt: &R, failure: Failure) -> Failure
+    ensures { (result ≡ failure) ⊎ (result ≡ Failure.Memory) }
+{
     if failure == Failure::Usage {
         return failure;
     }
@@ -131,7 +138,10 @@ pub fn words<R: AllocGlobal + Env + Eprint>(rt: &R, program: &str) -> Result<Vec
 }
 
 /// The file at a path, to be read. One that can't be opened has failed once.
-pub fn open<R: Files>(rt: &R, path: &str) -> Result<Counted<R::File>, Failure> {
+pub fn open<R: Files>(rt: &R, path: &str) -> Result<Counted<R::File>, Failure>
+    ensures ok { IfOk result (λ file. failures_of file ≡ 0) }
+    ensures err { IfErr result (λ failure. failure ≡ Failure.File 1) }
+{
     match fs::open(rt, path) {
         Ok(file) => Ok(Counted::new(file)),
         Err(_) => Err(Failure::File(1)),
@@ -139,14 +149,12 @@ pub fn open<R: Files>(rt: &R, path: &str) -> Result<Counted<R::File>, Failure> {
 }
 
 /// Whether the words ask for a script to be followed: the word for that stands before any `--`.
-pub fn asks_to_follow(words: &[String]) -> bool {
-    for word in words {
-        if word.as_str() == "--" {
-            return false;
-        }
-        if word.as_str() == "--follow" {
-            return true;
-        }
-    }
-    false
+pub fn asks_to_follow(words: &[String]) -> bool
+    ensures { result ≡ list_any (λ word. bytes_eq (string_bytes word) (codes "--follow"))
+        (take_while (λ word. not (bytes_eq (string_bytes word) (codes "--"))) words.now) }
+{
+    words
+        .iter()
+        .take_while(|word| word.as_str() != "--")
+        .any(|word| word.as_str() == "--follow")
 }

@@ -14,3 +14,4 @@ pub mod UsersKnown
 pub mod Changes
 pub mod SameLines
 pub mod Told
+pub mod Whole

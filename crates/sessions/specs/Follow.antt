@@ -1,7 +1,8 @@
 -- A script that is given part by part.
-use Rattle.std.specs.Prelude.{◌≡◌, ℕ, List, [], ◌∷◌, ◌++◌, ◌⊎◌, Option, Ok, Err}
+use Rattle.std.specs.Prelude.{◌≡◌, ◌==◌, ℕ, ◌+◌, Bool, true, false, if◌then◌else◌, List, [], ◌∷◌, ◌++◌, ◌⊎◌, Option, Some, None, Result, Ok, Err}
 use Rattle.std.specs.Io.KnownBytes.{Appends}
 use Rattle.session_script.specs.Script.{Said, script_of}
+use Rattle.session_script.specs.Users.{KnownUser}
 use Rattle.sessions.specs.Files.{closing_lines}
 use Rattle.sessions.specs.Installed.{Installation}
 use Rattle.sessions.specs.Schedule.{IsOf, Scene, acts}
@@ -14,6 +15,25 @@ use Rattle.sessions.specs.declared.schedule.Detail.{Detail}
 -- whole lines, each ended by LF, or none
 abbrev pub HasWholeLines : List ℕ → Type 0
 HasWholeLines text = (text ≡ []) ⊎ ((front : List ℕ) × (text ≡ front ++ 10 ∷ []))
+
+-- the line that nothing ends, counted from 1, where the last line is one; this line stands before the text, and may have begun
+abbrev pub unended_from : ℕ → Bool → List ℕ → Option ℕ
+unended_from line true [] = None
+unended_from line false [] = Some line
+unended_from line is_ended (c ∷ cs) = if c == 10 then unended_from (line + 1) true cs else unended_from line false cs
+
+abbrev pub unended_line : List ℕ → Option ℕ
+unended_line text = unended_from 1 true text
+
+-- a line that nothing ends is refused, where no other one is
+abbrev pub ended_script : Result (List Said) ℕ → Option ℕ → Result (List Said) ℕ
+ended_script (Ok script) None = Ok script
+ended_script (Ok script) (Some line) = Err line
+ended_script (Err line) unended = Err line
+
+-- the script that a part is, or the line of it that is the first refused
+abbrev pub part_of : List KnownUser → List ℕ → Result (List Said) ℕ
+part_of users text = ended_script (script_of users text) (unended_line text)
 
 -- the text is a script; it was done, and its transcript was written
 pub record IsFollowed {W : Type 0} (i : Installation W) (text : List ℕ) (old new : Scene W) (before after : Option (List ℕ)) : Type 0 where
@@ -45,7 +65,7 @@ EndsAsSession {W} i = (detail : Detail) (text : List ℕ) (first : W) (last : Sc
     Appends between after (ended (closing_lines (i.seen last.world))) →
     IsSession i detail first last.world reader_old reader_new before after
 
--- what became of a part: it was done; or nothing was, since this line of it is the first that is refused
+-- what became of a part: it was done, and has whole lines; or nothing was, since this line of it is the first that is refused
 abbrev pub Became : {W : Type 0} → Installation W → List ℕ → Scene W → Part W → Option (List ℕ) → Option (List ℕ) → Type 0
-Became i text old (parts.Done new) before after = IsFollowed i text old new before after
-Became i text old (parts.Refused new line) before after = (script_of (i.seen old.world).users text ≡ Err line) × (new ≡ old) × (after ≡ before)
+Became i text old (parts.Done new) before after = HasWholeLines text × IsFollowed i text old new before after
+Became i text old (parts.Refused new line) before after = (part_of (i.seen old.world).users text ≡ Err line) × (new ≡ old) × (after ≡ before)

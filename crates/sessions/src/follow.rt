@@ -2,11 +2,12 @@
 //!
 //! What was written since the beginning is the transcript of all that was done, as if it had been one script: parts that
 //! are joined are followed as one, and one that was followed to its end is a session ([`parts_are_a_session`]).
-ghost use Rattle.std.specs.Prelude.{◌≡◌, ◌⊎◌, ℕ, Bool, [], Err, IfOk, Ok, OnErr, OnOk, length, true};
+ghost use Rattle.std.specs.Prelude.{◌≡◌, ◌⊎◌, ℕ, All, Bool, [], Err, IfErr, IfOk, Ok, OnErr, OnOk, length, map, true};
 ghost use Rattle.std.specs.Io.KnownBytes.{Appends};
 ghost use Rattle.s370_num.specs.Host.{AppendsFront};
 ghost use Rattle.sessions.specs.Files.{closing_lines, lines_since};
-ghost use Rattle.sessions.specs.Follow.{Became, BeginsWithNothing, EndsAsSession, IsFollowedPartly, PartsJoin};
+ghost use Rattle.session_script.specs.Script.{IsOfDevice, IsOfUser, IsRefusal, said, script_of};
+ghost use Rattle.sessions.specs.Follow.{Became, BeginsWithNothing, EndsAsSession, HasWholeLines, IsFollowedPartly, PartsJoin, part_of, unended_line};
 ghost use Rattle.std.specs.List.{list_any};
 ghost use Rattle.cp_dispatch.specs.Policy.{is_ready};
 ghost use Rattle.sessions.specs.Installed.{names_of};
@@ -27,7 +28,7 @@ use crate::transcript::names;
 use cp_dispatch::{Policy, Ready};
 use machine_panel::Mode;
 use s370_num::host::HostWriter;
-use session_script::{ScriptError, reads_grammar};
+use session_script::{ScriptError, ScriptEvent, reads_grammar};
 use std::alloc::{AllocError, Global};
 use std::marker::Model;
 use user_names::UserNo;
@@ -79,7 +80,7 @@ impl<I: Installation + Drop> Follower<I> {
         &self.installation
     }
 
-    /// Judges a part of the script as a whole; then does it, and writes the lines that come of it as they come. After a
+    /// Judges a part of the script as a whole, of which each line has to be ended; then does it, and writes the lines that come of it as they come. After a
     /// failure there is nothing that goes on.
     pub fn part<W: HostWriter>(
         self,
@@ -100,7 +101,7 @@ impl<I: Installation + Drop> Follower<I> {
             mut policy,
             detail,
         } = self;
-        let events = match read_events(alloc, &installation, text) {
+        let events = match read_part(alloc, &installation, text) {
             Ok(events) => events,
             Err(ScriptError::Line(line)) => {
                 return Ok(Part::Refused(
@@ -180,6 +181,40 @@ impl<I: Installation + Drop> Follower<I> {
         let ready = ready_users(&self.installation);
         self.policy.programs().is_empty() && !has_ready(self.policy.users(), &ready)
     }
+}
+
+/// The events that a part names for the users of an installation and their devices. The last line of a part is ended too.
+fn read_part<'a, I: Installation>(
+    alloc: Global,
+    installation: &I,
+    text: &'a [u8],
+) -> Result<Vec<ScriptEvent<'a>>, ScriptError>
+    ensures ok { IfOk result (λ events. script_of (I.goes.seen installation.now).users text.now ≡ Ok (map said events.items)) }
+    ensures whole { OnOk result (HasWholeLines text.now) }
+    ensures users { IfOk result (λ events. All (IsOfUser (I.goes.seen installation.now).users) events.items) }
+    ensures devices { IfOk result (λ events. All (IsOfDevice (I.goes.seen installation.now).users) events.items) }
+    ensures err { IfErr result (IsRefusal (part_of (I.goes.seen installation.now).users text.now)) }
+{
+    let events = read_events(alloc, installation, text)?;
+    match unended(text) {
+        None => Ok(events),
+        Some(line) => Err(ScriptError::Line(line)),
+    }
+}
+
+/// The last line of a text, counted from 1, where nothing ends it.
+fn unended(text: &[u8]) -> Option<u64>
+    ensures { result ≡ unended_line text.now }
+{
+    let mut line = 1;
+    let mut is_ended = true;
+    for byte in text {
+        is_ended = *byte == b'\n';
+        if is_ended {
+            line += 1;
+        }
+    }
+    if is_ended { None } else { Some(line) }
 }
 
 /// Whether one of these users is ready.

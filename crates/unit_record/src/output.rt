@@ -43,7 +43,9 @@ impl Entry {
     pub fn code(&self) -> u8
         ensures { result ≡ self.now.code }
     {
-        self.code
+        // Exhaustive: a new field fails to compile here.
+        let Entry { code, bytes: _ } = self;
+        *code
     }
 
     /// Its bytes, as they stood in storage.
@@ -111,6 +113,8 @@ impl Output {
     pub fn entries(&self) -> &[Entry]
         ensures { result.now ≡ self.now.entries }
     {
-        self.entries.as_slice()
+        // Exhaustive: a new field fails to compile here.
+        let Output { entries } = self;
+        entries.as_slice()
     }
 }

@@ -16,7 +16,8 @@ use Rattle.cp_core.specs.Boot.{places_in}
 use Rattle.cp_core.specs.UserMachines.{IsUnused, unowned}
 use Rattle.cp_seating.specs.Seating.{AreDisks, AreLawful, seats_of}
 use Rattle.cp_seating.proofs.Seated.{are_disks}
-use Rattle.cp_volumes.specs.Shared.{SharedMinidisk, disks_on}
+use Rattle.cp_volumes.specs.Shared.{SharedMinidisk, disks_on, stands_of}
+use Rattle.cp_resident.specs.Reuse.{kept_none}
 use Rattle.cp_core.specs.Whole.{IsNew}
 use Rattle.cp_seating.specs.Seating.{lacks_volume, user_is_past, user_lacks}
 use Rattle.std.specs.List.{list_any}
@@ -44,6 +45,7 @@ loop-user-preserved c =
       off = off_new volumes (unowned machine) user keys disks unused (ap (λ (d : DevicesParts). devices_with d no_files) c.in_ok-machine.ensures.devices ∙ ap devices_new places);
       seated = seated;
       none = c.in_ok-machine.ensures.deliveries;
+      forgot = c.in_ok-machine.ensures.kept ∙ ap (λ (m : List SharedMinidisk). kept_none (length (stands_of m))) (sym c.in_ok-machine.ensures.minidisks);
       sized = omega (arith, pages, c.pages.ensures.least);
     } in
     let more = new_more volumes (map unowned c.loop-user.machines.items) (take i users) (unowned machine) user c.loop-user.invariant.new new in

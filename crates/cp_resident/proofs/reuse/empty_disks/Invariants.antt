@@ -3,7 +3,7 @@ use Rattle.cp_ccw.specs.Known.{KnownProgram}
 use Rattle.cp_resident.proofs.reuse.empty_disks.Given as goal
 
 abbrev pub invariant-places : goal.invariant-places
-invariant-places l = (k : ℕ) (d : Option KnownProgram) → k < l.place → slice_index_or l.disks k d ≡ None
+invariant-places l = ((k : ℕ) (d : Option KnownProgram) → k < l.place → slice_index_or l.disks k d ≡ None) × (length l.disks ≡ length l.initial.disks)
 
 abbrev pub decreases-places : goal.decreases-places
 decreases-places l = length l.disks - l.place

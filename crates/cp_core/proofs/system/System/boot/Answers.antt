@@ -12,7 +12,7 @@ use Rattle.cp_spool.specs.Queues.{no_files}
 use Rattle.cp_core.specs.UserMachines.{UserParts, unowned}
 use Rattle.cp_core.specs.Whole.{AreNew, AreSeated, IsSystem}
 use Rattle.cp_core.proofs.Owned.{owners_new, seats_new}
-use Rattle.cp_core.proofs.Boots.{blank, between_new, boot_seen, device_told, err_same, new_supply, new_users, none_delivered, seated_new, stands_new, whole_new}
+use Rattle.cp_core.proofs.Boots.{blank, between_new, boot_seen, device_told, err_same, kept_new, new_supply, new_users, none_delivered, seated_new, stands_new, whole_new}
 use Rattle.cp_core.proofs.system.System.boot.Goals as goal
 
 pub invariant_of-result : goal.invariant_of-result
@@ -63,9 +63,10 @@ returns-in-Ok-new-3-clause-ok c =
     rw (are, c.in-Ok-new.ensures.volumes) (record {
       users = rw stored (new_users volumes seats users new);
       stands = stands_new volumes seats users new;
-      rest = rw c.new-in-Ok-new-3.ensures.items (boot_seen _ users volumes (stands_among seats) _ _ _ _
+      rest = rw c.new-in-Ok-new-3.ensures.items (boot_seen _ users volumes (stands_among seats) _ _ _ _ _ _
           (supply ∙ (ap (λ (n : ℕ). free_supply n c.slots.result) c.frames-2.ensures.value ∙ ap (λ (n : ℕ). free_supply c.args.sizes.frames n) c.slots.ensures.value))
-          (none_delivered volumes seats users new));
+          (none_delivered volumes seats users new)
+          (kept_new volumes seats users new));
     })
 
 pub returns-in-Err-clause-device : goal.returns-in-Err-clause-device

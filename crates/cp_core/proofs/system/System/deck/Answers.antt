@@ -1,5 +1,5 @@
 use Rattle.std.proofs.Common.{sym, subst}
-use Rattle.cp_core.specs.Histories.{IsStep}
+use Rattle.cp_core.specs.Histories.{IsReplied}
 use Rattle.cp_core.specs.declared.events.Event.TheVariants.{Deck}
 use Rattle.machine_devices.specs.declared.reply.Reply.{Reply}
 use Rattle.cp_core.proofs.Steps.{deck_cut, deck_given, if_err, is_nothing, is_something, no_deck}
@@ -7,7 +7,7 @@ use Rattle.cp_core.proofs.system.System.deck.Goals as goal
 
 pub returns-then-is_empty-clause-step : goal.returns-then-is_empty-clause-step
 returns-then-is_empty-clause-step c =
-    subst (λ (reply : Reply). IsStep c.args.self.now (record { event = Deck c.args.user c.args.cards; reply = reply; seen = c.args.self.now })) (sym c.silent.ensures)
+    subst (λ (reply : Reply). IsReplied c.args.self.now (record { event = Deck c.args.user c.args.cards; reply = reply; seen = c.args.self.now })) (sym c.silent.ensures)
     (no_deck c.args.self.now c.args.user c.args.cards c.next_file-number.ensures.between (is_nothing c.args.cards.now c.is_empty.result c.is_empty.ensures c.if-is_empty.true))
 
 pub returns-in_err-delivered-clause-cut : goal.returns-in_err-delivered-clause-cut

@@ -83,7 +83,7 @@ returns-clause-rest c =
     let Now : List UserParts → Type 0 =
     λ xs. (let new = seen xs c.self.inside.volumes c.self.inside.frames.storages c.self.inside.directory c.self.inside.frames.supply c.self.inside.files.items c.self.inside.is_spent in new ≡ record c.args.self.now { users = set c.args.self.now.users c.args.to (get_or new.users c.args.to nobody); deliveries = set c.args.self.now.deliveries c.args.to (deliveries_at c.args.self.now c.args.to ++ note_of c.args.parcel ∷ []) }) in
     on_ok c.receive.result (Now (set (seats_on queues c.self.inside.users.items) c.args.to left)) (Now (seats_on c.receive.new.queues (set c.self.inside.users.items c.args.to c.receive.new.self))) (subst Now (sym now))
-    (on_ok c.receive.result _ _ (received_seen (seats_on c.self.inside.queues c.self.inside.users.items) c.self.inside.volumes c.self.inside.frames.storages c.self.inside.directory c.self.inside.frames.supply c.self.inside.files.items c.self.inside.is_spent c.args.self.now c.args.to machine left (note_of c.args.parcel) changed c.self.view_is inside here (ap (λ (m : List SharedMinidisk). stands_of m) c.receive.ensures.minidisks)) c.receive.ensures.noted)
+    (on_ok c.receive.result _ _ (received_seen (seats_on c.self.inside.queues c.self.inside.users.items) c.self.inside.volumes c.self.inside.frames.storages c.self.inside.directory c.self.inside.frames.supply c.self.inside.files.items c.self.inside.is_spent c.args.self.now c.args.to machine left (note_of c.args.parcel) changed c.self.view_is inside here (ap (λ (m : List SharedMinidisk). stands_of m) c.receive.ensures.minidisks) c.receive.ensures.kept) c.receive.ensures.noted)
 
 pub returns-clause-err : goal.returns-clause-err
 returns-clause-err c =
@@ -100,7 +100,7 @@ returns-clause-err c =
     let Now : List UserParts → Type 0 =
     λ xs. (let new = seen xs c.self.inside.volumes c.self.inside.frames.storages c.self.inside.directory c.self.inside.frames.supply c.self.inside.files.items c.self.inside.is_spent in new ≡ record c.args.self.now { deliveries = new.deliveries }) in
     on_err c.receive.result (Now (set (seats_on queues c.self.inside.users.items) c.args.to left)) (Now (seats_on c.receive.new.queues (set c.self.inside.users.items c.args.to c.receive.new.self))) (subst Now (sym now))
-    (on_err c.receive.result _ _ (refused_seen (seats_on c.self.inside.queues c.self.inside.users.items) c.self.inside.volumes c.self.inside.frames.storages c.self.inside.directory c.self.inside.frames.supply c.self.inside.files.items c.self.inside.is_spent c.args.self.now c.args.to machine left changed c.self.view_is here (ap (λ (m : List SharedMinidisk). stands_of m) c.receive.ensures.minidisks)) (c.receive.ensures.err c.self.inside.volumes (get_or c.self.inside.frames.storages c.args.to [])))
+    (on_err c.receive.result _ _ (refused_seen (seats_on c.self.inside.queues c.self.inside.users.items) c.self.inside.volumes c.self.inside.frames.storages c.self.inside.directory c.self.inside.frames.supply c.self.inside.files.items c.self.inside.is_spent c.args.self.now c.args.to machine left changed c.self.view_is here (ap (λ (m : List SharedMinidisk). stands_of m) c.receive.ensures.minidisks) c.receive.ensures.kept) (c.receive.ensures.err c.self.inside.volumes (get_or c.self.inside.frames.storages c.args.to [])))
 
 pub receive-requires : goal.receive-requires
 receive-requires c =

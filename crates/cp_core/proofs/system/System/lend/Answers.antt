@@ -7,7 +7,7 @@ use Rattle.cp_core.specs.System.{SystemView}
 use Rattle.cp_core.specs.UserMachines.{SeatParts, seat_on, seats_on, user_with}
 use Rattle.cp_core.proofs.Systems.{has_seat}
 use Rattle.cp_core.proofs.Owned.{length-seats}
-use Rattle.cp_core.proofs.Lending.{IsLeft, IsSeat, confined_seen, does_seen, fits, owned, rest_seen, seat_at, system_left, users}
+use Rattle.cp_core.proofs.Lending.{IsLeft, IsSeat, confined_seen, does_seen, fits, keeps_seen, others_seen, owned, rest_seen, seat_at, system_left, users}
 use Rattle.cp_core.proofs.system.System.lend.Goals as goal
 
 pub index_mut-seat-requires : goal.index_mut-seat-requires
@@ -20,7 +20,7 @@ pub lend-requires : goal.lend-requires
 lend-requires g c =
     let s = c.self.inside in
     let u = c.seat.inside in
-    let seat : SeatParts = record { parts = u.machine; devices = u.devices; minidisks = u.minidisks.items; keys = u.keys.items; deliveries = u.deliveries.items } in
+    let seat : SeatParts = record { parts = u.machine; devices = u.devices; minidisks = u.minidisks.items; keys = u.keys.items; deliveries = u.deliveries.items; reuse = u.reuse } in
     let at : IsSeat s.queues s.users.items s.volumes s.frames s.directory c.args.user seat =
     seat_at s.queues s.users.items s.volumes s.frames s.directory c.args.self.now.users c.args.user c.index_mut-seat.result.now seat c.self.invariant (ap (λ (v : SystemView). v.users) c.self.view_is) c.requires c.index_mut-seat.ensures.value c.seat.view_is in
     record {
@@ -36,8 +36,8 @@ invariant_of-self g c =
     let s = c.self.inside in
     let u = c.seat.inside in
     let n = c.lend.new in
-    let seat : SeatParts = record { parts = u.machine; devices = u.devices; minidisks = u.minidisks.items; keys = u.keys.items; deliveries = u.deliveries.items } in
-    let seat' : SeatParts = record { parts = n.machine; devices = n.devices; minidisks = n.minidisks.items; keys = (with_items u.keys n.keys).items; deliveries = u.deliveries.items } in
+    let seat : SeatParts = record { parts = u.machine; devices = u.devices; minidisks = u.minidisks.items; keys = u.keys.items; deliveries = u.deliveries.items; reuse = u.reuse } in
+    let seat' : SeatParts = record { parts = n.machine; devices = n.devices; minidisks = n.minidisks.items; keys = (with_items u.keys n.keys).items; deliveries = u.deliveries.items; reuse = n.reuse } in
     let at : IsSeat s.queues s.users.items s.volumes s.frames s.directory c.args.user seat =
     seat_at s.queues s.users.items s.volumes s.frames s.directory c.args.self.now.users c.args.user c.index_mut-seat.result.now seat c.self.invariant (ap (λ (v : SystemView). v.users) c.self.view_is) c.requires c.index_mut-seat.ensures.value c.seat.view_is in
     let left : IsLeft s.queues n.queues s.volumes n.volumes s.frames n.frames c.args.user seat seat' = record {
@@ -56,8 +56,8 @@ returns g c =
     let s = c.self.inside in
     let u = c.seat.inside in
     let n = c.lend.new in
-    let seat : SeatParts = record { parts = u.machine; devices = u.devices; minidisks = u.minidisks.items; keys = u.keys.items; deliveries = u.deliveries.items } in
-    let seat' : SeatParts = record { parts = n.machine; devices = n.devices; minidisks = n.minidisks.items; keys = (with_items u.keys n.keys).items; deliveries = u.deliveries.items } in
+    let seat : SeatParts = record { parts = u.machine; devices = u.devices; minidisks = u.minidisks.items; keys = u.keys.items; deliveries = u.deliveries.items; reuse = u.reuse } in
+    let seat' : SeatParts = record { parts = n.machine; devices = n.devices; minidisks = n.minidisks.items; keys = (with_items u.keys n.keys).items; deliveries = u.deliveries.items; reuse = n.reuse } in
     let at : IsSeat s.queues s.users.items s.volumes s.frames s.directory c.args.user seat =
     seat_at s.queues s.users.items s.volumes s.frames s.directory c.args.self.now.users c.args.user c.index_mut-seat.result.now seat c.self.invariant (ap (λ (v : SystemView). v.users) c.self.view_is) c.requires c.index_mut-seat.ensures.value c.seat.view_is in
     let left : IsLeft s.queues n.queues s.volumes n.volumes s.frames n.frames c.args.user seat seat' = record {
@@ -75,8 +75,14 @@ returns g c =
     let second : Done c.args.user u.keys.items n.keys = subst (λ (ks : List ℕ). Done c.args.user ks n.keys) c.deref_mut.ensures.value first in
     let done : Done c.args.user u.keys.items (with_items u.keys n.keys).items =
     subst (λ (ks : List ℕ). Done c.args.user u.keys.items ks) (sym (with_items_is u.keys n.keys (omega (arith, c.lend.auto.keys, c.deref_mut.ensures.len)))) second in
+    let Kept : ℕ → List ℕ → Type 0 =
+    λ k before. g.W.Work.Keeps c.args.work.now k (user_with (seat_on s.queues (record seat { keys = before })) s.volumes (bytes_of s.frames k)) s.frames.supply c.lend.result u.reuse n.reuse in
+    let kept : Kept c.args.user u.keys.items =
+    subst (λ (ks : List ℕ). Kept c.args.user ks) c.deref_mut.ensures.value (subst (λ (k : ℕ). Kept k c.deref_mut.result.now) c.number_of-number.ensures c.lend.ensures.keeps) in
     record {
       does = does_seen at left s.files.items s.is_spent c.args.self.now c.self.view_is c.requires (λ directory old supply new. g.W.Work.Does c.args.work.now directory c.args.user old supply c.lend.result new n.frames.supply) done;
+      keeps = keeps_seen at left s.files.items s.is_spent c.args.self.now c.self.view_is c.requires (λ e supply old new. g.W.Work.Keeps c.args.work.now c.args.user e supply c.lend.result old new) kept;
+      others_kept = others_seen at left s.files.items s.is_spent c.args.self.now c.self.view_is c.requires;
       rest = rest_seen at left s.files.items s.is_spent c.args.self.now c.self.view_is c.requires;
       confined = confined_seen at left s.files.items s.is_spent c.args.self.now c.self.view_is c.requires;
       between_before = subst (λ (v : SystemView). IsBetweenUnits v.supply) c.self.view_is at.system.between;

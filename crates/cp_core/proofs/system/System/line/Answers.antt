@@ -1,11 +1,13 @@
-use Rattle.std.proofs.Common.{◌∙◌, Err, ap, arith, subst, sym, ℕ}
+use Rattle.std.proofs.Common.{◌∙◌, Err, Ok, ap, arith, refl, subst, sym, ℕ}
 use Rattle.machine_panel.specs.declared.line.LineError.{LineError}
-use Rattle.cp_core.specs.Histories.{IsStep}
+use Rattle.cp_core.specs.Histories.{IsReplied}
+use Rattle.cp_core.specs.Keeps.{HasKept, LineKeeps}
 use Rattle.cp_core.specs.System.{user_at, world_of}
 use Rattle.machine_devices.specs.Replies.{said_to_line}
 use Rattle.cp_core.specs.Work.{HasTyped}
 use Rattle.cp_core.specs.declared.events.Event.TheVariants.{Line}
 use Rattle.machine_devices.specs.declared.reply.Reply.{Reply}
+use Rattle.cp_core.proofs.Keeping.{kept_on}
 use Rattle.cp_core.proofs.Steps.{if_err, line_cut, line_done, line_out}
 use Rattle.cp_core.proofs.system.System.line.Goals as goal
 
@@ -27,5 +29,20 @@ returns-in_ok-delivered-in-Ok-clause-step c =
 pub returns-in-Err-FramesOut-clause-step : goal.returns-in-Err-FramesOut-clause-step
 returns-in-Err-FramesOut-clause-step c =
     let t = c.type_line.ensures in
-    subst (λ (reply : Reply). IsStep c.args.self.now (record { event = Line c.args.user c.args.typed; reply = reply; seen = c.type_line.new.self })) (sym c.silent.ensures)
+    subst (λ (reply : Reply). IsReplied c.args.self.now (record { event = Line c.args.user c.args.typed; reply = reply; seen = c.type_line.new.self })) (sym c.silent.ensures)
     (line_out c.args.self.now c.type_line.new.self c.args.user c.args.typed (subst (λ (e : LineError). HasTyped (world_of c.args.self.now c.args.user) c.args.user c.args.typed.now (user_at c.args.self.now c.args.user) c.args.self.now.supply (Err e) (user_at c.type_line.new.self c.args.user) c.type_line.new.self.supply) c.in-Err-FramesOut.field-0-is c.in-Err-FramesOut.ensures.typed) t.rest t.between_before t.between)
+
+pub returns-in_err-delivered-in-Ok-clause-kept_without_memory : goal.returns-in_err-delivered-in-Ok-clause-kept_without_memory
+returns-in_err-delivered-in-Ok-clause-kept_without_memory c =
+    let told = c.in-Ok.told in
+    if_err c.from_residual.result _
+    (record { result = Ok told; kept = kept_on c.args.user c.args.self.now c.type_line.new.self c.follow.new.self (LineKeeps c.args.typed.now (user_at c.args.self.now c.args.user) (Ok told)) c.in-Ok.ensures.keeps c.follow.ensures.kept })
+
+pub returns-in_ok-delivered-in-Ok-clause-kept : goal.returns-in_ok-delivered-in-Ok-clause-kept
+returns-in_ok-delivered-in-Ok-clause-kept c =
+    let told = c.in-Ok.told in
+    record { result = Ok told; ends = refl; kept = kept_on c.args.user c.args.self.now c.type_line.new.self c.follow.new.self (LineKeeps c.args.typed.now (user_at c.args.self.now c.args.user) (Ok told)) c.in-Ok.ensures.keeps c.follow.ensures.kept }
+
+pub returns-in-Err-FramesOut-clause-kept : goal.returns-in-Err-FramesOut-clause-kept
+returns-in-Err-FramesOut-clause-kept c =
+    record { result = Err c.in-Err-FramesOut.field-0; ends = ap (λ (reply : Reply). reply.ended) c.silent.ensures; kept = c.in-Err-FramesOut.ensures.keeps }

@@ -1,9 +1,11 @@
-use Rattle.std.proofs.Common.{Err, arith, sym, subst}
+use Rattle.std.proofs.Common.{Bool, Err, Ok, Result, ap, arith, refl, sym, subst}
 use Rattle.machine_panel.specs.declared.line.LineError.{LineError}
-use Rattle.cp_core.specs.Histories.{IsStep}
+use Rattle.cp_core.specs.Histories.{IsReplied}
 use Rattle.cp_core.specs.declared.events.Event.TheVariants.{Serve}
+use Rattle.machine_devices.specs.declared.reply.Ended.{Ended}
 use Rattle.machine_devices.specs.declared.reply.Reply.{Reply}
-use Rattle.cp_core.specs.System.{user_at}
+use Rattle.cp_core.specs.Keeps.{EventKeeps, HasKept, ServeKeeps, serve_ended}
+use Rattle.cp_core.specs.System.{kept_at, user_at}
 use Rattle.cp_core.specs.Work.{HasServed}
 use Rattle.cp_core.proofs.Steps.{serve_cut, serve_done, serve_out}
 use Rattle.cp_core.proofs.system.System.serve.Goals as goal
@@ -15,9 +17,29 @@ returns-in-Ok-clause-step c =
 
 pub returns-in-Err-FramesOut-clause-step : goal.returns-in-Err-FramesOut-clause-step
 returns-in-Err-FramesOut-clause-step c =
-    subst (λ (reply : Reply). IsStep c.args.self.now (record { event = Serve c.args.user c.args.device; reply = reply; seen = c.lend.new.self })) (sym c.silent.ensures)
+    subst (λ (reply : Reply). IsReplied c.args.self.now (record { event = Serve c.args.user c.args.device; reply = reply; seen = c.lend.new.self })) (sym c.silent.ensures)
     (serve_out c.args.self.now c.lend.new.self c.args.user c.args.device (subst (λ (e : LineError). HasServed c.args.device c.args.user (user_at c.args.self.now c.args.user) c.args.self.now.supply (Err e) (user_at c.lend.new.self c.args.user) c.lend.new.self.supply) c.in-Err-FramesOut.field-0-is c.in-Err-FramesOut.ensures.does) c.lend.ensures.rest c.lend.ensures.between_before c.lend.ensures.between)
 
 pub returns-in-Err-Memory-clause-cut : goal.returns-in-Err-Memory-clause-cut
 returns-in-Err-Memory-clause-cut c =
     serve_cut c.args.self.now c.lend.new.self c.args.user c.args.device (subst (λ (e : LineError). HasServed c.args.device c.args.user (user_at c.args.self.now c.args.user) c.args.self.now.supply (Err e) (user_at c.lend.new.self c.args.user) c.lend.new.self.supply) c.in-Err-Memory.field-0-is c.in-Err-Memory.ensures.does) c.lend.ensures.rest c.lend.ensures.between_before c.lend.ensures.between
+
+pub returns-in-Ok-clause-kept : goal.returns-in-Ok-clause-kept
+returns-in-Ok-clause-kept c =
+    let one : HasKept c.args.user c.args.self.now c.lend.new.self (ServeKeeps c.args.device c.args.user (user_at c.args.self.now c.args.user) c.args.self.now.supply (Ok c.in-Ok.done)) =
+    record { own = c.in-Ok.ensures.keeps; others = c.lend.ensures.others_kept } in
+    record { result = Ok c.in-Ok.done; ends = refl; kept = one }
+
+pub returns-in-Err-FramesOut-clause-kept : goal.returns-in-Err-FramesOut-clause-kept
+returns-in-Err-FramesOut-clause-kept c =
+    let error = c.in-Err-FramesOut.field-0 in
+    let one : HasKept c.args.user c.args.self.now c.lend.new.self (ServeKeeps c.args.device c.args.user (user_at c.args.self.now c.args.user) c.args.self.now.supply (Err error)) =
+    record { own = c.in-Err-FramesOut.ensures.keeps; others = c.lend.ensures.others_kept } in
+    record { result = Err error; ends = ap (λ (reply : Reply). reply.ended) c.silent.ensures; kept = one }
+
+pub returns-in-Err-Memory-clause-kept_without_memory : goal.returns-in-Err-Memory-clause-kept_without_memory
+returns-in-Err-Memory-clause-kept_without_memory c =
+    record {
+      own = subst (λ (e : LineError). ServeKeeps c.args.device c.args.user (user_at c.args.self.now c.args.user) c.args.self.now.supply (Err e) (kept_at c.args.self.now c.args.user) (kept_at c.lend.new.self c.args.user)) c.in-Err-Memory.field-0-is c.in-Err-Memory.ensures.keeps;
+      others = c.lend.ensures.others_kept;
+    }

@@ -1,5 +1,12 @@
-use Rattle.std.proofs.Common.{◌≡◌, refl, subst, sym, Err, Result, false, List}
-use Rattle.std.specs.Prelude.{IfOk}
+use Rattle.std.proofs.Common.{◌≡◌, ap, refl, subst, sym, Err, Result, false, List}
+use Rattle.std.specs.Prelude.{IfOk, OnErr, OnOk}
+use Rattle.machine_devices.specs.Reuses.{LineForgets}
+use Rattle.cp_resident.specs.Reuse.{ReuseValue}
+use Rattle.cp_resident.specs.declared.resident.Resident.{Resident}
+use Rattle.cp_core.specs.Keeps.{IsForgotten, LineKeeps}
+use Rattle.cp_core.specs.Lending.{kept_in}
+use Rattle.cp_core.proofs.Reused.{forgets}
+use Rattle.cp_core.proofs.Systems.{on_err, on_ok}
 use Rattle.cp_dat.specs.Lent.{lent_memory, user_of}
 use Rattle.machine_devices.specs.Equipped.{Equipped, equipped}
 use Rattle.machine_devices.specs.Lent.{devices_on}
@@ -7,7 +14,7 @@ use Rattle.machine_devices.specs.Lines.{IsLine, requested}
 use Rattle.machine_panel.specs.declared.line.LineError.TheVariants as errors
 use Rattle.cp_volumes.specs.Shared.{DisksValue, KeepsNeighbours, SharedMinidisk, seen}
 use Rattle.ckd_volume.specs.Volume.{VolumeFormat}
-use Rattle.cp_resident.specs.Resident.{disks_on, hung_on}
+use Rattle.cp_resident.specs.Resident.{disks_on, hung_on, reuse_of}
 use Rattle.cp_core.specs.System.{world_among}
 use Rattle.cp_core.specs.Typed.{IsLineLent}
 use Rattle.machine_devices.specs.Comes.{LineMay, is_ipl}
@@ -25,13 +32,14 @@ pub returns-clause-lent : goal.returns-clause-lent
 returns-clause-lent c =
     let told = c.type_supplied-told in
     let first : KeepsNeighbours (disks_of c.args.lent.now) (hung_on told.new.channels) =
-    subst (λ (d : DisksValue). KeepsNeighbours d (hung_on told.new.channels)) c.take-channels.ensures told.ensures.others in
+    subst (λ (d : DisksValue). KeepsNeighbours d (hung_on told.new.channels)) c.take-channels.ensures.hung told.ensures.others in
     record {
       same_machine = refl;
       same_devices = refl;
       same_queues = refl;
       same_volumes = refl;
       same_minidisks = refl;
+      same_reuse = refl;
       beside = told.ensures.beside;
       neighbours = rw (c.give.ensures.volumes, c.give.ensures.minidisks) first;
     }
@@ -52,6 +60,31 @@ returns-clause-does c =
     × (r ≡ Err errors.FramesOut → after ≡ from d)
     × (r ≡ Err errors.Memory → is_ipl (requested typed (from d)) ≡ false → after ≡ from d)
     × (r ≡ Err errors.Memory → LineMay typed (from d)) in
-    let facts : Facts start = subst Facts c.take-channels.ensures (told.ensures.lent, told.ensures.ok, told.ensures.same, told.ensures.kept, told.ensures.memory) in
+    let facts : Facts start = subst Facts c.take-channels.ensures.hung (told.ensures.lent, told.ensures.ok, told.ensures.same, told.ensures.kept, told.ensures.memory) in
     rw (← c.users.ensures.users, ← c.as_slice.ensures.value, c.give.ensures.volumes, c.give.ensures.minidisks)
     (typed_work world (user_of c.args.storage.now) typed (from start) after c.args.storage.now told.new.storage r refl facts.0 facts.1 facts.2 facts.3 facts.4)
+
+pub returns-clause-keeps : goal.returns-clause-keeps
+returns-clause-keeps c =
+    let lent = c.args.lent.now in
+    let told = c.type_supplied-told in
+    let r = told.result in
+    let typed = c.args.self.now.typed.now in
+    let taken = c.take-channels.result in
+    let left = told.new.channels in
+    let new : ReuseValue = reuse_of left in
+    let from : DisksValue → Equipped = λ ds. equipped lent.machine.now (devices_on lent.devices.now lent.queues.now) (seen ds) (lent_memory c.args.storage.now) in
+    let Facts : DisksValue → ReuseValue → Type 0 = λ ds k.
+    OnOk r (LineForgets IsForgotten k new (requested typed (from ds)) (from ds))
+    × (is_ipl (requested typed (from ds)) ≡ false → OnErr r (new ≡ k))
+    × (r ≡ Err errors.FramesOut → new ≡ k) in
+    let start = from (hung_on taken) in
+    let first : Facts (hung_on taken) (reuse_of taken) = (
+      on_ok r _ _ (λ h. forgets taken left (requested typed start) start h) told.ensures.forgets,
+      λ alone. on_err r _ _ (λ h. ap reuse_of h) (told.ensures.stays alone),
+      λ out. ap reuse_of (told.ensures.without_room out),
+    ) in
+    let second : Facts (disks_of lent) (reuse_of taken) = subst (λ (ds : DisksValue). Facts ds (reuse_of taken)) c.take-channels.ensures.hung first in
+    let third : Facts (disks_of lent) (kept_in lent) = subst (λ (k : ReuseValue). Facts (disks_of lent) k) c.take-channels.ensures.kept second in
+    let keeps : LineKeeps typed (from (disks_of lent)) r (kept_in lent) new = record { forgets = third.0; stays = third.1; without_room = third.2 } in
+    subst (λ (k : ReuseValue). LineKeeps typed (from (disks_of lent)) r (kept_in lent) k) (sym c.give.ensures.kept) keeps

@@ -1,4 +1,4 @@
-use Rattle.std.proofs.Common.{◌≡◌, ◌∙◌, ℕ, ap, refl, subst, sym, inl, inr, length, Result, Err}
+use Rattle.std.proofs.Common.{◌≡◌, ◌∙◌, ℕ, ◌%◌, ap, refl, subst, sym, inl, inr, length, Result, Err}
 use Rattle.std.specs.Prelude.{IfErr, IfOk}
 use Rattle.s370_channel.specs.declared.running.ChannelError.{ChannelError}
 use Rattle.s370_channel.specs.Guest.{guest_written}
@@ -17,6 +17,10 @@ use Rattle.cp_hold.specs.declared.held.Program.{Program}
 use Rattle.cp_hold.specs.Holding.{HoldNeeds, IfFixed, IfOpen, IsFixedProgram}
 use Rattle.cp_trial.specs.declared.TriedError.TheVariants as tries
 use Rattle.cp_trial.specs.Tried.{LacksSuch}
+use Rattle.cp_needs.specs.Needs.{IsClash}
+use Rattle.cp_resident.specs.Resident.{reuse_of}
+use Rattle.cp_resident.specs.Reuse.{RunsAgain}
+use Rattle.cp_resident.proofs.Kept.{copied, not_some, opened, refused}
 use Rattle.cp_resident.proofs.Ran.{fixed_there, held_between, held_came, memory_whole, refused_between, refused_came, refused_whole, still_came, tried_came, tried_walk, tried_whole, walk_moved}
 use Rattle.cp_resident.proofs.Refused.{no_room}
 use Rattle.cp_resident.proofs.resident.ResidentChannelsDat.run.Goals as goal
@@ -137,3 +141,17 @@ returns-clause-came g c =
 pub returns-clause-ready : goal.returns-clause-ready
 returns-clause-ready g c =
     refused_between c.args.storage.now c.hold.new.storage c.let_go-in-Err.new.self (HoldNeeds (lent_memory c.args.storage.now) c.get.result) c.hold.ensures.supply c.requires c.let_go-in-Err.ensures.let_go
+
+pub returns-in-Ok-Fixed-clause-kept : goal.returns-in-Ok-Fixed-clause-kept
+returns-in-Ok-Fixed-clause-kept g c =
+    copied (reuse_of c.args.self.now) c.run_copied-ended.new.reuse c.args.storage.now c.hold.new.storage c.args.start c.args.unit _ (λ again. not_some c.of_unit.result c.in_default.is (c.of_unit.ensures.other again)) c.hold.ensures.memory c.run_copied-ended.ensures.kept
+
+pub returns-in-Ok-Open-clause-kept : goal.returns-in-Ok-Open-clause-kept
+returns-in-Ok-Open-clause-kept g c =
+    let m = lent_memory c.args.storage.now in
+    let clashes : c.get.result % 8 ≡ 0 → IsClash m c.get.result = subst (λ (p : Program). IfOpen p (c.get.result % 8 ≡ 0 → IsClash m c.get.result)) c.in-Ok-Open.field-0-is c.in-Ok-Open.ensures.open in
+    opened (reuse_of c.args.self.now) c.put_unit.new.self c.args.storage.now c.args.start c.args.unit _ (λ again. not_some c.of_unit.result c.in_default.is (c.of_unit.ensures.other again)) c.put_unit.ensures
+    (subst (λ (a : ℕ). a % 8 ≡ 0 → IsClash m a) c.get.ensures.value clashes)
+
+pub returns-clause-kept : goal.returns-clause-kept
+returns-clause-kept g c = refused (reuse_of c.args.self.now) c.args.storage.now c.args.start c.args.unit (λ again. not_some c.of_unit.result c.in_default.is (c.of_unit.ensures.other again))

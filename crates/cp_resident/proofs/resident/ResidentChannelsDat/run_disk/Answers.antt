@@ -16,7 +16,8 @@ use Rattle.cp_trial.specs.declared.TriedError.{TriedError}
 use Rattle.cp_trial.specs.declared.TriedError.TheVariants as tries
 use Rattle.cp_trial.specs.Tried.{LacksSuch}
 use Rattle.cp_volumes.specs.Running.{DiskTouches}
-use Rattle.cp_resident.specs.Resident.{disks_on, hung_on}
+use Rattle.cp_resident.specs.Resident.{disks_on, hung_on, reuse_of}
+use Rattle.cp_resident.proofs.Kept.{known, not_both, refused_disk}
 use Rattle.cp_volumes.specs.Shared.{seen}
 use Rattle.cp_resident.proofs.Ran
 use Rattle.cp_resident.proofs.Refused.{no_room}
@@ -153,3 +154,10 @@ returns-in-Err-clause-came c =
 pub returns-in-Err-clause-ready : goal.returns-in-Err-clause-ready
 returns-in-Err-clause-ready c =
     Ran.refused_between c.args.storage.now c.hold.new.storage c.let_go-in-Err.new.self (HoldNeeds (lent_memory c.args.storage.now) c.get.result) c.hold.ensures.supply c.requires.ready c.let_go-in-Err.ensures.let_go
+
+pub returns-in-Ok-Fixed-clause-kept : goal.returns-in-Ok-Fixed-clause-kept
+returns-in-Ok-Fixed-clause-kept c =
+    known (reuse_of c.args.self.now) (reuse_of c.run_known-ended.new.channels) c.args.storage.now c.hold.new.storage c.args.start c.args.index _ (λ again. not_both c.if-has_disk.false (c.has_disk.ensures.other again)) c.hold.ensures.memory c.run_known-ended.ensures.kept
+
+pub returns-in-Err-clause-kept : goal.returns-in-Err-clause-kept
+returns-in-Err-clause-kept c = refused_disk (reuse_of c.args.self.now) c.args.storage.now c.args.start c.args.index (λ again. not_both c.if-has_disk.false (c.has_disk.ensures.other again))

@@ -1,0 +1,24 @@
+-- What was read, one after another.
+use Rattle.std.proofs.Common.{◌≡◌, ◌∙◌, ℕ, List, [], ◌∷◌, ◌++◌, Option, Some, Result, Ok, Err, refl, sym, ap, subst, append_assoc, length}
+use Rattle.std.specs.Prelude.{OnErr}
+use Rattle.std.specs.Io.KnownBytes.{Consumes}
+use Rattle.std.proofs.KnownBytes.{Consumes-trans}
+use Rattle.s370_num.specs.Host.{ReadsFront}
+use Rattle.text_words.specs.Numbers.{decimal_of}
+use Rattle.programs.specs.Parts.{GivesByte, GivesLine, IsFramed}
+
+pub reads_more : (a b c : Option (List ℕ)) (bs : List ℕ) → Consumes a b bs → ReadsFront b c → ReadsFront a c
+reads_more a b c bs read more = (bs ++ more.0, Consumes-trans a b c bs more.0 read more.1)
+
+-- a byte came, or a line
+pub a_byte : (byte : Option ℕ) (is : ℕ) (a b : Option (List ℕ)) → byte ≡ Some is → GivesByte byte a b → Consumes a b (is ∷ [])
+a_byte byte is a b e h = subst (λ (o : Option ℕ). GivesByte o a b) e h
+
+pub a_line : (line : Option (List ℕ)) (is : List ℕ) (a b : Option (List ℕ)) → line ≡ Some is → GivesLine line a b → Consumes a b (is ++ 10 ∷ [])
+a_line line is a b e h = subst (λ (o : Option (List ℕ)). GivesLine o a b) e h
+
+-- a part behind its size
+pub framed : (digits part : List ℕ) (size : ℕ) (a b c : Option (List ℕ)) → decimal_of 9 digits ≡ Some size → length part ≡ size → Consumes a b (digits ++ 10 ∷ []) → Consumes b c part → (read : List ℕ) × IsFramed read part × Consumes a c read
+framed digits part size a b c e is line bytes =
+    let whole : (digits ++ 10 ∷ []) ++ part ≡ digits ++ 10 ∷ part = append_assoc digits (10 ∷ []) part in
+    (digits ++ 10 ∷ part, record { digits = digits; size = e ∙ ap Some (sym is); line = refl }, subst (Consumes a c) whole (Consumes-trans a b c (digits ++ 10 ∷ []) part line bytes))
