@@ -33,6 +33,8 @@ class User:
         self.is_on = False
         self.is_running = False
         self.terminal = None
+        # the logon that is under way
+        self.logon = None
         self.shown = collections.deque(maxlen=KEPT_LINES)
 
     def show(self, text):

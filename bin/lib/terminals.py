@@ -51,7 +51,8 @@ class Terminal:
         while not self.lines:
             try:
                 data = await self.reader.read(4096)
-            except ConnectionError:
+            except OSError:
+                # however the network says that the connection is gone
                 return None
             if not data or self.writer.is_closing():
                 return None
@@ -105,12 +106,14 @@ class Desk:
         self.serving.add(asyncio.current_task())
         self.terminals.add(terminal)
         # the installation stops by an end of all these
-        with contextlib.suppress(asyncio.CancelledError):
-            if user := await self.logged_on(terminal):
-                await self.converse(terminal, user)
-        terminal.close()
-        self.terminals.discard(terminal)
-        self.serving.discard(asyncio.current_task())
+        try:
+            with contextlib.suppress(asyncio.CancelledError):
+                if user := await self.logged_on(terminal):
+                    await self.converse(terminal, user)
+        finally:
+            terminal.close()
+            self.terminals.discard(terminal)
+            self.serving.discard(asyncio.current_task())
 
     async def logged_on(self, terminal):
         """The user who logs on at a terminal, or None. Where too many are about to, the one who was there longest goes."""
@@ -162,25 +165,40 @@ class Desk:
     async def converse(self, terminal, user):
         """What is typed at a terminal is typed at that of the user, until he logs off or another terminal takes over."""
         self.take_over(terminal, user)
-        if not user.is_on:
-            await self.engine.give(typed_line(user.name, b"LOGON"))
-        while user.is_on and user.terminal is terminal:
-            line = await terminal.next_line()
-            if line is None:
-                break
+        try:
+            await self.log_on(user)
+            while user.is_on and user.terminal is terminal:
+                line = await terminal.next_line()
+                if line is None:
+                    break
+                if user.terminal is terminal:
+                    await self.engine.give(typed_line(user.name, line))
+        finally:
             if user.terminal is terminal:
-                await self.engine.give(typed_line(user.name, line))
-        if user.terminal is terminal:
-            user.terminal = None
-            self.tell(f"{user.name} {'leaves his terminal' if user.is_on else 'is logged off'}")
+                user.terminal = None
+                self.tell(f"{user.name} {'leaves his terminal' if user.is_on else 'is logged off'}")
+
+    async def log_on(self, user):
+        """Switches the user's machine on, once, however many terminals ask for it at the same time."""
+        if user.is_on:
+            return
+        if not user.logon:
+            user.logon = asyncio.ensure_future(self.engine.give(typed_line(user.name, b"LOGON")))
+        try:
+            # a terminal that goes takes the logon of another one not with it
+            await asyncio.shield(user.logon)
+        finally:
+            if user.logon and user.logon.done():
+                user.logon = None
 
     def take_over(self, terminal, user):
         if user.terminal:
             user.terminal.say(TAKES_OVER)
             user.terminal.close()
         user.terminal, terminal.name = terminal, user.name
-        self.tell(f"{user.name} {'is back' if user.is_on else 'logs on'}")
-        if user.is_on:
+        is_back = user.is_on or user.logon
+        self.tell(f"{user.name} {'is back' if is_back else 'logs on'}")
+        if is_back:
             terminal.say(RECONNECTED)
             for text in user.shown:
                 terminal.say(text)
