@@ -81,7 +81,7 @@ class Site:
 
     def program(self):
         """The id of the program that it runs, or None."""
-        found = subprocess.run(["pgrep", "-P", str(self.process.pid)], capture_output=True, text=True).stdout.split()
+        found = subprocess.run(["pgrep", "-P", str(self.process.pid), "-f", "vm370_cli"], capture_output=True, text=True).stdout.split()
         return int(found[0]) if found else None
 
     def kill(self, is_all=False):
@@ -760,12 +760,20 @@ def try_files(check, site, prints):
     wanted = ["it has no card\n", "a deck has cards of 80 bytes, and this one has 79 bytes\n", "card 1 is longer than 80\n"]
     check("or refused with a reason", told == wanted and len(refused) == 6, *refused, *told)
     site.kill()
-    os.unlink(name)
     os.replace(f"{folder}/done/text", f"{folder}/text")
     site.online("--decks", f"{site.folder}/decks", "--printouts", f"{site.folder}/prints", "--sender", "OPER")
     check("a deck that was read in before a crash is only moved", site.await_told("deck text for BOB: read in"), *site.told)
-    check("and a printout that lacks is made again", os.path.exists(name))
     check("they are suspended", site.stop() == 0)
+    os.unlink(name)
+    site.online("--printouts", f"{site.folder}/prints")
+    check("and a printout that was taken away does not come back", site.stop() == 0 and not os.path.exists(name))
+    with open(site.record, "rb") as file:
+        before = file.read()
+    check("what is written is noted", before.count(b"* PRINTED PRT0001-ALICE.txt\n") == 1)
+    write(site.record, before.replace(b"* PRINTED PRT0001-ALICE.txt\n", b""))
+    site.online("--printouts", f"{site.folder}/prints")
+    check("one that a crash kept from being written is", site.await_told(f"closed: {name}") and read(name) == b"HELLO\n")
+    check("they are suspended again", site.stop() == 0)
     with open(site.record, "rb") as file:
         check("one deck was given once", file.read().count(b"DECK BOB 2\nFIRST CARD\nSECOND\n") == 1)
     return shown

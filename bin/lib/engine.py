@@ -2,6 +2,7 @@
 import asyncio
 import collections
 import concurrent.futures
+import contextlib
 import re
 import time
 from typing import NamedTuple
@@ -9,7 +10,7 @@ from typing import NamedTuple
 from following import NotFollowed, Program
 from machines import ScriptRefused
 from people import Failure, FILE_FAILED, REFUSED
-from recording import TURNS, TYPED, weight_of
+from recording import PRINTED, TURNS, TYPED, weight_of
 
 # lines that one who comes back sees again
 KEPT_LINES = 24
@@ -125,8 +126,12 @@ class Engine:
         self.program = Program(machines, "--terminals", "--save")
         self.thread = concurrent.futures.ThreadPoolExecutor(1)
         self.waiting = []
+        # comments that the recording is to have
+        self.marks = collections.deque()
+        self.loop = asyncio.get_running_loop()
         self.woken = asyncio.Event()
         self.is_stopping = False
+        printouts.note = lambda name: self.note(PRINTED + name.encode() + b"\n")
         self.parts = 0
         # of the program, since the session was begun: about what a restart takes
         self.seconds = 0.0
@@ -140,13 +145,24 @@ class Engine:
         self.woken.set()
         await done
 
+    def note(self, mark):
+        """Has the recording get a comment line; any thread may ask for that."""
+        self.marks.append(mark)
+        with contextlib.suppress(RuntimeError):
+            # the loop may have ended: then the end of the session writes it
+            self.loop.call_soon_threadsafe(self.woken.set)
+
+    def take_marks(self):
+        marks = [self.marks.popleft() for _ in range(len(self.marks))]
+        return b"".join(marks)
+
     async def work(self):
         """Gives parts until it is stopped."""
         while not self.is_stopping:
-            if not self.waiting and not self.pace.is_busy:
+            if not self.waiting and not self.marks and not self.pace.is_busy:
                 self.woken.clear()
                 await self.woken.wait()
-            if self.waiting:
+            if self.waiting or self.marks:
                 await self.do_waiting()
             if self.pace.is_busy and not self.is_stopping:
                 await self.deal()
@@ -164,8 +180,10 @@ class Engine:
         given, self.waiting = self.waiting, []
         parts = [it for it, _ in given]
         typed = tuple(it for part in parts for it in part.typed)
-        await self.do(Part(b"".join(it.lines for it in parts), typed, is_kept=any(it.is_kept for it in parts)))
-        self.pace.wake()
+        lines = b"".join(it.lines for it in parts) + self.take_marks()
+        await self.do(Part(lines, typed, is_kept=any(it.is_kept for it in parts)))
+        if given:
+            self.pace.wake()
         for _, done in given:
             if not done.done():
                 done.set_result(None)
@@ -236,13 +254,22 @@ class Engine:
         part, weight = sent.popleft()
         came = self.checked(self.program.answer)
         self.take(part, came)
-        self.printouts.put(came.files)
+        self.printouts.put(came.files, is_replay=True)
         return weight
 
     def stop(self):
         self.is_stopping = True
         self.woken.set()
 
+    def settle(self):
+        """Has the recording whole on the disk."""
+        self.printouts.settle()
+        self.printouts.close()
+        if self.marks:
+            self.recording.add(self.take_marks())
+        self.recording.settle()
+
     def close(self):
+        self.printouts.close()
         self.program.close()
         self.thread.shutdown()

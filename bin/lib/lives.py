@@ -2,6 +2,7 @@
 import collections
 import re
 
+from printed import entries_in
 from recording import TYPED
 
 # lines of a console that are kept, the last ones
@@ -81,7 +82,7 @@ class Story:
             return
         typed = self.read_entry(entry)
         came = program.do(entry)
-        self.files += came.files
+        self.files += [(heading, entries_in(body)) for heading, body in came.files]
         for event in came.events:
             self.read_event(event, typed)
 

@@ -15,6 +15,7 @@ BEGUN = b"* BEGUN "
 END = b"* END"
 SAVED = b"* SAVED "
 DECK_READ = b"* DECK "
+PRINTED = b"* PRINTED "
 MOST_TURNS = 100000
 SUM_DIGITS = 32
 TIME = "%Y-%m-%d %H:%M:%S UTC"
@@ -103,6 +104,7 @@ class Recording:
         self.begun = b""
         self.last = b""
         self.decks = set()
+        self.printed = set()
         self.weight = 0
         # it has all that was typed, perhaps a password at a wrong place
         self.file = open(path, "ab", buffering=0, opener=lambda path, flags: os.open(path, flags, 0o600))
@@ -135,6 +137,8 @@ class Recording:
             self.begun = self.begun or entry
         elif entry.startswith(DECK_READ):
             self.decks.add(entry)
+        elif entry.startswith(PRINTED):
+            self.printed.add(entry.removeprefix(PRINTED).decode().rstrip("\n"))
         self.last = entry
         self.weight += weight_of(entry)
 
