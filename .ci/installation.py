@@ -417,7 +417,7 @@ def try_recordings(check, folder):
     for what, (text, wanted) in ENTRIES.items():
         write(path, BEGINS + text)
         recording = Recording(path)
-        found = list(recording.entries())
+        found = [entry for _, _, entry in recording.entries()]
         recording.close()
         whole = b"".join(wanted)
         check(f"{what} of a recording", found == wanted and read(path) in (BEGINS + text, BEGINS + whole), *found)
@@ -770,7 +770,7 @@ def try_files(check, site, prints):
     with open(site.record, "rb") as file:
         before = file.read()
     check("what is written is noted", before.count(b"* PRINTED PRT0001-ALICE.txt\n") == 1)
-    write(site.record, before.replace(b"* PRINTED PRT0001-ALICE.txt\n", b""))
+    write(site.record, without_sums(before).replace(b"* PRINTED PRT0001-ALICE.txt\n", b""))
     site.online("--printouts", f"{site.folder}/prints")
     check("one that a crash kept from being written is", site.await_told(f"closed: {name}") and read(name) == b"HELLO\n")
     check("they are suspended again", site.stop() == 0)
@@ -854,11 +854,16 @@ def try_ending(check, site):
     with open(site.record, "rb") as file:
         whole = file.read()
     base = read(f"{site.folder}/{first}/recording").split(b"* BEGUN")[0]
-    write(site.record, base + b"* BEGUN" + whole.split(b"* BEGUN")[1] + b"* END\n")
+    write(site.record, without_sums(base + b"* BEGUN" + whole.split(b"* BEGUN")[1]) + b"* END\n")
     site.online()
     done = [it for it in names_in(site.folder) if it.startswith("recording.2")]
     check("and an end that was begun", has(new) and len(done) == 2 and is_kept(done[1]), *site.told, *done)
     check("then it is online again", site.stop() == 0)
+
+
+def without_sums(recording):
+    """A recording as it was made before stamps had sums."""
+    return re.sub(rb"(?m)^(\* [0-9: -]{19} UTC) [0-9a-f]{8}$", rb"\1", recording)
 
 
 async def logged_on(site, name, password):

@@ -1,8 +1,11 @@
 """What an installation meets in months: users' files, faulty files, edits, failing programs. Called by .ci/test-people."""
 import asyncio
 import os
+import re
+import socket
+import subprocess
 
-from installation import logged_on, make_site, names_in, person, read, run, until_so
+from installation import kept_of, logged_on, make_site, names_in, person, read, run, until_so
 
 
 def write(path, text):
@@ -112,8 +115,6 @@ class Streams:
         return 0
 
     def get_extra_info(self, _):
-        import socket
-
         return socket.socket()
 
     def is_closing(self):
@@ -179,10 +180,106 @@ def try_two_logons(check):
     check("two logons at the same time", holds, *parts, *told, one, other)
 
 
+# --- recordings and volumes that were changed ---
+
+
+class SomeBase:
+    """What a recording of no session is of."""
+
+    def lines(self):
+        return [b"* GATHJUMLI RECORDING 1", b"* PROGRAM 1", b"* DIRECTORY a /x", b"* SIZES 16 0", b"* VOLUME b /y"]
+
+
+WHOLE = (b"LINE A LOGON\n", b"LINE A STORE G1 0000000A\n", b"DECK A 2\nFIRST CARD\nSECOND CARD\n", b"AUTO 7\n", b"LINE A #CP\n",
+         b"LINE B LOGON\nLINE A DISPLAY G1\n")  # fmt: skip
+
+
+def changed(line, by):
+    """An edit that puts these lines in the place of one."""
+    return lambda lines: lines[: line - 1] + by(lines[line - 1]) + lines[line:]
+
+
+# each edit of the recording above, and what has to be reported of it: lines 1 to 7 are its beginning, and each part has a stamp
+EDITS = {
+    "a digit of a typed line": (changed(10, lambda it: [it.replace(b"A\n", b"B\n")]), "line 10 is not as written"),
+    "a digit of turns": (changed(16, lambda it: [b"AUTO 8\n"]), "line 16 is not as written"),
+    "a card": (changed(14, lambda it: [b"SECOND CARE\n"]), "lines 12 to 14 are not as written"),
+    "a line that is taken out": (changed(18, lambda it: []), "line 18 is not as written"),
+    "a line that is put in": (changed(18, lambda it: [it, it]), "lines 18 to 19 are not as written"),
+    "two lines that change places": (lambda it: it[:19] + [it[20], it[19]] + it[21:], "lines 20 to 21 are not as written"),
+    "more cards than there are": (changed(12, lambda it: [b"DECK A 200\n"]), "line 12 has more cards than follow it"),
+    "fewer cards than there are": (changed(12, lambda it: [b"DECK A 1\n"]), "line 14 is no line of a recording"),
+    "a time": (changed(17, lambda it: [it.replace(b"* 2", b"* 1")]), "line 18 is not as written"),
+    "a sum": (changed(17, lambda it: [it[:-9] + b"01234567\n"]), "or the sum in line 17 is not"),
+    "a sum that is taken out": (changed(17, lambda it: [it[:-10] + b"\n"]), "line 17 has no sum"),
+    "a stamp that is taken out": (changed(17, lambda it: []), "lines 16 to 17 are not as written"),
+    "the beginning": (changed(6, lambda it: []), "line 6 comes before any line BEGUN"),
+    "the sizes": (changed(4, lambda it: [b"* SIZES 16 1\n"]), "lines 1 to 6 are not as written"),
+    "a line that is none": (changed(10, lambda it: [b"LNIE A\n"]), "line 10 is no line of a recording"),
+    "a line after the last one": (lambda it: it + [b"NOTES\n"], "line 23 is no line of a recording"),
+    "all that follows": (lambda it: it[:17] + [b"\0" * 99 + b"\n"], "line 18 is no line of a recording"),
+}
+
+
+def try_edits(check, folder):
+    """Each edit of a recording is reported by its line, with what can be done, and nothing of the file is lost."""
+    from people import Failure
+    from recording import Recording
+
+    path = f"{folder}/edited"
+    recording = Recording(path)
+    check("a recording says that it begins", recording.begin(SomeBase()) == f"begins {path}")
+    for part in WHOLE:
+        recording.add(part)
+    recording.close()
+    whole = read(path).splitlines(True)
+    for what, (edit, wanted) in EDITS.items():
+        with open(path, "wb") as file:
+            file.writelines(edit(whole))
+        before = read(path)
+        try:
+            Recording(path).close()
+            told = ["taken"]
+        except Failure as failure:
+            told = failure.lines
+        holds = wanted in told[0] and "put back a copy" in told[-1] and read(path) == before
+        check(f"an edit of a recording: {what}", holds, *told)
+    with open(path, "wb") as file:
+        file.writelines(whole)
+    recording = Recording(path)
+    told = recording.begin(SomeBase())
+    recording.close()
+    check("and that it goes on", re.fullmatch(f"goes on from 22 lines of {path}, until [0-9: -]{{19}} UTC", told), told)
+
+
+def try_volumes(check, site):
+    """A volume belongs to one installation at a time, and one that somebody else has changed is not written over."""
+    volume = f"{site.folder}/volume"
+    write(volume, "AS IT WAS\n")
+    site.paths.append(volume)
+    site.online()
+    other = [site.command, "--record", f"{site.folder}/other", "--listen", f"{site.folder}/other-socket", *site.paths]
+    done = subprocess.run(other, capture_output=True, text=True, stdin=subprocess.DEVNULL)
+    check("a second installation over a volume", done.returncode == 1 and f"another installation uses {volume}" in done.stderr, done.stderr)
+    write(volume, "CHANGED\n")
+    session = site.session()
+    site.operate("end now")
+    check("it ends", site.ended() == 0, *site.told)
+    holds = read(volume) == b"CHANGED\n" and read(f"{volume}.{session}") == b"SAVED\n"
+    check("a volume that somebody else changed", holds and "was changed by somebody else" in site.since_start(), *site.told)
+    check("is not kept as what it was", names_in(f"{site.folder}/{kept_of(site)}") == ["directory", "recording"])
+    site.online()
+    site.operate("end now")
+    holds = site.ended() == 0 and read(volume) == b"SAVED\n" and read(f"{site.folder}/{kept_of(site)}/volume-1") == b"CHANGED\n"
+    check("the next session goes on from it", holds, *site.told)
+
+
 def try_faults(check, command, folder):
     """All that is tried in seconds, over a stand-in for the program."""
     os.makedirs(folder)
     try_removed_deck(check, folder)
     try_lost_connection(check)
     try_two_logons(check)
+    try_edits(check, folder)
+    try_volumes(check, make_site(command, f"{folder}/volumes"))
     try_decks(check, make_site(command, f"{folder}/decks"))

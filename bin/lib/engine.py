@@ -210,13 +210,16 @@ class Engine:
         self.settling = time.monotonic() - done
         return came
 
-    def checked(self, ask, *given):
+    def checked(self, ask, *given, line=None):
+        """An answer of the program; line is where in the recording its part begins, if it is from there."""
         try:
             return ask(*given)
         except NotFollowed:
             raise Failure(FILE_FAILED, "the program takes no script part by part") from None
         except ScriptRefused as it:
-            raise Failure(REFUSED, f"{self.recording.path}: the program refuses line {it.line} of a part") from None
+            if line is not None:
+                raise self.recording.edited(line + it.line - 1, "is refused by the program") from None
+            raise Failure(REFUSED, f"the program refuses line {it.line} of a part") from None
 
     def take(self, part, came):
         """Shows each user what was printed at his terminal, and keeps who is on and whose machine runs."""
@@ -237,12 +240,12 @@ class Engine:
         self.checked(self.program.do, b"")
         begun = time.monotonic()
         progress, sent = Progress(self.recording.weight, tell), collections.deque()
-        for entry in self.recording.entries():
+        for number, when, entry in self.recording.entries():
             if self.is_stopping:
                 return
             part = part_of(entry)
             self.program.send(part.lines)
-            sent.append((part, weight_of(entry)))
+            sent.append((part, number, when))
             if len(sent) >= AHEAD:
                 progress.add(self.take_first(sent))
         while sent and not self.is_stopping:
@@ -251,11 +254,11 @@ class Engine:
 
     def take_first(self, sent):
         """Takes what came of the first part that was sent, and gives its weight."""
-        part, weight = sent.popleft()
-        came = self.checked(self.program.answer)
+        part, number, when = sent.popleft()
+        came = self.checked(self.program.answer, line=number)
         self.take(part, came)
         self.printouts.put(came.files, is_replay=True)
-        return weight
+        return weight_of(part.lines)
 
     def stop(self):
         self.is_stopping = True

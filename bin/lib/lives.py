@@ -87,7 +87,7 @@ class Story:
             self.read_event(event, typed)
 
     def read_comment(self, text):
-        found = re.fullmatch(r"\* (?:BEGUN )?(\d{4}-\d\d-\d\d \d\d:\d\d:\d\d) UTC\n", text)
+        found = re.fullmatch(r"\* (?:BEGUN )?(\d{4}-\d\d-\d\d \d\d:\d\d:\d\d) UTC(?: [0-9a-f]{8})?\n", text)
         if found:
             self.time.stamp(found[1])
 
