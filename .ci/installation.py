@@ -200,7 +200,7 @@ run = asyncio.run
 
 class StandIn:
     """Takes parts of a script as the program does, for users who type LOGON, LOGOFF, #CP, BEGIN, STORE, DISPLAY of a register,
-    MSG and PRINT, which no program has: it prints a file."""
+    MSG, and two that no program has: PRINT prints a file of a line, and LIST one of so many."""
 
     def __init__(self, directory, has_slices):
         self.has_slices = has_slices
@@ -267,6 +267,9 @@ class StandIn:
         elif words[:1] == ["PRINT"]:
             self.files.append([f"== PRT {len(self.files) + 1:04} {name}", f"09 {' '.join(words[1:])}"])
             self.closed += [f"> {self.files[-1][0]}", f"> |{self.files[-1][1]}"]
+        elif words[:1] == ["LIST"]:
+            self.files.append([f"== PRT {len(self.files) + 1:04} {name}"])
+            self.closed += [f"> {self.files[-1][0]}", *[f"> |09 {'A' * 60}"] * int(words[1])]
         elif words:
             self.say(name, "UNKNOWN COMMAND")
 
@@ -295,7 +298,7 @@ def stand_in(words):
     while (size := sys.stdin.buffer.readline()) not in (b"", b"END\n"):
         told = program.part(sys.stdin.buffer.read(int(size)))
         told = ["> REFUSED 1"] if told is None else [*told, "> DONE"]
-        sys.stdout.write("".join(f"{it}\n" for it in told))
+        sys.stdout.write("\n".join(told) + "\n")
         sys.stdout.flush()
     sys.stdout.write("".join(f"{it}\n" for it in program.last_lines()))
     sys.stdout.flush()

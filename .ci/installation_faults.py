@@ -1,11 +1,17 @@
 """What an installation meets in months: users' files, faulty files, edits, failing programs. Called by .ci/test-people."""
 import asyncio
+import fcntl
 import os
+import pty
 import re
+import shutil
+import signal
 import socket
 import subprocess
+import termios
+import time
 
-from installation import kept_of, logged_on, make_site, names_in, person, read, run, until_so
+from installation import PATIENCE, kept_of, logged_on, make_site, names_in, person, read, replayed, run, until_so
 
 
 def write(path, text):
@@ -180,6 +186,45 @@ def try_two_logons(check):
     check("two logons at the same time", holds, *parts, *told, one, other)
 
 
+# --- long listings ---
+
+LINES = 500000
+
+
+def try_listing(check, site):
+    """While pages of a long listing are made others are answered as fast as before, at the 99th hundredth."""
+
+    async def answered(one, until):
+        took = []
+        while not until():
+            begun = time.monotonic()
+            one.type("DISPLAY G1")
+            await one.until("GPR 1 = 00000000")
+            took.append(time.monotonic() - begun)
+        return sorted(took)[int(len(took) * 0.99)]
+
+    async def tried():
+        alice, bob = await person(f"{site.folder}/socket"), await person(f"{site.folder}/socket")
+        await alice.logon("ALICE", "WONDER")
+        await bob.logon("BOB", "BUILDER")
+        begun = time.monotonic()
+        before = await answered(bob, lambda: time.monotonic() > begun + 2)
+        alice.type(f"LIST {LINES}", "DISPLAY G1")
+        # the stand-in itself takes a while
+        await alice.until("GPR 1 = 00000000")
+        path = f"{site.folder}/prints/{site.session()}/PRT0001-ALICE.txt"
+        meanwhile = await answered(bob, lambda: os.path.exists(path))
+        alice.go()
+        bob.go()
+        return before, meanwhile, read(path).count(b"\n")
+
+    site.online("--printouts", f"{site.folder}/prints")
+    before, meanwhile, lines = run(tried())
+    told = f"before {1000 * before:.0f} ms, meanwhile {1000 * meanwhile:.0f} ms"
+    check(f"a listing of {LINES} lines keeps nobody waiting", meanwhile < max(0.1, 3 * before) and lines == LINES, told, f"{lines}")
+    check("it is suspended", site.stop() == 0, *site.told)
+
+
 # --- recordings and volumes that were changed ---
 
 
@@ -274,12 +319,113 @@ def try_volumes(check, site):
     check("the next session goes on from it", holds, *site.told)
 
 
-def try_faults(check, command, folder):
+# --- operators, and programs that die ---
+
+
+def operator(site, *words, given=None):
+    """What an operator's command answers."""
+    command = site.command.replace("/installation", "/operator")
+    return subprocess.run([command, f"{site.folder}/operator", *words], input=given, capture_output=True, text=True, timeout=PATIENCE)
+
+
+def at_window(words):
+    """Starts a command in a window of its own: the command, and the window."""
+    window, inside = pty.openpty()
+    own_window = lambda: fcntl.ioctl(0, termios.TIOCSCTTY, 0)
+    streams = {"stdin": inside, "stdout": inside, "stderr": inside}
+    process = subprocess.Popen(words, start_new_session=True, preexec_fn=own_window, **streams)
+    os.close(inside)
+    return process, window
+
+
+def try_operators(check, site):
+    """Operators come and go, several at once; the installation outlives the window where it was started."""
+    words = [site.command, *site.words, "--operate", f"{site.folder}/operator", "--journal", f"{site.folder}/journal", *site.paths]
+    process, window = at_window(words)
+    shown = b""
+    while b"online at" not in shown:
+        shown += os.read(window, 65536)
+    os.close(window)
+
+    answer = run(logged_on(site, "ALICE", "WONDER"))
+    check("it goes on when its window is closed", answer == "LOGON OK" and process.poll() is None)
+    status = operator(site, "status")
+    check("an operator is answered", status.returncode == 0 and "1 on, 0 about to log on" in status.stdout, status.stdout, status.stderr)
+    wrong = operator(site, "nothing")
+    check("a command that is none is refused", wrong.returncode == 1 and "there is no command nothing" in wrong.stdout, wrong.stdout)
+    still = operator(site, "end")
+    check("so is an end while somebody is on", still.returncode == 1 and "still on: ALICE" in still.stdout, still.stdout)
+    streams = {"stdin": subprocess.PIPE, "stdout": subprocess.PIPE, "text": True}
+    command = [site.command.replace("/installation", "/operator"), f"{site.folder}/operator"]
+    others = [subprocess.Popen(command, **streams) for _ in range(2)]
+    for other in others:
+        other.stdin.write("users\n")
+        other.stdin.flush()
+        check("several operators at once", any("ALICE is stopped, at no terminal" in line for line in iter(other.stdout.readline, "")))
+    several = operator(site, given="users\nmessage GOOD NIGHT\n")
+    check("commands from a file", several.returncode == 0 and "1 on" in several.stdout, several.stdout)
+    second = subprocess.run([*words[:1], *(it.replace("recording", "other") for it in words[1:])], capture_output=True, text=True,
+                            stdin=subprocess.DEVNULL)  # fmt: skip
+    check("a second one at its sockets is refused", second.returncode == 3 and "another process listens at" in second.stderr, second.stderr)
+    ended = operator(site, "end", "now")
+    check("an operator ends it", ended.returncode == 0 and "the session has ended" in ended.stdout, ended.stdout, ended.stderr)
+    check("and it has ended well", process.wait(PATIENCE) == 0)
+    for other in others:
+        check("all operators see that", "the session has ended" in other.communicate(timeout=PATIENCE)[0])
+    gone = operator(site, "status")
+    check("who comes later is told", gone.returncode == 3 and "operator:" in gone.stderr, gone.stderr)
+    journal = read(f"{site.folder}/journal").decode()
+    dated = re.findall(r"^\d{4}-\d\d-\d\d \d\d:\d\d:\d\d (.*)$", journal, re.M)
+    check("the journal has it all with dates", "ALICE logs on" in dated and "the session ends" in dated, journal)
+
+
+def try_dying_program(check, site, program):
+    """A program that is killed is started again: nothing that was shown is lost, and nobody has to come back."""
+
+    async def tried():
+        alice = await person(f"{site.folder}/socket")
+        await alice.logon("ALICE", "WONDER")
+        for count in range(1, 4):
+            alice.type(f"STORE G1 {count:08X}", "DISPLAY G1")
+            await alice.until(f"GPR 1 = {count:08X}")
+            os.kill(site.program(), signal.SIGKILL)
+            alice.type("DISPLAY G1")
+            await alice.until(f"GPR 1 = {count:08X}")
+        alice.type("LOGOFF")
+        return await alice.rest()
+
+    site.online()
+    lines = run(tried())
+    wanted = [text for count in range(1, 4) for text in ("STORED", *[f"GPR 1 = {count:08X}"] * 2)]
+    check("a program that dies is started again", lines[1:] == ["LOGON OK", *wanted, "LOGOFF OK"], *lines, *site.told)
+    check("the operator is told", site.await_told("ended by signal 9: it is started again"), *site.told)
+    check("it is suspended", site.stop() == 0)
+    done, shown = replayed(program, site.paths[0], site.record)
+    check("and the recording replays", shown.get("ALICE") == lines[1:], done.stderr, *shown.get("ALICE", []))
+
+
+def try_unit(check, folder):
+    """The unit for systemd is one."""
+    if not shutil.which("systemd-analyze"):
+        print("no systemd-analyze: the unit was not verified")
+        return
+    top = os.path.dirname(os.path.dirname(os.path.realpath(__file__)))
+    unit = read(f"{top}/docs/installation.service").decode().replace("/opt/gathjumli", top)
+    write(f"{folder}/installation.service", unit)
+    done = subprocess.run(["systemd-analyze", "verify", f"{folder}/installation.service"], capture_output=True, text=True)
+    check("the unit for systemd", done.returncode == 0 and "installation.service" not in done.stderr, done.stderr)
+
+
+def try_faults(check, command, program, folder):
     """All that is tried in seconds, over a stand-in for the program."""
     os.makedirs(folder)
     try_removed_deck(check, folder)
     try_lost_connection(check)
     try_two_logons(check)
     try_edits(check, folder)
+    try_unit(check, folder)
+    try_operators(check, make_site(command, f"{folder}/operators"))
+    try_dying_program(check, make_site(command, f"{folder}/dying"), program)
     try_volumes(check, make_site(command, f"{folder}/volumes"))
+    try_listing(check, make_site(command, f"{folder}/listing"))
     try_decks(check, make_site(command, f"{folder}/decks"))

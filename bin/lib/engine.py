@@ -7,10 +7,11 @@ import re
 import time
 from typing import NamedTuple
 
-from following import NotFollowed, Program
+from following import Died, NotFollowed, Program
 from machines import ScriptRefused
+from operating import memory_of, processor_seconds
 from people import Failure, FILE_FAILED, REFUSED
-from recording import PRINTED, TURNS, TYPED, weight_of
+from recording import PRINTED, TURNS, TYPED, sum_of_file, weight_of
 
 # lines that one who comes back sees again
 KEPT_LINES = 24
@@ -23,6 +24,7 @@ STUCK_TURNS = 64 * 32
 AHEAD = 256
 LACKS = re.compile("= ([A-Z0-9]+) FRAMES")
 LACKED = re.compile("= [A-Z0-9]+ 0 FRAMES")
+MINUTE = "%Y-%m-%d %H:%M"
 NO_ROOM = "NOT DONE: NO ROOM FOR A PAGE, TYPE IT AGAIN"
 
 
@@ -36,10 +38,20 @@ class User:
         self.terminal = None
         # the logon that is under way
         self.logon = None
+        # whether he is being logged off
+        self.is_forced = False
+        # bytes that he typed, and his guests printed, since LOGON
+        self.written = 0
+        # each line with the minute of its time
         self.shown = collections.deque(maxlen=KEPT_LINES)
 
-    def show(self, text):
-        self.shown.append(text)
+    def keep(self, text, when=None):
+        """Keeps a line for when he comes back."""
+        self.written += len(text) + 1
+        self.shown.append((when or time.strftime(MINUTE, time.gmtime()), text))
+
+    def show(self, text, when=None):
+        self.keep(text, when)
         if self.terminal:
             self.terminal.say(text)
 
@@ -50,6 +62,8 @@ class User:
             self.is_running = state == "RUNS"
         if state == "OFF":
             self.shown.clear()
+            self.written = 0
+            self.is_forced = False
 
 
 class Part(NamedTuple):
@@ -118,12 +132,16 @@ class Engine:
     """Gives the program parts: what waits, then some turns while somebody is ready. What comes of a part is shown when the
     recording has it. One thread alone touches the program, the recording and the printouts."""
 
-    def __init__(self, machines, recording, users, aim, printouts):
+    def __init__(self, machines, recording, users, aim, printouts, tell):
+        self.machines = machines
         self.recording = recording
+        self.tell = tell
         self.users = users
+        # the user whose console the operators see
+        self.receiver = None
         self.pace = Pace(aim)
         self.printouts = printouts
-        self.program = Program(machines, "--terminals", "--save")
+        self.program = self.begun()
         self.thread = concurrent.futures.ThreadPoolExecutor(1)
         self.waiting = []
         # comments that the recording is to have
@@ -133,10 +151,19 @@ class Engine:
         self.is_stopping = False
         printouts.note = lambda name: self.note(PRINTED + name.encode() + b"\n")
         self.parts = 0
-        # of the program, since the session was begun: about what a restart takes
-        self.seconds = 0.0
         # what the last part took the disk
         self.settling = 0.0
+
+    def begun(self):
+        return Program(self.machines, "--terminals", "--save")
+
+    def seconds(self):
+        """The processor time that the program took since the session began: about what a start takes."""
+        return processor_seconds(self.program.process.pid)
+
+    def memory(self):
+        """The bytes of memory that the program has."""
+        return memory_of(self.program.process.pid)
 
     async def give(self, part):
         """Has a part done; ends when what came of it is shown."""
@@ -196,10 +223,8 @@ class Engine:
 
     def step(self, part):
         """Does a part, and has it on the disk where something of it is shown."""
-        begun = time.monotonic()
-        came = self.checked(self.program.do, part.lines)
+        came = self.asked(part)
         done = time.monotonic()
-        self.seconds += done - begun
         if part.turns:
             self.recording.add_turns(part.turns)
         else:
@@ -209,6 +234,28 @@ class Engine:
         self.printouts.put(came.files)
         self.settling = time.monotonic() - done
         return came
+
+    def asked(self, part):
+        """What comes of a part. A program that has died is started again and asked once more; what killed it twice ends all."""
+        try:
+            return self.checked(self.program.do, part.lines)
+        except Died as death:
+            if self.is_stopping:
+                raise
+            self.tell(f"{death.lines[0] if death.lines else 'the program has died'}: it is started again")
+            self.restart()
+            self.tell("the program goes on")
+            return self.checked(self.program.do, part.lines)
+
+    def restart(self):
+        """Has another program do the recording: all that anybody was shown is in it."""
+        self.recording.put(self.recording.turns_line())
+        for volume, known in zip(self.machines.originals, self.recording.volume_sums()):
+            if sum_of_file(volume) != known:
+                raise Failure(REFUSED, f"{volume} was changed by somebody else during the session, which cannot go on without it as it was")
+        self.program.close()
+        self.program = self.begun()
+        self.do_recording(lambda share: self.tell(f"the program is started again: {100 * share:.0f}% done"), lambda *_: None)
 
     def checked(self, ask, *given, line=None):
         """An answer of the program; line is where in the recording its part begins, if it is from there."""
@@ -221,14 +268,18 @@ class Engine:
                 raise self.recording.edited(line + it.line - 1, "is refused by the program") from None
             raise Failure(REFUSED, f"the program refuses line {it.line} of a part") from None
 
-    def take(self, part, came):
+    def take(self, part, came, when=None):
         """Shows each user what was printed at his terminal, and keeps who is on and whose machine runs."""
+        for heading, body in came.files:
+            self.users[heading.rpartition(" ")[2]].written += len(body)
         for name, text in part.typed:
-            self.users[name].shown.append(text)
+            self.users[name].keep(text, when)
         for event in came.events:
             name, colon, text = event.partition(": ")
             if colon and name in self.users:
-                self.users[name].show(text)
+                self.users[name].show(text, when)
+                if name == self.receiver and when is None:
+                    self.tell(f"{name}: {text}")
             elif part.typed and (lacking := LACKS.fullmatch(event)):
                 self.users[lacking[1]].show(NO_ROOM)
         for state, name in came.states:
@@ -236,10 +287,24 @@ class Engine:
 
     def replay(self, tell):
         """Brings the program to where the recording ends; how far it is is told each second, from 0 to 1."""
+
+        def take(part, came, when):
+            self.take(part, came, when)
+            self.printouts.put(came.files, is_replay=True)
+
+        self.do_recording(tell, take)
+
+    def do_recording(self, tell, take):
+        """Has the program do all that the recording has, and takes what comes of each part."""
         # it has read the volumes when it has answered
         self.checked(self.program.do, b"")
-        begun = time.monotonic()
         progress, sent = Progress(self.recording.weight, tell), collections.deque()
+
+        def take_first():
+            part, number, when = sent.popleft()
+            take(part, self.checked(self.program.answer, line=number), when.decode()[:16])
+            progress.add(weight_of(part.lines))
+
         for number, when, entry in self.recording.entries():
             if self.is_stopping:
                 return
@@ -247,18 +312,9 @@ class Engine:
             self.program.send(part.lines)
             sent.append((part, number, when))
             if len(sent) >= AHEAD:
-                progress.add(self.take_first(sent))
+                take_first()
         while sent and not self.is_stopping:
-            progress.add(self.take_first(sent))
-        self.seconds = time.monotonic() - begun
-
-    def take_first(self, sent):
-        """Takes what came of the first part that was sent, and gives its weight."""
-        part, number, when = sent.popleft()
-        came = self.checked(self.program.answer, line=number)
-        self.take(part, came)
-        self.printouts.put(came.files, is_replay=True)
-        return weight_of(part.lines)
+            take_first()
 
     def stop(self):
         self.is_stopping = True

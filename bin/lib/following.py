@@ -8,7 +8,7 @@ import threading
 from typing import NamedTuple
 
 from machines import ScriptRefused, failure
-from people import WRONG_USE
+from people import Failure, NO_MEMORY, WRONG_USE
 
 STATES = (b"ON", b"RUNS", b"STOPS", b"OFF")
 # the end of a file's entries: a line end that no further entry follows
@@ -18,6 +18,10 @@ CHUNK = 1 << 20
 
 class NotFollowed(Exception):
     """The program takes no script part by part."""
+
+
+class Died(Failure):
+    """The program was killed, or the host refused it memory: another one may go on."""
 
 
 class Came(NamedTuple):
@@ -156,7 +160,10 @@ class Program:
         status = self.process.wait()
         self.errors.seek(0)
         told = self.errors.read().decode(errors="surrogateescape").splitlines()
-        return NotFollowed() if status == WRONG_USE else failure(status, told)
+        if status == WRONG_USE:
+            return NotFollowed()
+        found = failure(status, told)
+        return Died(found.status, *found.lines) if status < 0 or status == NO_MEMORY else found
 
     def close(self):
         self.process.kill()

@@ -1,4 +1,5 @@
 """The recording of an installation: the script of all that the program accepted (docs/INSTALLATION.md)."""
+import calendar
 import errno
 import fcntl
 import hashlib
@@ -232,7 +233,17 @@ class Recording:
 
     def name(self):
         """What this session is called among those of the same files: the time when it was begun."""
-        return self.begun.removeprefix(BEGUN).decode()[:19].translate({ord(" "): "-", ord(":"): None})
+        return self.begun_at().translate({ord(" "): "-", ord(":"): None})
+
+    def begun_at(self):
+        return self.begun.removeprefix(BEGUN).decode()[:19]
+
+    def seconds(self):
+        """How long ago it was begun."""
+        return time.time() - calendar.timegm(time.strptime(self.begun_at(), "%Y-%m-%d %H:%M:%S"))
+
+    def size(self):
+        return os.fstat(self.file.fileno()).st_size
 
     def aside(self):
         """The folder to which it goes when the session ends."""

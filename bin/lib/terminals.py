@@ -2,6 +2,7 @@
 import asyncio
 import collections
 import contextlib
+import re
 import socket
 import time
 
@@ -22,6 +23,9 @@ ONLINE = "GATHJUMLI ONLINE"
 REFUSED_LOGON = "LOGON REFUSED"
 TOO_LATE = "TOO LATE"
 RECONNECTED = "RECONNECTED"
+# a line behind #CP, and the command of it that has a text
+COMMAND = re.compile(rb"( *#[Cc][Pp](?: |$))?(.*)")
+MESSAGE = re.compile(rb"( *[Mm][Ss][Gg] +[^ ]+ ?)(.*)")
 TAKES_OVER = "ANOTHER TERMINAL TAKES OVER"
 GOES_DOWN = "GATHJUMLI GOES DOWN"
 
@@ -34,6 +38,8 @@ class Terminal:
         self.writer = writer
         self.tell = tell
         self.name = "a stranger"
+        peer = writer.get_extra_info("peername")
+        self.address = peer[0] if isinstance(peer, tuple) else ""
         self.typing = Typing()
         self.lines = collections.deque()
         self.prepare(writer.get_extra_info("socket"))
@@ -97,6 +103,8 @@ class Desk:
         self.tell = tell
         self.guesses = Guesses()
         self.strangers = []
+        # what everybody is shown who logs on
+        self.log_message = ""
         self.serving = set()
         self.terminals = set()
 
@@ -166,22 +174,24 @@ class Desk:
         """What is typed at a terminal is typed at that of the user, until he logs off or another terminal takes over."""
         self.take_over(terminal, user)
         try:
-            await self.log_on(user)
+            if not user.is_on:
+                await self.log_on(user)
+                if self.log_message:
+                    terminal.say(self.log_message)
             while user.is_on and user.terminal is terminal:
                 line = await terminal.next_line()
                 if line is None:
                     break
                 if user.terminal is terminal:
-                    await self.engine.give(typed_line(user.name, line))
+                    await self.engine.give(typed_line(user.name, in_capitals(line, user.is_running)))
         finally:
             if user.terminal is terminal:
                 user.terminal = None
+                self.engine.note(b"* DISCONNECTED %s\n" % user.name.encode())
                 self.tell(f"{user.name} {'leaves his terminal' if user.is_on else 'is logged off'}")
 
     async def log_on(self, user):
         """Switches the user's machine on, once, however many terminals ask for it at the same time."""
-        if user.is_on:
-            return
         if not user.logon:
             user.logon = asyncio.ensure_future(self.engine.give(typed_line(user.name, b"LOGON")))
         try:
@@ -197,10 +207,15 @@ class Desk:
             user.terminal.close()
         user.terminal, terminal.name = terminal, user.name
         is_back = user.is_on or user.logon
-        self.tell(f"{user.name} {'is back' if is_back else 'logs on'}")
+        self.tell(f"{user.name} {'is back' if is_back else 'logs on'}{' from ' * bool(terminal.address)}{terminal.address}")
+        self.engine.note(f"* CONNECTED {user.name} {terminal.address or '-'}\n".encode())
         if is_back:
             terminal.say(RECONNECTED)
-            for text in user.shown:
+            minute = ""
+            for when, text in user.shown:
+                if when != minute:
+                    terminal.say(f"-- {when} UTC")
+                minute = when
                 terminal.say(text)
 
     async def shut(self):
@@ -212,6 +227,15 @@ class Desk:
             it.cancel()
         if self.serving:
             await asyncio.wait(list(self.serving))
+
+
+def in_capitals(line, is_running):
+    """A typed line with its command in capitals. What goes to a running machine and the text of a message stay as they are."""
+    attention, command = COMMAND.fullmatch(line).groups(b"")
+    if is_running and not attention:
+        return line
+    message = MESSAGE.fullmatch(command)
+    return attention.upper() + (message[1].upper() + message[2] if message else command.upper())
 
 
 def folded(line):
