@@ -788,10 +788,11 @@ def try_report(check, repository, site, looks):
     words = [f"{repository}/bin/report", "--looks", str(looks), site.record, out]
     done = subprocess.run(words, capture_output=True, text=True)
     page = read(out).decode() if os.path.exists(out) else ""
-    wanted = [">LOGON</span>", ">LOGON OK</span>", "HELLO", 'class="card"', 'class="paper"', "units</title>"]
+    wanted = [">LOGON</span>", ">LOGON OK</span>", "HELLO", 'class="card"', 'class="paper"', "units</title>", '<a href="#ALICE">',
+              '<h2 id="ALICE">', "1 connections", " UTC<td>", '<time class="when">']  # fmt: skip
     lacking = [it for it in wanted if it not in page]
     check("a page of a recording", done.returncode == 0 and not lacking, done.stderr, *lacking)
-    outside = re.findall(r"(?:src|href)=|url\(|https?:|<script|<link|@import", page)
+    outside = re.findall(r"src=|href=(?!\"#)|url\(|https?:|<script|<link|@import", page)
     check("has no outside parts", not outside, *outside)
     os.rename(site.paths[0], f"{site.folder}/moved")
     done = subprocess.run(words, capture_output=True, text=True)

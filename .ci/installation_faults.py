@@ -69,6 +69,9 @@ class GivenParts:
         self.recording = self
         self.decks, self.parts = set(), []
 
+    def note(self, mark):
+        pass
+
     async def give(self, part):
         self.parts.append(part.lines)
         if self.meanwhile:
@@ -416,6 +419,145 @@ def try_unit(check, folder):
     check("the unit for systemd", done.returncode == 0 and "installation.service" not in done.stderr, done.stderr)
 
 
+# --- limits, and what operators do ---
+
+
+async def on(site, name="ALICE", password="WONDER"):
+    """Somebody who has logged on."""
+    one = await person(f"{site.folder}/socket")
+    await one.logon(name, password)
+    return one
+
+
+def try_limits(check, site):
+    """Who takes too much is logged off and told why, and that is an event of the recording; others stay."""
+
+    async def written():
+        alice, bob = await on(site), await on(site, "BOB", "BUILDER")
+        alice.type("LIST 10000", "DISPLAY G1")
+        await alice.until("GPR 1 = 00000000")
+        alice.type("LIST 10000")
+        shown = await alice.rest()
+        bob.type("DISPLAY G1")
+        await bob.until("GPR 1 = 00000000")
+        bob.type("LOGOFF")
+        await bob.rest()
+        again = await on(site)
+        again.type("LOGOFF")
+        return shown, (await again.rest())[1]
+
+    site.online("--quota", "1")
+    shown, again = run(written())
+    check("a user who writes too much is logged off", shown[-2:] == ["YOU ARE LOGGED OFF: 1 MB ARE WRITTEN", "LOGOFF OK"], *shown)
+    check("the operator is told why", site.await_told("ALICE is logged off: 1 mb are written"), *site.told)
+    check("and he may come back", again == "LOGON OK", again)
+    check("it is suspended", site.stop() == 0)
+    check("it is an event like any other", read(site.record).count(b"LINE ALICE #CP LOGOFF\n") == 1)
+
+    async def stay():
+        return (await (await on(site)).rest())[-2:]
+
+    site.online("--memory", "1")
+    shown = run(stay())
+    check("so is one while the program has too much memory", shown[0].startswith("YOU ARE LOGGED OFF: THE INSTALLATION HAS NO MORE MEMORY"), *shown)
+    check("it is suspended again", site.stop() == 0)
+
+
+def try_waiting_printout(check, site):
+    """A printout that cannot be written waits, and is written when it can be."""
+    site.online("--printouts", f"{site.folder}/prints", "--operate", f"{site.folder}/operator")
+    folder = f"{site.folder}/prints/{site.session()}"
+    os.rename(folder, f"{site.folder}/away")
+
+    async def tried():
+        alice = await on(site)
+        alice.type("PRINT HELLO", "LOGOFF")
+        return await alice.rest()
+
+    run(tried())
+    check("a printout that cannot be written", site.await_told("PRT0001-ALICE.txt cannot be written, and waits: No such file"), *site.told)
+    status, spool, end = (operator(site, word).stdout for word in ("status", "spool", "end"))
+    check("is seen by the operator", "1 closed, 1 not written: No such file" in status and "PRT0001-ALICE.txt 1 lines, waits" in spool, status, spool)
+    check("and keeps the session from its end", "not written: PRT0001-ALICE.txt" in end, end)
+    os.rename(f"{site.folder}/away", folder)
+    check("and is written when it can be", site.await_told(f"closed: {folder}/PRT0001-ALICE.txt"), *site.told)
+    spool = operator(site, "spool").stdout
+    check("which is seen too", "PRT0001-ALICE.txt 1 lines, written" in spool, spool)
+    check("then it ends", operator(site, "end").returncode == 0 and site.ended() == 0, *site.told)
+
+
+def try_commands(check, site):
+    """What operators do to users, and users to operators; small letters; the times of what one sees again."""
+
+    async def tried():
+        alice, bob = await on(site), await on(site, "BOB", "BUILDER")
+        alice.type("store g1 0000002a", "  #cp display g1", "msg bob Hello there", "begin 100", "hello", "#cp Display G2", "MSG OPER Help me")
+        for text in ("STORED", "GPR 1 = 0000002A", "SENT", "GPR 2 = 00000000"):
+            await alice.until(text)
+        await bob.until("MSG FROM ALICE: Hello there")
+        check("small letters of commands are capitals", True)
+        alice.type("#cp", "msg oper Help me")
+        await alice.until("SENT")
+        told = site.await_told("OPER: MSG FROM ALICE: Help me")
+        check("a message to the operator", told, *site.told)
+        answers = [operator(site, *words.split()).returncode for words in ("message BOB For you", "message For all", "force BOB", "force BOB",
+                   "message BOB x", "force NOBODY", "logmsg Closed on Sunday", "end at 03:00", "end cancel", "end at 24:00")]  # fmt: skip
+        check("commands of an operator", answers == [0, 0, 0, 1, 1, 1, 0, 0, 0, 1], *map(str, answers))
+        seen = await bob.rest()
+        wanted = ["OPERATOR: For you", "OPERATOR: For all", "YOU ARE LOGGED OFF: BY THE OPERATOR", "LOGOFF OK"]
+        check("are seen by who they are for", seen[-4:] == wanted, *seen)
+        await alice.until("OPERATOR: For all")
+        check("and by nobody else", "OPERATOR: For you" not in alice.lines, *alice.lines)
+        alice.go()
+        back, bob = await on(site), await on(site, "BOB", "BUILDER")
+        await back.until("SENT")
+        times = [line for line in back.lines if re.fullmatch(r"-- \d{4}-\d\d-\d\d \d\d:\d\d UTC", line)]
+        check("what one sees again has its times", back.lines[1] == "RECONNECTED" and back.lines[2] in times, *back.lines)
+        await bob.until("Closed on Sunday")
+        check("who logs on sees the log message", bob.lines[1:] == ["LOGON OK", "Closed on Sunday"], *bob.lines)
+        back.type("logoff")
+        bob.type("logoff")
+        await asyncio.gather(back.rest(), bob.rest())
+
+    more = ("--operate", f"{site.folder}/operator", "--operator", "OPER")
+    site.online(*more)
+    run(tried())
+    recording = read(site.record)
+    check("what goes to a running machine stays as it was typed", b"LINE ALICE hello\n" in recording and b"LINE ALICE   #CP DISPLAY G1\n" in recording)
+    site.stop()
+    site.online(*more)
+    answer = operator(site, "logmsg").stdout
+    check("the log message outlives a start", "Closed on Sunday" in answer, answer)
+    check("the operator's user is nobody who is on", operator(site, "end").returncode == 0 and site.ended() == 0, *site.told)
+
+
+def try_small_faults(check, site):
+    """Faults that are told at once, by the place where they are."""
+    from keeping import copy_whole
+    from people import Failure
+
+    wrong = subprocess.run([site.command, "--record", "r", "--listen", "127.0.0.1:99999", *site.paths], capture_output=True, text=True)
+    check("a port that is none", wrong.returncode == 2 and "is no value of --listen" in wrong.stderr, wrong.stderr)
+    write(f"{site.folder}/file", "")
+    wrong = subprocess.run([site.command, *site.words, "--decks", f"{site.folder}/file", *site.paths], capture_output=True, text=True,
+                           stdin=subprocess.DEVNULL)  # fmt: skip
+    check("a folder of decks that is a file", wrong.returncode == 3 and "file: File exists" in wrong.stderr and "online" not in wrong.stdout, wrong.stderr)
+    try:
+        copy_whole(f"{site.folder}/file", f"{site.folder}/none/copy")
+    except Failure as failure:
+        check("a copy names the place that fails", f"{site.folder}/none/copy cannot be written" in failure.lines[0], *failure.lines)
+    os.unlink(site.record)
+    os.makedirs(f"{site.folder}/real")
+    os.symlink("real/recording", site.record)
+    os.chmod(site.paths[0], 0o644)
+    site.online()
+    check("passwords that others may read are reported", "others may read it: chmod 600" in site.since_start(), *site.told)
+    site.operate("end")
+    check("it ends", site.ended() == 0, *site.told)
+    kept = [name for name in names_in(f"{site.folder}/real") if name.startswith("recording.2")]
+    check("a recording that is a link is set aside where it is", len(kept) == 1 and "recording" in names_in(f"{site.folder}/real/{kept[0]}"), *kept)
+
+
 def try_faults(check, command, program, folder):
     """All that is tried in seconds, over a stand-in for the program."""
     os.makedirs(folder)
@@ -427,5 +569,9 @@ def try_faults(check, command, program, folder):
     try_operators(check, make_site(command, f"{folder}/operators"))
     try_dying_program(check, make_site(command, f"{folder}/dying"), program)
     try_volumes(check, make_site(command, f"{folder}/volumes"))
+    try_limits(check, make_site(command, f"{folder}/limits"))
+    try_waiting_printout(check, make_site(command, f"{folder}/waiting"))
+    try_commands(check, make_site(command, f"{folder}/commands"))
+    try_small_faults(check, make_site(command, f"{folder}/small"))
     try_listing(check, make_site(command, f"{folder}/listing"))
     try_decks(check, make_site(command, f"{folder}/decks"))

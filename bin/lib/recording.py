@@ -83,6 +83,21 @@ def entries_of(file):
         yield b"".join(lines)
 
 
+def stamped(file):
+    """The entries of a recording in groups, each with the time of the stamp that follows it, or an empty time."""
+    group = []
+    for entry in entries_of(file):
+        if stamp := STAMP.fullmatch(entry):
+            yield stamp[1].decode(), group
+            group = []
+        else:
+            group.append(entry)
+        if len(group) >= MOST_UNSTAMPED:
+            yield "", group
+            group = []
+    yield "", group
+
+
 def known_part(line):
     """What of a first line is compared: not the path."""
     words = line.split(b" ", 3)
