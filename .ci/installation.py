@@ -200,7 +200,7 @@ run = asyncio.run
 
 class StandIn:
     """Takes parts of a script as the program does, for users who type LOGON, LOGOFF, #CP, BEGIN, STORE, DISPLAY of a register,
-    MSG, and two that no program has: PRINT prints a file of a line, and LIST one of so many."""
+    MSG, and three that no program has: PRINT prints a file of a line, LIST one of so many, and DIE kills the program."""
 
     def __init__(self, directory, has_slices):
         self.has_slices = has_slices
@@ -267,6 +267,8 @@ class StandIn:
         elif words[:1] == ["PRINT"]:
             self.files.append([f"== PRT {len(self.files) + 1:04} {name}", f"09 {' '.join(words[1:])}"])
             self.closed += [f"> {self.files[-1][0]}", f"> |{self.files[-1][1]}"]
+        elif words == ["DIE"]:
+            os.kill(os.getpid(), signal.SIGKILL)
         elif words[:1] == ["LIST"]:
             self.files.append([f"== PRT {len(self.files) + 1:04} {name}"])
             self.closed += [f"> {self.files[-1][0]}", *[f"> |09 {'A' * 60}"] * int(words[1])]
@@ -324,6 +326,7 @@ TYPED = {
     "options, all declined": (b"\xff\xfb\x1f\xff\xfd\x03\xff\xfd\x01\xff\xfc\x01\xff\xfe\x01A\n", ["A"],
                               b"\xff\xfe\x1f\xff\xfc\x03"),  # fmt: skip
     "what is told of an option": (b"A\xff\xfa\x18\x00\nX\xff\xff\xf0Y\xff\xf0B\n", ["AB"], b""),
+    "whether somebody is there": (b"A\xff\xf6B\n", ["AB"], b"[YES]\r\n"),
     "a byte 255": (b"A\xff\xffB\n", ["A B"], b""),
 }
 BEGINS = b"* GATHJUMLI RECORDING 1\n* BEGUN 2026-11-26 12:00:00 UTC\n"

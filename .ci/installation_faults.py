@@ -403,7 +403,19 @@ def try_dying_program(check, site, program):
     check("a program that dies is started again", lines[1:] == ["LOGON OK", *wanted, "LOGOFF OK"], *lines, *site.told)
     check("the operator is told", site.await_told("ended by signal 9: it is started again"), *site.told)
     check("it is suspended", site.stop() == 0)
+
+    async def die():
+        alice = await on(site)
+        alice.type("DIE")
+        await alice.rest()
+
+    site.online()
+    run(die())
+    check("what kills it twice ends the installation", site.ended() == 3 and "ended by signal 9" in site.since_start(), *site.told)
+    site.online()
+    check("which goes on then", site.stop() == 0, *site.told)
     done, shown = replayed(program, site.paths[0], site.record)
+    lines.append("LOGON OK")
     check("and the recording replays", shown.get("ALICE") == lines[1:], done.stderr, *shown.get("ALICE", []))
 
 
@@ -449,7 +461,7 @@ def try_limits(check, site):
     site.online("--quota", "1")
     shown, again = run(written())
     check("a user who writes too much is logged off", shown[-2:] == ["YOU ARE LOGGED OFF: 1 MB ARE WRITTEN", "LOGOFF OK"], *shown)
-    check("the operator is told why", site.await_told("ALICE is logged off: 1 mb are written"), *site.told)
+    check("the operator is told why", site.await_told("ALICE is logged off: 1 MB are written"), *site.told)
     check("and he may come back", again == "LOGON OK", again)
     check("it is suspended", site.stop() == 0)
     check("it is an event like any other", read(site.record).count(b"LINE ALICE #CP LOGOFF\n") == 1)
@@ -459,7 +471,7 @@ def try_limits(check, site):
 
     site.online("--memory", "1")
     shown = run(stay())
-    check("so is one while the program has too much memory", shown[0].startswith("YOU ARE LOGGED OFF: THE INSTALLATION HAS NO MORE MEMORY"), *shown)
+    check("so is one while the program has too much memory", shown[0].startswith("YOU ARE LOGGED OFF: THERE IS NO MORE MEMORY"), *shown)
     check("it is suspended again", site.stop() == 0)
 
 
@@ -546,6 +558,9 @@ def try_small_faults(check, site):
         copy_whole(f"{site.folder}/file", f"{site.folder}/none/copy")
     except Failure as failure:
         check("a copy names the place that fails", f"{site.folder}/none/copy cannot be written" in failure.lines[0], *failure.lines)
+    site.start(most_bytes=os.path.getsize(site.record) + 10)
+    holds = site.ended() == 3 and f"installation: {site.record}: " in site.since_start() and "online" not in site.since_start()
+    check("a full disk is found before anybody is served", holds, *site.told)
     os.unlink(site.record)
     os.makedirs(f"{site.folder}/real")
     os.symlink("real/recording", site.record)
@@ -574,4 +589,4 @@ def try_faults(check, command, program, folder):
     try_commands(check, make_site(command, f"{folder}/commands"))
     try_small_faults(check, make_site(command, f"{folder}/small"))
     try_listing(check, make_site(command, f"{folder}/listing"))
-    try_decks(check, make_site(command, f"{folder}/decks"))
+    try_decks(check, make_site(command, f"{folder}/folders of decks"))

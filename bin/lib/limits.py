@@ -36,12 +36,14 @@ class Watch:
             self.look_at_disk()
 
     def candidates(self):
-        return [user for user in self.engine.users.values() if user.is_on and not user.is_forced and user is not self.installation.receiver]
+        """The people who are on, and are not being logged off."""
+        is_person = self.installation.is_person
+        return [user for user in self.engine.users.values() if user.is_on and not user.is_forced and is_person(user)]
 
     def look_at_users(self):
         for user in self.candidates():
             if user.written > self.limits.user:
-                self.installation.force(user, f"{self.limits.user // MEGABYTE} MB ARE WRITTEN")
+                self.installation.force(user, f"{self.limits.user // MEGABYTE} MB are written")
 
     def look_at_memory(self):
         """If the program has too much memory, the user who took most of it lately goes: who wrote most in the last second, else one
@@ -51,7 +53,7 @@ class Watch:
         candidates = self.candidates()
         if memory > self.bound and candidates:
             user = max(candidates, key=lambda it: (it.written - self.before.get(it.name, 0), it.is_running, it.written))
-            self.installation.force(user, f"THE INSTALLATION HAS NO MORE MEMORY THAN {self.limits.memory // MEGABYTE} MB")
+            self.installation.force(user, f"there is no more memory than {self.limits.memory // MEGABYTE} MB")
             self.bound = memory + self.limits.memory // STEP
         self.before = {user.name: user.written for user in candidates}
 

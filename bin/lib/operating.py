@@ -8,6 +8,8 @@ import threading
 import time
 
 DONE, NOT_DONE, ENDS = range(3)
+# before all of the recording is done again
+ALWAYS = {"status", "help", "suspend"}
 MOST_SPOOL_LINES = 40
 WARNED_MINUTES = (10, 5, 1)
 MEGABYTE = 1 << 20
@@ -53,6 +55,10 @@ class Operator:
         """Does a command. How it ended is told when its answer is whole."""
         word, _, rest = line.partition(" ")
         if not word:
+            return
+        if not self.installation.is_ready and word not in ALWAYS:
+            reply("the installation is not online yet")
+            end(NOT_DONE)
             return
         if word == "frames":
             self.frames(reply, end)
@@ -150,7 +156,7 @@ class Operator:
         user = self.named(name)
         if not user.is_on:
             raise NotDone(f"{user.name} is not on")
-        self.installation.force(user, "BY THE OPERATOR")
+        self.installation.force(user, "by the operator")
 
     def suspend(self, rest, reply):
         self.tell("the installation is suspended")

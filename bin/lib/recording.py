@@ -312,7 +312,11 @@ class Recording:
             self.count(stamp)
             self.stamped, self.until = time.monotonic(), stamp[2:21]
             data += stamp
-        if data and self.file.write(data) != len(data):
+        try:
+            is_whole = not data or self.file.write(data) == len(data)
+        except OSError as error:
+            raise OSError(error.errno, error.strerror, self.path) from None
+        if not is_whole:
             raise OSError(errno.ENOSPC, os.strerror(errno.ENOSPC), self.path)
 
     def settle(self):
