@@ -42,7 +42,7 @@ class Consoles:
         outlet = Outlet(os.dup(connection.fileno()), prefix=HAPPENS)
         self.journal.add(outlet)
         try:
-            with contextlib.suppress(OSError), connection, connection.makefile("rb") as lines:
+            with contextlib.suppress(OSError), connection.makefile("rb") as lines:
                 while line := lines.readline(MOST_COMMAND):
                     text = line.decode(errors="replace").strip()
                     self.loop.call_soon_threadsafe(self.do, text, outlet)
@@ -52,6 +52,11 @@ class Consoles:
         finally:
             self.count -= 1
             self.journal.remove(outlet)
+            # who does not read what waits is left
+            outlet.close()
+            with contextlib.suppress(OSError):
+                connection.shutdown(socket.SHUT_RDWR)
+            connection.close()
             outlet.close()
             os.close(outlet.handle)
 

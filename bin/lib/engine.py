@@ -8,8 +8,8 @@ import time
 from typing import NamedTuple
 
 from following import Died, NotFollowed, Program
+from host import memory_of, processor_seconds
 from machines import ScriptRefused
-from operating import memory_of, processor_seconds
 from people import Failure, FILE_FAILED, REFUSED
 from recording import PRINTED, TURNS, TYPED, sum_of_file, weight_of
 
@@ -252,7 +252,8 @@ class Engine:
         self.recording.put(self.recording.turns_line())
         for volume, known in zip(self.machines.originals, self.recording.volume_sums()):
             if sum_of_file(volume) != known:
-                raise Failure(REFUSED, f"{volume} was changed by somebody else during the session, which cannot go on without it as it was")
+                raise Failure(REFUSED, f"{volume} was changed by somebody else during the session, which cannot go on without it as it "
+                              "was")  # fmt: skip
         self.program.close()
         self.program = self.begun()
         self.do_recording(lambda share: self.tell(f"the program is started again: {100 * share:.0f}% done"), lambda *_: None)

@@ -2,7 +2,7 @@
 import asyncio
 from typing import NamedTuple
 
-from operating import MEGABYTE, free_on
+from host import MEGABYTE
 
 SECONDS = 1
 # after a logoff the program may grow by this part of its bound before the next one
@@ -58,7 +58,7 @@ class Watch:
         self.before = {user.name: user.written for user in candidates}
 
     def look_at_disk(self):
-        free = free_on(self.engine.recording.path)
+        free = self.engine.recording.free()
         if (free < LITTLE_FREE) != self.is_disk_full:
             self.is_disk_full = not self.is_disk_full
             if self.is_disk_full:

@@ -5,14 +5,14 @@ import os
 import re
 import subprocess
 import threading
-import time
+
+from host import MEGABYTE, memory_of
 
 DONE, NOT_DONE, ENDS = range(3)
 # before all of the recording is done again
 ALWAYS = {"status", "help", "suspend"}
 MOST_SPOOL_LINES = 40
 WARNED_MINUTES = (10, 5, 1)
-MEGABYTE = 1 << 20
 HELP = """\
 status             who is on, memory, sizes, the age of the session, how long a start takes
 users              who is on, and how much each has written since LOGON
@@ -67,7 +67,7 @@ class Operator:
             if word not in self.commands:
                 raise NotDone(f"there is no command {word}; help shows all")
             how = self.commands[word](rest.strip(), reply)
-        except NotDone as reason:
+        except (NotDone, OSError) as reason:
             reply(str(reason))
             how = NOT_DONE
         end(how or DONE)
@@ -94,7 +94,7 @@ class Operator:
         most = self.installation.limits.memory // MEGABYTE
         reply(f"memory: command {memory_of(os.getpid()) // MEGABYTE} MB, program {engine.memory() // MEGABYTE} MB of {most} MB")
         reply(f"the session began {recording.begun_at()} UTC, {age(recording.seconds())} ago; its recording has {recording.lines} lines, "
-              f"{recording.size() / MEGABYTE:.1f} MB, and its disk {free_on(recording.path) // MEGABYTE} MB free")  # fmt: skip
+              f"{recording.size() / MEGABYTE:.1f} MB, and its disk {recording.free() // MEGABYTE} MB free")  # fmt: skip
         printouts = engine.printouts
         waiting = printouts.unwritten()
         trouble = f": {printouts.trouble}" if printouts.trouble else ""
@@ -211,28 +211,3 @@ def age(seconds):
         if seconds >= 2 * unit:
             return f"{seconds // unit:.0f} {name}"
     return f"{max(0, seconds):.0f} seconds"
-
-
-def memory_of(process):
-    """The bytes of memory that a process has, or 0 if it is gone."""
-    try:
-        with open(f"/proc/{process}/statm") as file:
-            return int(file.read().split()[1]) * os.sysconf("SC_PAGE_SIZE")
-    except OSError:
-        return 0
-
-
-def processor_seconds(process):
-    """The processor time that a process took until now, or 0 if it is gone."""
-    try:
-        with open(f"/proc/{process}/stat") as file:
-            fields = file.read().rpartition(")")[2].split()
-        return (int(fields[11]) + int(fields[12])) / os.sysconf("SC_CLK_TCK")
-    except OSError:
-        return 0.0
-
-
-def free_on(path):
-    """The bytes that are free on the disk of a file."""
-    found = os.statvfs(path)
-    return found.f_bavail * found.f_frsize

@@ -260,6 +260,11 @@ class Recording:
     def size(self):
         return os.fstat(self.file.fileno()).st_size
 
+    def free(self):
+        """The bytes that are free on its disk."""
+        found = os.fstatvfs(self.file.fileno())
+        return found.f_bavail * found.f_frsize
+
     def aside(self):
         """The folder to which it goes when the session ends."""
         return f"{self.path}.{self.name()}"
