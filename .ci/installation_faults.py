@@ -123,8 +123,8 @@ class Streams:
     def get_write_buffer_size(self):
         return 0
 
-    def get_extra_info(self, _):
-        return socket.socket()
+    def get_extra_info(self, name):
+        return ("10.0.0.5", 2000) if name == "peername" else socket.socket()
 
     def is_closing(self):
         return self.is_gone
@@ -153,7 +153,8 @@ def try_lost_connection(check):
         streams = Streams(b"LOGON A SECRET\n", fault)
         desk, told = desk_of(GivenParts({"A": user}))
         await desk.serve(streams, streams)
-        return user.terminal is None and told[-1] == "A leaves his terminal" and not desk.terminals and not desk.serving
+        is_told = told == ["A is back from 10.0.0.5", "A leaves his terminal"]
+        return is_told and user.terminal is None and not desk.terminals and not desk.serving
 
     for fault in (TimeoutError(110, "Connection timed out"), OSError(113, "No route to host"), ConnectionResetError(), b""):
         check(f"a connection that ends with {fault!r}", run(served(fault)))
@@ -479,7 +480,7 @@ def try_waiting_printout(check, site):
     """A printout that cannot be written waits, and is written when it can be."""
     site.online("--printouts", f"{site.folder}/prints", "--operate", f"{site.folder}/operator")
     folder = f"{site.folder}/prints/{site.session()}"
-    os.rename(folder, f"{site.folder}/away")
+    write(folder, "IN THE WAY\n")
 
     async def tried():
         alice = await on(site)
@@ -487,11 +488,11 @@ def try_waiting_printout(check, site):
         return await alice.rest()
 
     run(tried())
-    check("a printout that cannot be written", site.await_told("PRT0001-ALICE.txt cannot be written, and waits: No such file"), *site.told)
+    check("a printout that cannot be written", site.await_told("PRT0001-ALICE.txt cannot be written, and waits: File exists"), *site.told)
     status, spool, end = (operator(site, word).stdout for word in ("status", "spool", "end"))
-    check("is seen by the operator", "1 closed, 1 not written: No such file" in status and "PRT0001-ALICE.txt 1 lines, waits" in spool, status, spool)
+    check("is seen by the operator", "1 closed, 1 not written: File exists" in status and "PRT0001-ALICE.txt 1 lines, waits" in spool, status, spool)
     check("and keeps the session from its end", "not written: PRT0001-ALICE.txt" in end, end)
-    os.rename(f"{site.folder}/away", folder)
+    os.unlink(folder)
     check("and is written when it can be", site.await_told(f"closed: {folder}/PRT0001-ALICE.txt"), *site.told)
     spool = operator(site, "spool").stdout
     check("which is seen too", "PRT0001-ALICE.txt 1 lines, written" in spool, spool)

@@ -236,7 +236,7 @@ class Engine:
         return came
 
     def asked(self, part):
-        """What comes of a part. A program that has died is started again and asked once more; what killed it twice ends all."""
+        """What comes of a part. A program that has died is started again and asked once more; a part that kills it twice ends all."""
         try:
             return self.checked(self.program.do, part.lines)
         except Died as death:
@@ -244,6 +244,9 @@ class Engine:
                 raise
             self.tell(f"{death.lines[0] if death.lines else 'the program has died'}: it is started again")
             self.restart()
+            if self.is_stopping:
+                # it may not have done all
+                raise
             self.tell("the program goes on")
             return self.checked(self.program.do, part.lines)
 

@@ -190,7 +190,9 @@ class Recording:
     def edited(self, line, fault, told=""):
         """The failure that a wrong line is, and what can be done."""
         told = told or f"line {line} {fault}"
-        kept = f"until {self.until.decode()} UTC, head -n {self.right} {self.path} > OTHER" if self.right else "nothing"
+        right = min(self.right, line - 1)
+        until = f"until {self.until.decode()} UTC, " if right == self.right else ""
+        kept = f"{until}head -n {right} {self.path} > OTHER" if right else "nothing"
         return Failure(REFUSED, f"{self.path}: {told}", "put back a copy from before it was changed, or go on with what is known to be "
                        f"right: {kept}")  # fmt: skip
 

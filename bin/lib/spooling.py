@@ -42,7 +42,8 @@ class Printouts:
         self.changed = threading.Condition()
         self.thread = None
         if folder:
-            os.makedirs(folder, exist_ok=True)
+            # the folder of the session is made when it is needed: a full disk keeps nobody from his machine
+            os.makedirs(os.path.dirname(folder), exist_ok=True)
             self.thread = threading.Thread(target=self.write_all, daemon=True)
             self.thread.start()
 
@@ -82,6 +83,7 @@ class Printouts:
         while printout := self.first():
             path = os.path.join(self.folder, printout.name)
             try:
+                os.makedirs(self.folder, exist_ok=True)
                 # one from before written files were noted
                 is_new = not os.path.exists(path)
                 if is_new:
