@@ -865,7 +865,8 @@ def try_ending(check, site):
     site.online()
     done = [it for it in names_in(site.folder) if it.startswith("recording.2")]
     check("and an end that was begun", has(new) and len(done) == 2 and is_kept(done[1]), *site.told, *done)
-    check("then it is online again", site.stop() == 0)
+    site.operate("end now")
+    check("then it is online again, and takes commands", site.ended() == 0, *site.told)
 
 
 def without_sums(recording):
@@ -889,6 +890,17 @@ def read(path):
 def write(path, data):
     with open(path, "wb") as file:
         file.write(data)
+
+
+def write_text(path, text):
+    write(path, text.encode())
+
+
+async def on(site, name="ALICE", password="WONDER"):
+    """Somebody who has logged on."""
+    one = await person(f"{site.folder}/socket")
+    await one.logon(name, password)
+    return one
 
 
 def try_all(check, repository, folder, is_stand_in):

@@ -236,7 +236,7 @@ class Engine:
         return came
 
     def asked(self, part):
-        """What comes of a part. A program that has died is started again and asked once more; a part that kills it twice ends all."""
+        """What comes of a part. A program that has died is started again and asked once more; what kills it twice ends all."""
         try:
             return self.checked(self.program.do, part.lines)
         except Died as death:
@@ -255,8 +255,8 @@ class Engine:
         self.recording.put(self.recording.turns_line())
         for volume, known in zip(self.machines.originals, self.recording.volume_sums()):
             if sum_of_file(volume) != known:
-                raise Failure(REFUSED, f"{volume} was changed by somebody else during the session, which cannot go on without it as it "
-                              "was")  # fmt: skip
+                told = f"{volume} was changed by somebody else during the session, which cannot go on without it as it was"
+                raise Failure(REFUSED, told)
         self.program.close()
         self.program = self.begun()
         self.do_recording(lambda share: self.tell(f"the program is started again: {100 * share:.0f}% done"), lambda *_: None)

@@ -93,8 +93,9 @@ class Operator:
               f"a start that goes on from here takes about {engine.seconds():.0f} s")  # fmt: skip
         most = self.installation.limits.memory // MEGABYTE
         reply(f"memory: command {memory_of(os.getpid()) // MEGABYTE} MB, program {engine.memory() // MEGABYTE} MB of {most} MB")
-        reply(f"the session began {recording.begun_at()} UTC, {age(recording.seconds())} ago; its recording has {recording.lines} lines, "
-              f"{recording.size() / MEGABYTE:.1f} MB, and its disk {recording.free() // MEGABYTE} MB free")  # fmt: skip
+        reply(f"the session began {recording.begun_at()} UTC, {age(recording.seconds())} ago; "
+              f"its recording has {recording.lines} lines, {recording.size() / MEGABYTE:.1f} MB, "
+              f"and its disk {recording.free() // MEGABYTE} MB free")  # fmt: skip
         printouts = engine.printouts
         waiting = printouts.unwritten()
         trouble = f": {printouts.trouble}" if printouts.trouble else ""
@@ -175,7 +176,7 @@ class Operator:
         if not rest and on:
             raise NotDone(f"still on: {' '.join(on)} (end now ends all the same)")
         if not rest and unwritten:
-            raise NotDone(f"not written: {' '.join(unwritten[:8])} (end now ends all the same: bin/printouts makes them of the recording)")
+            raise NotDone(f"not written: {' '.join(unwritten[:8])} (end now ends all the same: bin/printouts makes them later)")
         self.tell("the session ends")
         self.installation.stop(is_end=True)
         return ENDS

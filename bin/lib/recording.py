@@ -193,8 +193,8 @@ class Recording:
         right = min(self.right, line - 1)
         until = f"until {self.until.decode()} UTC, " if right == self.right else ""
         kept = f"{until}head -n {right} {self.path} > OTHER" if right else "nothing"
-        return Failure(REFUSED, f"{self.path}: {told}", "put back a copy from before it was changed, or go on with what is known to be "
-                       f"right: {kept}")  # fmt: skip
+        advice = f"put back a copy from before it was changed, or go on with what is known to be right: {kept}"
+        return Failure(REFUSED, f"{self.path}: {told}", advice)
 
     def digits(self):
         return self.sum.hexdigest()[:STAMP_DIGITS].encode()
@@ -225,8 +225,8 @@ class Recording:
         wanted = base.lines()
         if self.base:
             if differs := differing(self.base, wanted):
-                raise Failure(REFUSED, f"{self.path}: {differs}", "put back what it is of, or move the file away: then a session begins "
-                              "anew")  # fmt: skip
+                advice = "put back what it is of, or move the file away: then a session begins anew"
+                raise Failure(REFUSED, f"{self.path}: {differs}", advice)
             cut = f"; {self.cut} bytes after the last whole line are cut" if self.cut else ""
             told = f"goes on from {self.lines} lines of {self.path}, until {self.until.decode()} UTC{cut}"
             # a full disk is found here, and not when somebody types
