@@ -184,6 +184,40 @@ def try_two_logons(check):
 
 # --- long listings ---
 
+
+ANSWERS = b"""A: STORED
+= A 12 WAIT
+> == PRT 0001 A
+> |09 HELLO
+> |09 > == PRT 0002 A
+> == PUN 0002 B
+> ON A
+> IDLE
+> DONE
+> REFUSED 3
+A: LAST
+> == PRT 0003 A
+> |01
+> DONE
+"""
+
+
+def try_answers(check):
+    """What a program answers is understood wherever it is cut."""
+    from following import Answers, Came, Refused
+
+    wanted = [
+        Came(["A: STORED", "= A 12 WAIT"], [("== PRT 0001 A", b"> |09 HELLO\n> |09 > == PRT 0002 A\n"), ("== PUN 0002 B", b"")],
+             [("ON", "A")], True),
+        Refused(3),
+        Came(["A: LAST"], [("== PRT 0003 A", b"> |01\n")], [], False),
+    ]  # fmt: skip
+    for size in (1, 2, 3, 7, 20, 50, len(ANSWERS)):
+        answers = Answers()
+        found = [answer for at in range(0, len(ANSWERS), size) for answer in answers.feed(ANSWERS[at : at + size])]
+        check(f"answers in pieces of {size} bytes", found == wanted, *map(str, found))
+
+
 LINES = 500000
 
 
@@ -362,6 +396,7 @@ def try_faults(check, command, program, folder):
     try_removed_deck(check, folder)
     try_lost_connection(check)
     try_two_logons(check)
+    try_answers(check)
     try_edits(check, folder)
     try_dying_program(check, make_site(command, f"{folder}/dying"), program)
     try_volumes(check, make_site(command, f"{folder}/volumes"))
