@@ -353,12 +353,11 @@ def try_volumes(check, site):
 # --- programs that die ---
 
 
-def try_dying_program(check, site, program):
+def try_killed_program(check, site, program):
     """A program that is killed is started again: nothing that was shown is lost, and nobody has to come back."""
 
     async def tried():
-        alice = await person(f"{site.folder}/socket")
-        await alice.logon("ALICE", "WONDER")
+        alice = await on(site)
         for count in range(1, 4):
             alice.type(f"STORE G1 {count:08X}", "DISPLAY G1")
             await alice.until(f"GPR 1 = {count:08X}")
@@ -374,6 +373,12 @@ def try_dying_program(check, site, program):
     check("a program that dies is started again", lines[1:] == ["LOGON OK", *wanted, "LOGOFF OK"], *lines, *site.told)
     check("the operator is told", site.await_told("ended by signal 9: it is started again"), *site.told)
     check("it is suspended", site.stop() == 0)
+    done, shown = replayed(program, site.paths[0], site.record)
+    check("and the recording replays", shown.get("ALICE") == lines[1:], done.stderr, *shown.get("ALICE", []))
+
+
+def try_deadly_line(check, site):
+    """A line that kills each program ends the installation, once, and is not in the recording."""
 
     async def die():
         alice = await on(site)
@@ -382,12 +387,10 @@ def try_dying_program(check, site, program):
 
     site.online()
     run(die())
-    check("what kills it twice ends the installation", site.ended() == 3 and "ended by signal 9" in site.since_start(), *site.told)
+    holds = site.ended() == 3 and "ended by signal 9" in site.since_start()
+    check("what kills a program twice ends the installation", holds, *site.told)
     site.online()
-    check("which goes on then", site.stop() == 0, *site.told)
-    done, shown = replayed(program, site.paths[0], site.record)
-    lines.append("LOGON OK")
-    check("and the recording replays", shown.get("ALICE") == lines[1:], done.stderr, *shown.get("ALICE", []))
+    check("which goes on then", site.stop() == 0 and b"DIE" not in read(site.record), *site.told)
 
 
 def try_faults(check, command, program, folder):
@@ -398,7 +401,8 @@ def try_faults(check, command, program, folder):
     try_two_logons(check)
     try_answers(check)
     try_edits(check, folder)
-    try_dying_program(check, make_site(command, f"{folder}/dying"), program)
+    try_killed_program(check, make_site(command, f"{folder}/killed"), program)
+    try_deadly_line(check, make_site(command, f"{folder}/deadly"))
     try_volumes(check, make_site(command, f"{folder}/volumes"))
     try_listing(check, make_site(command, f"{folder}/listing"))
     try_decks(check, make_site(command, f"{folder}/folders of decks"))
