@@ -1,4 +1,5 @@
 """The files for the operator: each comes into a folder once, whole, when its user closes it."""
+import collections
 import os
 import threading
 
@@ -36,7 +37,9 @@ class Printouts:
         self.note = lambda name: None
         self.noted = noted
         self.all = []
-        self.waiting = []
+        self.waiting = collections.deque()
+        # of the files that wait, in bytes
+        self.size = 0
         self.trouble = ""
         self.is_closing = False
         self.changed = threading.Condition()
@@ -54,7 +57,7 @@ class Printouts:
             with self.changed:
                 self.all.append(printout)
                 self.decide(printout, is_replay)
-                while is_replay and self.size() > MOST_WAITING // 2 and not self.trouble:
+                while is_replay and self.size > MOST_WAITING // 2 and not self.trouble:
                     self.changed.wait(1)
 
     def decide(self, printout, is_replay):
@@ -65,17 +68,15 @@ class Printouts:
                 self.tell(f"closed: {printout.name}")
         elif printout.name in self.noted:
             printout.state = WRITTEN
-        elif self.size() + len(printout.body) > MOST_WAITING and self.waiting:
+        elif self.size + len(printout.body) > MOST_WAITING and self.waiting:
             printout.state = WAITS_FOR_START
             self.tell(f"{printout.name} waits for the next start: too much waits to be written")
         else:
             self.waiting.append(printout)
+            self.size += len(printout.body)
             self.changed.notify_all()
             return
         printout.body = b""
-
-    def size(self):
-        return sum(len(it.body) for it in self.waiting)
 
     def write_all(self):
         """Writes what waits, until it is closed."""
@@ -92,7 +93,8 @@ class Printouts:
                 self.wait_after(printout, error.strerror)
                 continue
             with self.changed:
-                self.waiting.remove(printout)
+                self.waiting.popleft()
+                self.size -= len(printout.body)
                 printout.state, printout.body, self.trouble = WRITTEN, b"", ""
                 self.changed.notify_all()
             self.note(printout.name)
