@@ -29,7 +29,7 @@ TURNS = re.compile(rb"AUTO ([0-9]+)\n")
 TYPED = re.compile(rb"LINE ([A-Z0-9]+) ?(.*)\n")
 STAMP = re.compile(rb"\* (\d{4}-\d\d-\d\d \d\d:\d\d:\d\d) UTC(?: ([0-9a-f]{8}))?\n", re.M)
 STAMPED = re.compile(rb"^" + STAMP.pattern, re.M)
-SCRIPT_LINE = re.compile(rb"(?:\*.*|(?:LINE|RUN|TICK|SERVE|AUTO|DECK) .*|)\n(?:.*\n)*")
+SCRIPT_WORDS = (b"LINE ", b"AUTO ", b"*", b"DECK ", b"RUN ", b"SERVE ", b"TICK ", b"\n")
 
 
 class Base(NamedTuple):
@@ -76,18 +76,23 @@ def entries_of(file):
     """Each entry of a script that is there whole: a line, or a deck with its cards."""
     while (line := file.readline()).endswith(b"\n"):
         lines = [line]
-        if deck := DECK.fullmatch(line):
+        if line.startswith(b"DECK ") and (deck := DECK.fullmatch(line)):
             lines += [file.readline() for _ in range(int(deck[1]))]
         if not lines[-1].endswith(b"\n"):
             return
         yield b"".join(lines)
 
 
+def stamp_in(entry):
+    """The time and the sum of a stamp, or None."""
+    return STAMP.fullmatch(entry) if entry.startswith(b"* ") and entry[2:3].isdigit() else None
+
+
 def stamped(file):
     """The entries of a recording in groups, each with the time of the stamp that follows it, or an empty time."""
     group = []
     for entry in entries_of(file):
-        if stamp := STAMP.fullmatch(entry):
+        if stamp := stamp_in(entry):
             yield stamp[1].decode(), group
             group = []
         else:
@@ -170,14 +175,15 @@ class Recording:
 
     def judge(self, entry):
         """Refuses an entry that is not as it was written."""
-        line = self.lines + 1
-        if not SCRIPT_LINE.fullmatch(entry):
-            raise self.edited(line, "is no line of a recording")
-        stamp = STAMP.fullmatch(entry)
+        if not entry.startswith(SCRIPT_WORDS):
+            raise self.edited(self.lines + 1, "is no line of a recording")
+        stamp = stamp_in(entry)
         if not self.begun and (stamp or not entry.startswith(b"* ")):
-            raise self.edited(line, "comes before any line BEGUN")
-        if not stamp:
-            return
+            raise self.edited(self.lines + 1, "comes before any line BEGUN")
+        if stamp:
+            self.judge_stamp(stamp, self.lines + 1)
+
+    def judge_stamp(self, stamp, line):
         if stamp[2] and stamp[2] != self.digits():
             first, last = self.right + 1, line - 1
             which = f"lines {first} to {last} are" if first < last else f"line {first} is"
@@ -186,6 +192,7 @@ class Recording:
             raise self.edited(line, "has no sum, as the lines before it have")
         self.has_sums = bool(stamp[2])
         self.right = line
+        self.until = stamp[1]
 
     def edited(self, line, fault, told=""):
         """The failure that a wrong line is, and what can be done."""
@@ -207,18 +214,21 @@ class Recording:
         if not self.begun and not entry.startswith(BEGUN):
             self.base.append(entry[:-1])
             return
+        if entry.startswith(b"*"):
+            if stamp_in(entry):
+                return
+            self.note_comment(entry)
+        self.last = entry
+        self.weight += weight_of(entry)
+
+    def note_comment(self, entry):
         if entry.startswith(BEGUN):
             self.begun = self.begun or entry
             self.until = entry.removeprefix(BEGUN)[:19]
-        elif stamp := STAMP.fullmatch(entry):
-            self.until = stamp[1]
-            return
         elif entry.startswith(DECK_READ):
             self.decks.add(entry)
         elif entry.startswith(PRINTED):
             self.printed.add(entry.removeprefix(PRINTED).decode().rstrip("\n"))
-        self.last = entry
-        self.weight += weight_of(entry)
 
     def begin(self, base):
         """Begins it on this base, or goes on if it has the same. What it says about that is for the operator."""
@@ -276,7 +286,7 @@ class Recording:
         number, waiting, when = 1, [], self.begun.removeprefix(BEGUN)[:19]
         with open(self.path, "rb") as file:
             for entry in entries_of(file):
-                stamp = STAMP.fullmatch(entry)
+                stamp = stamp_in(entry)
                 if stamp:
                     when = stamp[1]
                 elif not entry.startswith(b"*"):
@@ -347,7 +357,7 @@ def begun_now():
 
 def weight_of(entry):
     """About how much the program has to do for an entry, in turns."""
-    turns = TURNS.fullmatch(entry)
+    turns = TURNS.fullmatch(entry) if entry.startswith(b"AUTO ") else None
     return int(turns[1]) if turns else 20
 
 
