@@ -298,6 +298,7 @@ def stand_in(words):
         sys.stdout.write("".join(f"{it}\n" for it in lines))
         return
     while (size := sys.stdin.buffer.readline()) not in (b"", b"END\n"):
+        time.sleep(float(os.environ.get("PEOPLE_SLOW", "0")))
         told = program.part(sys.stdin.buffer.read(int(size)))
         told = ["> REFUSED 1"] if told is None else [*told, "> DONE"]
         sys.stdout.write("\n".join(told) + "\n")

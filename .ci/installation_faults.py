@@ -377,6 +377,35 @@ def try_killed_program(check, site, program):
     check("and the recording replays", shown.get("ALICE") == lines[1:], done.stderr, *shown.get("ALICE", []))
 
 
+def try_end_in_restart(check, site):
+    """An end that is asked for while the program is started again saves nothing of a program that has not done all."""
+    volume = f"{site.folder}/volume"
+    write(volume, "AS IT WAS\n")
+    site.paths.append(volume)
+    os.environ["PEOPLE_SLOW"] = "0.05"
+
+    async def tried():
+        alice = await on(site)
+        for count in range(40):
+            alice.type(f"STORE G1 {count:08X}")
+            await alice.until("STORED")
+        os.kill(site.program(), signal.SIGKILL)
+        alice.type("DISPLAY G1")
+        site.await_told("it is started again")
+        site.operate("end now")
+        await alice.rest()
+
+    site.online()
+    run(tried())
+    ended = site.ended()
+    del os.environ["PEOPLE_SLOW"]
+    holds = read(volume) == b"AS IT WAS\n" and os.path.exists(site.record)
+    check("an end while the program is started again saves nothing", holds, f"status {ended}", *site.told)
+    site.online()
+    site.operate("end now")
+    check("the next one does", site.ended() == 0 and read(volume) == b"SAVED\n", *site.told)
+
+
 def try_deadly_line(check, site):
     """A line that kills each program ends the installation, once, and is not in the recording."""
 
@@ -402,6 +431,7 @@ def try_faults(check, command, program, folder):
     try_answers(check)
     try_edits(check, folder)
     try_killed_program(check, make_site(command, f"{folder}/killed"), program)
+    try_end_in_restart(check, make_site(command, f"{folder}/restart"))
     try_deadly_line(check, make_site(command, f"{folder}/deadly"))
     try_volumes(check, make_site(command, f"{folder}/volumes"))
     try_listing(check, make_site(command, f"{folder}/listing"))

@@ -149,6 +149,8 @@ class Engine:
         self.loop = asyncio.get_running_loop()
         self.woken = asyncio.Event()
         self.is_stopping = False
+        # whether the program has done all that the recording has
+        self.is_whole = False
         printouts.note = lambda name: self.note(PRINTED + name.encode() + b"\n")
         self.parts = 0
         # what the last part took the disk
@@ -244,8 +246,7 @@ class Engine:
                 raise
             self.tell(f"{death.lines[0] if death.lines else 'the program has died'}: it is started again")
             self.restart()
-            if self.is_stopping:
-                # it may not have done all
+            if not self.is_whole:
                 raise
             self.tell("the program goes on")
             return self.checked(self.program.do, part.lines)
@@ -300,6 +301,7 @@ class Engine:
 
     def do_recording(self, tell, take):
         """Has the program do all that the recording has, and takes what comes of each part."""
+        self.is_whole = False
         # it has read the volumes when it has answered
         self.checked(self.program.do, b"")
         progress, sent = Progress(self.recording.weight, tell), collections.deque()
@@ -319,6 +321,7 @@ class Engine:
                 take_first()
         while sent and not self.is_stopping:
             take_first()
+        self.is_whole = not sent
 
     def stop(self):
         self.is_stopping = True
