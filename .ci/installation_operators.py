@@ -160,9 +160,9 @@ def try_commands(check, site):
         told = site.await_told("OPER: MSG FROM ALICE: Help me")
         check("a message to the operator", told, *site.told)
         commands = ["message BOB For you", "message For all", "force BOB", "force BOB", "message BOB x", "force NOBODY",
-                    "logmsg Closed on Sunday", "end at 03:00", "end cancel", "end at 24:00"]  # fmt: skip
+                    "logmsg Closed on Sunday", "end at 03:00", "end cancel", "end at 24:00", "force OPER"]  # fmt: skip
         answers = [operator(site, *words.split()).returncode for words in commands]
-        check("commands of an operator", answers == [0, 0, 0, 1, 1, 1, 0, 0, 0, 1], *map(str, answers))
+        check("commands of an operator", answers == [0, 0, 0, 1, 1, 1, 0, 0, 0, 1, 1], *map(str, answers))
         seen = await bob.rest()
         wanted = ["OPERATOR: For you", "OPERATOR: For all", "YOU ARE LOGGED OFF: BY THE OPERATOR", "LOGOFF OK"]
         check("are seen by who they are for", seen[-4:] == wanted, *seen)
@@ -199,6 +199,8 @@ def try_small_faults(check, site):
 
     streams = {"capture_output": True, "text": True, "stdin": subprocess.DEVNULL}
     wrong = subprocess.run([site.command, "--record", "r", "--listen", "127.0.0.1:99999", *site.paths], **streams)
+    same = subprocess.run([site.command, *site.words, "--sender", "OPER", "--operator", "OPER", *site.paths], **streams)
+    check("one user for two things", same.returncode == 2 and "--operator is another one" in same.stderr, same.stderr)
     check("a port that is none", wrong.returncode == 2 and "is no value of --listen" in wrong.stderr, wrong.stderr)
     write(f"{site.folder}/file", "")
     wrong = subprocess.run([site.command, *site.words, "--decks", f"{site.folder}/file", *site.paths], **streams)

@@ -155,6 +155,8 @@ class Operator:
 
     def force(self, name, reply):
         user = self.named(name)
+        if not self.installation.is_person(user):
+            raise NotDone(f"nobody logs on as {user.name}")
         if not user.is_on:
             raise NotDone(f"{user.name} is not on")
         self.installation.force(user, "by the operator")
