@@ -81,7 +81,7 @@ class Site:
 
     def program(self):
         """The id of the program that it runs, or None."""
-        found = subprocess.run(["pgrep", "-P", str(self.process.pid)], capture_output=True, text=True).stdout.split()
+        found = subprocess.run(["pgrep", "-P", str(self.process.pid), "-f", "vm370_cli"], capture_output=True, text=True).stdout.split()
         return int(found[0]) if found else None
 
     def kill(self, is_all=False):
@@ -200,7 +200,7 @@ run = asyncio.run
 
 class StandIn:
     """Takes parts of a script as the program does, for users who type LOGON, LOGOFF, #CP, BEGIN, STORE, DISPLAY of a register,
-    MSG and PRINT, which no program has: it prints a file."""
+    MSG, and three that no program has: PRINT prints a file of a line, LIST one of so many, and DIE kills the program."""
 
     def __init__(self, directory, has_slices):
         self.has_slices = has_slices
@@ -267,6 +267,11 @@ class StandIn:
         elif words[:1] == ["PRINT"]:
             self.files.append([f"== PRT {len(self.files) + 1:04} {name}", f"09 {' '.join(words[1:])}"])
             self.closed += [f"> {self.files[-1][0]}", f"> |{self.files[-1][1]}"]
+        elif words == ["DIE"]:
+            os.kill(os.getpid(), signal.SIGKILL)
+        elif words[:1] == ["LIST"]:
+            self.files.append([f"== PRT {len(self.files) + 1:04} {name}"])
+            self.closed += [f"> {self.files[-1][0]}", *[f"> |09 {'A' * 60}"] * int(words[1])]
         elif words:
             self.say(name, "UNKNOWN COMMAND")
 
@@ -293,9 +298,10 @@ def stand_in(words):
         sys.stdout.write("".join(f"{it}\n" for it in lines))
         return
     while (size := sys.stdin.buffer.readline()) not in (b"", b"END\n"):
+        time.sleep(float(os.environ.get("PEOPLE_SLOW", "0")))
         told = program.part(sys.stdin.buffer.read(int(size)))
         told = ["> REFUSED 1"] if told is None else [*told, "> DONE"]
-        sys.stdout.write("".join(f"{it}\n" for it in told))
+        sys.stdout.write("\n".join(told) + "\n")
         sys.stdout.flush()
     sys.stdout.write("".join(f"{it}\n" for it in program.last_lines()))
     sys.stdout.flush()
@@ -321,6 +327,7 @@ TYPED = {
     "options, all declined": (b"\xff\xfb\x1f\xff\xfd\x03\xff\xfd\x01\xff\xfc\x01\xff\xfe\x01A\n", ["A"],
                               b"\xff\xfe\x1f\xff\xfc\x03"),  # fmt: skip
     "what is told of an option": (b"A\xff\xfa\x18\x00\nX\xff\xff\xf0Y\xff\xf0B\n", ["AB"], b""),
+    "whether somebody is there": (b"A\xff\xf6B\n", ["AB"], b"[YES]\r\n"),
     "a byte 255": (b"A\xff\xffB\n", ["A B"], b""),
 }
 BEGINS = b"* GATHJUMLI RECORDING 1\n* BEGUN 2026-11-26 12:00:00 UTC\n"
@@ -417,7 +424,7 @@ def try_recordings(check, folder):
     for what, (text, wanted) in ENTRIES.items():
         write(path, BEGINS + text)
         recording = Recording(path)
-        found = list(recording.entries())
+        found = [entry for _, _, entry in recording.entries()]
         recording.close()
         whole = b"".join(wanted)
         check(f"{what} of a recording", found == wanted and read(path) in (BEGINS + text, BEGINS + whole), *found)
@@ -760,12 +767,20 @@ def try_files(check, site, prints):
     wanted = ["it has no card\n", "a deck has cards of 80 bytes, and this one has 79 bytes\n", "card 1 is longer than 80\n"]
     check("or refused with a reason", told == wanted and len(refused) == 6, *refused, *told)
     site.kill()
-    os.unlink(name)
     os.replace(f"{folder}/done/text", f"{folder}/text")
     site.online("--decks", f"{site.folder}/decks", "--printouts", f"{site.folder}/prints", "--sender", "OPER")
     check("a deck that was read in before a crash is only moved", site.await_told("deck text for BOB: read in"), *site.told)
-    check("and a printout that lacks is made again", os.path.exists(name))
     check("they are suspended", site.stop() == 0)
+    os.unlink(name)
+    site.online("--printouts", f"{site.folder}/prints")
+    check("and a printout that was taken away does not come back", site.stop() == 0 and not os.path.exists(name))
+    with open(site.record, "rb") as file:
+        before = file.read()
+    check("what is written is noted", before.count(b"* PRINTED PRT0001-ALICE.txt\n") == 1)
+    write(site.record, without_sums(before).replace(b"* PRINTED PRT0001-ALICE.txt\n", b""))
+    site.online("--printouts", f"{site.folder}/prints")
+    check("one that a crash kept from being written is", site.await_told(f"closed: {name}") and read(name) == b"HELLO\n")
+    check("they are suspended again", site.stop() == 0)
     with open(site.record, "rb") as file:
         check("one deck was given once", file.read().count(b"DECK BOB 2\nFIRST CARD\nSECOND\n") == 1)
     return shown
@@ -777,10 +792,11 @@ def try_report(check, repository, site, looks):
     words = [f"{repository}/bin/report", "--looks", str(looks), site.record, out]
     done = subprocess.run(words, capture_output=True, text=True)
     page = read(out).decode() if os.path.exists(out) else ""
-    wanted = [">LOGON</span>", ">LOGON OK</span>", "HELLO", 'class="card"', 'class="paper"', "units</title>"]
+    wanted = [">LOGON</span>", ">LOGON OK</span>", "HELLO", 'class="card"', 'class="paper"', "units</title>", '<a href="#ALICE">',
+              '<h2 id="ALICE">', "1 connections", " UTC<td>", '<time class="when">']  # fmt: skip
     lacking = [it for it in wanted if it not in page]
     check("a page of a recording", done.returncode == 0 and not lacking, done.stderr, *lacking)
-    outside = re.findall(r"(?:src|href)=|url\(|https?:|<script|<link|@import", page)
+    outside = re.findall(r"src=|href=(?!\"#)|url\(|https?:|<script|<link|@import", page)
     check("has no outside parts", not outside, *outside)
     os.rename(site.paths[0], f"{site.folder}/moved")
     done = subprocess.run(words, capture_output=True, text=True)
@@ -846,11 +862,17 @@ def try_ending(check, site):
     with open(site.record, "rb") as file:
         whole = file.read()
     base = read(f"{site.folder}/{first}/recording").split(b"* BEGUN")[0]
-    write(site.record, base + b"* BEGUN" + whole.split(b"* BEGUN")[1] + b"* END\n")
+    write(site.record, without_sums(base + b"* BEGUN" + whole.split(b"* BEGUN")[1]) + b"* END\n")
     site.online()
     done = [it for it in names_in(site.folder) if it.startswith("recording.2")]
     check("and an end that was begun", has(new) and len(done) == 2 and is_kept(done[1]), *site.told, *done)
-    check("then it is online again", site.stop() == 0)
+    site.operate("end now")
+    check("then it is online again, and takes commands", site.ended() == 0, *site.told)
+
+
+def without_sums(recording):
+    """A recording as it was made before stamps had sums."""
+    return re.sub(rb"(?m)^(\* [0-9: -]{19} UTC) [0-9a-f]{8}$", rb"\1", recording)
 
 
 async def logged_on(site, name, password):
@@ -869,6 +891,17 @@ def read(path):
 def write(path, data):
     with open(path, "wb") as file:
         file.write(data)
+
+
+def write_text(path, text):
+    write(path, text.encode())
+
+
+async def on(site, name="ALICE", password="WONDER"):
+    """Somebody who has logged on."""
+    one = await person(f"{site.folder}/socket")
+    await one.logon(name, password)
+    return one
 
 
 def try_all(check, repository, folder, is_stand_in):

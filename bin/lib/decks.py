@@ -1,16 +1,24 @@
 """Folders from which decks of cards are read in."""
 import asyncio
+import contextlib
+import itertools
 import os
+import stat
 
 from engine import Part
-from people import read_file, write_whole
 from punching import CARD, cards_of, sent
 from recording import DECK_READ
 
 # a DECK line of a script has so many cards at most
 MOST_CARDS = 1000
 MOST_BYTES = 1 << 22
+# files of a folder that are looked at in one round
+MOST_FILES = 200
 SECONDS = 2
+# a user's folder is his own: no link in it is followed
+OPEN_FOLDER = os.O_RDONLY | os.O_DIRECTORY | os.O_NOFOLLOW | os.O_CLOEXEC
+OPEN_FILE = os.O_RDONLY | os.O_NOFOLLOW | os.O_NONBLOCK | os.O_CLOEXEC
+OPEN_NEW = os.O_WRONLY | os.O_CREAT | os.O_EXCL | os.O_NOFOLLOW | os.O_CLOEXEC
 
 
 def wrong_text(data):
@@ -39,6 +47,63 @@ class Sender:
         return list(sent(cards_of(data), self.name, self.punch, receiver))
 
 
+class DeckFile:
+    """A file in a user's folder. Its state changes whenever the file does."""
+
+    def __init__(self, name, state):
+        self.name = name
+        self.state = state
+
+
+class DeckFolder:
+    """The open folder of one user. Every name is looked up in the folder itself, so that links and renamed folders lead nowhere
+    else. What the user does in it can only make an operation on his own file fail."""
+
+    def __init__(self, path):
+        self.handle = os.open(path, OPEN_FOLDER)
+
+    def close(self):
+        os.close(self.handle)
+
+    def files(self):
+        """The plain files, in the order of their names; links, folders and pipes are no decks."""
+        with os.scandir(self.handle) as entries:
+            names = (entry.name for entry in entries if not entry.name.startswith(".") and entry.is_file(follow_symlinks=False))
+            found = sorted(itertools.islice(names, MOST_FILES))
+        for name in found:
+            with contextlib.suppress(FileNotFoundError):
+                yield DeckFile(name, state_of(os.stat(name, dir_fd=self.handle, follow_symlinks=False)))
+
+    def changed(self):
+        """When a name was last added or removed."""
+        return os.fstat(self.handle).st_mtime_ns
+
+    def read(self, name):
+        """The bytes of a file, one more than a deck may have at most, and its state."""
+        handle = os.open(name, OPEN_FILE, dir_fd=self.handle)
+        with open(handle, "rb") as file:
+            found = os.fstat(handle)
+            if not stat.S_ISREG(found.st_mode) or found.st_nlink != 1:
+                raise OSError(0, "the file has another name, or is no plain file")
+            return file.read(MOST_BYTES + 1), state_of(found)
+
+    def move(self, name, inner, reason):
+        """Moves a file to an inner folder under a name that is new there, next to it the reason why it is refused, if it is."""
+        with contextlib.suppress(FileExistsError):
+            os.mkdir(inner, dir_fd=self.handle)
+        target = os.open(inner, OPEN_FOLDER, dir_fd=self.handle)
+        try:
+            taken = set(os.listdir(target))
+            numbered = (f"{name}.{count}" if count > 1 else name for count in itertools.count(1))
+            moved = next(new for new in numbered if new not in taken and f"{new}.reason" not in taken)
+            os.rename(name, moved, src_dir_fd=self.handle, dst_dir_fd=target)
+            if reason:
+                with open(os.open(f"{moved}.reason", OPEN_NEW, 0o666, dir_fd=target), "w") as file:
+                    file.write(f"{reason}\n")
+        finally:
+            os.close(target)
+
+
 class Folders:
     """A folder for each user; what is put into it is read in as a deck for him, and goes to `done` or `refused`. A file whose
     name ends with .deck has 80 bytes a card, any other is text, a line a card."""
@@ -50,61 +115,78 @@ class Folders:
         self.sender = sender
         self.tell = tell
         self.seen = {}
+        # files that failed: with which state of the file and of the folder, and the reason
+        self.failed = {}
+
+    def make(self):
+        """Makes the folders that are missing."""
+        os.makedirs(self.folder, exist_ok=True)
+        for user in sorted(self.readers):
+            os.makedirs(os.path.join(self.folder, user), exist_ok=True)
 
     async def watch(self):
-        """Looks at the folders every two seconds. A file is taken that did not change in between."""
+        """Looks at the folders every two seconds. A file is taken if it did not change in between."""
         while True:
             found = {}
-            for path, user in self.files():
-                found[path] = state = state_of(path)
-                if state and state == self.seen.get(path):
-                    await self.read(path, user, state)
+            for user in self.engine.users:
+                # a file system that fails or is slow concerns this user's folder only
+                with contextlib.suppress(OSError):
+                    await self.look_at(user, found)
             self.seen = found
+            self.failed = {key: failure for key, failure in self.failed.items() if key in found}
             await asyncio.sleep(SECONDS)
 
-    def files(self):
-        for name in self.engine.users:
-            folder = os.path.join(self.folder, name)
-            try:
-                found = sorted(os.listdir(folder))
-            except OSError:
-                continue
-            for it in found:
-                if not it.startswith(".") and os.path.isfile(os.path.join(folder, it)):
-                    yield os.path.join(folder, it), name
+    async def look_at(self, user, found):
+        """Reads in the files of a user that have not changed since the last round."""
+        folder = DeckFolder(os.path.join(self.folder, user))
+        try:
+            for file in await in_thread(lambda: list(folder.files())):
+                key = (user, file.name)
+                found[key] = file.state
+                state = (file.state, folder.changed())
+                if file.state == self.seen.get(key) and self.failed.get(key, [None])[0] != state:
+                    await self.read(folder, file, user)
+        finally:
+            folder.close()
 
-    async def read(self, path, user, state):
-        """Gives a user the deck of a file, and moves this. One that was given before the host crashed is only moved."""
-        mark = DECK_READ + b"%s %d %d %d\n" % (user.encode(), *state)
-        reason = ""
-        if mark not in self.engine.recording.decks:
-            reason, scripts = self.judged(path, user, state)
-            for script in scripts[:-1]:
-                await self.engine.give(Part(script))
-            if scripts:
-                self.engine.recording.decks.add(mark)
-                await self.engine.give(Part(scripts[-1] + mark, is_kept=True))
-        folder = os.path.join(os.path.dirname(path), "refused" if reason else "done")
-        os.makedirs(folder, exist_ok=True)
-        moved = os.path.join(folder, os.path.basename(path))
-        os.replace(path, moved)
-        if reason:
-            write_whole(moved + ".reason", reason.encode() + b"\n")
-        self.tell(f"deck {os.path.basename(path)} for {user}: {reason or 'read in'}")
+    async def read(self, folder, file, user):
+        """Gives a user the deck of a file, and moves the file. If that fails the reason is reported once, and the file is skipped
+        until it or its folder changes."""
+        try:
+            reason = await self.give(folder, file, user)
+            await in_thread(folder.move, file.name, "refused" if reason else "done", reason)
+            self.tell(f"deck {file.name} for {user}: {reason or 'read in'}")
+        except OSError as error:
+            key, reason = (user, file.name), error.strerror
+            if self.failed.get(key, ["", ""])[1] != (file.state, reason):
+                self.tell(f"deck {file.name} for {user}: {reason}; the file is skipped until it changes")
+            self.failed[key] = [(file.state, folder.changed()), (file.state, reason)]
 
-    def judged(self, path, user, state):
+    async def give(self, folder, file, user):
+        """Gives a user the deck of a file, once even if the host crashes before the file is moved; the reason if it is refused."""
+        mark = DECK_READ + b"%s %d %d %d\n" % (user.encode(), *file.state)
+        if mark in self.engine.recording.decks:
+            return ""
+        reason, scripts = await in_thread(self.judged, folder, file, user)
+        for script in scripts[:-1]:
+            await self.engine.give(Part(script))
+        if scripts:
+            self.engine.recording.decks.add(mark)
+            await self.engine.give(Part(scripts[-1] + mark, is_kept=True))
+        return reason
+
+    def judged(self, folder, file, user):
         """Why the file is refused, or else the scripts that give it to the user."""
         if user not in self.readers:
             return f"{user} has no reader", []
-        if state[1] > MOST_BYTES:
+        data, state = folder.read(file.name)
+        if state != file.state:
+            raise OSError(0, "the file changes while it is read")
+        if len(data) > MOST_BYTES:
             return f"more than {MOST_BYTES} bytes", []
-        try:
-            data = read_file(path)
-        except OSError as it:
-            return it.strerror, []
         if not data:
             return "it has no card", []
-        if not path.endswith(".deck"):
+        if not file.name.endswith(".deck"):
             wrong = wrong_text(data.replace(b"\r\n", b"\n"))
             return wrong, [] if wrong else [text_deck(data, user)]
         if len(data) % CARD:
@@ -114,10 +196,11 @@ class Folders:
         return "", self.sender.scripts(data, user)
 
 
-def state_of(path):
-    """What tells whether a file is still the same, or nothing where it is gone."""
-    try:
-        found = os.stat(path)
-    except OSError:
-        return None
+async def in_thread(work, *given):
+    """Does what waits for a disk without keeping anybody waiting."""
+    return await asyncio.get_running_loop().run_in_executor(None, work, *given)
+
+
+def state_of(found):
+    """What differs as soon as a file has changed."""
     return found.st_ino, found.st_size, found.st_mtime_ns

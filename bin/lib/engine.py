@@ -2,14 +2,16 @@
 import asyncio
 import collections
 import concurrent.futures
+import contextlib
 import re
 import time
 from typing import NamedTuple
 
-from following import NotFollowed, Program
+from following import Died, NotFollowed, Program
+from host import memory_of, processor_seconds
 from machines import ScriptRefused
 from people import Failure, FILE_FAILED, REFUSED
-from recording import TURNS, TYPED, weight_of
+from recording import PRINTED, TURNS, TYPED, sum_of_file, weight_of
 
 # lines that one who comes back sees again
 KEPT_LINES = 24
@@ -22,6 +24,7 @@ STUCK_TURNS = 64 * 32
 AHEAD = 256
 LACKS = re.compile("= ([A-Z0-9]+) FRAMES")
 LACKED = re.compile("= [A-Z0-9]+ 0 FRAMES")
+MINUTE = "%Y-%m-%d %H:%M"
 NO_ROOM = "NOT DONE: NO ROOM FOR A PAGE, TYPE IT AGAIN"
 
 
@@ -33,10 +36,22 @@ class User:
         self.is_on = False
         self.is_running = False
         self.terminal = None
+        # the logon that is under way
+        self.logon = None
+        # whether he is being logged off
+        self.is_forced = False
+        # bytes that he typed, and his guests printed, since LOGON
+        self.written = 0
+        # each line with the minute of its time
         self.shown = collections.deque(maxlen=KEPT_LINES)
 
-    def show(self, text):
-        self.shown.append(text)
+    def keep(self, text, when=None):
+        """Keeps a line for when he comes back."""
+        self.written += len(text) + 1
+        self.shown.append((when or time.strftime(MINUTE, time.gmtime()), text))
+
+    def show(self, text, when=None):
+        self.keep(text, when)
         if self.terminal:
             self.terminal.say(text)
 
@@ -47,6 +62,8 @@ class User:
             self.is_running = state == "RUNS"
         if state == "OFF":
             self.shown.clear()
+            self.written = 0
+            self.is_forced = False
 
 
 class Part(NamedTuple):
@@ -115,21 +132,40 @@ class Engine:
     """Gives the program parts: what waits, then some turns while somebody is ready. What comes of a part is shown when the
     recording has it. One thread alone touches the program, the recording and the printouts."""
 
-    def __init__(self, machines, recording, users, aim, printouts):
+    def __init__(self, machines, recording, users, aim, printouts, tell):
+        self.machines = machines
         self.recording = recording
+        self.tell = tell
         self.users = users
+        # the user whose console the operators see
+        self.receiver = None
         self.pace = Pace(aim)
         self.printouts = printouts
-        self.program = Program(machines, "--terminals", "--save")
+        self.program = self.begun()
         self.thread = concurrent.futures.ThreadPoolExecutor(1)
         self.waiting = []
+        # comments that the recording is to have
+        self.marks = collections.deque()
+        self.loop = asyncio.get_running_loop()
         self.woken = asyncio.Event()
         self.is_stopping = False
+        # whether the program has done all that the recording has
+        self.is_whole = False
+        printouts.note = lambda name: self.note(PRINTED + name.encode() + b"\n")
         self.parts = 0
-        # of the program, since the session was begun: about what a restart takes
-        self.seconds = 0.0
         # what the last part took the disk
         self.settling = 0.0
+
+    def begun(self):
+        return Program(self.machines, "--terminals", "--save")
+
+    def seconds(self):
+        """The processor time that the program took since the session began: about what a start takes."""
+        return processor_seconds(self.program.process.pid)
+
+    def memory(self):
+        """The bytes of memory that the program has."""
+        return memory_of(self.program.process.pid)
 
     async def give(self, part):
         """Has a part done; ends when what came of it is shown."""
@@ -138,13 +174,24 @@ class Engine:
         self.woken.set()
         await done
 
+    def note(self, mark):
+        """Has the recording get a comment line; any thread may ask for that."""
+        self.marks.append(mark)
+        with contextlib.suppress(RuntimeError):
+            # the loop may have ended: then the end of the session writes it
+            self.loop.call_soon_threadsafe(self.woken.set)
+
+    def take_marks(self):
+        marks = [self.marks.popleft() for _ in range(len(self.marks))]
+        return b"".join(marks)
+
     async def work(self):
         """Gives parts until it is stopped."""
         while not self.is_stopping:
-            if not self.waiting and not self.pace.is_busy:
+            if not self.waiting and not self.marks and not self.pace.is_busy:
                 self.woken.clear()
                 await self.woken.wait()
-            if self.waiting:
+            if self.waiting or self.marks:
                 await self.do_waiting()
             if self.pace.is_busy and not self.is_stopping:
                 await self.deal()
@@ -162,8 +209,10 @@ class Engine:
         given, self.waiting = self.waiting, []
         parts = [it for it, _ in given]
         typed = tuple(it for part in parts for it in part.typed)
-        await self.do(Part(b"".join(it.lines for it in parts), typed, is_kept=any(it.is_kept for it in parts)))
-        self.pace.wake()
+        lines = b"".join(it.lines for it in parts) + self.take_marks()
+        await self.do(Part(lines, typed, is_kept=any(it.is_kept for it in parts)))
+        if given:
+            self.pace.wake()
         for _, done in given:
             if not done.done():
                 done.set_result(None)
@@ -176,10 +225,8 @@ class Engine:
 
     def step(self, part):
         """Does a part, and has it on the disk where something of it is shown."""
-        begun = time.monotonic()
-        came = self.checked(self.program.do, part.lines)
+        came = self.asked(part)
         done = time.monotonic()
-        self.seconds += done - begun
         if part.turns:
             self.recording.add_turns(part.turns)
         else:
@@ -190,22 +237,54 @@ class Engine:
         self.settling = time.monotonic() - done
         return came
 
-    def checked(self, ask, *given):
+    def asked(self, part):
+        """What comes of a part. A program that has died is started again and asked once more; what kills it twice ends all."""
+        try:
+            return self.checked(self.program.do, part.lines)
+        except Died as death:
+            if self.is_stopping:
+                raise
+            self.tell(f"{death.lines[0] if death.lines else 'the program has died'}: it is started again")
+            self.restart()
+            if not self.is_whole:
+                raise
+            self.tell("the program goes on")
+            return self.checked(self.program.do, part.lines)
+
+    def restart(self):
+        """Has another program do the recording: all that anybody was shown is in it."""
+        self.recording.put(self.recording.turns_line())
+        for volume, known in zip(self.machines.originals, self.recording.volume_sums()):
+            if sum_of_file(volume) != known:
+                told = f"{volume} was changed by somebody else during the session, which cannot go on without it as it was"
+                raise Failure(REFUSED, told)
+        self.program.close()
+        self.program = self.begun()
+        self.do_recording(lambda share: self.tell(f"the program is started again: {100 * share:.0f}% done"), lambda *_: None)
+
+    def checked(self, ask, *given, line=None):
+        """An answer of the program; line is where in the recording its part begins, if it is from there."""
         try:
             return ask(*given)
         except NotFollowed:
             raise Failure(FILE_FAILED, "the program takes no script part by part") from None
         except ScriptRefused as it:
-            raise Failure(REFUSED, f"{self.recording.path}: the program refuses line {it.line} of a part") from None
+            if line is not None:
+                raise self.recording.edited(line + it.line - 1, "is refused by the program") from None
+            raise Failure(REFUSED, f"the program refuses line {it.line} of a part") from None
 
-    def take(self, part, came):
+    def take(self, part, came, when=None):
         """Shows each user what was printed at his terminal, and keeps who is on and whose machine runs."""
+        for heading, body in came.files:
+            self.users[heading.rpartition(" ")[2]].written += len(body)
         for name, text in part.typed:
-            self.users[name].shown.append(text)
+            self.users[name].keep(text, when)
         for event in came.events:
             name, colon, text = event.partition(": ")
             if colon and name in self.users:
-                self.users[name].show(text)
+                self.users[name].show(text, when)
+                if name == self.receiver and when is None:
+                    self.tell(f"{name}: {text}")
             elif part.typed and (lacking := LACKS.fullmatch(event)):
                 self.users[lacking[1]].show(NO_ROOM)
         for state, name in came.states:
@@ -213,34 +292,50 @@ class Engine:
 
     def replay(self, tell):
         """Brings the program to where the recording ends; how far it is is told each second, from 0 to 1."""
+
+        def take(part, came, when):
+            self.take(part, came, when)
+            self.printouts.put(came.files, is_replay=True)
+
+        self.do_recording(tell, take)
+
+    def do_recording(self, tell, take):
+        """Has the program do all that the recording has, and takes what comes of each part."""
+        self.is_whole = False
         # it has read the volumes when it has answered
         self.checked(self.program.do, b"")
-        begun = time.monotonic()
         progress, sent = Progress(self.recording.weight, tell), collections.deque()
-        for entry in self.recording.entries():
+
+        def take_first():
+            part, number, when = sent.popleft()
+            take(part, self.checked(self.program.answer, line=number), when.decode()[:16])
+            progress.add(weight_of(part.lines))
+
+        for number, when, entry in self.recording.entries():
             if self.is_stopping:
                 return
             part = part_of(entry)
             self.program.send(part.lines)
-            sent.append((part, weight_of(entry)))
+            sent.append((part, number, when))
             if len(sent) >= AHEAD:
-                progress.add(self.take_first(sent))
+                take_first()
         while sent and not self.is_stopping:
-            progress.add(self.take_first(sent))
-        self.seconds = time.monotonic() - begun
-
-    def take_first(self, sent):
-        """Takes what came of the first part that was sent, and gives its weight."""
-        part, weight = sent.popleft()
-        came = self.checked(self.program.answer)
-        self.take(part, came)
-        self.printouts.put(came.files)
-        return weight
+            take_first()
+        self.is_whole = not sent
 
     def stop(self):
         self.is_stopping = True
         self.woken.set()
 
+    def settle(self):
+        """Has the recording whole on the disk."""
+        self.printouts.settle()
+        self.printouts.close()
+        if self.marks:
+            self.recording.add(self.take_marks())
+        self.recording.settle()
+
     def close(self):
+        self.printouts.close()
         self.program.close()
         self.thread.shutdown()

@@ -1,23 +1,32 @@
 """A program that goes on from where a script has led it (docs/COMMAND_LINE.md, "Parts of a script")."""
+import os
 import queue
+import re
 import subprocess
 import tempfile
 import threading
 from typing import NamedTuple
 
 from machines import ScriptRefused, failure
-from people import WRONG_USE
+from people import Failure, NO_MEMORY, WRONG_USE
 
-STATES = ("ON", "RUNS", "STOPS", "OFF")
+STATES = (b"ON", b"RUNS", b"STOPS", b"OFF")
+# the end of a file's entries: a line end that no further entry follows
+FILE_ENDS = re.compile(rb"\n(?!> \|)")
+CHUNK = 1 << 20
 
 
 class NotFollowed(Exception):
     """The program takes no script part by part."""
 
 
+class Died(Failure):
+    """The program was killed, or the host refused it memory: another one may go on."""
+
+
 class Came(NamedTuple):
-    """What came of a part: the lines of the transcript; each file that it closed for the operator, its heading and its entries'
-    lines; each user's new state, a word and his name; whether its last turn found nobody ready."""
+    """What came of a part: the lines of the transcript; each file that it closed for the operator, its heading and the lines of its
+    entries, as bytes; each user's new state, a word and his name; whether its last turn found nobody ready."""
 
     events: list
     files: list
@@ -26,6 +35,63 @@ class Came(NamedTuple):
 
     def headings(self):
         return [heading for heading, _ in self.files]
+
+
+class Refused(NamedTuple):
+    """The answer to a part that is refused: the number of its first wrong line."""
+
+    line: int
+
+
+class Answers:
+    """Cuts what a program writes into answers as it arrives. A file's entries stay as they are, since a listing may have millions
+    of lines, and whoever handles each of them keeps others waiting."""
+
+    def __init__(self):
+        self.left = b""
+        self.begin()
+
+    def begin(self):
+        self.events, self.files, self.states, self.is_idle = [], [], [], False
+
+    def feed(self, data):
+        """The answers that these bytes end."""
+        data = self.left + data
+        place, end = 0, data.rfind(b"\n") + 1
+        self.left = data[end:]
+        while place < end:
+            if self.files and data.startswith(b"> |", place):
+                stop = FILE_ENDS.search(data, place, end).end()
+                self.files[-1][1].append(data[place:stop])
+            else:
+                stop = data.index(b"\n", place) + 1
+                answer = self.take(data[place : stop - 1])
+                if answer:
+                    yield answer
+            place = stop
+
+    def take(self, line):
+        """Takes a line; the answer that it ends, or None."""
+        if not line.startswith(b"> "):
+            self.events.append(text_of(line))
+            return None
+        word, _, rest = line[2:].partition(b" ")
+        if word == b"==":
+            self.files.append((text_of(line[2:]), []))
+        elif word in STATES:
+            self.states.append((text_of(word), text_of(rest)))
+        elif word == b"IDLE":
+            self.is_idle = True
+        elif word in (b"DONE", b"REFUSED"):
+            files = [(heading, b"".join(pieces)) for heading, pieces in self.files]
+            answer = Refused(int(rest)) if rest else Came(self.events, files, self.states, self.is_idle)
+            self.begin()
+            return answer
+        return None
+
+
+def text_of(line):
+    return line.decode(errors="surrogateescape")
 
 
 class Program:
@@ -38,15 +104,19 @@ class Program:
         words = [machines.program(), *options, *machines.follow_words()]
         self.process = subprocess.Popen(words, start_new_session=True, **streams)
         self.awaited = 0
-        self.lines = queue.SimpleQueue()
+        self.is_ending = False
+        self.answers = queue.SimpleQueue()
         threading.Thread(target=self.listen, daemon=True).start()
 
     def listen(self):
         """Takes what the program writes, so that it never waits for a reader."""
+        answers = Answers()
         with self.process.stdout as output:
-            for line in output:
-                self.lines.put(line)
-        self.lines.put(b"")
+            while data := os.read(output.fileno(), CHUNK):
+                # behind the end of the session come all its files once more
+                for answer in () if self.is_ending else answers.feed(data):
+                    self.answers.put(answer)
+        self.answers.put(None)
 
     def send(self, part):
         """Gives it a part, whose answer is awaited later."""
@@ -71,44 +141,29 @@ class Program:
     def answer(self):
         """What came of the first part whose answer is awaited."""
         self.awaited -= 1
-        events, files, states, is_idle = [], [], [], False
-        while line := self.next_line():
-            if not line.startswith("> "):
-                events.append(line)
-                continue
-            word, _, rest = line[2:].partition(" ")
-            if word == "DONE":
-                return Came(events, files, states, is_idle)
-            if word == "REFUSED":
-                raise ScriptRefused(int(rest))
-            if word == "==":
-                files.append((line[2:], []))
-            elif word in STATES:
-                states.append((word, rest))
-            elif line.startswith("> |"):
-                files[-1][1].append(line[3:])
-            elif word == "IDLE":
-                is_idle = True
-        raise self.failed()
-
-    def next_line(self):
-        """The next line that the program writes, or nothing at its end. None of its lines is empty."""
-        return self.lines.get().decode(errors="surrogateescape").removesuffix("\n")
+        answer = self.answers.get()
+        if answer is None:
+            raise self.failed()
+        if isinstance(answer, Refused):
+            raise ScriptRefused(answer.line)
+        return answer
 
     def finish(self):
-        """Ends the session, which saves volumes where the program was told to: what the transcript has last."""
+        """Ends the session, which saves volumes if the program was told to."""
+        self.is_ending = True
         self.write(b"END\n")
-        lines = list(iter(self.next_line, ""))
         if self.process.wait():
             raise self.failed()
-        return lines
 
     def failed(self):
         """Why the program has ended by itself."""
         status = self.process.wait()
         self.errors.seek(0)
         told = self.errors.read().decode(errors="surrogateescape").splitlines()
-        return NotFollowed() if status == WRONG_USE else failure(status, told)
+        if status == WRONG_USE:
+            return NotFollowed()
+        found = failure(status, told)
+        return Died(found.status, *found.lines) if status < 0 or status == NO_MEMORY else found
 
     def close(self):
         self.process.kill()

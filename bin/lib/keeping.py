@@ -1,12 +1,13 @@
 """The volumes of an installation. While a session goes on they stay as they were when it began; its end replaces them, and a
 crash in the midst of that is made good by the next start."""
 import contextlib
+import fcntl
 import glob
 import os
 import shutil
 import tempfile
 
-from people import FILE_FAILED, Failure, write_whole
+from people import FILE_FAILED, Failure, REFUSED, write_whole
 from recording import SAVED, read_whole, sum_of_file, sync_folder, without_passwords
 
 DIRECTORY = "directory"
@@ -22,6 +23,21 @@ class Keeping:
         self.directory = directory
         self.volumes = volumes
         self.folder = ""
+        self.locked = []
+
+    def lock(self):
+        """Keeps the volumes from any other installation until it is closed."""
+        for volume in self.volumes:
+            file = open(volume, "rb")
+            self.locked.append(file)
+            try:
+                fcntl.flock(file, fcntl.LOCK_EX | fcntl.LOCK_NB)
+            except BlockingIOError:
+                raise Failure(REFUSED, f"another installation uses {volume}, or it is named twice") from None
+
+    def close(self):
+        for file in self.locked:
+            file.close()
 
     def paths(self):
         return [os.path.join(self.folder, f"volume-{place}") for place in range(1, len(self.volumes) + 1)]
@@ -56,20 +72,32 @@ class Keeping:
         words = [os.path.basename(self.folder), *map(sum_of_file, self.paths())]
         return SAVED + " ".join(words).encode(errors="surrogateescape")
 
-    def set_aside(self, recording):
-        """Puts the saved images in the places of the volumes, and gives the folder to which the recording goes with these as they
+    def set_aside(self, recording, tell):
+        """Puts the saved images in the places of the volumes, and returns the folder to which the recording goes with these as they
         were, and with the directory. What of this was done before a crash stays."""
         self.find(recording.last)
         aside = recording.aside()
         os.makedirs(aside, 0o700, exist_ok=True)
-        for path, volume in zip(self.paths(), self.volumes):
-            keep(volume, os.path.join(aside, os.path.basename(path)))
-            put(path, volume)
+        for path, volume, known in zip(self.paths(), self.volumes, recording.volume_sums()):
+            self.replace(path, volume, known, recording.name(), os.path.join(aside, os.path.basename(path)), tell)
         copy_whole(os.path.join(self.folder, DIRECTORY), os.path.join(aside, DIRECTORY))
         os.replace(self.record, os.path.join(aside, "recording"))
         sync_folder(self.record)
         self.forget()
         return aside
+
+    def replace(self, path, volume, known, name, aside, tell):
+        """Puts a saved image in the place of a volume whose sum is still as it is known, and keeps the old one aside. A volume
+        that somebody else has changed stays as it is: the image comes next to it."""
+        now = sum_of_file(volume) if os.path.exists(volume) else ""
+        if now == known:
+            keep(volume, aside)
+        if now in (known, sum_of_file(path)):
+            put(path, volume)
+            return
+        beside = f"{os.path.realpath(volume)}.{name}"
+        copy_whole(path, beside)
+        tell(f"{volume} was changed by somebody else during the session, and stays as it is; the volume of the session is {beside}")
 
     def find(self, mark):
         """Finds the images that were saved, as the recording tells."""
@@ -107,6 +135,11 @@ def copy_whole(path, to, owned=None):
                 os.chown(beside, owned.st_uid, owned.st_gid)
         sync_file(beside)
         os.replace(beside, to)
+    except OSError as error:
+        with contextlib.suppress(OSError):
+            os.unlink(beside)
+        # the place that has no room is named, and not the file that was read
+        raise Failure(FILE_FAILED, f"{to} cannot be written: {error.strerror}") from None
     except BaseException:
         with contextlib.suppress(FileNotFoundError):
             os.unlink(beside)

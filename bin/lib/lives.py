@@ -2,11 +2,13 @@
 import collections
 import re
 
+from printed import entries_in
 from recording import TYPED
 
 # lines of a console that are kept, the last ones
 MOST_LINES = 3000
 MOST_DECKS = 20
+MOST_CONNECTIONS = 200
 # moments of a typed line; a unit is one
 LINE_MOMENTS = 20
 # stretches that a line of time has
@@ -54,16 +56,29 @@ def halved(counts):
 
 
 class Life:
-    """What a user's console shows, each line with its kind, and the decks that the operator gave him."""
+    """What a user's console shows, each line with its kind and its time, the decks that the operator gave him, and when somebody
+    was at his terminal: from when until when, and from where."""
 
     def __init__(self):
         self.console = collections.deque(maxlen=MOST_LINES)
         self.lines = 0
         self.decks = collections.deque(maxlen=MOST_DECKS)
+        self.connections = collections.deque(maxlen=MOST_CONNECTIONS)
+        self.is_connected = False
 
-    def print(self, kind, text):
+    def print(self, kind, text, when):
         self.lines += 1
-        self.console.append((kind, text))
+        self.console.append((kind, text, when))
+
+    def connect(self, when, address):
+        self.disconnect(when)
+        self.connections.append([when, "", address])
+        self.is_connected = True
+
+    def disconnect(self, when):
+        if self.is_connected:
+            self.connections[-1][1] = when
+        self.is_connected = False
 
 
 class Story:
@@ -73,28 +88,40 @@ class Story:
         self.lives = {it: Life() for it in users}
         self.time = Time()
         self.files = []
+        self.when = ""
 
-    def take(self, program, entry):
-        """Has a program do an entry."""
-        if entry.startswith(b"*"):
-            self.read_comment(entry.decode(errors="replace"))
-            return
-        typed = self.read_entry(entry)
-        came = program.do(entry)
-        self.files += came.files
-        for event in came.events:
-            self.read_event(event, typed)
+    def take(self, program, when, entries):
+        """Has a program do the entries of a recording that have one time."""
+        if when:
+            self.when = when
+            self.time.stamp(when)
+        for entry in entries:
+            if entry.startswith(b"*"):
+                self.read_comment(entry.decode(errors="replace").split())
+                continue
+            typed = self.read_entry(entry)
+            came = program.do(entry)
+            self.files += [(heading, entries_in(body)) for heading, body in came.files]
+            for event in came.events:
+                self.read_event(event, typed)
 
-    def read_comment(self, text):
-        found = re.fullmatch(r"\* (?:BEGUN )?(\d{4}-\d\d-\d\d \d\d:\d\d:\d\d) UTC\n", text)
-        if found:
-            self.time.stamp(found[1])
+    def read_comment(self, words):
+        """Notes who comes to a terminal, and who leaves it."""
+        if words[1:2] == ["CONNECTED"] and len(words) == 4 and words[2] in self.lives:
+            self.lives[words[2]].connect(self.when, words[3])
+        elif words[1:2] == ["DISCONNECTED"] and words[2:] and words[2] in self.lives:
+            self.lives[words[2]].disconnect(self.when)
+
+    def are_people(self):
+        """The users at whose terminals somebody was; all, if the recording is of before that was noted."""
+        found = {name for name, life in self.lives.items() if life.connections}
+        return found or set(self.lives)
 
     def read_entry(self, entry):
         """Notes what is typed and given; who typed it, or None."""
         if typed := TYPED.fullmatch(entry):
             name = typed[1].decode()
-            self.lives[name].print("typed", typed[2].decode("latin-1"))
+            self.lives[name].print("typed", typed[2].decode("latin-1"), self.when)
             self.time.add(name, "lines", 1)
             self.time.pass_by(LINE_MOMENTS)
             return name
@@ -106,7 +133,7 @@ class Story:
     def read_event(self, event, typed):
         name, colon, text = event.partition(": ")
         if colon and name in self.lives:
-            self.lives[name].print(kind_of(text, name == typed), text)
+            self.lives[name].print(kind_of(text, name == typed), text, self.when)
         elif ran := RAN.fullmatch(event):
             self.time.add(ran[1], "units", int(ran[2]))
             if ran[3] == "FRAMES":

@@ -1,119 +1,216 @@
-"""What the operator types at the installation's own terminal, and what he is told."""
-import contextlib
+"""What an operator of an installation types, and what is answered."""
+import asyncio
+import datetime
 import os
-import queue
+import re
 import subprocess
-import sys
 import threading
-import time
 
-MOST_UNTOLD = 1000
+from host import MEGABYTE, memory_of
+
+DONE, NOT_DONE, ENDS = range(3)
+# before all of the recording is done again
+ALWAYS = {"status", "help", "suspend"}
+MOST_SPOOL_LINES = 40
+WARNED_MINUTES = (10, 5, 1)
 HELP = """\
-status         how many are on, and what a start would take that goes on from here
-users          who is on
-frames         where pages stand; this takes as long as such a start
-message TEXT   a line for each terminal
-suspend        ends this command; the next start goes on from here
-end            where nobody is on, ends the session: volumes are saved, and the recording is set aside
-end now        likewise, whoever is on"""
+status             who is on, memory, sizes, the age of the session, how long a start takes
+users              who is on, and how much each has written since LOGON
+frames             in which frames pages are; this takes as long as a start
+spool              the files that users closed for the operator, the last ones
+message TEXT       a line for each terminal; message USER TEXT for one user
+logmsg TEXT        a line for everybody who logs on; logmsg alone shows it, logmsg off ends it
+force USER         logs a user off
+suspend            ends this command; the next start goes on from here
+end                if nobody is on and all printouts are written, ends the session: volumes
+                   are saved, and the recording is set aside
+end now            ends it whoever is on
+end at HH:MM       ends it then, whoever is on; users are warned. end cancel takes it back"""
 
 
-class Journal:
-    """Tells the operator what happens. Where he does not read, nobody waits for him, and how many lines are lost is told."""
-
-    def __init__(self):
-        self.lines = queue.Queue(MOST_UNTOLD)
-        self.lost = 0
-        self.thread = threading.Thread(target=self.write, daemon=True)
-        self.thread.start()
-
-    def tell(self, text):
-        try:
-            if self.lost:
-                self.lines.put_nowait(f"({self.lost} lines are lost)")
-                self.lost = 0
-            self.lines.put_nowait(text)
-        except queue.Full:
-            self.lost += 1
-
-    def write(self):
-        while (text := self.lines.get()) is not None:
-            data = f"{time.strftime('%H:%M:%S')} {text}\n".encode(errors="surrogateescape")
-            # not by sys.stdout, whose lock would be kept where nobody reads; and perhaps nobody is there any more
-            with contextlib.suppress(OSError):
-                while data:
-                    data = data[os.write(1, data) :]
-
-    def close(self):
-        try:
-            self.lines.put_nowait(None)
-            self.thread.join(1)
-        except queue.Full:
-            pass
+class NotDone(Exception):
+    """A command that is not carried out; the text says why."""
 
 
 class Operator:
-    """The operator of an installation."""
+    """Does the commands of the operators."""
 
     def __init__(self, installation, framemap):
         self.installation = installation
+        self.engine = installation.engine
         self.framemap = framemap
         self.tell = installation.tell
         self.mapping = None
+        self.ending = []
+        self.commands = {"status": self.status, "users": self.users, "spool": self.spool, "message": self.message,
+                         "logmsg": self.set_log_message, "force": self.force, "suspend": self.suspend, "end": self.end,
+                         "help": self.help}  # fmt: skip
 
-    def read(self, loop):
-        """Takes lines of standard input as they come."""
-        for line in sys.stdin:
-            loop.call_soon_threadsafe(self.do, line.strip())
+    def read(self, loop, lines):
+        """Takes commands from a stream as they come; answers go to everybody."""
+        for line in lines:
+            loop.call_soon_threadsafe(self.do, line.strip(), self.tell)
 
-    def do(self, line):
+    def do(self, line, reply, end=lambda how: None):
+        """Does a command. How it ended is told when its answer is whole."""
         word, _, rest = line.partition(" ")
-        known = {"status": self.status, "users": self.users, "frames": self.frames, "message": self.message,
-                 "suspend": self.suspend, "end": self.end}  # fmt: skip
-        if word in known:
-            known[word](rest.strip())
-        elif word:
-            self.tell(HELP)
+        if not word:
+            return
+        if not self.installation.is_ready and word not in ALWAYS:
+            reply("the installation is not online yet")
+            end(NOT_DONE)
+            return
+        if word == "frames":
+            self.frames(reply, end)
+            return
+        try:
+            if word not in self.commands:
+                raise NotDone(f"there is no command {word}; help shows all")
+            how = self.commands[word](rest.strip(), reply)
+        except (NotDone, OSError) as reason:
+            reply(str(reason))
+            how = NOT_DONE
+        end(how or DONE)
+
+    def help(self, rest, reply):
+        for line in HELP.split("\n"):
+            reply(line)
+
+    def named(self, name):
+        user = self.engine.users.get(name.upper())
+        if not user:
+            raise NotDone(f"there is no user {name}")
+        return user
 
     def on(self):
-        return [it for it in self.installation.engine.users.values() if it.is_on]
+        """The people who are on."""
+        return [user for user in self.engine.users.values() if user.is_on and user is not self.installation.receiver]
 
-    def status(self, rest):
-        engine, desk = self.installation.engine, self.installation.desk
-        self.tell(f"{len(self.on())} on, {len(desk.strangers)} about to log on, {engine.parts} parts, "
-                  f"{'somebody computes' if engine.pace.is_busy else 'all wait'}; "
-                  f"a start that goes on from here takes about {engine.seconds:.0f} s")  # fmt: skip
+    def status(self, rest, reply):
+        engine, desk, recording = self.engine, self.installation.desk, self.engine.recording
+        reply(f"{len(self.on())} on, {len(desk.strangers)} about to log on, {engine.parts} parts, "
+              f"{'somebody computes' if engine.pace.is_busy else 'all wait'}; "
+              f"a start that goes on from here takes about {engine.seconds():.0f} s")  # fmt: skip
+        most = self.installation.limits.memory // MEGABYTE
+        reply(f"memory: command {memory_of(os.getpid()) // MEGABYTE} MB, program {engine.memory() // MEGABYTE} MB of {most} MB")
+        reply(f"the session began {recording.begun_at()} UTC, {age(recording.seconds())} ago; "
+              f"its recording has {recording.lines} lines, {recording.size() / MEGABYTE:.1f} MB, "
+              f"and its disk {recording.free() // MEGABYTE} MB free")  # fmt: skip
+        printouts = engine.printouts
+        waiting = printouts.unwritten()
+        trouble = f": {printouts.trouble}" if printouts.trouble else ""
+        reply(f"printouts: {len(printouts.all)} closed, {len(waiting)} not written{trouble}")
+        for text in self.ending[:1]:
+            reply(text)
 
-    def users(self, rest):
-        for it in self.on():
-            self.tell(f"{it.name} {'runs' if it.is_running else 'is stopped'}{'' if it.terminal else ', at no terminal'}")
-        self.tell(f"{len(self.on())} on")
+    def users(self, rest, reply):
+        for user in self.on():
+            where = "" if user.terminal else ", at no terminal"
+            reply(f"{user.name} {'runs' if user.is_running else 'is stopped'}{where}, {user.written / MEGABYTE:.1f} MB written")
+        reply(f"{len(self.on())} on")
 
-    def frames(self, rest):
-        """Has bin/framemap do the recording as it is now, beside all else."""
+    def spool(self, rest, reply):
+        printouts = self.engine.printouts.all
+        for printout in printouts[-MOST_SPOOL_LINES:]:
+            reply(f"{printout.name} {printout.lines} lines, {printout.state}")
+        reply(f"{len(printouts)} files, the last {MOST_SPOOL_LINES} are shown" if len(printouts) > MOST_SPOOL_LINES
+              else f"{len(printouts)} files")  # fmt: skip
+
+    def frames(self, reply, end):
+        """Has bin/framemap do the recording as it is now, in parallel to all else."""
         if self.mapping and self.mapping.is_alive():
-            self.tell("the frames are being looked for")
+            reply("the frames are being looked for")
+            end(NOT_DONE)
             return
-        script = self.installation.engine.recording.whole()
-        self.mapping = threading.Thread(target=self.map_frames, args=(script,), daemon=True)
+        self.mapping = threading.Thread(target=self.map_frames, args=(self.engine.recording.whole(), reply, end), daemon=True)
         self.mapping.start()
 
-    def map_frames(self, script):
+    def map_frames(self, script, reply, end):
         done = subprocess.run(self.framemap, input=script, capture_output=True)
         for line in (done.stderr if done.returncode else done.stdout).decode(errors="replace").splitlines():
-            self.tell(line)
+            reply(line)
+        end(NOT_DONE if done.returncode else DONE)
 
-    def message(self, text):
-        for it in self.installation.engine.users.values():
-            if it.terminal:
-                it.terminal.say(f"OPERATOR: {text}")
-
-    def suspend(self, rest):
-        self.installation.stop()
-
-    def end(self, rest):
-        on = [it.name for it in self.on()]
-        if on and rest != "now":
-            self.tell(f"still on: {' '.join(on)} (end now ends all the same)")
+    def message(self, text, reply):
+        """A line for the user whose name is the first word, else for each terminal."""
+        word, _, rest = text.partition(" ")
+        user = self.engine.users.get(word)
+        if not user or not rest:
+            self.announce(text)
+        elif not user.is_on:
+            raise NotDone(f"{word} is not on")
         else:
-            self.installation.stop(is_end=True)
+            user.show(f"OPERATOR: {plain(rest)}")
+            reply(f"{word} is at no terminal, and sees it when he comes back" if not user.terminal else f"sent to {word}")
+
+    def announce(self, text):
+        for user in self.engine.users.values():
+            if user.terminal:
+                user.terminal.say(f"OPERATOR: {plain(text)}")
+
+    def set_log_message(self, text, reply):
+        if text:
+            self.installation.set_log_message("" if text == "off" else plain(text))
+        reply(self.installation.desk.log_message or "there is no log message")
+
+    def force(self, name, reply):
+        user = self.named(name)
+        if not self.installation.is_person(user):
+            raise NotDone(f"nobody logs on as {user.name}")
+        if not user.is_on:
+            raise NotDone(f"{user.name} is not on")
+        self.installation.force(user, "by the operator")
+
+    def suspend(self, rest, reply):
+        self.tell("the installation is suspended")
+        self.installation.stop()
+        return ENDS
+
+    def end(self, rest, reply):
+        """Ends the session, now or later."""
+        if rest == "cancel":
+            return self.cancel()
+        if found := re.fullmatch(r"at ([01]?\d|2[0-3]):([0-5]\d)", rest):
+            return self.end_at(int(found[1]), int(found[2]), reply)
+        if rest not in ("", "now"):
+            raise NotDone("end, end now, end at HH:MM or end cancel")
+        on, unwritten = [user.name for user in self.on()], self.engine.printouts.unwritten()
+        if not rest and on:
+            raise NotDone(f"still on: {' '.join(on)} (end now ends all the same)")
+        if not rest and unwritten:
+            raise NotDone(f"not written: {' '.join(unwritten[:8])} (end now ends all the same: bin/printouts makes them later)")
+        self.tell("the session ends")
+        self.installation.stop(is_end=True)
+        return ENDS
+
+    def end_at(self, hour, minute, reply):
+        self.cancel()
+        now = datetime.datetime.now()
+        when = now.replace(hour=hour, minute=minute, second=0, microsecond=0)
+        when += datetime.timedelta(days=1) * (when <= now)
+        loop, left = asyncio.get_running_loop(), (when - now).total_seconds()
+        self.ending = [f"the session ends at {when:%Y-%m-%d %H:%M}"]
+        for minutes in WARNED_MINUTES:
+            if left > 60 * minutes:
+                told = f"GATHJUMLI GOES DOWN IN {minutes} MINUTE{'S' * (minutes > 1)}"
+                self.ending.append(loop.call_later(left - 60 * minutes, self.announce, told))
+        self.ending.append(loop.call_later(left, self.end, "now", self.tell))
+        reply(self.ending[0])
+
+    def cancel(self):
+        for planned in self.ending[1:]:
+            planned.cancel()
+        self.ending = []
+
+
+def plain(text):
+    """A text without what a terminal takes for something else."""
+    return "".join(it if " " <= it <= "~" else " " for it in text)
+
+
+def age(seconds):
+    """A time span in words."""
+    for unit, name in ((86400, "days"), (3600, "hours"), (60, "minutes")):
+        if seconds >= 2 * unit:
+            return f"{seconds // unit:.0f} {name}"
+    return f"{max(0, seconds):.0f} seconds"

@@ -13,7 +13,7 @@ body{font:15px/1.5 Georgia,serif;background:#e9e6df;color:#222;max-width:1140px;
 h1{font-size:28px;margin:0}h2{margin:1.6em 0 .4em}.note{color:#666;font-size:13px}
 .console{background:#fffdf5;border:1px solid #d8d2c0;border-left:14px solid #e7dfca;box-shadow:0 2px 5px #0002;
 padding:12px 18px;font:13px/1.45 'Courier New',monospace;white-space:pre-wrap;max-height:520px;overflow:auto}
-.typed{color:#23408e;font-weight:bold}.other{color:#8a3b12}.guest{color:#1d6b3a}
+.when{color:#998;font-size:11px}.typed{color:#23408e;font-weight:bold}.other{color:#8a3b12}.guest{color:#1d6b3a}
 summary{color:#777;cursor:pointer;font-style:italic}
 .paper{font:13px/18px 'Courier New',monospace;white-space:pre;padding:0 44px;min-height:144px;border:1px solid #cfd8cc;
 overflow:auto;
@@ -42,14 +42,31 @@ def page(title, about, story, looks, pictures):
               '<p class=note>Green: how much of a stretch of time the machine ran. Red, above: devices were served. Blue, below: '
               'lines were typed. Purple: no frame was free. Grey: pages came to frames. Time goes by units and typed lines.</p>',
               line_of_time(story, looks)]  # fmt: skip
-    for name, life in story.lives.items():
-        if life.lines or life.decks:
-            pieces += [f"<h2>{name}</h2>", console(life)]
-            pieces += deck_pieces(life)
-            pieces += file_pieces(story.files, name)
+    shown = [(name, life) for name, life in story.lives.items() if life.lines or life.decks]
+    pieces.append(index([name for name, _ in shown], [title for title, _ in pictures]))
+    for name, life in shown:
+        pieces += [f'<h2 id="{place(name)}">{name}</h2>', console(life), connections(life)]
+        pieces += deck_pieces(life)
+        pieces += file_pieces(story.files, name)
     for name, picture in pictures:
-        pieces.append(f"<h2>{html.escape(name)}</h2><div class=picture>{picture}</div>")
+        pieces.append(f'<h2 id="{place(name)}">{html.escape(name)}</h2><div class=picture>{picture}</div>')
     return "\n".join(pieces)
+
+
+def place(title):
+    return html.escape(title.replace(" ", "-"))
+
+
+def index(users, titles):
+    """Where on the page each user and each picture is."""
+    return "<p>" + " · ".join(f'<a href="#{place(it)}">{html.escape(it)}</a>' for it in [*users, *titles])
+
+
+def connections(life):
+    """When somebody was at a user's terminal, and from where."""
+    rows = "".join(f"<tr><td>{begun} UTC<td>{ended + ' UTC' if ended else 'until the end'}<td>{html.escape(address)}"
+                   for begun, ended, address in life.connections)  # fmt: skip
+    return f"<details><summary>{len(life.connections)} connections</summary><table>{rows}</table></details>" if rows else ""
 
 
 def row(name, value):
@@ -60,7 +77,8 @@ def line_of_time(story, looks):
     """A lane for each user, and one of page-ins."""
     time = story.time
     moments = max(1, time.now)
-    shown = [it for it, life in story.lives.items() if life.lines]
+    people = story.are_people()
+    shown = [it for it, life in story.lives.items() if life.lines and it in people]
     parts = []
     for place, name in enumerate(shown):
         parts += lane(name, place * LANE + 8, time.lanes[name], time.width, moments)
@@ -117,14 +135,19 @@ def clock(times, y, moments):
 
 def console(life):
     """The console; where many lines are stored one after another they can be unfolded."""
-    pieces, stores = [], []
-    for kind, text in [*life.console, ("", "")]:
+    pieces, stores, shown = [], [], ""
+    for kind, text, when in [*life.console, ("", "", "")]:
         line = f'<span class="{kind}">{html.escape(text)}</span>\n'
         if kind == "typed" and text.startswith("STORE ") or stores and text == "STORED":
             stores.append(line)
             continue
         pieces += folded(stores)
         stores = []
+        if when and when != shown:
+            # a time is shown where it changes, and the date with it where that does
+            moment = when[11:] if when[:10] == shown[:10] else when
+            pieces.append(f'<time class="when">{moment}</time>\n')
+            shown = when
         pieces.append(line)
     left = life.lines - len(life.console)
     more = f'<p class="note">{left} lines before these</p>' if left else ""

@@ -1,8 +1,7 @@
 """Files for the operator as pages and cards: what bin/printouts makes of a transcript."""
-import os
 import re
 
-from people import Failure, REFUSED, write_whole
+from people import Failure, REFUSED
 
 HEADING = re.compile("== (PRT|PUN) ([0-9]+) ([A-Z][A-Z0-9]{0,7})")
 CARD = 80
@@ -42,7 +41,9 @@ class Paper:
 
 def struck(texts):
     """Texts that were printed over each other as one, or with carriage returns where two characters meet."""
-    texts = [it.rstrip(" ") for it in texts if it.rstrip(" ")]
+    texts = [text for text in (it.rstrip(" ") for it in texts) if text]
+    if len(texts) < 2:
+        return texts[0] if texts else ""
     merged = ""
     for column in range(max(map(len, texts), default=0)):
         met = {it[column : column + 1] for it in texts} - {"", " "}
@@ -87,24 +88,6 @@ def page_text(kind, entries, length):
     return printed(entries, length) if kind == "PRT" else "".join(f"{it}\n" for it in entries)
 
 
-class Printouts:
-    """A folder that has each file for the operator once, whole; without a folder they are told alone."""
-
-    def __init__(self, folder, tell):
-        self.folder = folder
-        self.tell = tell
-        if folder:
-            os.makedirs(folder, exist_ok=True)
-
-    def put(self, files):
-        """Puts in files, each with its heading and entries, where they are not there yet."""
-        for heading, entries in files:
-            kind, number, user = HEADING.fullmatch(heading).groups()
-            name = f"{kind}{number}-{user}.txt"
-            if not self.folder:
-                self.tell(f"closed: {name}")
-                continue
-            path = os.path.join(self.folder, name)
-            if not os.path.exists(path):
-                write_whole(path, page_text(kind, entries, PAGE_LENGTH).encode(errors="surrogateescape"), is_settled=True)
-                self.tell(f"closed: {path}")
+def entries_in(body):
+    """The entries of a file as a program's answer has them."""
+    return [line[3:] for line in body.decode(errors="surrogateescape").split("\n")[:-1]]

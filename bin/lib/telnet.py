@@ -5,7 +5,7 @@ LONGEST = 130
 # what is no printable ASCII character is a blank
 CLEAN = bytes(it if 32 <= it < 127 else 32 for it in range(256))
 IAC, SB, SE, WILL, WONT, DO, DONT = 255, 250, 240, 251, 252, 253, 254
-BREAK, INTERRUPT, ERASE_CHARACTER, ERASE_LINE = 243, 244, 247, 248
+BREAK, INTERRUPT, ARE_YOU_THERE, ERASE_CHARACTER, ERASE_LINE = 243, 244, 246, 247, 248
 BACKSPACE, RUBOUT = 8, 127
 ECHO = 1
 # with this a terminal shows no more what is typed, with the other again
@@ -16,7 +16,7 @@ NO_TEXT = re.compile(rb"[\x08\x7f\r\n\xff]")
 
 class Typing:
     """Makes lines of the bytes that are typed: CR, LF, CR LF and CR NUL end one, telnet's own commands are taken out, and all
-    that it offers or asks for is declined. A line keeps its first 130 characters. A break or an interrupt is a line #CP."""
+    that it offers or asks for is declined; whether the other side is there is answered. A line keeps its first 130 characters. A break or an interrupt is a line #CP."""
 
     def __init__(self):
         self.line = bytearray()
@@ -86,6 +86,8 @@ class Typing:
             self.replies += bytes([IAC, WONT, option])
         elif kind == IAC:
             self.add(IAC)
+        elif kind == ARE_YOU_THERE:
+            self.replies += b"[YES]\r\n"
         elif kind == ERASE_CHARACTER:
             del self.line[-1:]
         elif kind in (BREAK, INTERRUPT, ERASE_LINE):

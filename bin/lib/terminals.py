@@ -2,6 +2,7 @@
 import asyncio
 import collections
 import contextlib
+import re
 import socket
 import time
 
@@ -22,6 +23,9 @@ ONLINE = "GATHJUMLI ONLINE"
 REFUSED_LOGON = "LOGON REFUSED"
 TOO_LATE = "TOO LATE"
 RECONNECTED = "RECONNECTED"
+# a line behind #CP, and the command of it that has a text
+COMMAND = re.compile(rb"( *#[Cc][Pp](?: |$))?(.*)")
+MESSAGE = re.compile(rb"( *[Mm][Ss][Gg] +[^ ]+ ?)(.*)")
 TAKES_OVER = "ANOTHER TERMINAL TAKES OVER"
 GOES_DOWN = "GATHJUMLI GOES DOWN"
 
@@ -34,6 +38,8 @@ class Terminal:
         self.writer = writer
         self.tell = tell
         self.name = "a stranger"
+        peer = writer.get_extra_info("peername")
+        self.address = peer[0] if isinstance(peer, tuple) else ""
         self.typing = Typing()
         self.lines = collections.deque()
         self.prepare(writer.get_extra_info("socket"))
@@ -51,7 +57,8 @@ class Terminal:
         while not self.lines:
             try:
                 data = await self.reader.read(4096)
-            except ConnectionError:
+            except OSError:
+                # however the network says that the connection is gone
                 return None
             if not data or self.writer.is_closing():
                 return None
@@ -96,6 +103,8 @@ class Desk:
         self.tell = tell
         self.guesses = Guesses()
         self.strangers = []
+        # what everybody is shown who logs on
+        self.log_message = ""
         self.serving = set()
         self.terminals = set()
 
@@ -105,12 +114,14 @@ class Desk:
         self.serving.add(asyncio.current_task())
         self.terminals.add(terminal)
         # the installation stops by an end of all these
-        with contextlib.suppress(asyncio.CancelledError):
-            if user := await self.logged_on(terminal):
-                await self.converse(terminal, user)
-        terminal.close()
-        self.terminals.discard(terminal)
-        self.serving.discard(asyncio.current_task())
+        try:
+            with contextlib.suppress(asyncio.CancelledError):
+                if user := await self.logged_on(terminal):
+                    await self.converse(terminal, user)
+        finally:
+            terminal.close()
+            self.terminals.discard(terminal)
+            self.serving.discard(asyncio.current_task())
 
     async def logged_on(self, terminal):
         """The user who logs on at a terminal, or None. Where too many are about to, the one who was there longest goes."""
@@ -162,27 +173,49 @@ class Desk:
     async def converse(self, terminal, user):
         """What is typed at a terminal is typed at that of the user, until he logs off or another terminal takes over."""
         self.take_over(terminal, user)
-        if not user.is_on:
-            await self.engine.give(typed_line(user.name, b"LOGON"))
-        while user.is_on and user.terminal is terminal:
-            line = await terminal.next_line()
-            if line is None:
-                break
+        try:
+            if not user.is_on:
+                await self.log_on(user)
+                if self.log_message:
+                    terminal.say(self.log_message)
+            while user.is_on and user.terminal is terminal:
+                line = await terminal.next_line()
+                if line is None:
+                    break
+                if user.terminal is terminal:
+                    await self.engine.give(typed_line(user.name, in_capitals(line, user.is_running)))
+        finally:
             if user.terminal is terminal:
-                await self.engine.give(typed_line(user.name, line))
-        if user.terminal is terminal:
-            user.terminal = None
-            self.tell(f"{user.name} {'leaves his terminal' if user.is_on else 'is logged off'}")
+                user.terminal = None
+                self.engine.note(b"* DISCONNECTED %s\n" % user.name.encode())
+                self.tell(f"{user.name} {'leaves his terminal' if user.is_on else 'is logged off'}")
+
+    async def log_on(self, user):
+        """Switches the user's machine on, once, however many terminals ask for it at the same time."""
+        if not user.logon:
+            user.logon = asyncio.ensure_future(self.engine.give(typed_line(user.name, b"LOGON")))
+        try:
+            # a terminal that goes takes the logon of another one not with it
+            await asyncio.shield(user.logon)
+        finally:
+            if user.logon and user.logon.done():
+                user.logon = None
 
     def take_over(self, terminal, user):
         if user.terminal:
             user.terminal.say(TAKES_OVER)
             user.terminal.close()
         user.terminal, terminal.name = terminal, user.name
-        self.tell(f"{user.name} {'is back' if user.is_on else 'logs on'}")
-        if user.is_on:
+        is_back = user.is_on or user.logon
+        self.tell(f"{user.name} {'is back' if is_back else 'logs on'}{' from ' * bool(terminal.address)}{terminal.address}")
+        self.engine.note(f"* CONNECTED {user.name} {terminal.address or '-'}\n".encode())
+        if is_back:
             terminal.say(RECONNECTED)
-            for text in user.shown:
+            minute = ""
+            for when, text in user.shown:
+                if when != minute:
+                    terminal.say(f"-- {when} UTC")
+                minute = when
                 terminal.say(text)
 
     async def shut(self):
@@ -194,6 +227,15 @@ class Desk:
             it.cancel()
         if self.serving:
             await asyncio.wait(list(self.serving))
+
+
+def in_capitals(line, is_running):
+    """A typed line with its command in capitals. What goes to a running machine and the text of a message stay as they are."""
+    attention, command = COMMAND.fullmatch(line).groups(b"")
+    if is_running and not attention:
+        return line
+    message = MESSAGE.fullmatch(command)
+    return attention.upper() + (message[1].upper() + message[2] if message else command.upper())
 
 
 def folded(line):

@@ -1,0 +1,237 @@
+"""Operators of an installation: where they come from, what they do, and what they are told. Called by .ci/test-people."""
+import asyncio
+import fcntl
+import os
+import pty
+import re
+import shutil
+import subprocess
+import termios
+
+from installation import PATIENCE, logged_on, make_site, names_in, on, read, run, write_text as write
+
+
+def operator(site, *words, given=None):
+    """What an operator's command answers."""
+    command = site.command.replace("/installation", "/operator")
+    words = [command, f"{site.folder}/operator", *words]
+    return subprocess.run(words, input=given, capture_output=True, text=True, timeout=PATIENCE)
+
+
+def at_window(words):
+    """Starts a command in a window of its own: the command, and the window."""
+    window, inside = pty.openpty()
+    own_window = lambda: fcntl.ioctl(0, termios.TIOCSCTTY, 0)
+    streams = {"stdin": inside, "stdout": inside, "stderr": inside}
+    process = subprocess.Popen(words, start_new_session=True, preexec_fn=own_window, **streams)
+    os.close(inside)
+    return process, window
+
+
+def try_operators(check, site):
+    """Operators come and go, several at once; the installation outlives the window where it was started."""
+    words = [site.command, *site.words, "--operate", f"{site.folder}/operator", "--journal", f"{site.folder}/journal", *site.paths]
+    process, window = at_window(words)
+    shown = b""
+    while b"online at" not in shown:
+        shown += os.read(window, 65536)
+    os.close(window)
+
+    answer = run(logged_on(site, "ALICE", "WONDER"))
+    check("it goes on when its window is closed", answer == "LOGON OK" and process.poll() is None)
+    status = operator(site, "status")
+    holds = status.returncode == 0 and "1 on, 0 about to log on" in status.stdout
+    check("an operator is answered", holds, status.stdout, status.stderr)
+    wrong = operator(site, "nothing")
+    holds = wrong.returncode == 1 and "there is no command nothing" in wrong.stdout
+    check("a command that is none is refused", holds, wrong.stdout)
+    still = operator(site, "end")
+    check("so is an end while somebody is on", still.returncode == 1 and "still on: ALICE" in still.stdout, still.stdout)
+    streams = {"stdin": subprocess.PIPE, "stdout": subprocess.PIPE, "text": True}
+    command = [site.command.replace("/installation", "/operator"), f"{site.folder}/operator"]
+    others = [subprocess.Popen(command, **streams) for _ in range(2)]
+    for other in others:
+        other.stdin.write("users\n")
+        other.stdin.flush()
+        holds = any("ALICE is stopped, at no terminal" in line for line in iter(other.stdout.readline, ""))
+        check("several operators at once", holds)
+    several = operator(site, given="users\nmessage GOOD NIGHT\n")
+    check("commands from a file", several.returncode == 0 and "1 on" in several.stdout, several.stdout)
+    second = subprocess.run([*words[:1], *(it.replace("recording", "other") for it in words[1:])], capture_output=True, text=True,
+                            stdin=subprocess.DEVNULL)  # fmt: skip
+    holds = second.returncode == 3 and "another process listens at" in second.stderr
+    check("a second one at its sockets is refused", holds, second.stderr)
+    ended = operator(site, "end", "now")
+    check("an operator ends it", ended.returncode == 0 and "the session has ended" in ended.stdout, ended.stdout, ended.stderr)
+    check("and it has ended well", process.wait(PATIENCE) == 0)
+    for other in others:
+        check("all operators see that", "the session has ended" in other.communicate(timeout=PATIENCE)[0])
+    gone = operator(site, "status")
+    check("who comes later is told", gone.returncode == 3 and "operator:" in gone.stderr, gone.stderr)
+    journal = read(f"{site.folder}/journal").decode()
+    dated = re.findall(r"^\d{4}-\d\d-\d\d \d\d:\d\d:\d\d (.*)$", journal, re.M)
+    check("the journal has it all with dates", "ALICE logs on" in dated and "the session ends" in dated, journal)
+
+
+def try_unit(check, folder):
+    """The unit for systemd is one."""
+    if not shutil.which("systemd-analyze"):
+        print("no systemd-analyze: the unit was not verified")
+        return
+    top = os.path.dirname(os.path.dirname(os.path.realpath(__file__)))
+    unit = read(f"{top}/docs/installation.service").decode().replace("/opt/gathjumli", top)
+    write(f"{folder}/installation.service", unit)
+    done = subprocess.run(["systemd-analyze", "verify", f"{folder}/installation.service"], capture_output=True, text=True)
+    check("the unit for systemd", done.returncode == 0 and "installation.service" not in done.stderr, done.stderr)
+
+
+def try_limits(check, site):
+    """Who takes too much is logged off and told why, and that is an event of the recording; others stay."""
+
+    async def written():
+        alice, bob = await on(site), await on(site, "BOB", "BUILDER")
+        alice.type("LIST 10000", "DISPLAY G1")
+        await alice.until("GPR 1 = 00000000")
+        alice.type("LIST 10000")
+        shown = await alice.rest()
+        bob.type("DISPLAY G1")
+        await bob.until("GPR 1 = 00000000")
+        bob.type("LOGOFF")
+        await bob.rest()
+        again = await on(site)
+        again.type("LOGOFF")
+        return shown, (await again.rest())[1]
+
+    site.online("--quota", "1")
+    shown, again = run(written())
+    check("a user who writes too much is logged off", shown[-2:] == ["YOU ARE LOGGED OFF: 1 MB ARE WRITTEN", "LOGOFF OK"], *shown)
+    check("the operator is told why", site.await_told("ALICE is logged off: 1 MB are written"), *site.told)
+    check("and he may come back", again == "LOGON OK", again)
+    check("it is suspended", site.stop() == 0)
+    check("it is an event like any other", read(site.record).count(b"LINE ALICE #CP LOGOFF\n") == 1)
+
+    async def stay():
+        return (await (await on(site)).rest())[-2:]
+
+    site.online("--memory", "1")
+    shown = run(stay())
+    holds = shown[0].startswith("YOU ARE LOGGED OFF: THERE IS NO MORE MEMORY")
+    check("so is one while the program has too much memory", holds, *shown)
+    check("it is suspended again", site.stop() == 0)
+
+
+def try_waiting_printout(check, site):
+    """A printout that cannot be written waits, and is written when it can be."""
+    site.online("--printouts", f"{site.folder}/prints", "--operate", f"{site.folder}/operator")
+    folder = f"{site.folder}/prints/{site.session()}"
+    write(folder, "IN THE WAY\n")
+
+    async def tried():
+        alice = await on(site)
+        alice.type("PRINT HELLO", "LOGOFF")
+        return await alice.rest()
+
+    run(tried())
+    is_told = site.await_told("PRT0001-ALICE.txt cannot be written, and waits: File exists")
+    check("a printout that cannot be written", is_told, *site.told)
+    status, spool, end = (operator(site, word).stdout for word in ("status", "spool", "end"))
+    holds = "1 closed, 1 not written: File exists" in status and "PRT0001-ALICE.txt 1 lines, waits" in spool
+    check("is seen by the operator", holds, status, spool)
+    check("and keeps the session from its end", "not written: PRT0001-ALICE.txt" in end, end)
+    os.unlink(folder)
+    check("and is written when it can be", site.await_told(f"closed: {folder}/PRT0001-ALICE.txt"), *site.told)
+    spool = operator(site, "spool").stdout
+    check("which is seen too", "PRT0001-ALICE.txt 1 lines, written" in spool, spool)
+    check("then it ends", operator(site, "end").returncode == 0 and site.ended() == 0, *site.told)
+
+
+def try_commands(check, site):
+    """What operators do to users, and users to operators; small letters; the times of what one sees again."""
+
+    async def tried():
+        alice, bob = await on(site), await on(site, "BOB", "BUILDER")
+        alice.type("store g1 0000002a", "  #cp display g1", "msg bob Hello there", "begin 100", "hello", "#cp Display G2")
+        for text in ("STORED", "GPR 1 = 0000002A", "SENT", "GPR 2 = 00000000"):
+            await alice.until(text)
+        await bob.until("MSG FROM ALICE: Hello there")
+        check("small letters of commands are capitals", True)
+        alice.type("#cp", "msg oper Help me")
+        await alice.until("SENT")
+        told = site.await_told("OPER: MSG FROM ALICE: Help me")
+        check("a message to the operator", told, *site.told)
+        commands = ["message BOB For you", "message For all", "force BOB", "force BOB", "message BOB x", "force NOBODY",
+                    "logmsg Closed on Sunday", "end at 03:00", "end cancel", "end at 24:00", "force OPER"]  # fmt: skip
+        answers = [operator(site, *words.split()).returncode for words in commands]
+        check("commands of an operator", answers == [0, 0, 0, 1, 1, 1, 0, 0, 0, 1, 1], *map(str, answers))
+        seen = await bob.rest()
+        wanted = ["OPERATOR: For you", "OPERATOR: For all", "YOU ARE LOGGED OFF: BY THE OPERATOR", "LOGOFF OK"]
+        check("are seen by who they are for", seen[-4:] == wanted, *seen)
+        await alice.until("OPERATOR: For all")
+        check("and by nobody else", "OPERATOR: For you" not in alice.lines, *alice.lines)
+        alice.go()
+        back, bob = await on(site), await on(site, "BOB", "BUILDER")
+        await back.until("SENT")
+        times = [line for line in back.lines if re.fullmatch(r"-- \d{4}-\d\d-\d\d \d\d:\d\d UTC", line)]
+        check("what one sees again has its times", back.lines[1] == "RECONNECTED" and back.lines[2] in times, *back.lines)
+        await bob.until("Closed on Sunday")
+        check("who logs on sees the log message", bob.lines[1:] == ["LOGON OK", "Closed on Sunday"], *bob.lines)
+        back.type("logoff")
+        bob.type("logoff")
+        await asyncio.gather(back.rest(), bob.rest())
+
+    more = ("--operate", f"{site.folder}/operator", "--operator", "OPER")
+    site.online(*more)
+    run(tried())
+    recording = read(site.record)
+    holds = b"LINE ALICE hello\n" in recording and b"LINE ALICE   #CP DISPLAY G1\n" in recording
+    check("what goes to a running machine stays as it was typed", holds)
+    site.stop()
+    site.online(*more)
+    answer = operator(site, "logmsg").stdout
+    check("the log message outlives a start", "Closed on Sunday" in answer, answer)
+    check("the operator's user is nobody who is on", operator(site, "end").returncode == 0 and site.ended() == 0, *site.told)
+
+
+def try_small_faults(check, site):
+    """Faults that are told at once, by the place where they are."""
+    from keeping import copy_whole
+    from people import Failure
+
+    streams = {"capture_output": True, "text": True, "stdin": subprocess.DEVNULL}
+    wrong = subprocess.run([site.command, "--record", "r", "--listen", "127.0.0.1:99999", *site.paths], **streams)
+    same = subprocess.run([site.command, *site.words, "--sender", "OPER", "--operator", "OPER", *site.paths], **streams)
+    check("one user for two things", same.returncode == 2 and "--operator is another one" in same.stderr, same.stderr)
+    check("a port that is none", wrong.returncode == 2 and "is no value of --listen" in wrong.stderr, wrong.stderr)
+    write(f"{site.folder}/file", "")
+    wrong = subprocess.run([site.command, *site.words, "--decks", f"{site.folder}/file", *site.paths], **streams)
+    holds = wrong.returncode == 3 and "file: File exists" in wrong.stderr and "online" not in wrong.stdout
+    check("a folder of decks that is a file", holds, wrong.stderr)
+    try:
+        copy_whole(f"{site.folder}/file", f"{site.folder}/none/copy")
+    except Failure as failure:
+        check("a copy names the place that fails", f"{site.folder}/none/copy cannot be written" in failure.lines[0], *failure.lines)
+    site.start(most_bytes=os.path.getsize(site.record) + 10)
+    holds = site.ended() == 3 and f"installation: {site.record}: " in site.since_start() and "online" not in site.since_start()
+    check("a full disk is found before anybody is served", holds, *site.told)
+    os.unlink(site.record)
+    os.makedirs(f"{site.folder}/real")
+    os.symlink("real/recording", site.record)
+    os.chmod(site.paths[0], 0o644)
+    site.online()
+    check("passwords that others may read are reported", "others may read it: chmod 600" in site.since_start(), *site.told)
+    site.operate("end")
+    check("it ends", site.ended() == 0, *site.told)
+    kept = [name for name in names_in(f"{site.folder}/real") if name.startswith("recording.2")]
+    holds = len(kept) == 1 and "recording" in names_in(f"{site.folder}/real/{kept[0]}")
+    check("a recording that is a link is set aside where it is", holds, *kept)
+
+
+def try_operating(check, command, folder):
+    """All that is tried in seconds, over a stand-in for the program."""
+    os.makedirs(folder)
+    try_unit(check, folder)
+    try_operators(check, make_site(command, f"{folder}/operators"))
+    try_limits(check, make_site(command, f"{folder}/limits"))
+    try_waiting_printout(check, make_site(command, f"{folder}/waiting"))
+    try_commands(check, make_site(command, f"{folder}/commands"))
+    try_small_faults(check, make_site(command, f"{folder}/small"))

@@ -1,0 +1,79 @@
+"""What happens in an installation, line by line, for everybody who wants to know."""
+import contextlib
+import os
+import queue
+import threading
+import time
+
+MOST_UNREAD_LINES = 1000
+TIME = "%H:%M:%S"
+DATE_AND_TIME = "%Y-%m-%d %H:%M:%S"
+
+
+class Outlet:
+    """A file descriptor to which lines go, by a thread of its own. If nobody reads there nobody waits for that; how many lines are
+    lost is said."""
+
+    def __init__(self, handle, time_format=TIME, prefix=""):
+        self.handle = handle
+        self.time_format = time_format
+        self.prefix = prefix
+        self.lines = queue.Queue(MOST_UNREAD_LINES)
+        self.lost = 0
+        self.thread = threading.Thread(target=self.write_all, daemon=True)
+        self.thread.start()
+
+    def put(self, text, prefix=None):
+        prefix = self.prefix if prefix is None else prefix
+        try:
+            if self.lost:
+                self.lines.put_nowait(f"{prefix}{self.now()} ({self.lost} lines are lost)")
+                self.lost = 0
+            self.lines.put_nowait(f"{prefix}{self.now()} {text}")
+        except queue.Full:
+            self.lost += 1
+
+    def put_as_is(self, line):
+        with contextlib.suppress(queue.Full):
+            self.lines.put_nowait(line)
+
+    def now(self):
+        return time.strftime(self.time_format)
+
+    def write_all(self):
+        while (line := self.lines.get()) is not None:
+            data = f"{line}\n".encode(errors="surrogateescape")
+            # not by sys.stdout, whose lock would be kept while nobody reads; and perhaps nobody is there any more
+            with contextlib.suppress(OSError):
+                while data:
+                    data = data[os.write(self.handle, data) :]
+
+    def close(self, seconds=1):
+        with contextlib.suppress(queue.Full):
+            self.lines.put_nowait(None)
+            self.thread.join(seconds)
+
+
+class Journal:
+    """Tells all outlets what happens: standard output, the operators, and a file with dates where one is asked for."""
+
+    def __init__(self, path=None):
+        self.outlets = [Outlet(1)]
+        if path:
+            handle = os.open(path, os.O_WRONLY | os.O_APPEND | os.O_CREAT, 0o600)
+            self.outlets.append(Outlet(handle, DATE_AND_TIME))
+
+    def tell(self, text):
+        for outlet in list(self.outlets):
+            outlet.put(text)
+
+    def add(self, outlet):
+        self.outlets.append(outlet)
+
+    def remove(self, outlet):
+        with contextlib.suppress(ValueError):
+            self.outlets.remove(outlet)
+
+    def close(self):
+        for outlet in list(self.outlets):
+            outlet.close()
