@@ -5,7 +5,7 @@
 # so that it is found through symbolic links and whatever CDPATH says. Nothing here changes the current folder.
 # docs/COMMAND_LINE.md tells the statuses; bin/lib/program.sh has what the commands share that build and run a program.
 
-# the repository
+# the repository, or the folder of an installation by bin/install, which is laid out alike
 root=$(dirname -- "$(dirname -- "$(readlink -f -- "$0")")")
 # what messages begin with
 name=${0##*/}
@@ -33,10 +33,17 @@ fail() {
     exit "$status"
 }
 
-# the whole usage text, and the status that the programs have for it too
+# the whole usage text
 help() {
-    usage >&2
-    exit 2
+    usage
+    exit 0
+}
+
+# the version, and of a command that runs a program of the repository ($runs) what that program is
+version() {
+    echo "$name (Gathjumli) $(cat -- "$root/VERSION")"
+    [ -z "${runs-}" ] || tell_program "$runs"
+    exit 0
 }
 
 # refuses the words of the command: what is wrong, and the first lines of the usage text
@@ -67,6 +74,7 @@ read_words() {
         case $are_options$word in
         true--) are_options=false ;;
         true-h | true--help) help ;;
+        true--version) version ;;
         true--?*=*)
             given=${word%%=*}
             case $known in

@@ -4,9 +4,11 @@ import re
 import subprocess
 import tempfile
 
-from people import FILE_FAILED, Failure, REFUSED, WrongUse, last, number, read_file, read_words, user_name
+from people import (
+    FILE_FAILED, Failure, REFUSED, ROOT, UNPROVED, WrongUse, ask_build, last, number, read_file, read_words, user_name,
+    version,
+)  # fmt: skip
 
-ROOT = os.path.dirname(os.path.dirname(os.path.dirname(os.path.realpath(__file__))))
 BARE = "BARE"
 UNITS = {"CONSOLE": "console", "READER": "reader", "PUNCH": "punch", "PRINTER": "printer", "MDISK": "disk"}
 STORAGE = re.compile("([1-9][0-9]{0,6})([KM])")
@@ -31,6 +33,7 @@ class Machines:
         self.devices = devices
         self.folder = tempfile.TemporaryDirectory(prefix="people-")
         self.is_built = False
+        self.path = None
 
     def close(self):
         self.folder.cleanup()
@@ -46,8 +49,16 @@ class Machines:
         """Those for a script that the program is given part by part."""
         return [*self.before[:-1], "--follow", "--", self.before[-1], *self.volumes]
 
+    def crate(self):
+        return self.name + "_cli"
+
     def program(self):
-        return os.path.join(ROOT, "crates", self.name + "_cli", "out", self.name + "_cli")
+        self.path = self.path or ask_build("path", self.crate())
+        return self.path
+
+    def made_of(self):
+        """What tells one version of the program from another: the sum of its sources, and the version of Gathjumli."""
+        return f"{ask_build('tell', self.crate()).split()[1]} {version()}"
 
     def build(self):
         """Has the command of this name do nothing, which proves and builds the program where that is to be done, and judges what
@@ -132,11 +143,20 @@ def of_directory(directory, sizes, volumes):
 
 
 SIZE_OPTIONS = {"--frames": number(16, 4096), "--slots": number(0, 65536)}
+# for each command that runs a program
+UNPROVED_OPTION = {"--unproved": None}
+
+
+def use_unproved(found):
+    """Has this command, and those that it starts, run programs without proof where the option asks for it."""
+    if found["--unproved"]:
+        os.environ[UNPROVED] = "1"
 
 
 def read_machines(words, options, paths_behind):
     """The machines that the words name, the other options and the paths that stand behind the first one."""
-    found, paths = read_words(words, {"--bare": None} | SIZE_OPTIONS | options, 1 + paths_behind, 1000)
+    found, paths = read_words(words, {"--bare": None} | UNPROVED_OPTION | SIZE_OPTIONS | options, 1 + paths_behind, 1000)
+    use_unproved(found)
     first, behind, volumes = paths[0], paths[1 : 1 + paths_behind], paths[1 + paths_behind :]
     for path in [*behind, *volumes]:
         with open(path, "rb"):
