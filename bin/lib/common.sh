@@ -119,10 +119,11 @@ need_paths() {
     }
 }
 
-# check_number WHAT VALUE LOWEST HIGHEST: whether a value is a number of 1 to 7 digits within these bounds
+# check_number WHAT VALUE LOWEST HIGHEST [USEFUL]: whether a value is a number of 1 to 7 digits within these bounds; USEFUL is the lowest
+# that is named, where a lower one is refused later
 check_number() {
     case $2 in
-    '' | *[!0-9]* | ????????*) wrong_use "$1 is a number from $3 to $4, and not ${2:-empty}" ;;
+    '' | *[!0-9]* | ????????*) wrong_use "$1 is a number from ${5-$3} to $4, and not ${2:-empty}" ;;
     esac
-    [ "$2" -ge "$3" ] && [ "$2" -le "$4" ] || wrong_use "$1 is a number from $3 to $4, and not $2"
+    [ "$2" -ge "$3" ] && [ "$2" -le "$4" ] || wrong_use "$1 is a number from ${5-$3} to $4, and not $2"
 }

@@ -8,6 +8,7 @@ from people import (
     FILE_FAILED, Failure, REFUSED, ROOT, UNPROVED, WrongUse, ask_build, last, number, read_file, read_words, user_name,
     version,
 )  # fmt: skip
+from reasons import reason
 
 BARE = "BARE"
 UNITS = {"CONSOLE": "console", "READER": "reader", "PUNCH": "punch", "PRINTER": "printer", "MDISK": "disk"}
@@ -48,6 +49,13 @@ class Machines:
     def follow_words(self):
         """Those for a script that the program is given part by part."""
         return [*self.before[:-1], "--follow", "--", self.before[-1], *self.volumes]
+
+    def reason(self, script, line):
+        """Why a line of a script is refused, as a list of lines, which is empty where it cannot be found out."""
+        is_bare = self.name == "bare370"
+        directory = b"" if is_bare else read_file(self.before[-1])
+        found = reason(f"fault: script Line {line}", directory, script, is_bare=is_bare, images=self.volumes)
+        return [found] if found else []
 
     def crate(self):
         return self.name + "_cli"

@@ -163,8 +163,10 @@ def read_words(words, options, least, most):
 def read_value(option, value, read):
     try:
         return read(value)
-    except ValueError:
-        raise WrongUse(f"{value} is no value of {option}") from None
+    except ValueError as it:
+        # what a value is, where its reader says so
+        text = f"{option} is {it}, and not {value}" if str(it) else f"{value} is no value of {option}"
+        raise WrongUse(text) from None
 
 
 def last(values, otherwise):
@@ -179,7 +181,7 @@ def number(least, most):
 
     def read(text):
         if not re.fullmatch("[0-9]{1,7}", text) or not least <= int(text) <= most:
-            raise ValueError
+            raise ValueError(f"a number from {least} to {most}")
         return int(text)
 
     return read
@@ -188,28 +190,28 @@ def number(least, most):
 def user_name(text):
     """A user's name, as a directory may state it."""
     if not re.fullmatch("[A-Z][A-Z0-9]{0,7}", text):
-        raise ValueError
+        raise ValueError("1 to 8 of A-Z and 0-9, a letter first")
     return text
 
 
 def serial(text):
     """The serial number of a volume."""
     if not re.fullmatch("[A-Z0-9]{1,6}", text):
-        raise ValueError
+        raise ValueError("1 to 6 of A-Z and 0-9")
     return text
 
 
 def device(text):
     """The address of a device: three hexadecimal digits, 000 to 5FF."""
     if not re.fullmatch("[0-5][0-9A-F]{2}", text):
-        raise ValueError
+        raise ValueError("000 to 5FF, three digits 0-9 A-F")
     return text
 
 
 def address(text):
     """An address of storage: one to six hexadecimal digits."""
     if not re.fullmatch("[0-9A-F]{1,6}", text):
-        raise ValueError
+        raise ValueError("an address, 1 to 6 digits 0-9 A-F")
     return int(text, 16)
 
 

@@ -14,7 +14,8 @@ read_run_words() {
     more=$1
     shift
     read_words "frames: slots: save $more" "$@"
-    check_number --frames "${option_frames-64}" 0 4096
+    # fewer than 16 frames are refused when the system boots
+    check_number --frames "${option_frames-64}" 0 4096 16
     check_number --slots "${option_slots-256}" 0 65536
     script=
     [ -z "${option_terminals-}" ] || [ -n "${option_follow-}" ] || wrong_use '--terminals is for --follow'
@@ -39,6 +40,7 @@ read_bare_words() {
     shift
     read_words "save $more" "$@"
     script=
+    storage=
     [ -z "${option_terminals-}" ] || [ -n "${option_follow-}" ] || wrong_use '--terminals is for --follow'
     if [ -n "${option_follow-}" ]; then
         need_paths STORAGE '[..]'
@@ -49,6 +51,7 @@ read_bare_words() {
         number=3
     fi
     check_storage "$path1"
+    storage=$path1
     [ "$count" -le $((15 + number)) ] || wrong_use "a machine has at most 16 volumes, and these are $((count - number + 1))"
     check_texts "$@"
     [ -n "${option_follow-}" ] || check_readable "$script"
@@ -58,6 +61,7 @@ read_bare_words() {
 # whether the volumes, the words from this one on, can be read, and written too where they are saved: check_volumes NUMBER
 check_volumes() {
     number=$1
+    first_image=$1
     while [ "$number" -le "$count" ]; do
         eval "path=\$path$number"
         check_readable "$path"
@@ -152,7 +156,7 @@ stop_program() {
     exit "$1"
 }
 
-# what is told beside a fault
+# what is reported after a fault: the lines that it names, and why it is one
 explain() {
     case $1 in
     'fault: script Line '*) show_line "${1##* }" "$script" ;;
@@ -162,7 +166,23 @@ explain() {
             show_line "$number" "$directory"
         done
         ;;
+    'fault: image '* | 'fault: boot '*) ;;
+    *) return ;;
     esac
+    tell_reason "$1"
+}
+
+# tell_reason FAULT: what is wrong and what would be right, where python3 is there to find it out
+tell_reason() {
+    command -v python3 > /dev/null || return 0
+    set -- "$1" "${directory-}" "${script-}" "${text-}" "${storage-}"
+    number=${first_image-}
+    while [ -n "$number" ] && [ "$number" -le "$count" ]; do
+        eval "set -- \"\$@\" \"\$path$number\""
+        number=$((number + 1))
+    done
+    reason=$(PYTHONDONTWRITEBYTECODE=1 python3 "$root/bin/lib/reasons.py" "$@") || return 0
+    [ -z "$reason" ] || say "$reason"
 }
 
 # show_line NUMBER FILE: a line, with what cannot be seen of it
