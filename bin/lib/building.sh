@@ -71,13 +71,16 @@ is_built() {
 # ensure_built CRATE: $program is then the program of that crate, built of what the sources are now, and proved unless --unproved
 # or the environment asks for one that is not
 ensure_built() {
+    make_program "$1"
+    [ "$(state_of_program)" = proved ] || say "not proved; slow"
+}
+
+make_program() {
     find_program "$1"
     if [ -n "$installed" ]; then
         [ -x "$program" ] || fail "$not_built" "$program is not there: install Gathjumli anew"
-        [ "$(state_of_program)" = proved ] || say "not proved; slow"
-    elif [ -n "$unproved" ]; then
+    elif [ -n "$without_proof" ]; then
         is_compiled || compile
-        say "not proved; slow"
     else
         is_built || build
     fi
@@ -96,7 +99,7 @@ find_program() {
     folder=$root/crates/$program_crate
     now_sources=$(sources)
     now_kit=$(kit)
-    if [ -n "$unproved" ]; then
+    if [ -n "$without_proof" ]; then
         find_compiled
     else
         program=$folder/out/$program_crate
@@ -107,10 +110,10 @@ find_program() {
 # whether programs run without proof: by the option, or by the environment, which says it to all commands that this one starts
 read_unproved() {
     [ -z "${option_unproved-}" ] || export GATHJUMLI_UNPROVED=1
-    unproved=${GATHJUMLI_UNPROVED-}
-    case $unproved in
+    without_proof=${GATHJUMLI_UNPROVED-}
+    case $without_proof in
     '' | 1) ;;
-    *) wrong_use "GATHJUMLI_UNPROVED is 1 or empty, and not $unproved" ;;
+    *) wrong_use "GATHJUMLI_UNPROVED is 1 or empty, and not $without_proof" ;;
     esac
 }
 
@@ -130,7 +133,7 @@ tell_program() {
 state_of_program() {
     if [ -n "$installed" ]; then
         tail -n 1 -- "$installed"
-    elif [ -n "$unproved" ]; then
+    elif [ -n "$without_proof" ]; then
         if is_compiled; then echo 'not proved'; else echo 'not built'; fi
     elif is_built; then
         echo proved
