@@ -119,6 +119,15 @@ need_paths() {
     }
 }
 
+# read_standard_input NUMBER: from the path of this number on, - is standard input
+read_standard_input() {
+    number=$1
+    while [ "$number" -le "$count" ]; do
+        eval "[ \"\$path$number\" != - ] || path$number=/dev/stdin"
+        number=$((number + 1))
+    done
+}
+
 # check_number WHAT VALUE LOWEST HIGHEST [USEFUL]: whether a value is a number of 1 to 7 digits within these bounds; USEFUL is the lowest
 # that is named, where a lower one is refused later
 check_number() {

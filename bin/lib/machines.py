@@ -69,12 +69,13 @@ class Machines:
         return f"{ask_build('tell', self.crate()).split()[1]} {version()}"
 
     def build(self):
-        """Has the command of this name do nothing, which proves and builds the program where that is to be done, and judges what
-        it is given; it tells what is wrong by itself."""
-        command = os.path.join(ROOT, "bin", self.name)
-        status = subprocess.run([command, *self.words(b"")], stdin=subprocess.DEVNULL, stdout=subprocess.DEVNULL).returncode
-        if status:
-            raise Failure(status)
+        """Has the program built where that is to be done, and has it do nothing, so that it judges what it is given."""
+        self.path = ask_build("ensure", self.crate())
+        words = self.words(b"")
+        if subprocess.run([self.path, *words], stdin=subprocess.DEVNULL, capture_output=True).returncode:
+            # the command of this name says what is wrong, and why
+            command = os.path.join(ROOT, "bin", self.name)
+            raise Failure(subprocess.run([command, *words], stdin=subprocess.DEVNULL, stdout=subprocess.DEVNULL).returncode)
         self.is_built = True
 
     def run(self, script):
@@ -107,6 +108,14 @@ def read_storage(text):
     return kilobytes // 4
 
 
+def pages_of(text):
+    """How many pages a stated storage has, and none where the program refuses it."""
+    try:
+        return read_storage(text)
+    except ValueError:
+        return 0
+
+
 def statements(directory):
     """The words of each statement of a directory."""
     for line in directory.decode("latin-1").split("\n"):
@@ -121,7 +130,7 @@ def stated(directory):
     for words in statements(directory):
         if words[0] == "USER" and len(words) == 4:
             user = words[1]
-            users[user] = read_storage(words[3]) if STORAGE.fullmatch(words[3]) else 0
+            users[user] = pages_of(words[3])
             devices[user] = {}
         elif users and len(words) > 2:
             kind = words[2] if words[0] == "SPOOL" else words[0]
@@ -165,7 +174,8 @@ def read_machines(words, options, paths_behind):
     """The machines that the words name, the other options and the paths that stand behind the first one."""
     found, paths = read_words(words, {"--bare": None} | UNPROVED_OPTION | SIZE_OPTIONS | options, 1 + paths_behind, 1000)
     use_unproved(found)
-    first, behind, volumes = paths[0], paths[1 : 1 + paths_behind], paths[1 + paths_behind :]
+    behind = ["/dev/stdin" if it == "-" else it for it in paths[1 : 1 + paths_behind]]
+    first, volumes = paths[0], paths[1 + paths_behind :]
     for path in [*behind, *volumes]:
         with open(path, "rb"):
             pass

@@ -28,6 +28,8 @@ read_run_words() {
         number=3
     fi
     check_texts "$@"
+    read_standard_input 1
+    script=${script:+$path2}
     directory=$path1
     check_readable "$directory"
     [ -n "${option_follow-}" ] || check_readable "$script"
@@ -54,6 +56,8 @@ read_bare_words() {
     storage=$path1
     [ "$count" -le $((15 + number)) ] || wrong_use "a machine has at most 16 volumes, and these are $((count - number + 1))"
     check_texts "$@"
+    read_standard_input 2
+    script=${script:+$path2}
     [ -n "${option_follow-}" ] || check_readable "$script"
     check_volumes "$number"
 }
@@ -124,12 +128,13 @@ END_OF_STATUSES
 
 # --- running ---
 
-# Runs the program on these words but --unproved, and ends as it does. Where it names a line of a text that is refused, that line is
+# Runs the program on these words but --unproved, with standard input for a path -, and ends as it does. Where it names a line of a text that is refused, that line is
 # shown: of the file in $script, $directory or $text. A signal ends the program too.
 run_program() {
     is_option=true
     for word in "$@"; do
         shift
+        [ "$word" != - ] || word=/dev/stdin
         [ "$is_option$word" = true--unproved ] || set -- "$@" "$word"
         [ "$word" != -- ] || is_option=
     done

@@ -5,7 +5,10 @@ from machines import ScriptRefused, headings_of, parts
 
 
 class Replaying:
-    """Each time the whole script is run."""
+    """Each time the whole script is run, which does not tell whose machine runs."""
+
+    def was_running(self, user):
+        return False
 
     def __init__(self, machines):
         self.machines = machines
@@ -63,6 +66,10 @@ class Following:
         else:
             self.close()
             self.follower = self.begun(script)
+
+    def was_running(self, user):
+        """Whether the user's machine ran before the last part."""
+        return self.follower is not None and self.follower.states_before.get(user) == "RUNS"
 
     def settle(self, script, added, is_busy):
         self.follower.script = script
