@@ -121,10 +121,10 @@ need_paths() {
 
 # read_standard_input NUMBER: from the path of this number on, - is standard input
 read_standard_input() {
-    number=$1
-    while [ "$number" -le "$count" ]; do
-        eval "[ \"\$path$number\" != - ] || path$number=/dev/stdin"
-        number=$((number + 1))
+    place=$1
+    while [ "$place" -le "$count" ]; do
+        eval "[ \"\$path$place\" != - ] || path$place=/dev/stdin"
+        place=$((place + 1))
     done
 }
 
