@@ -34,6 +34,8 @@ class Machines:
         self.devices = devices
         self.folder = tempfile.TemporaryDirectory(prefix="people-")
         self.is_built = False
+        # the transcript of an empty script
+        self.of_nothing = b""
         self.path = None
 
     def close(self):
@@ -72,16 +74,20 @@ class Machines:
         """Has the program built where that is to be done, and has it do nothing, so that it judges what it is given."""
         self.path = ask_build("ensure", self.crate())
         words = self.words(b"")
-        if subprocess.run([self.path, *words], stdin=subprocess.DEVNULL, capture_output=True).returncode:
+        done = subprocess.run([self.path, *words], stdin=subprocess.DEVNULL, capture_output=True)
+        if done.returncode:
             # the command of this name says what is wrong, and why
             command = os.path.join(ROOT, "bin", self.name)
             raise Failure(subprocess.run([command, *words], stdin=subprocess.DEVNULL, stdout=subprocess.DEVNULL).returncode)
         self.is_built = True
+        self.of_nothing = done.stdout
 
     def run(self, script):
         """The transcript of a script, both as bytes."""
         if not self.is_built:
             self.build()
+        if not script:
+            return self.of_nothing
         done = subprocess.run([self.program(), *self.words(script)], stdin=subprocess.DEVNULL, capture_output=True)
         if done.returncode == 0:
             return done.stdout

@@ -133,12 +133,14 @@ def wrong_operands(first, words, users, lines_after):
         return f"{first} is written: {first} {' '.join(wanted)}"
     if wanted[0] == "user" and words[0] not in users.devices:
         return users.unknown(words[0])
+    if first in MOST and re.fullmatch("[0-9]{8,}", words[-1]):
+        return f"{wanted[-1]} are a number of at most 7 digits, and not {words[-1]}"
     if first in MOST and not is_number(words[-1], 1, MOST[first]):
         return f"{wanted[-1]} are a number from 1 to {MOST[first]}, and not {words[-1]}"
     if first == "SERVE" and words[1] not in users.devices[words[0]]:
         return users.no_device(*words)
     if first == "DECK":
-        return f"{words[1]} cards follow, and the script has {lines_after} lines after this one"
+        return f"a deck of {int(words[1])} takes the next {int(words[1])} lines, and {lines_after} follow"
     return None
 
 
