@@ -38,8 +38,6 @@ class Program:
         words = [machines.program(), *options, *machines.follow_words()]
         self.process = subprocess.Popen(words, start_new_session=True, **streams)
         self.awaited = 0
-        # each user's last state, and what they were before the last part
-        self.states, self.states_before = {}, {}
         self.lines = queue.SimpleQueue()
         threading.Thread(target=self.listen, daemon=True).start()
 
@@ -68,7 +66,6 @@ class Program:
         self.send(part)
         while self.awaited > 1:
             self.answer()
-        self.states_before = dict(self.states)
         return self.answer()
 
     def answer(self):
@@ -88,7 +85,6 @@ class Program:
                 files.append((line[2:], []))
             elif word in STATES:
                 states.append((word, rest))
-                self.states[rest] = word
             elif line.startswith("> |"):
                 files[-1][1].append(line[3:])
             elif word == "IDLE":
