@@ -2,7 +2,7 @@
 """Assembles a program for System/370 in basic control mode; docs/man/asm370.1 has the notation.
 
     asm370.py script USER SOURCE     lines of a script that store the program
-    asm370.py begin USER SOURCE      the same, and one that starts it where END says
+    asm370.py begin USER SOURCE      the same after a LOGON, and one that starts it where END says
     asm370.py deck SOURCE            cards for initial program loading
     asm370.py volume NAME SOURCE     the text of a volume for initial program loading
     asm370.py listing SOURCE         addresses and bytes beside the statements, and all names
@@ -281,9 +281,13 @@ class Expander:
         self.globals = {}
         self.calls = 0
         self.has_ended = False
+        # where lines follow END, if any do
+        self.left_over = None
 
     def go(self, path):
-        self.run(Frame(path, read_lines(path)), 0)
+        frame = Frame(path, read_lines(path))
+        self.run(frame, 0)
+        self.left_over = f"{path}:{frame.at + frame.first}" if any(not is_comment(it) for it in frame.lines[frame.at :]) else None
 
     def run(self, frame, depth):
         if depth > MOST_DEPTH:
@@ -1025,7 +1029,8 @@ class Assembler:
 
     @staticmethod
     def unreached(value):
-        return f"the address {value.number & 0xFFFFFFFF:X} needs a base: no USING reaches it, and it lies past FFF"
+        place = f"{value.number & 0xFFFFFFFF:X}" if value.section else f"{value.number} ({value.number & 0xFFFFFFFF:X} in hexadecimal)"
+        return f"the address {place} needs a base: no USING reaches it, and it lies past FFF"
 
     def place(self, reader):
         """An address as it is written: its value, its length, and what stands in parentheses behind it."""
@@ -1516,6 +1521,8 @@ def assembled(path):
             for line in origin.message(fault):
                 print(line, file=sys.stderr)
         raise Refused(None)
+    if expander.left_over:
+        print(f"asm370: {expander.left_over}: what follows END is not assembled", file=sys.stderr)
     assembler.memory += bytes(-len(assembler.memory) % 8)
     return assembler
 
@@ -1527,7 +1534,9 @@ def entry_of(program):
 
 
 def print_script(program, user, has_begin):
-    """Sixteen bytes a line, without the words of zero at either end."""
+    """Sixteen bytes a line, without the words of zero at either end; with its start it is a script of its own."""
+    if has_begin:
+        print(f"LINE {user} LOGON")
     for start in range(0, len(program.memory), 16):
         data = program.memory[start : start + 16]
         while data[:4] == bytes(4):
@@ -1593,6 +1602,15 @@ def print_volume(program, serial):
     print(f"VOLUME {serial} 1")
     print(f"REC 0 0 0000000001 - 0000000000{entry:06X}060000182000{len(data):04X}0000000000000000")
     print(f"REC 0 0 0000000002 - {data.hex().upper()}")
+
+
+def addresses(program):
+    """The names of the program's addresses, but those that other names or numbers equate."""
+    found = {}
+    for statement, section, place, _ in program.lines:
+        if section == PROGRAM and statement.name and statement.operation not in ("EQU", "DSECT"):
+            found.setdefault(place, statement.name)
+    return found
 
 
 def print_listing(program):

@@ -1,4 +1,5 @@
-# How a program of the repository is built: proved, or on the word --unproved without any proof. Sourced by bin/lib/program.sh.
+# How a program of the repository is built: proved, or without any proof where --unproved is given or GATHJUMLI_UNPROVED is 1. Sourced
+# by bin/lib/program.sh. What bin/install has put somewhere has its programs, and is never built.
 
 # the crates that a program stands on, lowest first and the program last
 crates_of() {
@@ -68,18 +69,76 @@ is_built() {
 }
 
 # ensure_built CRATE: $program is then the program of that crate, built of what the sources are now, and proved unless --unproved
-# was given
+# or the environment asks for one that is not
 ensure_built() {
+    make_program "$1"
+    [ "$(state_of_program)" = proved ] || say "not proved; slow"
+}
+
+make_program() {
+    find_program "$1"
+    if [ -n "$installed" ]; then
+        [ -x "$program" ] || fail "$not_built" "$program is not there: install Gathjumli anew"
+    elif [ -n "$without_proof" ]; then
+        is_compiled || compile
+    else
+        is_built || build
+    fi
+}
+
+# find_program CRATE: where its program is or will be, and what it is made of
+find_program() {
     program_crate=$1
+    installed=
+    read_unproved
+    if [ -d "$root/programs" ]; then
+        installed=$root/programs/$program_crate.built
+        program=$root/programs/$program_crate
+        return
+    fi
     folder=$root/crates/$program_crate
     now_sources=$(sources)
     now_kit=$(kit)
-    if [ -n "${option_unproved-}" ]; then
-        ensure_compiled
+    if [ -n "$without_proof" ]; then
+        find_compiled
     else
         program=$folder/out/$program_crate
         mark=$folder/out/built
-        is_built || build
+    fi
+}
+
+# whether programs run without proof: by the option, or by the environment, which says it to all commands that this one starts
+read_unproved() {
+    [ -z "${option_unproved-}" ] || export GATHJUMLI_UNPROVED=1
+    without_proof=${GATHJUMLI_UNPROVED-}
+    case $without_proof in
+    '' | 1) ;;
+    *) wrong_use "GATHJUMLI_UNPROVED is 1 or empty, and not $without_proof" ;;
+    esac
+}
+
+# tell_program CRATE: what the program is made of, and whether it is proved
+tell_program() {
+    find_program "$1"
+    if [ -n "$installed" ]; then
+        cat -- "$installed"
+    else
+        echo "sources $(printf '%s' "$now_sources" | tr ' ' -)"
+        echo "kit ${now_kit:-none}"
+        state_of_program
+    fi
+}
+
+# one of: proved, not proved, not built
+state_of_program() {
+    if [ -n "$installed" ]; then
+        tail -n 1 -- "$installed"
+    elif [ -n "$without_proof" ]; then
+        if is_compiled; then echo 'not proved'; else echo 'not built'; fi
+    elif is_built; then
+        echo proved
+    else
+        echo 'not built'
     fi
 }
 
@@ -104,6 +163,7 @@ build() {
     progress=$folder/out/building.$$
     places=$(places)
     tell_prospects
+    say "without proof it runs in about two minutes, with --unproved or GATHJUMLI_UNPROVED=1 in the environment"
     say "the logs are in $logs"
     prove_all
     tell_progress "building $program_crate, $count of $count"
@@ -331,16 +391,23 @@ run_once() {
 
 # --- without proof ---
 
-# Compiles the program of the sources as they are, which then stops at what a proof would exclude: nothing is proved. It lies in a
-# folder of its own, under a name that has the number of its sources, and has no mark: no command takes it for a proved one.
-ensure_compiled() {
+# Where the program is that is compiled of the sources as they are, which stops at what a proof would exclude: nothing is proved. It
+# lies in a folder of its own, under a name that has the numbers of its sources and of the kit, and has no mark: no command takes it
+# for a proved one. Without a kit it is that of these sources.
+find_compiled() {
     compiled=$root/out/unproved
-    program=$compiled/$program_crate-$(printf '%s\n' "$now_sources" "$now_kit" | cksum | tr ' ' -)
-    [ -x "$program" ] || compile
-    say "not proved; slow"
+    program=$compiled/$program_crate-$(printf '%s' "$now_sources" | tr ' ' -)-$(printf '%s\n' "$now_kit" | cksum | tr ' ' -)
+    [ -z "$now_kit" ] || return 0
+    for other in "$compiled/$program_crate-$(printf '%s' "$now_sources" | tr ' ' -)"-*; do
+        program=$other
+    done
 }
 
-# rt try keeps no program: this copies the one that it has made while it runs, held at the opening of a pipe.
+is_compiled() {
+    [ -x "$program" ]
+}
+
+# Compiles it. rt try keeps no program: this copies the one that it has made while it runs, held at the opening of a pipe.
 compile() {
     need_kit
     mkdir -p -- "$compiled" 2> /dev/null && room=$(mktemp -d -- "$compiled/making.XXXXXX" 2> /dev/null) ||

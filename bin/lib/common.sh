@@ -5,7 +5,7 @@
 # so that it is found through symbolic links and whatever CDPATH says. Nothing here changes the current folder.
 # docs/COMMAND_LINE.md tells the statuses; bin/lib/program.sh has what the commands share that build and run a program.
 
-# the repository
+# the repository, or the folder of an installation by bin/install, which is laid out alike
 root=$(dirname -- "$(dirname -- "$(readlink -f -- "$0")")")
 # what messages begin with
 name=${0##*/}
@@ -33,10 +33,17 @@ fail() {
     exit "$status"
 }
 
-# the whole usage text, and the status that the programs have for it too
+# the whole usage text
 help() {
-    usage >&2
-    exit 2
+    usage
+    exit 0
+}
+
+# the version, and of a command that runs a program of the repository ($runs) what that program is
+version() {
+    echo "$name (Gathjumli) $(cat -- "$root/VERSION")"
+    [ -z "${runs-}" ] || tell_program "$runs"
+    exit 0
 }
 
 # refuses the words of the command: what is wrong, and the first lines of the usage text
@@ -67,6 +74,7 @@ read_words() {
         case $are_options$word in
         true--) are_options=false ;;
         true-h | true--help) help ;;
+        true--version) version ;;
         true--?*=*)
             given=${word%%=*}
             case $known in
@@ -111,10 +119,20 @@ need_paths() {
     }
 }
 
-# check_number WHAT VALUE LOWEST HIGHEST: whether a value is a number of 1 to 7 digits within these bounds
+# read_standard_input NUMBER: from the path of this number on, - is standard input
+read_standard_input() {
+    place=$1
+    while [ "$place" -le "$count" ]; do
+        eval "[ \"\$path$place\" != - ] || path$place=/dev/stdin"
+        place=$((place + 1))
+    done
+}
+
+# check_number WHAT VALUE LOWEST HIGHEST [USEFUL]: whether a value is a number of 1 to 7 digits within these bounds; USEFUL is the lowest
+# that is named, where a lower one is refused later
 check_number() {
     case $2 in
-    '' | *[!0-9]* | ????????*) wrong_use "$1 is a number from $3 to $4, and not ${2:-empty}" ;;
+    '' | *[!0-9]* | ????????*) wrong_use "$1 is a number from ${5-$3} to $4, and not ${2:-empty}" ;;
     esac
-    [ "$2" -ge "$3" ] && [ "$2" -le "$4" ] || wrong_use "$1 is a number from $3 to $4, and not $2"
+    [ "$2" -ge "$3" ] && [ "$2" -le "$4" ] || wrong_use "$1 is a number from ${5-$3} to $4, and not $2"
 }

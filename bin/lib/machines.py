@@ -4,9 +4,12 @@ import re
 import subprocess
 import tempfile
 
-from people import FILE_FAILED, Failure, REFUSED, WrongUse, last, number, read_file, read_words, user_name
+from people import (
+    FILE_FAILED, Failure, REFUSED, ROOT, UNPROVED, WrongUse, ask_build, last, number, read_file, read_words, user_name,
+    version,
+)  # fmt: skip
+from reasons import reason
 
-ROOT = os.path.dirname(os.path.dirname(os.path.dirname(os.path.realpath(__file__))))
 BARE = "BARE"
 UNITS = {"CONSOLE": "console", "READER": "reader", "PUNCH": "punch", "PRINTER": "printer", "MDISK": "disk"}
 STORAGE = re.compile("([1-9][0-9]{0,6})([KM])")
@@ -31,6 +34,9 @@ class Machines:
         self.devices = devices
         self.folder = tempfile.TemporaryDirectory(prefix="people-")
         self.is_built = False
+        # the transcript of an empty script
+        self.of_nothing = b""
+        self.path = None
 
     def close(self):
         self.folder.cleanup()
@@ -46,22 +52,42 @@ class Machines:
         """Those for a script that the program is given part by part."""
         return [*self.before[:-1], "--follow", "--", self.before[-1], *self.volumes]
 
+    def reason(self, script, line):
+        """Why a line of a script is refused, as a list of lines, which is empty where it cannot be found out."""
+        is_bare = self.name == "bare370"
+        directory = b"" if is_bare else read_file(self.before[-1])
+        found = reason(f"fault: script Line {line}", directory, script, is_bare=is_bare, images=self.volumes)
+        return [found] if found else []
+
+    def crate(self):
+        return self.name + "_cli"
+
     def program(self):
-        return os.path.join(ROOT, "crates", self.name + "_cli", "out", self.name + "_cli")
+        self.path = self.path or ask_build("path", self.crate())
+        return self.path
+
+    def made_of(self):
+        """What tells one version of the program from another: the sum of its sources, and the version of Gathjumli."""
+        return f"{ask_build('tell', self.crate()).split()[1]} {version()}"
 
     def build(self):
-        """Has the command of this name do nothing, which proves and builds the program where that is to be done, and judges what
-        it is given; it tells what is wrong by itself."""
-        command = os.path.join(ROOT, "bin", self.name)
-        status = subprocess.run([command, *self.words(b"")], stdin=subprocess.DEVNULL, stdout=subprocess.DEVNULL).returncode
-        if status:
-            raise Failure(status)
+        """Has the program built where that is to be done, and has it do nothing, so that it judges what it is given."""
+        self.path = ask_build("ensure", self.crate())
+        words = self.words(b"")
+        done = subprocess.run([self.path, *words], stdin=subprocess.DEVNULL, capture_output=True)
+        if done.returncode:
+            # the command of this name says what is wrong, and why
+            command = os.path.join(ROOT, "bin", self.name)
+            raise Failure(subprocess.run([command, *words], stdin=subprocess.DEVNULL, stdout=subprocess.DEVNULL).returncode)
         self.is_built = True
+        self.of_nothing = done.stdout
 
     def run(self, script):
         """The transcript of a script, both as bytes."""
         if not self.is_built:
             self.build()
+        if not script:
+            return self.of_nothing
         done = subprocess.run([self.program(), *self.words(script)], stdin=subprocess.DEVNULL, capture_output=True)
         if done.returncode == 0:
             return done.stdout
@@ -88,6 +114,14 @@ def read_storage(text):
     return kilobytes // 4
 
 
+def pages_of(text):
+    """How many pages a stated storage has, and none where the program refuses it."""
+    try:
+        return read_storage(text)
+    except ValueError:
+        return 0
+
+
 def statements(directory):
     """The words of each statement of a directory."""
     for line in directory.decode("latin-1").split("\n"):
@@ -102,7 +136,7 @@ def stated(directory):
     for words in statements(directory):
         if words[0] == "USER" and len(words) == 4:
             user = words[1]
-            users[user] = read_storage(words[3]) if STORAGE.fullmatch(words[3]) else 0
+            users[user] = pages_of(words[3])
             devices[user] = {}
         elif users and len(words) > 2:
             kind = words[2] if words[0] == "SPOOL" else words[0]
@@ -132,12 +166,22 @@ def of_directory(directory, sizes, volumes):
 
 
 SIZE_OPTIONS = {"--frames": number(16, 4096), "--slots": number(0, 65536)}
+# for each command that runs a program
+UNPROVED_OPTION = {"--unproved": None}
+
+
+def use_unproved(found):
+    """Has this command, and those that it starts, run programs without proof where the option asks for it."""
+    if found["--unproved"]:
+        os.environ[UNPROVED] = "1"
 
 
 def read_machines(words, options, paths_behind):
     """The machines that the words name, the other options and the paths that stand behind the first one."""
-    found, paths = read_words(words, {"--bare": None} | SIZE_OPTIONS | options, 1 + paths_behind, 1000)
-    first, behind, volumes = paths[0], paths[1 : 1 + paths_behind], paths[1 + paths_behind :]
+    found, paths = read_words(words, {"--bare": None} | UNPROVED_OPTION | SIZE_OPTIONS | options, 1 + paths_behind, 1000)
+    use_unproved(found)
+    behind = ["/dev/stdin" if it == "-" else it for it in paths[1 : 1 + paths_behind]]
+    first, volumes = paths[0], paths[1 + paths_behind :]
     for path in [*behind, *volumes]:
         with open(path, "rb"):
             pass

@@ -1,15 +1,20 @@
 """What the commands in Python share: their words, how they end, and the programs that they run (docs/COMMAND_LINE.md)."""
 import os
 import re
+import subprocess
 import sys
 import tempfile
+
+ROOT = os.path.dirname(os.path.dirname(os.path.dirname(os.path.realpath(__file__))))
+# set where programs run without proof (bin/lib/building.sh)
+UNPROVED = "GATHJUMLI_UNPROVED"
 
 REFUSED, WRONG_USE, FILE_FAILED, NO_MEMORY = 1, 2, 3, 4
 
 STATUSES = """statuses:
   0   it ended well
   1   {refused} is refused; standard error says where
-  2   a wrong use, or a question for this text
+  2   a wrong use
   3   a file failed
   4   the host had no memory
 """
@@ -30,7 +35,15 @@ class Failure(Exception):
 
 
 class WrongUse(Exception):
-    """Wrong words; the text says which, and is empty where help is asked for."""
+    """Wrong words; the text says which, and is empty where there are none at all."""
+
+
+class Help(Exception):
+    """The usage text is asked for."""
+
+
+class Version(Exception):
+    """The version is asked for."""
 
 
 def name():
@@ -42,12 +55,42 @@ def say(text):
     print(f"{name()}: {text}", file=sys.stderr, flush=True)
 
 
-def run(command, usage):
-    """Runs a command on its words, and ends with its status."""
+def version():
+    with open(os.path.join(ROOT, "VERSION")) as file:
+        return file.read().strip()
+
+
+def ask_build(word, crate):
+    """What bin/lib/built tells of the program of a crate."""
+    done = subprocess.run([os.path.join(ROOT, "bin", "lib", "built"), name(), word, crate], stdin=subprocess.DEVNULL, stdout=subprocess.PIPE)
+    if done.returncode:
+        raise Failure(done.returncode)
+    return done.stdout.decode(errors="surrogateescape").removesuffix("\n")
+
+
+def tell_version(crate):
+    """The version, and of a command that runs a program what that program is."""
+    print(f"{name()} (Gathjumli) {version()}")
+    if crate:
+        print(ask_build("tell", crate))
+
+
+def perform(command, usage, crate):
+    """What the words of a command ask for."""
+    try:
+        command(sys.argv[1:])
+    except Help:
+        print(usage.format(command=sys.argv[0]), end="")
+    except Version:
+        tell_version(crate)
+
+
+def run(command, usage, crate=None):
+    """Runs a command on its words, and ends with its status; crate is that of the program which it runs, if it runs one."""
     for stream in (sys.stdin, sys.stdout, sys.stderr):
         stream.reconfigure(errors="surrogateescape")
     try:
-        command(sys.argv[1:])
+        perform(command, usage, crate)
         sys.stdout.flush()
         status = 0
     except WrongUse as it:
@@ -95,7 +138,9 @@ def read_words(words, options, least, most):
             paths.append(word)
             continue
         if word in ("--help", "-h"):
-            raise WrongUse
+            raise Help
+        if word == "--version":
+            raise Version
         option, given, value = word.partition("=")
         if option not in options:
             raise WrongUse(f"no such option: {option}")
@@ -118,8 +163,10 @@ def read_words(words, options, least, most):
 def read_value(option, value, read):
     try:
         return read(value)
-    except ValueError:
-        raise WrongUse(f"{value} is no value of {option}") from None
+    except ValueError as it:
+        # what a value is, where its reader says so
+        text = f"{option} is {it}, and not {value}" if str(it) else f"{value} is no value of {option}"
+        raise WrongUse(text) from None
 
 
 def last(values, otherwise):
@@ -134,7 +181,7 @@ def number(least, most):
 
     def read(text):
         if not re.fullmatch("[0-9]{1,7}", text) or not least <= int(text) <= most:
-            raise ValueError
+            raise ValueError(f"a number from {least} to {most}")
         return int(text)
 
     return read
@@ -143,28 +190,28 @@ def number(least, most):
 def user_name(text):
     """A user's name, as a directory may state it."""
     if not re.fullmatch("[A-Z][A-Z0-9]{0,7}", text):
-        raise ValueError
+        raise ValueError("1 to 8 of A-Z and 0-9, a letter first")
     return text
 
 
 def serial(text):
     """The serial number of a volume."""
     if not re.fullmatch("[A-Z0-9]{1,6}", text):
-        raise ValueError
+        raise ValueError("1 to 6 of A-Z and 0-9")
     return text
 
 
 def device(text):
     """The address of a device: three hexadecimal digits, 000 to 5FF."""
     if not re.fullmatch("[0-5][0-9A-F]{2}", text):
-        raise ValueError
+        raise ValueError("000 to 5FF, three digits 0-9 A-F")
     return text
 
 
 def address(text):
     """An address of storage: one to six hexadecimal digits."""
     if not re.fullmatch("[0-9A-F]{1,6}", text):
-        raise ValueError
+        raise ValueError("an address, 1 to 6 digits 0-9 A-F")
     return int(text, 16)
 
 

@@ -14,7 +14,8 @@ read_run_words() {
     more=$1
     shift
     read_words "frames: slots: save $more" "$@"
-    check_number --frames "${option_frames-64}" 0 4096
+    # fewer than 16 frames are refused when the system boots
+    check_number --frames "${option_frames-64}" 0 4096 16
     check_number --slots "${option_slots-256}" 0 65536
     script=
     [ -z "${option_terminals-}" ] || [ -n "${option_follow-}" ] || wrong_use '--terminals is for --follow'
@@ -27,6 +28,8 @@ read_run_words() {
         number=3
     fi
     check_texts "$@"
+    read_standard_input 1
+    script=${script:+$path2}
     directory=$path1
     check_readable "$directory"
     [ -n "${option_follow-}" ] || check_readable "$script"
@@ -39,6 +42,7 @@ read_bare_words() {
     shift
     read_words "save $more" "$@"
     script=
+    storage=
     [ -z "${option_terminals-}" ] || [ -n "${option_follow-}" ] || wrong_use '--terminals is for --follow'
     if [ -n "${option_follow-}" ]; then
         need_paths STORAGE '[..]'
@@ -49,8 +53,11 @@ read_bare_words() {
         number=3
     fi
     check_storage "$path1"
+    storage=$path1
     [ "$count" -le $((15 + number)) ] || wrong_use "a machine has at most 16 volumes, and these are $((count - number + 1))"
     check_texts "$@"
+    read_standard_input 2
+    script=${script:+$path2}
     [ -n "${option_follow-}" ] || check_readable "$script"
     check_volumes "$number"
 }
@@ -58,6 +65,7 @@ read_bare_words() {
 # whether the volumes, the words from this one on, can be read, and written too where they are saved: check_volumes NUMBER
 check_volumes() {
     number=$1
+    first_image=$1
     while [ "$number" -le "$count" ]; do
         eval "path=\$path$number"
         check_readable "$path"
@@ -109,7 +117,7 @@ build_statuses() {
     cat <<END_OF_STATUSES
   0   it ended well
   1   $1 is refused; standard error says where
-  2   a wrong use, or a question for this text
+  2   a wrong use
   3   a file failed
   4   the host had no memory
  70   the program was not built; standard error has the log
@@ -120,12 +128,13 @@ END_OF_STATUSES
 
 # --- running ---
 
-# Runs the program on these words but --unproved, and ends as it does. Where it names a line of a text that is refused, that line is
+# Runs the program on these words but --unproved, with standard input for a path -, and ends as it does. Where it names a line of a text that is refused, that line is
 # shown: of the file in $script, $directory or $text. A signal ends the program too.
 run_program() {
     is_option=true
     for word in "$@"; do
         shift
+        [ "$word" != - ] || word=/dev/stdin
         [ "$is_option$word" = true--unproved ] || set -- "$@" "$word"
         [ "$word" != -- ] || is_option=
     done
@@ -152,7 +161,7 @@ stop_program() {
     exit "$1"
 }
 
-# what is told beside a fault
+# what is reported after a fault: the lines that it names, and why it is one
 explain() {
     case $1 in
     'fault: script Line '*) show_line "${1##* }" "$script" ;;
@@ -162,7 +171,23 @@ explain() {
             show_line "$number" "$directory"
         done
         ;;
+    'fault: image '* | 'fault: boot '*) ;;
+    *) return ;;
     esac
+    tell_reason "$1"
+}
+
+# tell_reason FAULT: what is wrong and what would be right, where python3 is there to find it out
+tell_reason() {
+    command -v python3 > /dev/null || return 0
+    set -- "$1" "${directory-}" "${script-}" "${text-}" "${storage-}"
+    number=${first_image-}
+    while [ -n "$number" ] && [ "$number" -le "$count" ]; do
+        eval "set -- \"\$@\" \"\$path$number\""
+        number=$((number + 1))
+    done
+    reason=$(PYTHONDONTWRITEBYTECODE=1 python3 "$root/bin/lib/reasons.py" "$@") || return 0
+    [ -z "$reason" ] || say "$reason"
 }
 
 # show_line NUMBER FILE: a line, with what cannot be seen of it

@@ -104,9 +104,9 @@ def stamped(file):
 
 
 def known_part(line):
-    """What of a first line is compared: not the path."""
+    """What of a first line is compared: not the path, nor behind the sources' sum the version."""
     words = line.split(b" ", 3)
-    return words[:3] if words[1] in (b"DIRECTORY", b"VOLUME") else words
+    return words[:3] if words[1] in (b"PROGRAM", b"DIRECTORY", b"VOLUME") else words
 
 
 def differing(found, wanted):

@@ -5,7 +5,10 @@ from machines import ScriptRefused, headings_of, parts
 
 
 class Replaying:
-    """Each time the whole script is run."""
+    """Each time the whole script is run, which does not tell whose machine runs."""
+
+    # whose machine started or stopped in the last part
+    states = ()
 
     def __init__(self, machines):
         self.machines = machines
@@ -36,6 +39,7 @@ class Following:
         self.machines = machines
         self.follower = self.begun(b"")
         self.spare = None
+        self.states = ()
 
     def begun(self, script):
         follower = Follower(self.machines)
@@ -47,6 +51,7 @@ class Following:
         try:
             self.stand_at(session.script())
             came = self.follower.do(part)
+            self.states = came.states
             return came.events, came.headings()
         except ScriptRefused:
             raise
@@ -89,15 +94,22 @@ def find_way(machines):
         return Replaying(machines)
 
 
+def after(running, states):
+    """Whose machines run after these changes."""
+    changed = {name: word == "RUNS" for word, name in states}
+    return {name for name in running | set(changed) if changed.get(name, True)}
+
+
 class Session:
-    """The entries of a session, each the lines of a script that it added, and how many lines and headings were there before it;
-    and the transcript as it is."""
+    """The entries of a session, each the lines of a script that it added, how many lines and headings were there before it, and whose
+    machines ran then; and the transcript as it is."""
 
     def __init__(self, machines, user, turns):
         self.machines = machines
         self.user = user
         self.turns = turns
         self.entries = []
+        self.running = set()
         self.events, files = parts(machines.run(b""))
         self.headings = headings_of(files)
         self.way = find_way(machines)
@@ -125,7 +137,8 @@ class Session:
         # turns in which nothing happens are not kept
         if turns - idle:
             added += b"AUTO %d\n" % (turns - idle)
-        self.entries.append((added, len(self.events), len(self.headings)))
+        self.entries.append((added, len(self.events), len(self.headings), self.running))
+        self.running = after(self.running, self.way.states)
         self.events += new
         self.headings += closed
         self.way.settle(self.script(), added, is_busy)
@@ -140,9 +153,13 @@ class Session:
             idle += 1
         return new, closed, idle
 
+    def was_running(self):
+        """Whether the user's machine ran before the last entry."""
+        return self.user in self.entries[-1][3]
+
     def undo(self):
         """Takes back the last entry, and gives its lines."""
-        added, events, headings = self.entries.pop()
+        added, events, headings, self.running = self.entries.pop()
         del self.events[events:], self.headings[headings:]
         return added
 

@@ -1,4 +1,5 @@
-# A marked script beside its marked transcript, which comes first. ended is the status of the program; where it is not 0, the
+# A marked script beside its marked transcript, which comes first. Where a line was typed to a machine that runs and nothing came of it, a
+# note says so: it waits for the program. ended is the status of the program; where it is not 0, the
 # transcript may end before the script does, and so does what is printed. What is told after the last event stands at the end.
 
 FNR == NR {
@@ -8,6 +9,7 @@ FNR == NR {
 }
 
 $0 == "LINE " marker {
+    note()
     beside(held)
     held = ""
     event++
@@ -25,6 +27,34 @@ END {
     if (stopped) exit
     if (held != "") print held
     beside("")
+}
+
+# follows whose machine runs, over the event that is held and what came of it, and adds the note
+function note(   words, user, text, i, count, line, answers) {
+    count = split(held, words, " ")
+    user = words[3]
+    text = words[2] == "LINE" ? words[4] : ""
+    for (i = 0; i < of[event + 0] + 0; i++) {
+        line = lines[event + 0, i]
+        if (index(line, user ": ") == 1 || line == "= " user " FRAMES") answers++
+        stops(line)
+    }
+    if (words[2] != "LINE" || answers) return
+    if (text == "#CP" && count == 4) runs[user] = 0
+    else if (runs[user] && text != "#CP") {
+        lines[event + 0, 0] = "(the machine runs: the line waits for its program)"
+        if (of[event + 0] + 0 == 0) of[event + 0] = 1
+    } else {
+        if (text == "#CP") text = words[5]
+        if (text == "BEGIN" || text == "IPL") runs[user] = 1
+    }
+}
+
+# a line of the transcript after which a machine does not run
+function stops(line,   part) {
+    split(line, part, " ")
+    if (line ~ /^= [A-Z0-9]+ [0-9]+ (DISABLEDWAIT|ECMODE|STOPPED)$/) runs[part[2]] = 0
+    if (line ~ /^[A-Z0-9]+: (STOPPED (DISABLED WAIT|EC MODE)|LOGOFF OK|SYSTEM RESET|IPL FAILED)$/) runs[substr(part[1], 1, length(part[1]) - 1)] = 0
 }
 
 # what came of an event, beside its line where that is short

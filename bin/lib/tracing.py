@@ -207,13 +207,14 @@ class Machine:
 class Trace:
     """The lines of a trace."""
 
-    def __init__(self, machine, expansion, devices, ranges, stop_at, stop_on):
+    def __init__(self, machine, expansion, devices, ranges, stop_at, stop_on, names):
         self.machine = machine
         self.expansion = expansion
         self.devices = devices
         self.ranges = ranges
         self.stop_at = stop_at
         self.stop_on = stop_on
+        self.names = names
         self.started = {}
 
     def lines(self):
@@ -234,6 +235,8 @@ class Trace:
                     yield f"STOP at {self.stop_at:06X}"
                     return
                 unit += 1
+                if before and (name := self.names.get(int.from_bytes(before[5:], "big"))):
+                    yield f"AT {name}"
                 yield from self.unit(place, unit)
             elif step.kind == "serve":
                 yield f"SERVE {step.user} {step.device}"
