@@ -2,8 +2,11 @@
 time: a loop of sixteen copies and a BCT, of which a longer run is compared with a shorter one. bin/bench-against calls it
 (docs/BENCHMARK.md).
 
+A drawn program has some hundred instructions of many kinds in a random order, as often as code of its sort has them.
+
     kinds.py VM370 BARE370 ROUNDS SECONDS [KIND]..."""
 import os
+import random
 import shutil
 import signal
 import subprocess
@@ -52,6 +55,20 @@ KINDS = {
     "SSM": ("80005030", 1), "STNSM": ("ACFF6024", 1), "STOSM": ("AD006025", 1), "SSK": ("0846", 1), "ISK": ("0946", 1), "LCTL": ("B70050C0", 1),
     "STCTL": ("B60060C0", 1), "SVC and LPSW": ("0A00", 2),
 }
+# Drawn programs: how often each kind stands among so many.
+COMPILED = {"L": 16, "ST": 9, "LA": 9, "LR": 8, "BC taken": 8, "BC not taken": 6, "AR": 4, "A": 4, "LH": 4, "SR": 3, "C": 3, "LTR": 3, "IC": 3,
+            "TM": 3, "CLI": 3, "S": 2, "CR": 2, "BCR": 2, "STH": 2, "STC": 2, "SLL": 2, "MVI": 2, "BALR": 2, "MVC of 8": 2, "SRL": 1, "SRA": 1,
+            "N": 1, "O": 1, "CLC of 8": 1, "STM of 4": 1, "LM of 4": 1}
+SUPERVISOR = {"L": 10, "ST": 8, "LA": 8, "BC taken": 6, "BC not taken": 5, "LR": 5, "TM": 5, "NI": 3, "OI": 3, "MVI": 3, "CLI": 3, "BAL": 3,
+              "LH": 3, "MVC of 8": 3, "STM of 4": 2, "LM of 4": 2, "IC": 2, "STC": 2, "AR": 2, "SR": 2, "LTR": 2, "CS": 1, "ICM of 3": 1,
+              "STCM of 3": 1, "SSM": 1, "STNSM": 1, "STOSM": 1, "SVC and LPSW": 1}
+STRINGS = {"MVC of 8": 8, "LA": 8, "L": 6, "CLC of 8": 5, "BC not taken": 5, "BC taken": 4, "IC": 4, "STC": 4, "TR of 8": 3, "MVC of 256": 2,
+           "MVC that fills 80": 2, "XC of 8": 2, "EX of MVC": 2, "NC of 4": 1, "OC of 4": 1, "TRT of 8": 1, "PACK": 1, "UNPK": 1, "EX of CLC": 1,
+           "LM of 4": 1, "STM of 4": 1}
+DRAWN = {f"drawn as {name}, {seed}": (weights, seed) for name, weights in
+         (("compiled code", COMPILED), ("a supervisor", SUPERVISOR), ("strings", STRINGS)) for seed in (1, 2, 3)}
+# how many instructions are drawn, whose bytes the displacements of the loop's base reach
+DRAWN_COUNT = 400
 # The emulator stops at a disabled wait.
 CONF = """ARCHMODE S/370
 CPUSERIAL 000001
@@ -76,12 +93,22 @@ class Loop:
     units: int
 
 
+def copies_of(kind):
+    """What stands in the loop of a kind, kind by kind."""
+    if kind in KINDS:
+        return [kind] * COPIES
+    weights, seed = DRAWN[kind]
+    return random.Random(seed).choices(list(weights), list(weights.values()), k=DRAWN_COUNT)
+
+
 def loop_of(kind):
     """The loop that a kind has."""
-    copy, units = KINDS[kind]
-    size = len(copy.format(next="0000")) // 2
-    copies = [copy.format(next=f"A{(it + 1) * size:03X}") for it in range(COPIES)]
-    return Loop("".join(copies) + "4610A000" + f"8200{END:04X}", COPIES * units + 1)
+    code, units = "", 1
+    for each in copies_of(kind):
+        copy, count = KINDS[each]
+        code += copy.format(next=f"A{(len(code) + len(copy.format(next='0000'))) // 2:03X}")
+        units += count
+    return Loop(code + "4610A000" + f"8200{END:04X}", units)
 
 
 def stored(loop):
@@ -157,14 +184,14 @@ def host_instructions(bench, place, loop):
 def main():
     vm370, bare370, rounds, seconds, *kinds = sys.argv[1:]
     for kind in kinds:
-        if kind not in KINDS:
-            print(f"KIND is one of {', '.join(KINDS)}, and not {kind}", file=sys.stderr)
+        if kind not in {**KINDS, **DRAWN}:
+            print(f"KIND is one of {', '.join({**KINDS, **DRAWN})}, and not {kind}", file=sys.stderr)
             sys.exit(WRONG_USE)
     bench, rounds, seconds = Bench(vm370, bare370), int(rounds), float(seconds)
     lines = []
     with tempfile.TemporaryDirectory() as room:
         emulator = Emulator(room)
-        for kind in kinds or KINDS:
+        for kind in kinds or [*KINDS, *DRAWN]:
             loop = loop_of(kind)
             theirs = max(emulator.rate(loop, seconds) for _ in range(rounds))
             bare, user = (max(our_rate(bench, it, loop, seconds) for _ in range(rounds)) for it in ("bare", "user"))
