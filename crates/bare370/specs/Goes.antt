@@ -4,13 +4,14 @@ use Rattle.s370_subchannels.specs.declared.subchannel.Subchannel.{Subchannel}
 use Rattle.ckd_volume.specs.Unit.{Disk, idle}
 use Rattle.ckd_volume.specs.Volume.{VolumeFormat}
 use Rattle.machine_channels.specs.Disks.{DiskAt}
+use Rattle.machine_devices.specs.Comes.{LineMay}
 use Rattle.machine_devices.specs.declared.places.Places.{Places}
 use Rattle.machine_devices.specs.declared.reply.Reply.{Reply}
-use Rattle.session_script.specs.Script.{Said, Run, Line, Tick, Serve, Deck}
+use Rattle.session_script.specs.Script.{Said, Run, Line, Tick, Serve, Auto, Deck}
 use Rattle.session_script.specs.declared.event.ScriptEvent.{ScriptEvent}
 use Rattle.session_script.specs.declared.event.ScriptEvent.TheVariants as scripts
 use Rattle.bare_installation.specs.Bare.{Bare, bare}
-use Rattle.bare_installation.specs.Life.{IsApplied, MayLackMemory}
+use Rattle.bare_installation.specs.Life.{IsApplied, LacksMemory, MayLackMemory}
 use Rattle.bare_installation.specs.declared.happening.Happening.{Happening}
 use Rattle.bare_installation.specs.declared.happening.Happening.TheVariants as happenings
 use Rattle.sessions.specs.Installed.{Installation, Installed}
@@ -52,8 +53,17 @@ pub record MayLack (old : Alone) (said : Said) (new : Alone) : Type 0 where
   pub named : as_said event ≡ said
   pub lacks : MayLackMemory old.machine event
 
+-- what was said may want memory: such lines, a program that does, and a deck, whose cards are made
+abbrev pub MayRefuse : Alone → Said → Type 0
+MayRefuse old (Run user units) = ⊥
+MayRefuse old (Line user text) = LineMay text old.machine.equipped
+MayRefuse old (Tick user) = ⊥
+MayRefuse old (Serve user device) = LacksMemory device old.machine
+MayRefuse old (Deck user cards) = Unit {0}
+MayRefuse old (Auto turns) = ⊥
+
 abbrev pub machine_goes : Installation Alone
-machine_goes = record { seen = seen_in; Happens = HasHappened; Lacks = MayLack; is_spent = λ a. false }
+machine_goes = record { seen = seen_in; Happens = HasHappened; May = MayRefuse; Lacks = MayLack; is_spent = λ a. false }
 
 -- console, reader, punch and printer are at 009, 00C, 00D and 00E
 abbrev pub usual_places : Places

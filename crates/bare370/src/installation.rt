@@ -1,8 +1,11 @@
 //! A machine of its own as sessions know it.
-ghost use Rattle.std.specs.Prelude.{◌≡◌, ◌<◌, ◌≤◌, ◌==◌, [], IfErr, IfOk, IfSome, length};
+ghost use Rattle.std.specs.Prelude.{◌≡◌, ◌<◌, ◌≤◌, ◌==◌, ◌*◌, ◌++◌, [], Err, IfErr, IfOk, IfSome, List, false, length, map, replicate};
 ghost use Rattle.std.specs.List.{list_any};
-ghost use Rattle.s370_store.specs.Plain.{plain_bytes};
-ghost use Rattle.machine_devices.specs.Devices.{devices_new};
+ghost use Rattle.s370_store.specs.Plain.{plain_bytes, plain_memory};
+ghost use Rattle.s370_store.specs.Memory.{memory_of};
+ghost use Rattle.machine_panel.specs.Machine.{unused};
+ghost use Rattle.s370_subchannels.specs.declared.subchannel.Subchannel.{Subchannel};
+ghost use Rattle.machine_devices.specs.Devices.{AreAttached, can_attach, devices_new, places_of};
 ghost use Rattle.session_script.specs.Script.{Deck, said, user_of_event};
 ghost use Rattle.bare_installation.specs.Life.{IsApplied, MayLackMemory};
 ghost use Rattle.bare_installation.specs.declared.happening.Happening.{Happening};
@@ -227,6 +230,12 @@ pub fn machine_of(
 ) -> Result<OneMachine, AttachError>
     requires least { 4 ≤ blocks }
     requires most { blocks ≤ 2048 }
+    ensures machine { IfOk result (λ one. (subchannels : List Subchannel)
+        × AreAttached (devices_new usual_places) (disks_from FIRST_DISK volumes.items) subchannels
+        × (one.machine.equipped.machine
+        ≡ unused (memory_of (replicate (2048 * blocks) 0) (replicate blocks 0)) subchannels)) }
+    ensures address { result ≡ Err AttachError.Address
+        → can_attach (places_of usual_places ++ map (λ disk. disk.address) (disks_from FIRST_DISK volumes.items)) ≡ false }
     ensures devices { IfOk result (λ one. one.machine.equipped.devices ≡ devices_new usual_places) }
     ensures files { IfOk result (λ one. one.machine.files ≡ []) }
     ensures addresses { IfOk result
@@ -257,6 +266,8 @@ fn parts_of(
 ) -> Result<(PlainStorage, Vec<AttachedDisk>), AllocError>
     requires least { 4 ≤ blocks }
     requires most { blocks ≤ 2048 }
+    ensures storage { IfOk result
+        (λ parts. plain_memory parts.0 ≡ memory_of (replicate (2048 * blocks) 0) (replicate blocks 0)) }
     ensures size { IfOk result (λ parts. 8192 ≤ length (plain_bytes parts.0)) }
     ensures disks { IfOk result (λ parts. parts.1.items ≡ disks_from FIRST_DISK volumes.items) }
 {

@@ -33,14 +33,20 @@ The transcript goes to standard output, a fault as one line to standard error. E
 ";
 
 /// The whole program: what it is started with names a storage, a script and volumes, and the transcript of that script
-/// is written. A failure is told on standard error.
-pub fn bare_program<R: AllocGlobal + Files + Env + Input + Print + Eprint>(rt: &R) -> Ended {
-    finish(rt, run(rt))
+/// is written, to a terminal as its lines come. A failure is told on standard error.
+pub fn bare_program<R: AllocGlobal + Files + Env + Input + Print + Eprint>(
+    rt: &R,
+    is_watched: bool,
+) -> Ended {
+    finish(rt, run(rt, is_watched))
 }
 
 /// Reads the words, the images and the script, writes the transcript, and saves the volumes where that is asked for. A
 /// wrong use is told here.
-fn run<R: AllocGlobal + Files + Env + Input + Print + Eprint>(rt: &R) -> Result<(), Failure> {
+fn run<R: AllocGlobal + Files + Env + Input + Print + Eprint>(
+    rt: &R,
+    is_watched: bool,
+) -> Result<(), Failure> {
     let words = words(rt, PROGRAM)?;
     if asks_to_follow(words.as_slice()) {
         return follow(rt, words.as_slice());
@@ -51,7 +57,7 @@ fn run<R: AllocGlobal + Files + Env + Input + Print + Eprint>(rt: &R) -> Result<
     };
     let volumes = options.volumes.as_slice();
     let mut machine = machine(rt, options.storage.blocks(), volumes)?;
-    play(rt, &mut machine, options.script)?;
+    play(rt, &mut machine, options.script, is_watched)?;
     if options.save {
         save_disks(rt, &machine, volumes)?;
     }

@@ -3,7 +3,9 @@
 
 use bare370::bare_program;
 use programs::Ended;
+use std::io::IsTerminal;
 
 fn main(rt: HostRuntime) -> Ended {
-    bare_program(&rt)
+    let is_watched = rt.stdout().is_terminal();
+    bare_program(&rt, is_watched)
 }

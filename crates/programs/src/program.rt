@@ -67,14 +67,20 @@ fn tell<R: AllocGlobal + Eprint>(rt: &R, failure: Failure) -> Failure
     }
 }
 
-/// Plays the script at a path, and writes its transcript to standard output.
+/// The bytes of a transcript that are held back at most, where nobody looks on.
+const HELD_BACK: usize = 8192;
+
+/// Plays the script at a path, and writes its transcript to standard output: where somebody looks on, the lines of each
+/// event as they come.
 pub fn play<R: AllocGlobal + Files + Print, I: Installation>(
     rt: &R,
     installation: &mut I,
     path: &str,
+    is_watched: bool,
 ) -> Result<(), Failure> {
     let mut script = open(rt, path)?;
-    let Ok(output) = io::BufWriter::new(rt.alloc(), io::writer(rt)) else {
+    let room = if is_watched { 0 } else { HELD_BACK };
+    let Ok(output) = io::BufWriter::with_capacity(rt.alloc(), room, io::writer(rt)) else {
         return Err(Failure::Memory);
     };
     Ok(session(

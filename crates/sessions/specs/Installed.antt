@@ -37,11 +37,12 @@ is_stated users program = has_device users program.user program.device
 abbrev pub IsLineStated : List KnownUser → List Program → Type 0
 IsLineStated users line = list_all (is_stated users) line ≡ true
 
--- How an installation goes on: what is seen of it; what an event that a script says leaves of it, and what it replies; what want of
--- memory may leave; and whether that has ended it.
+-- How an installation goes on: what is seen of it; what an event that a script says leaves of it, and what it replies; which event may
+-- want memory, and what that may leave; and whether it has ended it.
 pub record Installation (W : Type 0) : Type 1 where
   pub seen : W → Installed
   pub Happens : W → Said → Reply → W → Type 0
+  pub May : W → Said → Type 0
   pub Lacks : W → Said → W → Type 0
   pub is_spent : W → Bool
 

@@ -96,6 +96,7 @@ pub trait Installation {
         requires event { IsEvent event.now }
         ensures ok { IfOk result (λ reply. (goes).Happens self.old (said event.now) reply self.new) }
         ensures err { OnErr result ((self.new ≡ self.old) ⊎ (goes).Lacks self.old (said event.now) self.new) }
+        ensures memory { result ≡ Err Refused.Memory → (goes).May self.old (said event.now) }
         ensures users { ((goes).seen self.new).users ≡ ((goes).seen self.old).users }
         ensures alive { OnOk result ((goes).is_spent self.new ≡ false) }
         ensures spent { result ≡ Err Refused.Spent → (goes).is_spent self.old ≡ true };

@@ -1,15 +1,18 @@
 -- How a system goes on, as sessions see it.
-use Rattle.std.specs.Prelude.{◌≡◌, ℕ, true, false, List, map}
+use Rattle.std.specs.Prelude.{◌≡◌, ℕ, true, false, IsSome, List, map}
 use Rattle.cp_core.specs.Histories.{IsStep}
-use Rattle.cp_core.specs.Memory.{is_cut_short}
+use Rattle.cp_core.specs.Memory.{MayTakeMemory, is_cut_short}
+use Rattle.cp_core.specs.Supply.{IsSuppliedInPart}
+use Rattle.machine_devices.specs.Comes.{LineMay}
+use Rattle.s370_subchannels.specs.Programs.{program_of}
 use Rattle.cp_core.specs.Stated.{LacksDevice}
-use Rattle.cp_core.specs.System.{SystemView, user_at}
+use Rattle.cp_core.specs.System.{SystemView, machine_at, user_at}
 use Rattle.cp_core.specs.declared.events.Event.{Event}
 use Rattle.cp_core.specs.declared.events.Event.TheVariants as events
 use Rattle.machine_devices.specs.declared.reply.Reply.{Reply}
 use Rattle.cp_directory.specs.Users.{DirectoryUser, addresses_of}
 use Rattle.session_script.specs.Cards.{cards_of}
-use Rattle.session_script.specs.Script.{Said, Run, Line, Tick, Serve, Deck}
+use Rattle.session_script.specs.Script.{Said, Run, Line, Tick, Serve, Auto, Deck}
 use Rattle.session_script.specs.Users.{KnownUser}
 use Rattle.session_script.specs.declared.event.ScriptEvent.{ScriptEvent}
 use Rattle.session_script.specs.declared.event.ScriptEvent.TheVariants as scripts
@@ -46,10 +49,21 @@ pub record IsSpent (old : SystemView) (said : Said) (new : SystemView) : Type 0 
   pub named : as_said event ≡ said
   pub spent : new.is_spent ≡ true
   pub directory : new.directory ≡ old.directory
+  pub may : MayTakeMemory old event
+  pub supplied : IsSuppliedInPart old event new
   pub others : (user : ℕ) → is_cut_short old event user ≡ false → user_at new user ≡ user_at old user
 
+-- what was said may want memory: such lines, a device that is served and works on a program, and a deck, whose cards are made
+abbrev pub MayRefuse : SystemView → Said → Type 0
+MayRefuse old (Run user units) = ⊥
+MayRefuse old (Line user text) = LineMay text (user_at old user)
+MayRefuse old (Tick user) = ⊥
+MayRefuse old (Serve user device) = IsSome (program_of device (machine_at old user).core.subchannels)
+MayRefuse old (Deck user cards) = Unit {0}
+MayRefuse old (Auto turns) = ⊥
+
 abbrev pub system_goes : Installation SystemView
-system_goes = record { seen = seen_in; Happens = HasHappened; Lacks = IsSpent; is_spent = λ s. s.is_spent }
+system_goes = record { seen = seen_in; Happens = HasHappened; May = MayRefuse; Lacks = IsSpent; is_spent = λ s. s.is_spent }
 
 -- the cards that an event gives: those of a deck
 abbrev pub HasCards : ScriptEvent → List (List ℕ) → Type 0
@@ -59,6 +73,15 @@ HasCards (scripts.Tick user) cards = Unit {0}
 HasCards (scripts.Serve user device) cards = Unit {0}
 HasCards (scripts.Deck user deck) cards = cards ≡ cards_of deck
 HasCards (scripts.Auto turns) cards = Unit {0}
+
+-- an event is a deck
+abbrev pub GivesCards : ScriptEvent → Type 0
+GivesCards (scripts.Run user units) = ⊥
+GivesCards (scripts.Line user text) = ⊥
+GivesCards (scripts.Tick user) = ⊥
+GivesCards (scripts.Serve user device) = ⊥
+GivesCards (scripts.Deck user deck) = Unit {0}
+GivesCards (scripts.Auto turns) = ⊥
 
 -- a device that an event of the control program names is one that the directory gives the user
 abbrev pub IsStated : SystemView → Event → Type 0

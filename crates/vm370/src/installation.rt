@@ -1,5 +1,5 @@
 //! The system as sessions know it.
-ghost use Rattle.std.specs.Prelude.{◌≡◌, ◌++◌, ◌<◌, ◌≤◌, ◌⊎◌, Err, IfOk, OnErr, OnOk, false, length, map, slice_get, true};
+ghost use Rattle.std.specs.Prelude.{◌≡◌, ◌++◌, ◌<◌, ◌≤◌, ◌⊎◌, Err, IfErr, IfOk, OnErr, OnOk, false, length, map, slice_get, true};
 ghost use Rattle.std.specs.Option.{option_to_list};
 ghost use Rattle.cp_directory.specs.Devices.{places_of};
 ghost use Rattle.cp_directory.specs.Users.{addresses_of};
@@ -9,7 +9,7 @@ ghost use Rattle.session_script.specs.Users.{devices_of};
 ghost use Rattle.user_names.specs.Users.{name_of};
 ghost use Rattle.sessions.specs.Installed.{names_of};
 ghost use Rattle.sessions.specs.Schedule.{IsEvent};
-ghost use Rattle.vm370.specs.Goes.{HasCards, HasHappened, IsSpent, as_said, known_users, seen_in, system_goes};
+ghost use Rattle.vm370.specs.Goes.{GivesCards, HasCards, HasHappened, IsSpent, MayRefuse, as_said, known_users, seen_in, system_goes};
 
 use cp_core::{CpError, Event, System};
 use cp_directory::{Minidisk, User, UserDevices};
@@ -218,7 +218,8 @@ fn add_place(list: &mut Vec<u16>, place: Option<DevAddr>) -> Result<(), AllocErr
 
 /// The cards that an event gives.
 fn cards_in(alloc: Global, event: &ScriptEvent<'_>) -> Result<Vec<Card>, AllocError>
-    ensures { IfOk result (λ cards. HasCards event.now cards.items) }
+    ensures cards { IfOk result (λ cards. HasCards event.now cards.items) }
+    ensures refused { IfErr result (λ _. GivesCards event.now) }
 {
     match event {
         ScriptEvent::Deck(_, cards) => cards.to_vec(alloc),
@@ -234,6 +235,7 @@ fn ask(system: &mut System, event: &ScriptEvent<'_>, cards: &[Card]) -> Result<R
     requires cards { HasCards event.now cards.now }
     ensures ok { IfOk result (λ reply. HasHappened system.old (said event.now) reply system.new) }
     ensures err { OnErr result ((system.new ≡ system.old) ⊎ IsSpent system.old (said event.now) system.new) }
+    ensures memory { result ≡ Err Refused.Memory → MayRefuse system.old (said event.now) }
     ensures directory { system.new.directory ≡ system.old.directory }
     ensures alive { OnOk result (system.new.is_spent ≡ false) }
     ensures spent { result ≡ Err Refused.Spent → system.old.is_spent ≡ true }

@@ -36,14 +36,20 @@ The transcript goes to standard output, a fault as one line to standard error. E
 ";
 
 /// The whole program: what it is started with names a directory, a script and volumes, and the transcript of that
-/// script is written. A failure is told on standard error.
-pub fn program<R: AllocGlobal + Files + Env + Input + Print + Eprint>(rt: &R) -> Ended {
-    finish(rt, run(rt))
+/// script is written, to a terminal as its lines come. A failure is told on standard error.
+pub fn program<R: AllocGlobal + Files + Env + Input + Print + Eprint>(
+    rt: &R,
+    is_watched: bool,
+) -> Ended {
+    finish(rt, run(rt, is_watched))
 }
 
 /// Reads the words, the directory, the images and the script, writes the transcript, and saves the volumes where that
 /// is asked for. A wrong use is told here.
-fn run<R: AllocGlobal + Files + Env + Input + Print + Eprint>(rt: &R) -> Result<(), Failure> {
+fn run<R: AllocGlobal + Files + Env + Input + Print + Eprint>(
+    rt: &R,
+    is_watched: bool,
+) -> Result<(), Failure> {
     let alloc = rt.alloc();
     let words = words(rt, PROGRAM)?;
     if asks_to_follow(words.as_slice()) {
@@ -54,7 +60,7 @@ fn run<R: AllocGlobal + Files + Env + Input + Print + Eprint>(rt: &R) -> Result<
         Err(error) => return Err(wrong_use(rt, &error, USAGE_NOTE)),
     };
     let mut machines = boot(rt, &options)?;
-    play(rt, &mut machines, options.script)?;
+    play(rt, &mut machines, options.script, is_watched)?;
     save(rt, machines.system(), &options)
 }
 

@@ -2,8 +2,10 @@
 #![tactic(auto)]
 
 use programs::Ended;
+use std::io::IsTerminal;
 use vm370::program::program;
 
 fn main(rt: HostRuntime) -> Ended {
-    program(&rt)
+    let is_watched = rt.stdout().is_terminal();
+    program(&rt, is_watched)
 }
