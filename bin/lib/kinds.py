@@ -28,7 +28,7 @@ STORAGE = {
     0x20: "00080000" + "00000000", 0x60: "0000000000000180", 0x180: "82000020",
     0x1000: "0000000500000007", 0x1010: "C1C2C3C4C5C6C7C8", 0x1018: "000000000001234C", 0x1030: "00", 0x1040: "00000003000000070000000000001000",
     0x1080: "D20760605010", 0x1088: "D50760605010", 0x10C0: "000000E0", 0x10F0: "F1F2F3F4", 0x10F8: "01234C",
-    **{0x1100 + at: bytes(range(at, at + 16)).hex() for at in range(0, 256, 16)},
+    **{0x1100 + at: bytes(range(at, at + 16)).hex().upper() for at in range(0, 256, 16)},
     0x2060: "C1C2C3C4C5C6C7C8", 0x2070: "40",
 }
 # Each kind by its name: a copy in hexadecimal, where {next} is the address of what follows it as base and displacement; and how many
@@ -161,7 +161,7 @@ class Emulator:
 def our_rate(bench, place, loop, seconds):
     """Million instructions a second of a bare machine or of one user."""
     user, first = ("A", "USER A PW 256K\n") if place == "user" else ("BARE", "256K")
-    typed = ["LOGON", *(f"STORE G{name:X} {value:08X}" for name, value in REGISTERS.items()),
+    typed = ["LOGON", *(f"STORE G{name} {value:08X}" for name, value in REGISTERS.items()),
              *(f"STORE {at:X} {data}" for at, data in stored(loop)), f"BEGIN {LOOP:X}"]
     ready = [f"LINE {user} {it}" for it in typed]
     units, runs = 1000000, 1
@@ -174,7 +174,7 @@ def our_rate(bench, place, loop, seconds):
 def host_instructions(bench, place, loop):
     """Instructions of the host that one takes."""
     user, first = ("A", "USER A PW 256K\n") if place == "user" else ("BARE", "256K")
-    typed = ["LOGON", *(f"STORE G{name:X} {value:08X}" for name, value in REGISTERS.items()),
+    typed = ["LOGON", *(f"STORE G{name} {value:08X}" for name, value in REGISTERS.items()),
              *(f"STORE {at:X} {data}" for at, data in stored(loop)), f"BEGIN {LOOP:X}"]
     ready = [f"LINE {user} {it}" for it in typed]
     less, more = (bench.instructions(first, ready + [f"RUN {user} {it}"]) for it in (1000, 21000))
