@@ -10,11 +10,11 @@ ghost use Rattle.s370_cpu.specs.Table.{may_overflow, row_of};
 ghost use Rattle.s370_cpu.specs.Unit.{Carries, place_at, stopped};
 
 use crate::held::Held;
-use crate::operands::{fetch_held, store_held};
+use crate::operands::{done_of, fetch_held, finds_source, finds_target, store_held};
 use s370_bytes::move_long_quickly;
 use s370_cpu::{
-    EXECUTE, Opcode, is_steady, length_of, load_known_in, may_overflow, opcode_of, register_row,
-    target_of,
+    EXECUTE, Opcode, fetch_row, is_steady, length_of, load_known_in, may_overflow, opcode_of,
+    register_row, store_row, target_of,
 };
 use s370_num::Addr24;
 use s370_rows::{Cpu, Ending, Instruction, Place};
@@ -513,7 +513,65 @@ fn perform_quickly<S: Storage, const CODE: u8>(
     if overflow_interrupts::<CODE>(cpu) {
         return None;
     }
-    perform_held::<S, CODE>(cpu, storage, place, i, held)
+    perform_row::<S, CODE>(cpu, storage, place, i, held)
+}
+
+/// Carries out the row of an operation code, but for the address: over the blocks that are held for its operands, if
+/// it is one of those that look at them.
+#[inline(always)]
+fn perform_row<S: Storage, const CODE: u8>(
+    cpu: &mut Cpu,
+    storage: &mut S,
+    place: Place,
+    i: Instruction,
+    held: &mut Held,
+) -> Option<Ending>
+    requires same { i.opcode ≡ CODE }
+    requires operands { AreHeld (S.IsPlaced storage.old) (S.memory storage.old)
+        (S.present storage.old) cpu.old.psw.key held.old }
+    ensures row { let before = state_of cpu.old (S.memory storage.old) in
+        let after = state_of cpu.new (S.memory storage.new) in
+        MeetsAtOnce (row_of before place i) (S.present storage.old) before result after }
+    ensures rest { S.Keeps storage.old storage.new }
+    ensures operands { AreHeld (S.IsPlaced storage.old) (S.memory storage.old)
+        (S.present storage.old) cpu.old.psw.key held.new }
+{
+    if looks_at_held(CODE) {
+        return perform_held::<S, CODE>(cpu, storage, place, i, held);
+    }
+    perform_apart::<S, CODE>(cpu, storage, place, i)
+}
+
+/// Whether an instruction of this operation code is carried out over the blocks that are held.
+#[inline(always)]
+fn looks_at_held(code: u8) -> bool {
+    match opcode_of(code) {
+        Opcode::Fetches(row) => finds_source(row),
+        Opcode::Stores(row) => finds_target(row),
+        _ => true,
+    }
+}
+
+/// Carries out the row of an operation code, but for the address, by the addresses of its operands. It is out of line,
+/// so that the loop has none of it.
+#[inline(never)]
+fn perform_apart<S: Storage, const CODE: u8>(
+    cpu: &mut Cpu,
+    storage: &mut S,
+    place: Place,
+    i: Instruction,
+) -> Option<Ending>
+    requires same { i.opcode ≡ CODE }
+    ensures row { let before = state_of cpu.old (S.memory storage.old) in
+        let after = state_of cpu.new (S.memory storage.new) in
+        MeetsAtOnce (row_of before place i) (S.present storage.old) before result after }
+    ensures rest { S.Keeps storage.old storage.new }
+{
+    match opcode_of(CODE) {
+        Opcode::Fetches(row) => done_of(fetch_row::<S, CODE>(row, cpu, storage, i)),
+        Opcode::Stores(row) => done_of(store_row::<S, CODE>(row, cpu, storage, i)),
+        _ => None,
+    }
 }
 
 /// Carries out the row of an operation code, but for the address, over the blocks that are held for its operands.
@@ -540,8 +598,8 @@ fn perform_held<S: Storage, const CODE: u8>(
             Ok(ending) => Some(ending),
             Err(_) => None,
         },
-        Opcode::Fetches(row) => fetch_held::<S, CODE>(row, cpu, storage, i, held),
-        Opcode::Stores(row) => store_held::<S, CODE>(row, cpu, storage, i, held),
+        Opcode::Fetches(row) => fetch_held(row, cpu, storage, i, held),
+        Opcode::Stores(row) => store_held(row, cpu, storage, i, held),
         _ => None,
     }
 }

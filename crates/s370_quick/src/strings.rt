@@ -123,7 +123,7 @@ fn move_apart<S: Storage>(
 }
 
 /// D1 MVN, D3 MVZ, D4 NC, D6 OC, D7 XC: between two blocks, or else by the row.
-#[inline(always)]
+#[inline(never)]
 pub fn combine_quickly<S: Storage>(
     operation: Combine,
     cpu: &mut Cpu,
@@ -165,7 +165,7 @@ pub fn combine_quickly<S: Storage>(
 }
 
 /// DC TR: between two blocks, or else by the row.
-#[inline(always)]
+#[inline(never)]
 pub fn translate_quickly<S: Storage>(
     cpu: &Cpu,
     storage: &mut S,
@@ -199,7 +199,7 @@ pub fn translate_quickly<S: Storage>(
 }
 
 /// D5 CLC: between two blocks, or else by the row.
-#[inline(always)]
+#[inline(never)]
 pub fn compare_quickly<S: Storage>(
     cpu: &mut Cpu,
     storage: &S,
