@@ -16,7 +16,7 @@ ghost use Rattle.s370_quick.specs.Quick.{AreHeld, MeetsAtOnce, done_of};
 use crate::held::{Held, operand_block};
 use crate::strings::{combine_quickly, compare_quickly, move_quickly, translate_quickly};
 use s370_bytes::{Combine, load_registers_in, store_registers_in, words_range};
-use s370_cpu::{FetchRow, StoreRow};
+use s370_cpu::{FetchRow, StoreRow, fetch_row, store_row};
 use s370_num::Addr24;
 use s370_rows::{
     Arithmetic, ByteChange, ByteTest, Cpu, Ending, Instruction, Refusal, arithmetic_row,
@@ -511,7 +511,7 @@ fn swap_word_quickly<S: Storage>(
 
 /// Carries out a row that fetches its operands, but for the address.
 #[inline(always)]
-pub fn fetch_held<S: Storage>(
+pub fn fetch_held<S: Storage, const CODE: u8, const WAY: u8>(
     row: FetchRow,
     cpu: &mut Cpu,
     storage: &S,
@@ -536,13 +536,13 @@ pub fn fetch_held<S: Storage>(
         FetchRow::LoadMultiple => load_multiple_quickly(cpu, storage, i, held),
         FetchRow::TestByte(test) => test_byte_quickly(test, cpu, storage, i, held),
         FetchRow::CompareStrings => compare_quickly(cpu, storage, i, held),
-        _ => None,
+        _ => done_of(fetch_row::<S, CODE>(row, cpu, storage, i)),
     }
 }
 
 /// Carries out a row that stores an operand, but for the address.
 #[inline(always)]
-pub fn store_held<S: Storage>(
+pub fn store_held<S: Storage, const CODE: u8, const WAY: u8>(
     row: StoreRow,
     cpu: &mut Cpu,
     storage: &mut S,
@@ -568,27 +568,7 @@ pub fn store_held<S: Storage>(
         StoreRow::CombineStrings(Combine::Move) => move_quickly(cpu, storage, i, held),
         StoreRow::CombineStrings(operation) => { combine_quickly(operation, cpu, storage, i, held) }
         StoreRow::Translate => translate_quickly(cpu, storage, i, held),
-        _ => None,
-    }
-}
-
-/// Whether a row fetches its operand from a block that is held.
-#[inline(always)]
-pub fn finds_source(row: FetchRow) -> bool {
-    match row {
-        FetchRow::ConvertToBinary | FetchRow::InsertCharacters => false,
-        FetchRow::CompareCharacters | FetchRow::ScanString | FetchRow::CompareLong => false,
-        _ => true,
-    }
-}
-
-/// Whether a row stores its operand into a block that is held.
-#[inline(always)]
-pub fn finds_target(row: StoreRow) -> bool {
-    match row {
-        StoreRow::StoreCharacters | StoreRow::ConvertToDecimal | StoreRow::SwapDoubleword => false,
-        StoreRow::LayOut(_) | StoreRow::MoveLong => false,
-        _ => true,
+        _ => done_of(store_row::<S, CODE>(row, cpu, storage, i)),
     }
 }
 

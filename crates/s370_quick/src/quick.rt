@@ -10,15 +10,22 @@ ghost use Rattle.s370_cpu.specs.Table.{may_overflow, row_of};
 ghost use Rattle.s370_cpu.specs.Unit.{Carries, place_at, stopped};
 
 use crate::held::Held;
-use crate::operands::{done_of, fetch_held, finds_source, finds_target, store_held};
+use crate::operands::{fetch_held, store_held};
 use s370_bytes::move_long_quickly;
 use s370_cpu::{
-    EXECUTE, Opcode, fetch_row, is_steady, length_of, load_known_in, may_overflow, opcode_of,
-    register_row, store_row, target_of,
+    EXECUTE, Opcode, is_steady, length_of, load_known_in, may_overflow, opcode_of, register_row,
+    target_of,
 };
 use s370_num::Addr24;
 use s370_rows::{Cpu, Ending, Instruction, Place};
 use s370_store::{Block, Storage, load_byte_in};
+
+/// The way of an instruction whose turn it is.
+const IN_TURN: u8 = 0;
+
+/// The way of the target of an EX. It has instances of its own of all that is compiled for one operation code: LLVM
+/// takes a function into its caller, however large, if it has no other.
+const UNDER_EX: u8 = 1;
 
 /// Does one instruction of a running processor, if it is one of the most frequent, if it is done, and if the processor
 /// then goes on with the next one. Else nothing changes. It stands at an even address in a block that was found for
@@ -229,7 +236,7 @@ fn carry_quickly<S: Storage, const CODE: u8>(
     if CODE == EXECUTE {
         return execute_quickly(cpu, storage, Place { next, ilc }, first, held);
     }
-    finish_quickly::<S, CODE>(cpu, storage, Place { next, ilc }, first, held)
+    finish_quickly::<S, CODE, IN_TURN>(cpu, storage, Place { next, ilc }, first, held)
 }
 
 /// As `carry_quickly`, out of line: a call is little next to what these instructions do, and the loop keeps its
@@ -421,12 +428,12 @@ fn finish_apart<S: Storage, const CODE: u8>(
     ensures operands { AreHeld (S.IsPlaced storage.old) (S.memory storage.old)
         (S.present storage.old) cpu.old.psw.key held.new }
 {
-    finish_quickly::<S, CODE>(cpu, storage, place, i, held)
+    finish_quickly::<S, CODE, UNDER_EX>(cpu, storage, place, i, held)
 }
 
 /// Goes on with the instruction that is carried out, of this operation code.
 #[inline(always)]
-fn finish_quickly<S: Storage, const CODE: u8>(
+fn finish_quickly<S: Storage, const CODE: u8, const WAY: u8>(
     cpu: &mut Cpu,
     storage: &mut S,
     place: Place,
@@ -447,7 +454,7 @@ fn finish_quickly<S: Storage, const CODE: u8>(
         (S.present storage.old) cpu.old.psw.key held.new }
 {
     let Place { next, ilc } = place;
-    match perform_quickly::<S, CODE>(cpu, storage, Place { next, ilc }, i, held) {
+    match perform_quickly::<S, CODE, WAY>(cpu, storage, Place { next, ilc }, i, held) {
         Some(ending) => Some(go_on(cpu, Place { next, ilc }, ending)),
         None => None,
     }
@@ -490,7 +497,7 @@ fn overflow_interrupts<const CODE: u8>(cpu: &Cpu) -> bool
 /// Its operation code is a constant of the function's own, so that each of them is compiled by itself. An instruction
 /// whose overflow would interrupt is left to the unit, as is one that may change rights.
 #[inline(always)]
-fn perform_quickly<S: Storage, const CODE: u8>(
+fn perform_quickly<S: Storage, const CODE: u8, const WAY: u8>(
     cpu: &mut Cpu,
     storage: &mut S,
     place: Place,
@@ -513,70 +520,12 @@ fn perform_quickly<S: Storage, const CODE: u8>(
     if overflow_interrupts::<CODE>(cpu) {
         return None;
     }
-    perform_row::<S, CODE>(cpu, storage, place, i, held)
-}
-
-/// Carries out the row of an operation code, but for the address: over the blocks that are held for its operands, if
-/// it is one of those that look at them.
-#[inline(always)]
-fn perform_row<S: Storage, const CODE: u8>(
-    cpu: &mut Cpu,
-    storage: &mut S,
-    place: Place,
-    i: Instruction,
-    held: &mut Held,
-) -> Option<Ending>
-    requires same { i.opcode ≡ CODE }
-    requires operands { AreHeld (S.IsPlaced storage.old) (S.memory storage.old)
-        (S.present storage.old) cpu.old.psw.key held.old }
-    ensures row { let before = state_of cpu.old (S.memory storage.old) in
-        let after = state_of cpu.new (S.memory storage.new) in
-        MeetsAtOnce (row_of before place i) (S.present storage.old) before result after }
-    ensures rest { S.Keeps storage.old storage.new }
-    ensures operands { AreHeld (S.IsPlaced storage.old) (S.memory storage.old)
-        (S.present storage.old) cpu.old.psw.key held.new }
-{
-    if looks_at_held(CODE) {
-        return perform_held::<S, CODE>(cpu, storage, place, i, held);
-    }
-    perform_apart::<S, CODE>(cpu, storage, place, i)
-}
-
-/// Whether an instruction of this operation code is carried out over the blocks that are held.
-#[inline(always)]
-fn looks_at_held(code: u8) -> bool {
-    match opcode_of(code) {
-        Opcode::Fetches(row) => finds_source(row),
-        Opcode::Stores(row) => finds_target(row),
-        _ => true,
-    }
-}
-
-/// Carries out the row of an operation code, but for the address, by the addresses of its operands. It is out of line,
-/// so that the loop has none of it.
-#[inline(never)]
-fn perform_apart<S: Storage, const CODE: u8>(
-    cpu: &mut Cpu,
-    storage: &mut S,
-    place: Place,
-    i: Instruction,
-) -> Option<Ending>
-    requires same { i.opcode ≡ CODE }
-    ensures row { let before = state_of cpu.old (S.memory storage.old) in
-        let after = state_of cpu.new (S.memory storage.new) in
-        MeetsAtOnce (row_of before place i) (S.present storage.old) before result after }
-    ensures rest { S.Keeps storage.old storage.new }
-{
-    match opcode_of(CODE) {
-        Opcode::Fetches(row) => done_of(fetch_row::<S, CODE>(row, cpu, storage, i)),
-        Opcode::Stores(row) => done_of(store_row::<S, CODE>(row, cpu, storage, i)),
-        _ => None,
-    }
+    perform_held::<S, CODE, WAY>(cpu, storage, place, i, held)
 }
 
 /// Carries out the row of an operation code, but for the address, over the blocks that are held for its operands.
 #[inline(always)]
-fn perform_held<S: Storage, const CODE: u8>(
+fn perform_held<S: Storage, const CODE: u8, const WAY: u8>(
     cpu: &mut Cpu,
     storage: &mut S,
     place: Place,
@@ -598,8 +547,8 @@ fn perform_held<S: Storage, const CODE: u8>(
             Ok(ending) => Some(ending),
             Err(_) => None,
         },
-        Opcode::Fetches(row) => fetch_held(row, cpu, storage, i, held),
-        Opcode::Stores(row) => store_held(row, cpu, storage, i, held),
+        Opcode::Fetches(row) => fetch_held::<S, CODE, WAY>(row, cpu, storage, i, held),
+        Opcode::Stores(row) => store_held::<S, CODE, WAY>(row, cpu, storage, i, held),
         _ => None,
     }
 }
