@@ -128,7 +128,7 @@ class Emulator:
     def used(self, commands, text):
         """Seconds of processor time that it has used when its log has a text."""
         with open(f"{self.room}/commands", "w", encoding="utf-8") as file:
-            file.write("".join(f"{it}\n" for it in commands))
+            file.write("".join(f"{command}\n" for command in commands))
         with open(f"{self.room}/log", "wb") as log:
             child = subprocess.Popen(["hercules", "-d", "-f", f"{self.room}/conf"], stdin=subprocess.DEVNULL, stdout=log,
                                      stderr=subprocess.STDOUT, env={**os.environ, "HERCULES_RC": f"{self.room}/commands"})
@@ -158,12 +158,17 @@ class Emulator:
         return self.used([*registers, *storage, f"r 0=00080000{LOOP:08X}", "restart"], b"isabled wait")
 
 
-def our_rate(bench, place, loop, seconds):
-    """Million instructions a second of a bare machine or of one user."""
+def started(place, loop):
+    """The directory or the storage of a bare machine or of one user, and the lines after which his machine runs the loop."""
     user, first = ("A", "USER A PW 256K\n") if place == "user" else ("BARE", "256K")
     typed = ["LOGON", *(f"STORE G{name} {value:08X}" for name, value in REGISTERS.items()),
              *(f"STORE {at:X} {data}" for at, data in stored(loop)), f"BEGIN {LOOP:X}"]
-    ready = [f"LINE {user} {it}" for it in typed]
+    return user, first, [f"LINE {user} {line}" for line in typed]
+
+
+def our_rate(bench, place, loop, seconds):
+    """Million instructions a second of a bare machine or of one user."""
+    user, first, ready = started(place, loop)
     units, runs = 1000000, 1
     begun = bench.seconds(first, ready + [f"RUN {user} 1"])
     while (taken := bench.seconds(first, ready + [f"RUN {user} {units}"] * runs) - begun) < seconds:
@@ -173,11 +178,8 @@ def our_rate(bench, place, loop, seconds):
 
 def host_instructions(bench, place, loop):
     """Instructions of the host that one takes."""
-    user, first = ("A", "USER A PW 256K\n") if place == "user" else ("BARE", "256K")
-    typed = ["LOGON", *(f"STORE G{name} {value:08X}" for name, value in REGISTERS.items()),
-             *(f"STORE {at:X} {data}" for at, data in stored(loop)), f"BEGIN {LOOP:X}"]
-    ready = [f"LINE {user} {it}" for it in typed]
-    less, more = (bench.instructions(first, ready + [f"RUN {user} {it}"]) for it in (1000, 21000))
+    user, first, ready = started(place, loop)
+    less, more = (bench.instructions(first, ready + [f"RUN {user} {units}"]) for units in (1000, 21000))
     return (more - less) / 20000
 
 
@@ -194,7 +196,7 @@ def main():
         for kind in kinds or [*KINDS, *DRAWN]:
             loop = loop_of(kind)
             theirs = max(emulator.rate(loop, seconds) for _ in range(rounds))
-            bare, user = (max(our_rate(bench, it, loop, seconds) for _ in range(rounds)) for it in ("bare", "user"))
+            bare, user = (max(our_rate(bench, place, loop, seconds) for _ in range(rounds)) for place in ("bare", "user"))
             count = f"{host_instructions(bench, 'user', loop):.0f}" if shutil.which("valgrind") else "-"
             lines.append((user / theirs, f"{kind} | {theirs:.1f} | {bare:.1f} | {user:.1f} | {bare / theirs:.2f} | {user / theirs:.2f} | {count}"))
     tell("Kind | Emulator | Bare | One user | Bare, ratio | One user, ratio | Host instructions of one user")
