@@ -281,7 +281,7 @@ class Expander:
         self.globals = {}
         self.calls = 0
         self.has_ended = False
-        # where lines follow END, if any do
+        # the first line after END, if there is one
         self.left_over = None
 
     def go(self, path):

@@ -15,7 +15,7 @@ ENDING = ".ending-"
 
 
 class Keeping:
-    """Where the images of a session come to when it ends: a folder beside the recording, until they are in their places. Each
+    """Where the images of a session come to when it ends: a folder next to the recording, until they are in their places. Each
     start has another one, since a program whose command was killed may still write to its own."""
 
     def __init__(self, record, directory, volumes):
@@ -95,9 +95,9 @@ class Keeping:
         if now in (known, sum_of_file(path)):
             put(path, volume)
             return
-        beside = f"{os.path.realpath(volume)}.{name}"
-        copy_whole(path, beside)
-        tell(f"{volume} was changed by somebody else during the session, and stays as it is; the volume of the session is {beside}")
+        copied = f"{os.path.realpath(volume)}.{name}"
+        copy_whole(path, copied)
+        tell(f"{volume} was changed by somebody else during the session, and stays as it is; the volume of the session is {copied}")
 
     def find(self, mark):
         """Finds the images that were saved, as the recording tells."""
@@ -126,23 +126,23 @@ def put(path, volume):
 
 def copy_whole(path, to, owned=None):
     """A copy that is there whole or not at all, also after the host has crashed; whose it is, is told by a file's state."""
-    beside = f"{to}.new-{os.getpid()}"
+    copied = f"{to}.new-{os.getpid()}"
     try:
-        shutil.copyfile(path, beside)
+        shutil.copyfile(path, copied)
         if owned:
-            os.chmod(beside, owned.st_mode & 0o7777)
+            os.chmod(copied, owned.st_mode & 0o7777)
             with contextlib.suppress(PermissionError):
-                os.chown(beside, owned.st_uid, owned.st_gid)
-        sync_file(beside)
-        os.replace(beside, to)
+                os.chown(copied, owned.st_uid, owned.st_gid)
+        sync_file(copied)
+        os.replace(copied, to)
     except OSError as error:
         with contextlib.suppress(OSError):
-            os.unlink(beside)
+            os.unlink(copied)
         # the place that has no room is named, and not the file that was read
         raise Failure(FILE_FAILED, f"{to} cannot be written: {error.strerror}") from None
     except BaseException:
         with contextlib.suppress(FileNotFoundError):
-            os.unlink(beside)
+            os.unlink(copied)
         raise
     sync_folder(to)
 

@@ -112,7 +112,7 @@ def loop_of(kind):
 
 
 def stored(loop):
-    """Where storage gets what, in pieces of sixteen bytes."""
+    """The addresses of storage and the bytes for each, at most sixteen at a time."""
     pieces = {**STORAGE, END: "0002000000000000"}
     return [*pieces.items(), *((LOOP + at // 2, loop.code[at:at + 32]) for at in range(0, len(loop.code), 32))]
 

@@ -216,7 +216,7 @@ def wrong_device(words):
 
 
 def repeated(lines, fault, number, words):
-    """Of a statement that one before it rules out."""
+    """Returns the reason of a statement that an earlier one excludes."""
     place, of_user = user_before(lines, number)
     if fault == "DuplicateUser":
         earlier = next(at for at, it in enumerate(lines, 1) if it.split()[:2] == ["USER", words[1]])

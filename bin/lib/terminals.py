@@ -23,7 +23,7 @@ ONLINE = "GATHJUMLI ONLINE"
 REFUSED_LOGON = "LOGON REFUSED"
 TOO_LATE = "TOO LATE"
 RECONNECTED = "RECONNECTED"
-# a line behind #CP, and the command of it that has a text
+# a line after #CP, and its command if that takes a text
 COMMAND = re.compile(rb"( *#[Cc][Pp](?: |$))?(.*)")
 MESSAGE = re.compile(rb"( *[Mm][Ss][Gg] +[^ ]+ ?)(.*)")
 TAKES_OVER = "ANOTHER TERMINAL TAKES OVER"
