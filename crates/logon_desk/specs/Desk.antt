@@ -1,12 +1,12 @@
 -- The desk: what an event makes of it, and what it does then.
-use Rattle.std.specs.Prelude.{◌≡◌, ℕ, ◌+◌, ◌==◌, ◌&&◌, ◌||◌, not, nat_le, nat_lt, if◌then◌else◌, Bool, true, false, List, [], ◌∷◌, ◌++◌, length, map, take, slice_index, slice_index_or, slice_set, Option, Some, None, codes}
+use Rattle.std.specs.Prelude.{◌≡◌, ℕ, ◌+◌, ◌==◌, ◌&&◌, ◌||◌, not, nat_le, nat_lt, if◌then◌else◌, Bool, true, false, List, [], ◌∷◌, ◌++◌, length, map, replicate, take, slice_index, slice_index_or, slice_set, Option, Some, None, codes}
 use Rattle.std.specs.Str.{bytes_eq}
 use Rattle.text_words.specs.Words.{words_of}
 use Rattle.user_names.specs.Users.{user_of}
 use Rattle.logon_desk.specs.Account.{last_lines, new_account}
 use Rattle.logon_desk.specs.Connection.{after_line, again, begun, gone, opened, refused}
 use Rattle.logon_desk.specs.Decoder.{after_byte, printable}
-use Rattle.logon_desk.specs.Guesses.{debt, guessed, queue_of, right_after, wait_of}
+use Rattle.logon_desk.specs.Guesses.{debt, guessed, no_guesses, queue_of, right_after, wait_of}
 use Rattle.logon_desk.specs.Words.{capital, said_by}
 use Rattle.logon_desk.specs.declared.account.Account.{Account}
 use Rattle.logon_desk.specs.declared.account.KeptLine.{KeptLine}
@@ -58,6 +58,19 @@ pub data Event : Type 0 where
 
 abbrev pub connection_at : Desk → ℕ → Connection
 connection_at d c = slice_index_or d.connections c gone
+
+abbrev pub is_gone : Stage → Bool
+is_gone Gone = true
+is_gone Naming = false
+is_gone (Asking name) = false
+is_gone (Waiting guess) = false
+is_gone (Judged guess) = false
+is_gone Refused = false
+is_gone (On user) = false
+
+-- nobody has come, and all machines are off
+abbrev pub new_desk : List (List ℕ) → ℕ → Desk
+new_desk names connections = record { connections = replicate connections gone; accounts = map new_account names; guesses = no_guesses }
 
 -- no user
 abbrev pub nobody : Account

@@ -1,5 +1,5 @@
 -- How long a guess of a password waits for its turn.
-use Rattle.std.specs.Prelude.{◌+◌, ◌-◌, ◌*◌, ◌/◌, ◌%◌, ◌^◌, ℕ, List, fold, nat_lt, if◌then◌else◌, min}
+use Rattle.std.specs.Prelude.{◌+◌, ◌-◌, ◌*◌, ◌/◌, ◌%◌, ◌^◌, ℕ, List, fold, replicate, nat_lt, if◌then◌else◌, min}
 
 -- the queue in which a guess waits: guesses of one name from one address wait in one queue
 abbrev pub mixed : ℕ → ℕ → ℕ
@@ -7,6 +7,10 @@ mixed number c = (number * 257 % 2 ^ 64 + c) % 2 ^ 64
 
 abbrev pub queue_of : List ℕ → ℕ → ℕ
 queue_of name address = fold mixed address name / 2 ^ 54
+
+-- 1,024 queues, in which no guess waits
+unfoldable pub no_guesses : List ℕ
+no_guesses = replicate 1024 0
 
 -- for how many milliseconds the guesses of lately are still remembered
 abbrev pub debt : ℕ → ℕ → ℕ

@@ -1,15 +1,18 @@
 //! The desk.
-ghost use Rattle.std.specs.Prelude.{◌≡◌, ◌<◌, ◌≤◌, ◌^◌, ◌++◌, ◌∷◌, [], IfOk, IsTrue, length, map, replicate, take};
+ghost use Rattle.std.specs.Prelude.{◌≡◌, ◌<◌, ◌≤◌, ◌^◌, ◌++◌, ◌∷◌, [], IfNone, IfOk, IfSome, count_by, false, length, map, not, replicate, take};
+ghost use Rattle.std.specs.List.{All};
+ghost use Rattle.logon_desk.specs.Strangers.{IsBusiest, is_stranger};
 ghost use Rattle.std.specs.Result.{OnOk};
 ghost use Rattle.logon_desk.specs.Account.{new_account};
 ghost use Rattle.logon_desk.specs.Connection.{gone};
-ghost use Rattle.logon_desk.specs.Desk.{Answers, Closes, Comes, Does, Finishes, IsStep, Keeps, Opens, Prints, Takes, Turns, Wakes, after_decoded, after_first, after_line_at, answered, comes_to, connection_at, ended, farewell, greeting, guess_waits, is_taking, leaving, logged_on, logon_line, after_pause, same_guess, shown, terminal_of, typed_line, wrong_guess};
+ghost use Rattle.logon_desk.specs.Desk.{Answers, Closes, Comes, Does, Finishes, IsStep, Keeps, Opens, Prints, Takes, Turns, Wakes, after_decoded, after_first, after_line_at, answered, comes_to, connection_at, ended, farewell, greeting, guess_waits, is_gone, is_taking, leaving, logged_on, logon_line, new_desk, after_pause, same_guess, shown, terminal_of, typed_line, wrong_guess};
 
 use crate::account::{Account, KeptLine};
 use crate::bytes::Bytes;
 use crate::connection::{Answer, Connection, Stage, after_line};
 use crate::decoder::{Decoded, printable};
 use crate::guesses::{Guesses, queue_of};
+use crate::strangers::{busiest, strangers};
 use crate::output::{Entry, Notice, Output, Outputs};
 use crate::words::{Guess, in_capitals, said_of};
 use std::alloc::{AllocError, Global};
@@ -46,6 +49,57 @@ impl Model for LogonDesk {
 }
 
 impl LogonDesk {
+    /// A desk for the users of these names, with so many places for connections, to which nobody has come.
+    pub fn new(alloc: Global, names: &[Bytes], connections: usize) -> Result<LogonDesk, AllocError>
+        requires { length names.now ≤ 64 }
+        ensures { IfOk result (λ desk. desk ≡ new_desk names.now connections) }
+    {
+        Ok(LogonDesk {
+            connections: places_of(alloc, connections)?,
+            accounts: accounts_of(alloc, names)?,
+            guesses: Guesses::new(alloc)?,
+        })
+    }
+
+    /// How many places there are for connections.
+    pub fn connections(&self) -> usize
+        ensures { result ≡ length self.now.connections }
+    {
+        self.connections.len()
+    }
+
+    /// How many users there are.
+    pub fn users(&self) -> usize
+        ensures value { result ≡ length self.now.accounts }
+        ensures bound { result ≤ 64 }
+    {
+        self.accounts.len()
+    }
+
+    /// How many are about to log on.
+    pub fn strangers(&self) -> usize
+        ensures { result ≡ count_by is_stranger self.now.connections }
+    {
+        strangers(&self.connections)
+    }
+
+    /// One of those who are about to log on, from the address from which most of them have come.
+    pub fn busiest(&self) -> Option<usize>
+        ensures within { IfSome result (λ c. c < length self.now.connections) }
+        ensures busiest { IfSome result (λ c. IsBusiest self.now.connections c) }
+        ensures none { IfNone result (All (λ connection. is_stranger connection ≡ false) self.now.connections) }
+    {
+        busiest(&self.connections)
+    }
+
+    /// Whether a connection is there.
+    pub fn is_open(&self, connection: usize) -> bool
+        requires { connection < length self.now.connections }
+        ensures { result ≡ not (is_gone (connection_at self.now connection).stage) }
+    {
+        !matches!(self.connections[connection].stage, Stage::Gone)
+    }
+
     /// A connection has come from an address.
     pub fn open(
         &mut self,
@@ -506,6 +560,28 @@ impl LogonDesk {
             account.terminal = None;
         }
     }
+}
+
+/// Places at which there is no connection.
+fn places_of(alloc: Global, connections: usize) -> Result<Vec<Connection>, AllocError>
+    ensures { IfOk result (λ places. places.items ≡ replicate connections gone) }
+{
+    let mut places = Vec::new(alloc);
+    for _ in 0..connections {
+        places.push(Connection::gone(alloc))?;
+    }
+    Ok(places)
+}
+
+/// Users whose machines are off.
+fn accounts_of(alloc: Global, names: &[Bytes]) -> Result<Vec<Account>, AllocError>
+    ensures { IfOk result (λ accounts. accounts.items ≡ map new_account names.now) }
+{
+    let mut accounts = Vec::new(alloc);
+    for name in names {
+        accounts.push(Account::new(alloc, Bytes::of(alloc, name.as_slice())?))?;
+    }
+    Ok(accounts)
 }
 
 /// Gives a connection a text of the desk's own.

@@ -1,6 +1,6 @@
 //! How guessing is slowed: in queues, and nobody is locked out.
-ghost use Rattle.std.specs.Prelude.{◌≡◌, ◌≤◌, ◌<◌, ◌+◌, ◌^◌, IfOk, length, replicate, slice_index, slice_set};
-ghost use Rattle.logon_desk.specs.Guesses.{debt, guessed, mixed, queue_of, right_after, wait_of};
+ghost use Rattle.std.specs.Prelude.{◌≡◌, ◌≤◌, ◌<◌, ◌+◌, ◌^◌, IfOk, length, slice_index, slice_set};
+ghost use Rattle.logon_desk.specs.Guesses.{debt, guessed, mixed, no_guesses, queue_of, right_after, wait_of};
 
 use std::alloc::{AllocError, Global};
 use std::marker::Model;
@@ -36,8 +36,9 @@ impl Model for Guesses {
 
 impl Guesses {
     /// No guess was made.
+    #[tactic(auto, unfolding(crate::specs::Guesses::no_guesses))]
     pub fn new(alloc: Global) -> Result<Guesses, AllocError>
-        ensures { IfOk result (λ guesses. guesses ≡ replicate QUEUES 0) }
+        ensures { IfOk result (λ guesses. guesses ≡ no_guesses) }
     {
         Ok(Guesses {
             until: vec![in alloc; 0; QUEUES]?,

@@ -7,7 +7,9 @@ mod connection;
 mod decoder;
 mod desk;
 mod guesses;
+mod laws;
 mod output;
+mod strangers;
 mod waiting;
 mod words;
 
@@ -17,6 +19,7 @@ pub use connection::{Answer, Connection, Patience, Stage, TIME_TO_LOG_ON, after_
 pub use decoder::{Decoded, Expects, LINE_LENGTH, LineDecoder, printable};
 pub use desk::{LONGEST_SHOWN, LogonDesk, MOST_WAITING};
 pub use guesses::{Guesses, LONGEST_REMEMBERED, LONGEST_WAIT, QUEUES, REMEMBERED, queue_of};
+pub use laws::keeps_its_promises;
 pub use output::{Entry, Notice, Output, Outputs};
 pub use waiting::WaitingBytes;
 pub use words::{Guess, Said, in_capitals, said_of};
