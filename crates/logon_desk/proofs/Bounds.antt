@@ -126,7 +126,7 @@ few_step d (Answers k guess is_right now) c = few_answer d k c guess is_right no
 few_step d (Closes k) c = few_gone d k c
 few_step d (Prints user line) c = λ few. few c
 few_step d (Keeps user line) c = λ few. few c
-few_step d (Turns user is_on) c = λ few. few c
+few_step d (Turns user is_on is_running) c = λ few. few c
 few_step d (Finishes user) c = λ few. few c
 
 pub few : (users : List (List ℕ)) (size : ℕ) (events : List Event) (c : ℕ) → IsFew (connection_at (after (new_desk users size) events) c)
@@ -198,7 +198,7 @@ kept_few_by user (Answers c guess is_right now) kept h = h
 kept_few_by user (Closes c) kept h = h
 kept_few_by user (Prints other line) kept h = h
 kept_few_by user (Keeps other line) kept h = few_both _ _ (eqb other user) (last_few kept _ h) h
-kept_few_by user (Turns other is_on) kept h = few_both _ _ is_on h (few_both _ _ (eqb other user) (omega arith) h)
+kept_few_by user (Turns other is_on is_running) kept h = few_both _ _ is_on h (few_both _ _ (eqb other user) (omega arith) h)
 kept_few_by user (Finishes other) kept h = h
 
 pub kept_few : (user : ℕ) (events : List Event) → length (kept_of user events) ≤ 24

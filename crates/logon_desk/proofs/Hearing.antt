@@ -277,7 +277,7 @@ heard_step d (Answers k guess is_right now) c earlier was = answers_by d k c (ar
 heard_step d (Closes k) c earlier was = heard_gone d k c (arrived c earlier) was
 heard_step d (Prints user line) c earlier was = was
 heard_step d (Keeps user line) c earlier was = was
-heard_step d (Turns user is_on) c earlier was = was
+heard_step d (Turns user is_on is_running) c earlier was = was
 heard_step d (Finishes user) c earlier was = was
 
 vacant_by : (size c : ℕ) → ((leb size c ≡ true) × (size ≤ c)) ⊎ ((leb size c ≡ false) × (c < size)) → get_or (replicate size gone) c gone ≡ gone

@@ -14,6 +14,7 @@ use Rattle.logon_desk.specs.Decoder.{after_byte, printable}
 use Rattle.logon_desk.specs.Desk.{Answers, Closes, Comes, Desk, Event, Finishes, Keeps, Opens, Prints, Step, Takes, Turns, Wakes, account_of, after_decoded, after_first, after_pause, answer_by, answered, comes_to, connection_at, ended, greeting, is_gone, is_on_at, is_taking, is_terminal, is_user, judged_as, leaving, line_by, logged_on, logon_command, logon_line, names, new_desk, nobody, notices, quietly, same_guess, shows_at, shown, step, terminal_by, typed_line, wake_by, with_connection, wrong_guess}
 use Rattle.logon_desk.specs.Guesses.{debt, queue_of, wait_of}
 use Rattle.logon_desk.specs.History.{IsOnBy, LogsOn, after, arrived, kept_by, kept_of, meaning, reading_of}
+use Rattle.logon_desk.specs.Script.{script_line}
 use Rattle.logon_desk.specs.Laws.{IsAt, IsIn, IsLawful, IsTyped, May}
 use Rattle.logon_desk.specs.declared.account.Account.{Account}
 use Rattle.logon_desk.specs.declared.account.KeptLine.{KeptLine}
@@ -157,7 +158,9 @@ may_line d k now byte rest line (On user) e takes waits whole =
       takes = refl;
       is_on = and_is (is_user (connection_at d k).stage user) (is_terminal (account_of d user).terminal k) (ap (λ (s : Stage). is_user s user) e ∙ eqb_self user) (is_taking_on d k user takes);
       waits = waits;
+      typed = line;
       whole = whole;
+      script = refl;
     }), tt)
 
 may_decode : (d : Desk) (k now byte : ℕ) (rest : List ℕ) (decoded : Decoded) → is_taking d k (connection_at d k).stage ≡ true → (connection_at d k).waiting ≡ byte ∷ rest
@@ -196,7 +199,7 @@ does d (Answers k guess is_right now) = may_answer d k guess is_right now (conne
 does d (Closes k) = may_close d k (connection_at d k).stage
 does d (Prints user line) = may_show d user line (account_of d user).terminal refl
 does d (Keeps user line) = tt
-does d (Turns user is_on) = tt
+does d (Turns user is_on is_running) = tt
 does d (Finishes user) = tt
 
 -- each line of the transcript is shown where its user is on
@@ -217,7 +220,7 @@ takes_on d c user stage terminal busy =
     ap (λ (s : Stage). is_taking d c s) stage ∙ and_is (is_terminal (account_of d user).terminal c) (not (account_of d user).is_busy) terminal (ap not busy)
 
 types : (d : Desk) (c user now byte : ℕ) (rest line : List ℕ) → is_on_at d c user ≡ true → (account_of d user).is_busy ≡ false → (connection_at d c).waiting ≡ byte ∷ rest
-    → (after_byte (connection_at d c).decoder byte).decoded ≡ Line line → (step d (Takes c now)).outputs ≡ Types user line ∷ []
+    → (after_byte (connection_at d c).decoder byte).decoded ≡ Line line → (step d (Takes c now)).outputs ≡ Types user (script_line (account_of d user).is_running line) ∷ []
 types d c user now byte rest line h busy waits whole =
     let both = both_true (is_user (connection_at d c).stage user) (is_terminal (account_of d user).terminal c) h in
     let stage : (connection_at d c).stage ≡ On user = is_user_on (connection_at d c).stage user both.0 in
@@ -384,9 +387,9 @@ kept_changed xs k user y change there h (inr w) =
     let differs : user ≢ k = λ e. w.1 (sym e) in
     ap (λ (a : Account). a.kept) (get_or-set_other xs k user y nobody differs) ∙ ap (λ (b : Bool). cond b (change (get_or xs user nobody).kept) (get_or xs user nobody).kept) (sym w.0)
 
-kept_turned : (d : Desk) (other user : ℕ) (is_on : Bool) → user < length d.accounts → (account_of (step d (Turns other is_on)).desk user).kept ≡ kept_by user (Turns other is_on) (account_of d user).kept
-kept_turned d other user true there = kept_same d.accounts other user _ there refl
-kept_turned d other user false there = kept_changed d.accounts other user _ (λ _. []) there refl (eqb_tells other user)
+kept_turned : (d : Desk) (other user : ℕ) (is_on is_running : Bool) → user < length d.accounts → (account_of (step d (Turns other is_on is_running)).desk user).kept ≡ kept_by user (Turns other is_on is_running) (account_of d user).kept
+kept_turned d other user true is_running there = kept_same d.accounts other user _ there refl
+kept_turned d other user false is_running there = kept_changed d.accounts other user _ (λ _. []) there refl (eqb_tells other user)
 
 kept_step : (d : Desk) (event : Event) (user : ℕ) → user < length d.accounts → (account_of (step d event).desk user).kept ≡ kept_by user event (account_of d user).kept
 kept_step d (Opens k address now) user there = refl
@@ -398,7 +401,7 @@ kept_step d (Closes k) user there = refl
 kept_step d (Prints other line) user there = refl
 kept_step d (Keeps other line) user there =
     kept_changed d.accounts other user _ (λ kept. last_lines (kept ++ record { minute = shown line.minute; text = shown line.text } ∷ [])) there refl (eqb_tells other user)
-kept_step d (Turns other is_on) user there = kept_turned d other user is_on there
+kept_step d (Turns other is_on is_running) user there = kept_turned d other user is_on is_running there
 kept_step d (Finishes other) user there = kept_same d.accounts other user _ there refl
 
 -- as many users as there were

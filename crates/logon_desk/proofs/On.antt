@@ -139,7 +139,7 @@ NotReset c (Answers other guess is_right now) = Unit {0}
 NotReset c (Closes other) = other ≢ c
 NotReset c (Prints user line) = Unit {0}
 NotReset c (Keeps user line) = Unit {0}
-NotReset c (Turns user is_on) = Unit {0}
+NotReset c (Turns user is_on is_running) = Unit {0}
 NotReset c (Finishes user) = Unit {0}
 
 abbrev Was : Desk → ℕ → ℕ → Event → Type 0
@@ -209,7 +209,7 @@ was_on d (Answers k guess is_right now) c user = answers_was d k c user guess is
 was_on d (Closes k) c user = reset_set d k c user gone (Closes k) (λ e. cc) (λ differs. differs)
 was_on d (Prints other line) c user = λ h. inl (h, tt)
 was_on d (Keeps other line) c user = λ h. inl (h, tt)
-was_on d (Turns other is_on) c user = λ h. inl (h, tt)
+was_on d (Turns other is_on is_running) c user = λ h. inl (h, tt)
 was_on d (Finishes other) c user = λ h. inl (h, tt)
 
 -- the accounts
@@ -335,7 +335,7 @@ names_step d (Answers k guess is_right now) = logged_names d (Answers k guess is
 names_step d (Closes k) = refl
 names_step d (Prints user line) = refl
 names_step d (Keeps user line) = same_names d.accounts user _ refl
-names_step d (Turns user is_on) = same_names d.accounts user _ refl
+names_step d (Turns user is_on is_running) = same_names d.accounts user _ refl
 names_step d (Finishes user) = same_names d.accounts user _ refl
 
 pub names_stay : (first : Desk) (events : List Event) → names (after first events) ≡ names first
@@ -353,8 +353,8 @@ NotOff user (Answers other guess is_right now) = Unit {0}
 NotOff user (Closes other) = Unit {0}
 NotOff user (Prints other line) = Unit {0}
 NotOff user (Keeps other line) = Unit {0}
-NotOff user (Turns other true) = Unit {0}
-NotOff user (Turns other false) = other ≢ user
+NotOff user (Turns other true is_running) = Unit {0}
+NotOff user (Turns other false is_running) = other ≢ user
 NotOff user (Finishes other) = Unit {0}
 
 abbrev Had : Desk → ℕ → ℕ → Event → Type 0
@@ -395,9 +395,9 @@ turned_off : (t : Option ℕ) (c : ℕ) (b : Bool) → is_terminal (cond b t Non
 turned_off t c true h = (h, refl)
 turned_off t c false h = absurd (not_both false h refl)
 
-had_turned : (d : Desk) (c user who : ℕ) (is_on : Bool) → HasNow d c user (Turns who is_on) (step d (Turns who is_on)).desk.accounts
-had_turned d c user who true = had_set d c user who _ (Turns who true) (λ _. tt) (λ same h. had_who d c user who (Turns who true) tt same h)
-had_turned d c user who false = had_set d c user who _ (Turns who false) (λ differs. differs) (λ same h. absurd (not_both false h refl))
+had_turned : (d : Desk) (c user who : ℕ) (is_on is_running : Bool) → HasNow d c user (Turns who is_on is_running) (step d (Turns who is_on is_running)).desk.accounts
+had_turned d c user who true is_running = had_set d c user who _ (Turns who true is_running) (λ _. tt) (λ same h. had_who d c user who (Turns who true is_running) tt same h)
+had_turned d c user who false is_running = had_set d c user who _ (Turns who false is_running) (λ differs. differs) (λ same h. absurd (not_both false h refl))
 
 -- a terminal that a user has he had before, and his machine is not switched off, or he logs on there
 had_terminal : (d : Desk) (event : Event) (c user : ℕ) → HasNow d c user event (step d event).desk.accounts
@@ -409,7 +409,7 @@ had_terminal d (Answers k guess is_right now) c user = had_logged d c user (Answ
 had_terminal d (Closes k) c user = had_same d c user (Closes k) _ tt refl
 had_terminal d (Prints other line) c user = had_same d c user (Prints other line) _ tt refl
 had_terminal d (Keeps other line) c user = had_set d c user other _ (Keeps other line) (λ _. tt) (λ same h. had_who d c user other (Keeps other line) tt same h)
-had_terminal d (Turns other is_on) c user = had_turned d c user other is_on
+had_terminal d (Turns other is_on is_running) c user = had_turned d c user other is_on is_running
 had_terminal d (Finishes other) c user =
     had_set d c user other _ (Finishes other) (λ _. tt) (λ same h. had_who d c user other (Finishes other) tt same (turned_off (account_of d other).terminal c (account_of d other).is_on h).0)
 
@@ -424,8 +424,8 @@ stays_both c user (Answers other guess is_right now) r o = tt
 stays_both c user (Closes other) r o = r
 stays_both c user (Prints other line) r o = tt
 stays_both c user (Keeps other line) r o = tt
-stays_both c user (Turns other true) r o = tt
-stays_both c user (Turns other false) r o = o
+stays_both c user (Turns other true is_running) r o = tt
+stays_both c user (Turns other false is_running) r o = o
 stays_both c user (Finishes other) r o = tt
 
 pub is_user_on : (stage : Stage) (user : ℕ) → is_user stage user ≡ true → stage ≡ On user

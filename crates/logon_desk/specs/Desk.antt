@@ -7,6 +7,7 @@ use Rattle.logon_desk.specs.Account.{last_lines, new_account}
 use Rattle.logon_desk.specs.Connection.{after_line, again, begun, gone, opened, refused}
 use Rattle.logon_desk.specs.Decoder.{after_byte, printable}
 use Rattle.logon_desk.specs.Guesses.{debt, guessed, no_guesses, queue_of, right_after, wait_of}
+use Rattle.logon_desk.specs.Script.{script_line}
 use Rattle.logon_desk.specs.Words.{capital, said_by}
 use Rattle.logon_desk.specs.declared.account.Account.{Account}
 use Rattle.logon_desk.specs.declared.account.KeptLine.{KeptLine}
@@ -51,8 +52,8 @@ pub data Event : Type 0 where
   Prints : ℕ → List ℕ → Event
   -- a line of a user is kept, with its minute, for when he comes back
   Keeps : ℕ → KeptLine → Event
-  -- the machine of a user is on or off
-  Turns : ℕ → Bool → Event
+  -- the machine of a user is on or off, and runs or is stopped
+  Turns : ℕ → Bool → Bool → Event
   -- the line that was typed for a user is done
   Finishes : ℕ → Event
 
@@ -164,7 +165,7 @@ logon_line d c connection line now = answered d c connection (after_line connect
 abbrev pub typed_line : Desk → ℕ → List ℕ → Step
 typed_line d user line = record {
   desk = with_account d user (record (account_of d user) { is_busy = true });
-  outputs = Types user line ∷ [];
+  outputs = Types user (script_line (account_of d user).is_running line) ∷ [];
 }
 
 -- whose line it is
@@ -327,11 +328,12 @@ after_keep d user line =
     quietly (with_account d user (record account { kept = last_lines (account.kept ++ record { minute = shown line.minute; text = shown line.text } ∷ []) }))
 
 -- a machine that is off has no terminal, and nothing is kept of it
-abbrev pub after_turn : Desk → ℕ → Bool → Step
-after_turn d user is_on =
+abbrev pub after_turn : Desk → ℕ → Bool → Bool → Step
+after_turn d user is_on is_running =
     let account = account_of d user in
     quietly (with_account d user (record account {
       is_on = is_on;
+      is_running = is_running;
       terminal = if is_on then account.terminal else None;
       kept = if is_on then account.kept else [];
     }))
@@ -355,7 +357,7 @@ step d (Answers c guess is_right now) = after_answer d c guess is_right now
 step d (Closes c) = after_close d c
 step d (Prints user line) = after_print d user line
 step d (Keeps user line) = after_keep d user line
-step d (Turns user is_on) = after_turn d user is_on
+step d (Turns user is_on is_running) = after_turn d user is_on is_running
 step d (Finishes user) = after_finish d user
 
 -- the desk has done this step, after what it had done before

@@ -32,7 +32,7 @@ arrived c (Answers other guess is_right now ∷ earlier) = arrived c earlier
 arrived c (Closes other ∷ earlier) = arrived c earlier
 arrived c (Prints user line ∷ earlier) = arrived c earlier
 arrived c (Keeps user line ∷ earlier) = arrived c earlier
-arrived c (Turns user is_on ∷ earlier) = arrived c earlier
+arrived c (Turns user is_on is_running ∷ earlier) = arrived c earlier
 arrived c (Finishes user ∷ earlier) = arrived c earlier
 
 -- what bytes make: the lines, of which the last is first, and what is typed of the next one
@@ -75,8 +75,8 @@ Stays c user (Answers other guess is_right now) = Unit {0}
 Stays c user (Closes other) = other ≢ c
 Stays c user (Prints other line) = Unit {0}
 Stays c user (Keeps other line) = Unit {0}
-Stays c user (Turns other true) = Unit {0}
-Stays c user (Turns other false) = other ≢ user
+Stays c user (Turns other true is_running) = Unit {0}
+Stays c user (Turns other false is_running) = other ≢ user
 Stays c user (Finishes other) = Unit {0}
 
 -- the user logged on at the connection: the host said that this name and this password are right, when they were the last lines
@@ -113,7 +113,7 @@ kept_by user (Answers c guess is_right now) kept = kept
 kept_by user (Closes c) kept = kept
 kept_by user (Prints other line) kept = kept
 kept_by user (Keeps other line) kept = if other == user then last_lines (kept ++ record { minute = shown line.minute; text = shown line.text } ∷ []) else kept
-kept_by user (Turns other is_on) kept = if is_on then kept else (if other == user then [] else kept)
+kept_by user (Turns other is_on is_running) kept = if is_on then kept else (if other == user then [] else kept)
 kept_by user (Finishes other) kept = kept
 
 -- the lines that are kept for a user: the last ones since his machine was on

@@ -6,6 +6,7 @@ use Rattle.logon_desk.specs.Connection.{refused}
 use Rattle.logon_desk.specs.Decoder.{after_byte}
 use Rattle.logon_desk.specs.Desk.{Answers, Closes, Comes, Desk, Event, Finishes, Keeps, Opens, Prints, Takes, Turns, Wakes, account_of, connection_at, is_gone, is_on_at, is_taking, logon_command, names, new_desk, shown, step, with_connection}
 use Rattle.logon_desk.specs.History.{IsOnBy, LogsOn, after, arrived, kept_of, reading_of}
+use Rattle.logon_desk.specs.Script.{script_line}
 use Rattle.logon_desk.specs.declared.account.KeptLine.{KeptLine}
 use Rattle.logon_desk.specs.declared.connection.Stage.TheVariants.{Judged, Refused, Waiting}
 use Rattle.logon_desk.specs.declared.decoder.Decoded.TheVariants.{Line}
@@ -29,7 +30,7 @@ IsAt c (Answers other guess is_right now) = other ≡ c
 IsAt c (Closes other) = other ≡ c
 IsAt c (Prints user line) = ⊥
 IsAt c (Keeps user line) = ⊥
-IsAt c (Turns user is_on) = ⊥
+IsAt c (Turns user is_on is_running) = ⊥
 IsAt c (Finishes user) = ⊥
 
 -- the byte that is taken ends a line of somebody who is on as this user
@@ -41,7 +42,9 @@ pub record IsTyped (d : Desk) (event : Event) (user : ℕ) (line : List ℕ) : T
   pub takes : event ≡ Takes c now
   pub is_on : is_on_at d c user ≡ true
   pub waits : (connection_at d c).waiting ≡ byte ∷ rest
-  pub whole : (after_byte (connection_at d c).decoder byte).decoded ≡ Line line
+  pub typed : List ℕ
+  pub whole : (after_byte (connection_at d c).decoder byte).decoded ≡ Line typed
+  pub script : line ≡ script_line (account_of d user).is_running typed
 
 -- what may be done then. A line of the script is typed by somebody who is on as its user, or switches on the machine of who logs on;
 -- a connection is given the desk's own texts, lines of the transcript of who is on there, and kept lines of who logs on there; and a
@@ -67,7 +70,7 @@ pub record IsLawful : Type 0 where
   -- each line of who is on is typed
   pub types : (d : Desk) (c user now byte : ℕ) (rest line : List ℕ) → is_on_at d c user ≡ true → (account_of d user).is_busy ≡ false
       → (connection_at d c).waiting ≡ byte ∷ rest → (after_byte (connection_at d c).decoder byte).decoded ≡ Line line
-      → (step d (Takes c now)).outputs ≡ Types user line ∷ []
+      → (step d (Takes c now)).outputs ≡ Types user (script_line (account_of d user).is_running line) ∷ []
   -- no byte is lost, read twice or left from another connection: all that have come were taken, in order, or wait
   pub reads : (users : List (List ℕ)) (size : ℕ) (events : List Event) (c : ℕ) → is_gone (connection_at (after (new_desk users size) events) c).stage ≡ false
       → (taken : List ℕ) × (arrived c events ≡ taken ++ (connection_at (after (new_desk users size) events) c).waiting)

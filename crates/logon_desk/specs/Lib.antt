@@ -4,6 +4,7 @@ pub mod Words
 pub mod Guesses
 pub mod Account
 pub mod Connection
+pub mod Script
 pub mod Desk
 pub mod Strangers
 pub mod History

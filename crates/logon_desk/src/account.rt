@@ -92,6 +92,8 @@ pub struct Account {
     pub terminal: Option<usize>,
     /// Whether his machine is on.
     pub is_on: bool,
+    /// Whether it runs.
+    pub is_running: bool,
     /// Whether a line of his is being done.
     pub is_busy: bool,
     /// What his terminal has shown lately.
@@ -115,6 +117,7 @@ impl Account {
             name,
             terminal: None,
             is_on: false,
+            is_running: false,
             is_busy: false,
             kept: KeptLines::new(alloc),
         }

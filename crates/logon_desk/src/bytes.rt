@@ -60,6 +60,13 @@ impl Bytes {
         Ok(())
     }
 
+    /// Adds bytes at the end.
+    pub fn extend(&mut self, bytes: &[u8]) -> Result<(), AllocError>
+        ensures { OnOk result (self.new ≡ self.old ++ bytes.now) }
+    {
+        self.bytes.extend_from_slice(bytes)
+    }
+
     /// Takes the last byte away, if there is one.
     pub fn pop(&mut self)
         ensures { self.new ≡ take (length self.old - 1) self.old }

@@ -5,7 +5,7 @@ ghost use Rattle.logon_desk.specs.Strangers.{IsBusiest, is_stranger};
 ghost use Rattle.std.specs.Result.{OnOk};
 ghost use Rattle.logon_desk.specs.Account.{new_account};
 ghost use Rattle.logon_desk.specs.Connection.{gone};
-ghost use Rattle.logon_desk.specs.Desk.{Answers, Closes, Comes, Does, Finishes, IsStep, Keeps, Opens, Prints, Takes, Turns, Wakes, after_decoded, after_first, after_line_at, answered, comes_to, connection_at, ended, farewell, greeting, guess_waits, is_gone, is_taking, leaving, logged_on, logon_line, new_desk, after_pause, same_guess, shown, terminal_of, typed_line, wrong_guess};
+ghost use Rattle.logon_desk.specs.Desk.{Answers, Closes, Comes, Does, Finishes, IsStep, Keeps, Opens, Prints, Takes, Turns, Wakes, account_of, after_decoded, after_first, after_line_at, answered, comes_to, connection_at, ended, farewell, greeting, guess_waits, is_gone, is_taking, leaving, logged_on, logon_line, new_desk, after_pause, same_guess, shown, terminal_of, typed_line, wrong_guess};
 
 use crate::account::{Account, KeptLine};
 use crate::bytes::Bytes;
@@ -14,6 +14,7 @@ use crate::decoder::{Decoded, printable};
 use crate::guesses::{Guesses, queue_of};
 use crate::strangers::{busiest, strangers};
 use crate::output::{Entry, Notice, Output, Outputs};
+use crate::script::script_line;
 use crate::words::{Guess, in_capitals, said_of};
 use std::alloc::{AllocError, Global};
 use std::marker::Model;
@@ -236,19 +237,35 @@ impl LogonDesk {
         match &self.connections[connection].stage {
             Stage::On(user) => {
                 let user = *user;
-                self.type_line(user, line, out)
+                self.type_line(alloc, user, line.as_slice(), out)
             }
             _ => self.logon_line(alloc, connection, &line, now, out),
         }
     }
 
-    fn type_line(&mut self, user: UserNo, line: Bytes, out: &mut Outputs) -> Result<(), AllocError>
-        ensures { OnOk result (Does (typed_line self.old user line) out.old self.new out.new) }
+    fn type_line(
+        &mut self,
+        alloc: Global,
+        user: UserNo,
+        line: &[u8],
+        out: &mut Outputs,
+    ) -> Result<(), AllocError>
+        ensures { OnOk result (Does (typed_line self.old user line.now) out.old self.new out.new) }
     {
+        let line = script_line(alloc, self.is_running(user), line)?;
         if let Some(account) = self.accounts.get_mut(user.index()) {
             account.is_busy = true;
         }
         out.push(Output::Types { user, line })
+    }
+
+    fn is_running(&self, user: UserNo) -> bool
+        ensures { result ≡ (account_of self.now user).is_running }
+    {
+        match self.accounts.get(user.index()) {
+            Some(account) => account.is_running,
+            None => false,
+        }
     }
 
     fn logon_line(
@@ -385,7 +402,7 @@ impl LogonDesk {
 
     /// The connection that was the last at which a user logged on, if he has not logged off.
     fn terminal(&self, user: UserNo) -> Option<usize>
-        ensures { result ≡ (Rattle.logon_desk.specs.Desk.account_of self.now user).terminal }
+        ensures { result ≡ (account_of self.now user).terminal }
     {
         match self.accounts.get(user.index()) {
             Some(account) => account.terminal,
@@ -536,13 +553,14 @@ impl LogonDesk {
         self.accounts[user.index()].kept.keep(line)
     }
 
-    /// The machine of a user is on or off.
-    pub fn turn(&mut self, user: UserNo, is_on: bool)
+    /// The machine of a user is on or off, and runs or is stopped.
+    pub fn turn(&mut self, user: UserNo, is_on: bool, is_running: bool)
         requires { user < length self.old.accounts }
-        ensures { IsStep self.old (Turns user is_on) [] self.new [] }
+        ensures { IsStep self.old (Turns user is_on is_running) [] self.new [] }
     {
         let account = &mut self.accounts[user.index()];
         account.is_on = is_on;
+        account.is_running = is_running;
         if !is_on {
             account.terminal = None;
             account.kept.clear();
