@@ -1,5 +1,5 @@
 //! Those who are about to log on, and who of them goes where there are too many.
-ghost use Rattle.std.specs.Prelude.{◌≡◌, ◌<◌, ◌≤◌, IfNone, IfSome, count_by, false, length};
+ghost use Rattle.std.specs.Prelude.{◌≡◌, ◌+◌, ◌<◌, ◌≤◌, IfNone, IfSome, count_by, false, length, true};
 ghost use Rattle.std.specs.List.{All};
 ghost use Rattle.logon_desk.specs.Strangers.{IsBusiest, comes_from, is_stranger, strangers_from};
 
@@ -31,7 +31,18 @@ fn strangers_from(connections: &[Connection], address: u64) -> usize
     connections.iter().filter(|connection| comes_from(connection, address)).count()
 }
 
-/// One of those who are about to log on, from the address from which most of them have come.
+/// Whether a stranger goes before the one who was found: from a busier address, or later from one
+/// as busy.
+fn goes_first(count: usize, most: usize, deadline: u64, latest: u64) -> bool
+    ensures above { result ≡ true → most ≤ count }
+    ensures below { result ≡ false → count ≤ most }
+    ensures some { result ≡ false → 0 < most + latest }
+{
+    count > most || (count == most && deadline >= latest)
+}
+
+/// One of those who are about to log on, from the address from which most of them have come; of
+/// these the one who may log on for the longest, who is mostly the last who came.
 pub fn busiest(connections: &[Connection]) -> Option<usize>
     ensures within { IfSome result (λ c. c < length connections.now) }
     ensures busiest { IfSome result (λ c. IsBusiest connections.now c) }
@@ -39,11 +50,14 @@ pub fn busiest(connections: &[Connection]) -> Option<usize>
 {
     let mut found = None;
     let mut most = 0;
+    let mut latest = 0;
     for (place, connection) in connections.iter().enumerate() {
         if is_stranger(connection) {
             let count = strangers_from(connections, connection.address);
-            if count >= most {
+            let deadline = connection.patience.deadline;
+            if goes_first(count, most, deadline, latest) {
                 most = count;
+                latest = deadline;
                 found = Some(place);
             }
         }

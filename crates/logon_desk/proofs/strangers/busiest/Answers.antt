@@ -7,7 +7,7 @@ use Rattle.logon_desk.specs.declared.connection.Connection.{Connection}
 use Rattle.logon_desk.proofs.Busiest.{found_more, kept_more, passed_more, renamed}
 use Rattle.logon_desk.proofs.Steps.{read_there}
 use Rattle.logon_desk.proofs.strangers.busiest.Goals as goal
-use Rattle.logon_desk.proofs.strangers.busiest.Goals.{then-is_stranger+then-count-most, then-is_stranger+else-count-most, else-is_stranger}
+use Rattle.logon_desk.proofs.strangers.busiest.Goals.{then-is_stranger+then-goes_first, then-is_stranger+else-goes_first, else-is_stranger}
 
 pub loop-place-preserved : goal.loop-place-preserved
 loop-place-preserved c =
@@ -18,14 +18,17 @@ loop-place-preserved c =
     let from : strangers_from connections c.index-connections-place.result.address ≡ strangers_from connections (get_or connections c.loop-place.place gone).address =
       ap (λ (x : Connection). strangers_from connections x.address) (sym here) in
     elim c.if-is_stranger.branch [
-      then-is_stranger+then-count-most w ↦
-        renamed connections _ _ _ _ _ w.found-is w.most-is (found_more connections c.loop-place.place c.loop-place.found c.loop-place.most w.strangers_from-count.result c.loop-place.invariant
-          c.loop-place-test.true (told ∙ w.if-is_stranger.true) (w.strangers_from-count.ensures ∙ from) w.if-count-most.true)
-    | then-is_stranger+else-count-most w ↦
-        renamed connections _ _ _ _ _ w.found-is w.most-is (kept_more connections c.loop-place.place c.loop-place.found c.loop-place.most w.strangers_from-count.result c.loop-place.invariant
-          (w.strangers_from-count.ensures ∙ from) w.if-count-most.false)
+      then-is_stranger+then-goes_first w ↦
+        renamed connections _ _ _ _ _ _ _ w.found-is w.most-is w.latest-is
+          (found_more connections c.loop-place.place c.loop-place.found c.loop-place.most c.loop-place.latest w.strangers_from-count.result c.index-connections-place.result.patience.deadline
+            c.loop-place.invariant c.loop-place-test.true (told ∙ w.if-is_stranger.true) (w.strangers_from-count.ensures ∙ from) (w.goes_first.ensures.above w.if-goes_first.true))
+    | then-is_stranger+else-goes_first w ↦
+        renamed connections _ _ _ _ _ _ _ w.found-is w.most-is w.latest-is
+          (kept_more connections c.loop-place.place c.loop-place.found c.loop-place.most c.loop-place.latest w.strangers_from-count.result c.loop-place.invariant
+            (w.strangers_from-count.ensures ∙ from) (w.goes_first.ensures.below w.if-goes_first.false) (w.goes_first.ensures.some w.if-goes_first.false))
     | else-is_stranger w ↦
-        renamed connections _ _ _ _ _ w.found-is w.most-is (passed_more connections c.loop-place.place c.loop-place.found c.loop-place.most c.loop-place.invariant (told ∙ w.if-is_stranger.false))
+        renamed connections _ _ _ _ _ _ _ w.found-is w.most-is w.latest-is
+          (passed_more connections c.loop-place.place c.loop-place.found c.loop-place.most c.loop-place.latest c.loop-place.invariant (told ∙ w.if-is_stranger.false))
     ]
 
 none_at : (connections : List Connection) (place : ℕ) (found : Option ℕ) → length connections ≤ place → IfNone found ((k : ℕ) → k < place → is_stranger (get_or connections k gone) ≡ false)
