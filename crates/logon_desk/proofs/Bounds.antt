@@ -44,7 +44,7 @@ few_comes : (d : Desk) (k c : ℕ) (bytes : List ℕ) (fits : Bool) → leb (len
     → Few d c (cond fits (quietly (with_connection d k (record (connection_at d k) { waiting = (connection_at d k).waiting ++ bytes }))) (ended d k [])).desk
 few_comes d k c bytes true h =
     few_set d k c (record (connection_at d k) { waiting = (connection_at d k).waiting ++ bytes })
-      (λ _. omega (arith, length-append (connection_at d k).waiting bytes, leb-true (length (connection_at d k).waiting + length bytes) 4096 h))
+    (λ _. omega (arith, length-append (connection_at d k).waiting bytes, leb-true (length (connection_at d k).waiting + length bytes) 4096 h))
 few_comes d k c bytes false h = few_gone d k c
 
 few_wake : (d : Desk) (k c now : ℕ) (stage : Stage) → Few d c (wake_by d k (connection_at d k) stage now).desk
@@ -56,8 +56,8 @@ few_wake d k c now (Waiting guess) =
 few_wake d k c now (Judged guess) = λ few. few c
 few_wake d k c now Refused =
     few_either d c (after_pause d k (connection_at d k) now) (quietly d) (leb (connection_at d k).patience.due now)
-      (few_either d c _ _ (leb 3 (connection_at d k).patience.tries) (few_gone d k c)
-        (few_set d k c (record (connection_at d k) { stage = Naming; patience = again (connection_at d k).patience now }) (λ few. few k))) (λ few. few c)
+    (few_either d c _ _ (leb 3 (connection_at d k).patience.tries) (few_gone d k c)
+    (few_set d k c (record (connection_at d k) { stage = Naming; patience = again (connection_at d k).patience now }) (λ few. few k))) (λ few. few c)
 few_wake d k c now (On user) = few_either d c (quietly d) _ (is_terminal (account_of d user).terminal k) (λ few. few c) (few_gone d k c)
 
 few_judged : (d : Desk) (k c : ℕ) (guess : Guess) (who : Option ℕ) (is_right : Bool) (now : ℕ) → Few d c (judged_as d k guess who is_right now).desk
@@ -86,7 +86,7 @@ few_logon d k c byte rest line now waits =
     let a = arrives (with_connection d k x1) k x1 (after_line x.stage (meaning line)).stage now in
     let once : (comes_to (with_connection d k x1) k x1 (after_line x.stage (meaning line)).stage now).connections ≡ set d.connections k a.there = a.set_there ∙ set-set d.connections k x1 a.there in
     subst (λ (l : List Connection). ((n : ℕ) → IsFew (connection_at d n)) → IsFew (get_or l c gone)) (sym once)
-      (few_set d k c a.there (λ few. subst (λ (w : List ℕ). length w ≤ 4096) (sym a.waiting_is) (few_rest x byte rest waits (few k))))
+    (few_set d k c a.there (λ few. subst (λ (w : List ℕ). length w ≤ 4096) (sym a.waiting_is) (few_rest x byte rest waits (few k))))
 
 few_quiet : (d : Desk) (k c byte : ℕ) (rest : List ℕ) → (connection_at d k).waiting ≡ byte ∷ rest → Few d c (with_connection d k (rest_of (connection_at d k) byte rest))
 few_quiet d k c byte rest waits = few_set d k c (rest_of (connection_at d k) byte rest) (λ few. few_rest (connection_at d k) byte rest waits (few k))
@@ -111,7 +111,7 @@ few_first : (d : Desk) (k c now : ℕ) (waiting : List ℕ) → is_taking d k (c
 few_first d k c now [] takes waits = λ few. few c
 few_first d k c now (byte ∷ rest) takes waits =
     few_decoded d k c byte rest now (after_byte (connection_at d k).decoder byte).decoded waits
-      (get_or-set_same d.connections k (rest_of (connection_at d k) byte rest) gone (within d k (taking_open d k (connection_at d k).stage takes)))
+    (get_or-set_same d.connections k (rest_of (connection_at d k) byte rest) gone (within d k (taking_open d k (connection_at d k).stage takes)))
 
 few_take : (d : Desk) (k c now : ℕ) (takes : Bool) → is_taking d k (connection_at d k).stage ≡ takes → Few d c (cond takes (after_first d k (connection_at d k).waiting now) (quietly d)).desk
 few_take d k c now true e = few_first d k c now (connection_at d k).waiting e refl
@@ -155,12 +155,12 @@ short_rubbed line h = omega (arith, length-take (length line - 1) line)
 short_character : (t : Typed) (byte : ℕ) → length t.line ≤ 130 → IsShort (after_character t byte)
 short_character t byte h =
     short_either _ _ (t.is_after_return && ((byte == 10) || (byte == 0))) h (short_either _ _ (byte == 13) (omega arith) (short_either _ _ (byte == 10) (omega arith)
-      (short_either _ _ ((byte == 8) || (byte == 127)) (short_rubbed t.line h) (short_added t.line (printable byte) h))))
+    (short_either _ _ ((byte == 8) || (byte == 127)) (short_rubbed t.line h) (short_added t.line (printable byte) h))))
 
 short_command : (t : Typed) (byte : ℕ) → length t.line ≤ 130 → IsShort (after_command t byte)
 short_command t byte h =
     short_either _ _ (byte == 250) h (short_either _ _ (leb 251 byte && leb byte 254) h (short_either _ _ (byte == 255) (short_added t.line 32 h) (short_either _ _ (byte == 247) (short_rubbed t.line h)
-      (short_either _ _ (byte == 248) (omega arith) (short_either _ _ ((byte == 243) || (byte == 244)) (omega arith) (short_either _ _ (byte == 246) h h))))))
+    (short_either _ _ (byte == 248) (omega arith) (short_either _ _ ((byte == 243) || (byte == 244)) (omega arith) (short_either _ _ (byte == 246) h h))))))
 
 short_expected : (t : Typed) (expects : Expects) (byte : ℕ) → length t.line ≤ 130 → IsShort (after_expected t expects byte)
 short_expected t Text byte h = short_either _ _ (byte == 255) h (short_character t byte h)

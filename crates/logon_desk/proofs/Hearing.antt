@@ -38,7 +38,7 @@ comes_by : (d : Desk) (k c : ℕ) (bytes came : List ℕ) (fits : Bool) → IsHe
     → IsHeard (connection_at (cond fits (quietly (with_connection d k (record (connection_at d k) { waiting = (connection_at d k).waiting ++ bytes }))) (ended d k [])).desk c) (cond (eqb k c) (came ++ bytes) came)
 comes_by d k c bytes came true was =
     at_both IsHeard d.connections k c (record (connection_at d k) { waiting = (connection_at d k).waiting ++ bytes }) came (came ++ bytes) vacant_heard
-      (λ same. heard_more (connection_at d k) came bytes (subst (λ (n : ℕ). IsHeard (connection_at d n) came) (sym same) was)) was
+    (λ same. heard_more (connection_at d k) came bytes (subst (λ (n : ℕ). IsHeard (connection_at d n) came) (sym same) was)) was
 comes_by d k c bytes came false was = at_both IsHeard d.connections k c gone came (came ++ bytes) vacant_heard (λ same. vacant_heard (came ++ bytes)) was
 
 -- time passed
@@ -54,7 +54,7 @@ asks_by : (d : Desk) (k c : ℕ) (came : List ℕ) (guess : Guess) (s : Step) (i
     → IsHeard (connection_at d c) came → IsHeard (connection_at (cond is_due s (quietly d)).desk c) came
 asks_by d k c came guess s true stage e was =
     subst (λ (n : Desk). IsHeard (connection_at n c) came) (sym e) (heard_set d k c (record (connection_at d k) { stage = Judged guess }) came
-      (heard_to (connection_at d k) (record (connection_at d k) { stage = Judged guess }) came (ap is_gone stage) refl refl (λ lines said. subst (λ (t : Stage). IsSaid t lines) stage said)) was)
+    (heard_to (connection_at d k) (record (connection_at d k) { stage = Judged guess }) came (ap is_gone stage) refl refl (λ lines said. subst (λ (t : Stage). IsSaid t lines) stage said)) was)
 asks_by d k c came guess s false stage e was = was
 
 pause_by : (d : Desk) (k c : ℕ) (came : List ℕ) (now : ℕ) (is_last : Bool) (out other : List Output) → (connection_at d k).stage ≡ Refused → IsHeard (connection_at d c) came
@@ -62,7 +62,7 @@ pause_by : (d : Desk) (k c : ℕ) (came : List ℕ) (now : ℕ) (is_last : Bool)
 pause_by d k c came now true out other stage was = heard_gone d k c came was
 pause_by d k c came now false out other stage was =
     heard_set d k c (record (connection_at d k) { stage = Naming; patience = again (connection_at d k).patience now }) came
-      (heard_to (connection_at d k) (record (connection_at d k) { stage = Naming; patience = again (connection_at d k).patience now }) came (ap is_gone stage) refl refl (λ lines said. tt)) was
+    (heard_to (connection_at d k) (record (connection_at d k) { stage = Naming; patience = again (connection_at d k).patience now }) came (ap is_gone stage) refl refl (λ lines said. tt)) was
 
 paused_by : (d : Desk) (k c : ℕ) (came : List ℕ) (now : ℕ) (is_due : Bool) → (connection_at d k).stage ≡ Refused → IsHeard (connection_at d c) came
     → IsHeard (connection_at (cond is_due (after_pause d k (connection_at d k) now) (quietly d)).desk c) came
@@ -88,13 +88,13 @@ judged_by : (d : Desk) (k c : ℕ) (came : List ℕ) (guess other : Guess) (user
     → IsHeard (connection_at (judged_as d k guess user is_right now).desk c) came
 judged_by d k c came guess other None is_right now stage was =
     heard_set d k c (record (connection_at d k) { stage = Refused; patience = refused (connection_at d k).patience now }) came
-      (heard_to (connection_at d k) (record (connection_at d k) { stage = Refused; patience = refused (connection_at d k).patience now }) came (ap is_gone stage) refl refl (λ lines said. tt)) was
+    (heard_to (connection_at d k) (record (connection_at d k) { stage = Refused; patience = refused (connection_at d k).patience now }) came (ap is_gone stage) refl refl (λ lines said. tt)) was
 judged_by d k c came guess other (Some user) true now stage was =
     heard_set d k c (record (connection_at d k) { stage = On user }) came
-      (heard_to (connection_at d k) (record (connection_at d k) { stage = On user }) came (ap is_gone stage) refl refl (λ lines said. tt)) was
+    (heard_to (connection_at d k) (record (connection_at d k) { stage = On user }) came (ap is_gone stage) refl refl (λ lines said. tt)) was
 judged_by d k c came guess other (Some user) false now stage was =
     heard_set d k c (record (connection_at d k) { stage = Refused; patience = refused (connection_at d k).patience now }) came
-      (heard_to (connection_at d k) (record (connection_at d k) { stage = Refused; patience = refused (connection_at d k).patience now }) came (ap is_gone stage) refl refl (λ lines said. tt)) was
+    (heard_to (connection_at d k) (record (connection_at d k) { stage = Refused; patience = refused (connection_at d k).patience now }) came (ap is_gone stage) refl refl (λ lines said. tt)) was
 
 same_by : (d : Desk) (k c : ℕ) (came : List ℕ) (guess other : Guess) (is_right : Bool) (now : ℕ) (is_same : Bool) → (connection_at d k).stage ≡ Judged other → IsHeard (connection_at d c) came
     → IsHeard (connection_at (cond is_same (judged_as d k guess (user_of (names d) guess.name) is_right now) (quietly d)).desk c) came
@@ -160,8 +160,14 @@ pub arrives : (d : Desk) (c : ℕ) (x : Connection) (stage : Stage) (now : ℕ) 
 arrives d c x Gone now = record { there = record x { stage = Gone }; set_there = refl; stage_is = refl; decoder_is = refl; waiting_is = refl; soon = λ g e. absurd (cc (e)) }
 arrives d c x Naming now = record { there = record x { stage = Naming }; set_there = refl; stage_is = refl; decoder_is = refl; waiting_is = refl; soon = λ g e. absurd (cc (e)) }
 arrives d c x (Asking name) now = record { there = record x { stage = Asking name }; set_there = refl; stage_is = refl; decoder_is = refl; waiting_is = refl; soon = λ g e. absurd (cc (e)) }
-arrives d c x (Waiting guess) now = record { there = record x { stage = Waiting guess; patience = begun x.patience now (wait_of (debt (get_or d.guesses (queue_of guess.name x.address) 0) now)) }; set_there = refl; stage_is = refl; decoder_is = refl; waiting_is = refl;
-      soon = λ g e. omega (arith, wait_bound (debt (get_or d.guesses (queue_of guess.name x.address) 0) now)) }
+arrives d c x (Waiting guess) now = record {
+  there = record x { stage = Waiting guess; patience = begun x.patience now (wait_of (debt (get_or d.guesses (queue_of guess.name x.address) 0) now)) };
+  set_there = refl;
+  stage_is = refl;
+  decoder_is = refl;
+  waiting_is = refl;
+  soon = λ g e. omega (arith, wait_bound (debt (get_or d.guesses (queue_of guess.name x.address) 0) now));
+}
 arrives d c x (Judged guess) now = record { there = record x { stage = Judged guess }; set_there = refl; stage_is = refl; decoder_is = refl; waiting_is = refl; soon = λ g e. absurd (cc (e)) }
 arrives d c x Refused now = record { there = record x { stage = Refused }; set_there = refl; stage_is = refl; decoder_is = refl; waiting_is = refl; soon = λ g e. absurd (cc (e)) }
 arrives d c x (On user) now = record { there = record x { stage = On user }; set_there = refl; stage_is = refl; decoder_is = refl; waiting_is = refl; soon = λ g e. absurd (cc (e)) }
@@ -190,9 +196,9 @@ logs_on_by d k c came byte rest line now is_open waits whole logs was =
     let a = arrives (with_connection d k x1) k x1 stage now in
     let once : (comes_to (with_connection d k x1) k x1 stage now).connections ≡ set d.connections k a.there = a.set_there ∙ set-set d.connections k x1 a.there in
     subst (λ (l : List Connection). IsHeard (get_or l c gone) came) (sym once) (heard_set d k c a.there came
-      (heard_byte x a.there came byte rest is_open waits a.waiting_is a.decoder_is
-        (λ lines said. subst (λ (s : Stage). IsSaid s (with_line (after_byte x.decoder byte).decoded lines)) (sym a.stage_is)
-          (subst (λ (e : Decoded). IsSaid stage (with_line e lines)) (sym whole) (said_after x.stage (meaning line) line lines refl said logs)))) was)
+    (heard_byte x a.there came byte rest is_open waits a.waiting_is a.decoder_is
+    (λ lines said. subst (λ (s : Stage). IsSaid s (with_line (after_byte x.decoder byte).decoded lines)) (sym a.stage_is)
+    (subst (λ (e : Decoded). IsSaid stage (with_line e lines)) (sym whole) (said_after x.stage (meaning line) line lines refl said logs)))) was)
 
 -- what is shown of him is what it was
 stays_said : (stage : Stage) (lines more : List (List ℕ)) → (user : ℕ) × (stage ≡ On user) → IsSaid stage more
@@ -211,16 +217,16 @@ line_taken : (d : Desk) (k c : ℕ) (came : List ℕ) (byte : ℕ) (rest line : 
 line_taken d k c came byte rest line now Gone e takes waits whole same was = absurd (not_both false takes refl)
 line_taken d k c came byte rest line now Naming e takes waits whole same was =
     subst (λ (x : Connection). IsHeard (connection_at (logon_line (with_connection d k (rest_of (connection_at d k) byte rest)) k x line now).desk c) came) (sym same)
-      (logs_on_by d k c came byte rest line now (ap is_gone e) waits whole (inl e) was)
+    (logs_on_by d k c came byte rest line now (ap is_gone e) waits whole (inl e) was)
 line_taken d k c came byte rest line now (Asking name) e takes waits whole same was =
     subst (λ (x : Connection). IsHeard (connection_at (logon_line (with_connection d k (rest_of (connection_at d k) byte rest)) k x line now).desk c) came) (sym same)
-      (logs_on_by d k c came byte rest line now (ap is_gone e) waits whole (inr (name, e)) was)
+    (logs_on_by d k c came byte rest line now (ap is_gone e) waits whole (inr (name, e)) was)
 line_taken d k c came byte rest line now (Waiting guess) e takes waits whole same was = absurd (not_both false takes refl)
 line_taken d k c came byte rest line now (Judged guess) e takes waits whole same was = absurd (not_both false takes refl)
 line_taken d k c came byte rest line now Refused e takes waits whole same was = absurd (not_both false takes refl)
 line_taken d k c came byte rest line now (On user) e takes waits whole same was =
     heard_set d k c (rest_of (connection_at d k) byte rest) came
-      (heard_byte (connection_at d k) (rest_of (connection_at d k) byte rest) came byte rest (ap is_gone e) waits refl refl (λ lines said. stays_said (connection_at d k).stage lines (with_line (after_byte (connection_at d k).decoder byte).decoded lines) (user, e))) was
+    (heard_byte (connection_at d k) (rest_of (connection_at d k) byte rest) came byte rest (ap is_gone e) waits refl refl (λ lines said. stays_said (connection_at d k).stage lines (with_line (after_byte (connection_at d k).decoder byte).decoded lines) (user, e))) was
 
 -- a byte that is no line is taken
 quiet_byte : (d : Desk) (k c : ℕ) (came : List ℕ) (byte : ℕ) (rest : List ℕ) → is_gone (connection_at d k).stage ≡ false → (connection_at d k).waiting ≡ byte ∷ rest
@@ -228,8 +234,8 @@ quiet_byte : (d : Desk) (k c : ℕ) (came : List ℕ) (byte : ℕ) (rest : List 
     → IsHeard (connection_at (with_connection d k (rest_of (connection_at d k) byte rest)) c) came
 quiet_byte d k c came byte rest is_open waits none was =
     heard_set d k c (rest_of (connection_at d k) byte rest) came
-      (heard_byte (connection_at d k) (rest_of (connection_at d k) byte rest) came byte rest is_open waits refl refl
-        (λ lines said. subst (λ (l : List (List ℕ)). IsSaid (connection_at d k).stage l) (sym (none lines)) said)) was
+    (heard_byte (connection_at d k) (rest_of (connection_at d k) byte rest) came byte rest is_open waits refl refl
+    (λ lines said. subst (λ (l : List (List ℕ)). IsSaid (connection_at d k).stage l) (sym (none lines)) said)) was
 
 decoded_by : (d : Desk) (k c : ℕ) (came : List ℕ) (byte : ℕ) (rest : List ℕ) (now : ℕ) (decoded : Decoded) → (after_byte (connection_at d k).decoder byte).decoded ≡ decoded → is_taking d k (connection_at d k).stage ≡ true
     → is_gone (connection_at d k).stage ≡ false → (connection_at d k).waiting ≡ byte ∷ rest → connection_at (with_connection d k (rest_of (connection_at d k) byte rest)) k ≡ rest_of (connection_at d k) byte rest
@@ -238,7 +244,7 @@ decoded_by d k c came byte rest now Nothing is takes is_open waits same was =
     quiet_byte d k c came byte rest is_open waits (λ lines. ap (λ (e : Decoded). with_line e lines) is) was
 decoded_by d k c came byte rest now (Line line) is takes is_open waits same was =
     subst (λ (x : Connection). IsHeard (connection_at (line_by (with_connection d k (rest_of (connection_at d k) byte rest)) k x.stage line now).desk c) came) (sym same)
-      (line_taken d k c came byte rest line now (connection_at d k).stage refl takes waits is same was)
+    (line_taken d k c came byte rest line now (connection_at d k).stage refl takes waits is same was)
 decoded_by d k c came byte rest now (Declines command option) is takes is_open waits same was =
     quiet_byte d k c came byte rest is_open waits (λ lines. ap (λ (e : Decoded). with_line e lines) is) was
 decoded_by d k c came byte rest now AreYouThere is takes is_open waits same was =
@@ -249,7 +255,7 @@ first_by : (d : Desk) (k c : ℕ) (came : List ℕ) (now : ℕ) (waiting : List 
 first_by d k c came now [] waits takes is_open was = was
 first_by d k c came now (byte ∷ rest) waits takes is_open was =
     decoded_by d k c came byte rest now (after_byte (connection_at d k).decoder byte).decoded refl takes is_open waits
-      (get_or-set_same d.connections k (rest_of (connection_at d k) byte rest) gone (within d k is_open)) was
+    (get_or-set_same d.connections k (rest_of (connection_at d k) byte rest) gone (within d k is_open)) was
 
 pub taking_open : (d : Desk) (k : ℕ) (stage : Stage) → is_taking d k stage ≡ true → is_gone stage ≡ false
 taking_open d k Gone takes = absurd (not_both false takes refl)

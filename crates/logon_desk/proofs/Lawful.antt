@@ -55,7 +55,7 @@ may_wake d k now (Waiting guess) e = may_either d (Wakes k now) _ (quietly d) (l
 may_wake d k now (Judged guess) e = tt
 may_wake d k now Refused e =
     may_either d (Wakes k now) (after_pause d k (connection_at d k) now) (quietly d) (leb (connection_at d k).patience.due now)
-      (may_either d (Wakes k now) _ _ (leb 3 (connection_at d k).patience.tries) (refl, (refl, tt)) (refl, tt)) tt
+    (may_either d (Wakes k now) _ _ (leb 3 (connection_at d k).patience.tries) (refl, (refl, tt)) (refl, tt)) tt
 may_wake d k now (On user) e =
     may_either d (Wakes k now) (quietly d) _ (is_terminal (account_of d user).terminal k) tt (may_farewell d (Wakes k now) k (account_of d user).terminal refl)
 
@@ -101,8 +101,8 @@ may_again d event c user (line ∷ rest) l kept = ((l, kept line (inl refl)), ma
 
 may_greet : (d : Desk) (c user : ℕ) (guess : Guess) (now : ℕ) (b : Bool) → LogsOn d c user (Answers c guess true now)
     → AllMay d (Answers c guess true now)
-      (cond b (Notes (Rattle.logon_desk.specs.declared.output.Entry.TheVariants.LogsOn user c) ∷ Types user logon_command ∷ [])
-        (Notes (IsBack user c) ∷ Says c Reconnected ∷ map (λ (line : KeptLine). ShowsAgain c user line) (account_of d user).kept))
+    (cond b (Notes (Rattle.logon_desk.specs.declared.output.Entry.TheVariants.LogsOn user c) ∷ Types user logon_command ∷ [])
+    (Notes (IsBack user c) ∷ Says c Reconnected ∷ map (λ (line : KeptLine). ShowsAgain c user line) (account_of d user).kept))
 may_greet d c user guess now true l = (tt, (inr (c, l, refl), tt))
 may_greet d c user guess now false l = (tt, (refl, may_again d (Answers c guess true now) c user (account_of d user).kept l (λ line h. h)))
 
@@ -112,7 +112,7 @@ may_judge d k guess other None is_right now stage same found = (tt, tt)
 may_judge d k guess other (Some who) false now stage same found = (tt, tt)
 may_judge d k guess other (Some who) true now stage same found =
     may_greet d k who guess now (not (account_of d who).is_on && not (account_of d who).is_busy)
-      (record { guess = guess; now = now; answer = refl; judged = stage ∙ ap (λ (g : Guess). Judged g) same; his = found })
+    (record { guess = guess; now = now; answer = refl; judged = stage ∙ ap (λ (g : Guess). Judged g) same; his = found })
 
 may_same : (d : Desk) (k : ℕ) (guess other : Guess) (is_right : Bool) (now : ℕ) (is_same : Bool) → same_guess other guess ≡ is_same → (connection_at d k).stage ≡ Judged other
     → AllMay d (Answers k guess is_right now) (cond is_same (judged_as d k guess (user_of (names d) guess.name) is_right now) (quietly d)).outputs
@@ -149,19 +149,21 @@ may_line d k now byte rest line (Asking name) e takes waits whole = may_notice d
 may_line d k now byte rest line (Waiting guess) e takes waits whole = absurd (not_both false takes refl)
 may_line d k now byte rest line (Judged guess) e takes waits whole = absurd (not_both false takes refl)
 may_line d k now byte rest line Refused e takes waits whole = absurd (not_both false takes refl)
-may_line d k now byte rest line (On user) e takes waits whole =
-    (inl (record {
-      c = k;
-      now = now;
-      byte = byte;
-      rest = rest;
-      takes = refl;
-      is_on = and_is (is_user (connection_at d k).stage user) (is_terminal (account_of d user).terminal k) (ap (λ (s : Stage). is_user s user) e ∙ eqb_self user) (is_taking_on d k user takes);
-      waits = waits;
-      typed = line;
-      whole = whole;
-      script = refl;
-    }), tt)
+may_line d k now byte rest line (On user) e takes waits whole = (
+  inl (record {
+    c = k;
+    now = now;
+    byte = byte;
+    rest = rest;
+    takes = refl;
+    is_on = and_is (is_user (connection_at d k).stage user) (is_terminal (account_of d user).terminal k) (ap (λ (s : Stage). is_user s user) e ∙ eqb_self user) (is_taking_on d k user takes);
+    waits = waits;
+    typed = line;
+    whole = whole;
+    script = refl;
+  }),
+  tt,
+)
 
 may_decode : (d : Desk) (k now byte : ℕ) (rest : List ℕ) (decoded : Decoded) → is_taking d k (connection_at d k).stage ≡ true → (connection_at d k).waiting ≡ byte ∷ rest
     → (after_byte (connection_at d k).decoder byte).decoded ≡ decoded → connection_at (with_connection d k (rest_of (connection_at d k) byte rest)) k ≡ rest_of (connection_at d k) byte rest
@@ -169,7 +171,7 @@ may_decode : (d : Desk) (k now byte : ℕ) (rest : List ℕ) (decoded : Decoded)
 may_decode d k now byte rest Nothing takes waits whole same = tt
 may_decode d k now byte rest (Line line) takes waits whole same =
     subst (λ (x : Connection). AllMay d (Takes k now) (line_by (with_connection d k (rest_of (connection_at d k) byte rest)) k x.stage line now).outputs) (sym same)
-      (may_line d k now byte rest line (connection_at d k).stage refl takes waits whole)
+    (may_line d k now byte rest line (connection_at d k).stage refl takes waits whole)
 may_decode d k now byte rest (Refuses command option) takes waits whole same = (refl, tt)
 may_decode d k now byte rest AreYouThere takes waits whole same = (refl, tt)
 
@@ -261,7 +263,7 @@ again : (d : Desk) (c user : ℕ) (event : Event) → LogsOn d c user event → 
 again d c user event l is_on =
     ap (λ (s : Step). s.outputs) (on_step d c user event l)
     ∙ ap (λ (b : Bool). cond (not b && not (account_of d user).is_busy) (Notes (Rattle.logon_desk.specs.declared.output.Entry.TheVariants.LogsOn user c) ∷ Types user logon_command ∷ [])
-      (Notes (IsBack user c) ∷ Says c Reconnected ∷ map (λ (line : KeptLine). ShowsAgain c user line) (account_of d user).kept)) is_on
+    (Notes (IsBack user c) ∷ Says c Reconnected ∷ map (λ (line : KeptLine). ShowsAgain c user line) (account_of d user).kept)) is_on
 
 wrong_desk : (d : Desk) (c : ℕ) (guess : Guess) (who : Option ℕ) (is_right : Bool) (now : ℕ) → (is_right ≡ false) ⊎ (who ≡ None) → (judged_as d c guess who is_right now).desk ≡ (wrong_guess d c None now).desk
 wrong_desk d c guess None is_right now h = refl
@@ -283,7 +285,7 @@ lets_on d c user now guess stage his =
     let has = get_or-set_same d.accounts user y nobody there in
     ap (λ (s : Step). is_on_at s.desk c user) (on_step d c user (Answers c guess true now) l)
     ∙ and_is (is_user (get_or (set d.connections c x) c gone).stage user) (is_terminal (get_or (set d.accounts user y) user nobody).terminal c)
-      (ap (λ (z : Connection). is_user z.stage user) at ∙ eqb_self user) (ap (λ (z : Account). is_terminal z.terminal c) has ∙ eqb_self c)
+    (ap (λ (z : Connection). is_user z.stage user) at ∙ eqb_self user) (ap (λ (z : Account). is_terminal z.terminal c) has ∙ eqb_self c)
 
 -- the host is asked when a guess is due
 
@@ -310,7 +312,7 @@ taking_soon d k now x (On user) e takes guess h = absurd (cc (e, h))
 rest_soon : (d : Desk) (k now byte : ℕ) (rest : List ℕ) → is_taking d k (connection_at d k).stage ≡ true → IsSoon (connection_at (with_connection d k (rest_of (connection_at d k) byte rest)) k) now
 rest_soon d k now byte rest takes =
     subst (λ (x : Connection). IsSoon x now) (sym (same_there d k byte rest (taking_open d k (connection_at d k).stage takes)))
-      (taking_soon d k now (rest_of (connection_at d k) byte rest) (connection_at d k).stage refl takes)
+    (taking_soon d k now (rest_of (connection_at d k) byte rest) (connection_at d k).stage refl takes)
 
 logon_soon : (d : Desk) (k now byte : ℕ) (rest line : List ℕ) → is_gone (connection_at d k).stage ≡ false
     → IsSoon (connection_at (logon_line (with_connection d k (rest_of (connection_at d k) byte rest)) k (rest_of (connection_at d k) byte rest) line now).desk k) now
@@ -340,7 +342,7 @@ decoded_soon : (d : Desk) (k now byte : ℕ) (rest : List ℕ) (decoded : Decode
 decoded_soon d k now byte rest Nothing takes same = rest_soon d k now byte rest takes
 decoded_soon d k now byte rest (Line line) takes same =
     subst (λ (x : Connection). IsSoon (connection_at (line_by (with_connection d k (rest_of (connection_at d k) byte rest)) k x.stage line now).desk k) now) (sym same)
-      (line_soon d k now byte rest line (connection_at d k).stage refl takes same)
+    (line_soon d k now byte rest line (connection_at d k).stage refl takes same)
 decoded_soon d k now byte rest (Refuses command option) takes same = rest_soon d k now byte rest takes
 decoded_soon d k now byte rest AreYouThere takes same = rest_soon d k now byte rest takes
 
@@ -353,7 +355,7 @@ waits : (d : Desk) (c now : ℕ) (guess : Guess) → is_taking d c (connection_a
     → (connection_at (step d (Takes c now)).desk c).patience.due ≤ now + 4000
 waits d c now guess takes =
     subst (λ (b : Bool). (connection_at (cond b (after_first d c (connection_at d c).waiting now) (quietly d)).desk c).stage ≡ Waiting guess
-      → (connection_at (cond b (after_first d c (connection_at d c).waiting now) (quietly d)).desk c).patience.due ≤ now + 4000) (sym takes) (first_soon d c now (connection_at d c).waiting takes guess)
+    → (connection_at (cond b (after_first d c (connection_at d c).waiting now) (quietly d)).desk c).patience.due ≤ now + 4000) (sym takes) (first_soon d c now (connection_at d c).waiting takes guess)
 
 -- the lines that are kept
 

@@ -31,13 +31,10 @@ use Rattle.logon_desk.proofs.Reading.{Heard, at_one}
 abbrev Before : Desk → ℕ → ℕ → Desk → Type 0
 Before d c user new = (connection_at new c).stage ≡ On user → (connection_at d c).stage ≡ On user
 
-
-
-
 before_set : (d : Desk) (k c user : ℕ) (y : Connection) → (y.stage ≡ On user → (connection_at d k).stage ≡ On user) → (get_or (set d.connections k y) c gone).stage ≡ On user → (connection_at d c).stage ≡ On user
 before_set d k c user y here =
     at_one (λ (x : Connection). x.stage ≡ On user → (connection_at d c).stage ≡ On user) d.connections k c y (λ e. absurd cc)
-      (λ same e. subst (λ (n : ℕ). (connection_at d n).stage ≡ On user) same (here e)) (λ _ e. e)
+    (λ same e. subst (λ (n : ℕ). (connection_at d n).stage ≡ On user) same (here e)) (λ _ e. e)
 
 before_gone : (d : Desk) (k c user : ℕ) → (get_or (set d.connections k gone) c gone).stage ≡ On user → (connection_at d c).stage ≡ On user
 before_gone d k c user = before_set d k c user gone (λ e. absurd cc)
@@ -60,8 +57,8 @@ wakes_before d k c user now (Waiting guess) =
 wakes_before d k c user now (Judged guess) = λ e. e
 wakes_before d k c user now Refused =
     either_before d c user (after_pause d k (connection_at d k) now) (quietly d) (leb (connection_at d k).patience.due now)
-      (either_before d c user _ _ (leb 3 (connection_at d k).patience.tries) (before_gone d k c user)
-        (before_set d k c user (record (connection_at d k) { stage = Naming; patience = again (connection_at d k).patience now }) (λ e. absurd cc))) (λ e. e)
+    (either_before d c user _ _ (leb 3 (connection_at d k).patience.tries) (before_gone d k c user)
+    (before_set d k c user (record (connection_at d k) { stage = Naming; patience = again (connection_at d k).patience now }) (λ e. absurd cc))) (λ e. e)
 wakes_before d k c user now (On other) = either_before d c user (quietly d) _ (is_terminal (account_of d other).terminal k) (λ e. e) (before_gone d k c user)
 
 -- no line alone lets anybody on
@@ -93,7 +90,7 @@ logon_before d k c user byte rest line now logs =
     let a = arrives (with_connection d k x1) k x1 (after_line x.stage (meaning line)).stage now in
     let once : (comes_to (with_connection d k x1) k x1 (after_line x.stage (meaning line)).stage now).connections ≡ set d.connections k a.there = a.set_there ∙ set-set d.connections k x1 a.there in
     subst (λ (l : List Connection). (get_or l c gone).stage ≡ On user → (connection_at d c).stage ≡ On user) (sym once)
-      (before_set d k c user a.there (λ e. absurd (no_logon x.stage (meaning line) user logs (sym a.stage_is ∙ e))))
+    (before_set d k c user a.there (λ e. absurd (no_logon x.stage (meaning line) user logs (sym a.stage_is ∙ e))))
 
 line_before : (d : Desk) (k c user byte : ℕ) (rest line : List ℕ) (now : ℕ) (stage : Stage) → (connection_at d k).stage ≡ stage → is_taking d k stage ≡ true
     → connection_at (with_connection d k (rest_of (connection_at d k) byte rest)) k ≡ rest_of (connection_at d k) byte rest
@@ -114,7 +111,7 @@ decoded_before : (d : Desk) (k c user byte : ℕ) (rest : List ℕ) (now : ℕ) 
 decoded_before d k c user byte rest now Nothing takes same = before_set d k c user (rest_of (connection_at d k) byte rest) (λ h. h)
 decoded_before d k c user byte rest now (Line line) takes same =
     subst (λ (x : Connection). Before d c user (line_by (with_connection d k (rest_of (connection_at d k) byte rest)) k x.stage line now).desk) (sym same)
-      (line_before d k c user byte rest line now (connection_at d k).stage refl takes same)
+    (line_before d k c user byte rest line now (connection_at d k).stage refl takes same)
 decoded_before d k c user byte rest now (Declines command option) takes same = before_set d k c user (rest_of (connection_at d k) byte rest) (λ h. h)
 decoded_before d k c user byte rest now AreYouThere takes same = before_set d k c user (rest_of (connection_at d k) byte rest) (λ h. h)
 
@@ -122,7 +119,7 @@ first_before : (d : Desk) (k c user now : ℕ) (waiting : List ℕ) → is_takin
 first_before d k c user now [] takes = λ e. e
 first_before d k c user now (byte ∷ rest) takes =
     decoded_before d k c user byte rest now (after_byte (connection_at d k).decoder byte).decoded takes
-      (get_or-set_same d.connections k (rest_of (connection_at d k) byte rest) gone (within d k (taking_open d k (connection_at d k).stage takes)))
+    (get_or-set_same d.connections k (rest_of (connection_at d k) byte rest) gone (within d k (taking_open d k (connection_at d k).stage takes)))
 
 takes_before : (d : Desk) (k c user now : ℕ) (takes : Bool) → is_taking d k (connection_at d k).stage ≡ takes
     → Before d c user (cond takes (after_first d k (connection_at d k).waiting now) (quietly d)).desk
@@ -163,14 +160,14 @@ judged_was d k c user guess other (Some who) false now stage same found =
     reset_set d k c user (record (connection_at d k) { stage = Refused; patience = refused (connection_at d k).patience now }) (Answers k guess false now) (λ e. cc) (λ _. tt)
 judged_was d k c user guess other (Some who) true now stage same found =
     at_one (λ (x : Connection). x.stage ≡ On user → Was d c user (Answers k guess true now)) d.connections k c (record (connection_at d k) { stage = On who }) (λ e. absurd cc)
-      (λ there e. inr (record {
-        guess = guess;
-        now = now;
-        answer = ap (λ (n : ℕ). Answers n guess true now) there;
-        judged = subst (λ (n : ℕ). (connection_at d n).stage ≡ Judged guess) there (stage ∙ ap (λ (g : Guess). Judged g) same);
-        his = found ∙ ap (λ (n : ℕ). Some n) (same_user who user e);
-      }))
-      (λ differs e. inl (e, tt))
+    (λ there e. inr (record {
+      guess = guess;
+      now = now;
+      answer = ap (λ (n : ℕ). Answers n guess true now) there;
+      judged = subst (λ (n : ℕ). (connection_at d n).stage ≡ Judged guess) there (stage ∙ ap (λ (g : Guess). Judged g) same);
+      his = found ∙ ap (λ (n : ℕ). Some n) (same_user who user e);
+    }))
+    (λ differs e. inl (e, tt))
 
 pub both_true : (a b : Bool) → (a && b) ≡ true → (a ≡ true) × (b ≡ true)
 both_true true true h = (refl, refl)
@@ -388,8 +385,8 @@ had_logged : (d : Desk) (c user : ℕ) (event : Event) (new : List Account) → 
 had_logged d c user event new off (inl e) = had_same d c user event new off e
 had_logged d c user event new off (inr e) =
     subst (λ (l : List Account). HasNow d c user event l) (sym e.3)
-      (had_set d c user e.1 (record (account_of d e.1) { terminal = Some e.0; is_busy = (account_of d e.1).is_busy || not (account_of d e.1).is_on }) event (λ _. off)
-        (λ same h. inr (moved_on d e.0 c e.1 user event (eqb_is e.0 c h) same e.2)))
+    (had_set d c user e.1 (record (account_of d e.1) { terminal = Some e.0; is_busy = (account_of d e.1).is_busy || not (account_of d e.1).is_on }) event (λ _. off)
+    (λ same h. inr (moved_on d e.0 c e.1 user event (eqb_is e.0 c h) same e.2)))
 
 turned_off : (t : Option ℕ) (c : ℕ) (b : Bool) → is_terminal (cond b t None) c ≡ true → (is_terminal t c ≡ true) × (b ≡ true)
 turned_off t c true h = (h, refl)

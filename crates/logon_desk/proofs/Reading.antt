@@ -87,7 +87,7 @@ heard_byte x y came byte rest was_open waits waiting decoder said h is_open =
     let was = h was_open in
     let after = reading_more was.taken byte in
     let step : read_byte (reading_of was.taken) byte ≡ record { typed = (after_byte x.decoder byte).typed; lines = with_line (after_byte x.decoder byte).decoded (reading_of was.taken).lines } =
-      ap (λ (t : Typed). read_byte (record { typed = t; lines = (reading_of was.taken).lines }) byte) (sym was.typed) in
+    ap (λ (t : Typed). read_byte (record { typed = t; lines = (reading_of was.taken).lines }) byte) (sym was.typed) in
     record {
       taken = was.taken ++ byte ∷ [];
       split = was.split ∙ ap (λ (w : List ℕ). was.taken ++ w) (waits ∙ ap (λ (w : List ℕ). byte ∷ w) (sym waiting)) ∙ sym (append_assoc was.taken (byte ∷ []) y.waiting);

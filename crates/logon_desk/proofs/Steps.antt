@@ -63,7 +63,7 @@ pub says_line : (connections : List Connection) (accounts : List Account) (guess
     → record { connections = connections; accounts = accounts; guesses = guesses } ≡ old → c < length old.connections → at ≡ get_or connections c at
     → moved ≡ Gone → stage ≡ at.stage → capitals ≡ map capital line → said ≡ said_by (words_of capitals) → answer ≡ after_line stage said
     → answered (record { connections = set connections c (record at { stage = moved }); accounts = accounts; guesses = guesses }) c
-      (connection_at (record { connections = set connections c (record at { stage = moved }); accounts = accounts; guesses = guesses }) c) answer now ≡ logon_line old c (connection_at old c) line now
+    (connection_at (record { connections = set connections c (record at { stage = moved }); accounts = accounts; guesses = guesses }) c) answer now ≡ logon_line old c (connection_at old c) line now
 says_line connections accounts guesses old c at moved stage said answer line capitals now seen h is out was caps says answers =
     let d : Desk = record { connections = connections; accounts = accounts; guesses = guesses } in
     let within : c < length connections = subst (λ (e : Desk). c < length e.connections) (sym seen) h in
@@ -71,6 +71,6 @@ says_line connections accounts guesses old c at moved stage said answer line cap
     let F : Connection → Rattle.logon_desk.specs.Desk.Step = λ x. answered (with_connection d c x) c (connection_at (with_connection d c x) c) answer now in
     let A : Answer → Rattle.logon_desk.specs.Desk.Step = λ a. answered d c (connection_at d c) a now in
     let meant : answer ≡ after_line (connection_at d c).stage (said_by (words_of (map capital line))) =
-      answers ∙ ap (λ (s : Stage). after_line s said) (was ∙ ap (λ (x : Connection). x.stage) (sym same)) ∙ ap (after_line (connection_at d c).stage) (says ∙ ap (λ (l : List ℕ). said_by (words_of l)) caps) in
+    answers ∙ ap (λ (s : Stage). after_line s said) (was ∙ ap (λ (x : Connection). x.stage) (sym same)) ∙ ap (after_line (connection_at d c).stage) (says ∙ ap (λ (l : List ℕ). said_by (words_of l)) caps) in
     ap (λ (s : Stage). F (record at { stage = s })) out ∙ ap (λ (x : Connection). F (moved_out x)) (sym same) ∙ answered_over d c answer now within ∙ ap A meant
     ∙ ap (λ (e : Desk). logon_line e c (connection_at e c) line now) seen

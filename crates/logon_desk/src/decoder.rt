@@ -12,21 +12,37 @@ use std::mem;
 pub const LINE_LENGTH: usize = 130;
 
 const BACKSPACE: u8 = 8;
+
 const NEWLINE: u8 = 10;
+
 const RETURN: u8 = 13;
+
 const RUBOUT: u8 = 127;
+
 const PARAMETERS_END: u8 = 240;
+
 const BREAK: u8 = 243;
+
 const INTERRUPT: u8 = 244;
+
 const ARE_YOU_THERE: u8 = 246;
+
 const ERASE_CHARACTER: u8 = 247;
+
 const ERASE_LINE: u8 = 248;
+
 const PARAMETERS: u8 = 250;
+
 const WILL: u8 = 251;
+
 const WONT: u8 = 252;
+
 const DO: u8 = 253;
+
 const DONT: u8 = 254;
+
 const COMMAND: u8 = 255;
+
 const ECHO: u8 = 1;
 
 /// What the next byte is.
@@ -202,5 +218,9 @@ fn add(line: &mut Bytes, character: u8) -> Result<(), AllocError>
 pub fn printable(byte: u8) -> u8
     ensures { result ≡ printable byte }
 {
-    if byte >= b' ' && byte < RUBOUT { byte } else { b' ' }
+    if byte >= b' ' && byte < RUBOUT {
+        byte
+    } else {
+        b' '
+    }
 }

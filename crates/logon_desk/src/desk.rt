@@ -12,9 +12,9 @@ use crate::bytes::Bytes;
 use crate::connection::{Answer, Connection, Stage, after_line};
 use crate::decoder::{Decoded, printable};
 use crate::guesses::{Guesses, queue_of};
-use crate::strangers::{busiest, strangers};
 use crate::output::{Entry, Notice, Output, Outputs};
 use crate::script::script_line;
+use crate::strangers::{busiest, strangers};
 use crate::words::{Guess, in_capitals, said_of};
 use std::alloc::{AllocError, Global};
 use std::marker::Model;
@@ -155,7 +155,13 @@ impl LogonDesk {
         }
     }
 
-    fn take_first(&mut self, alloc: Global, connection: usize, now: u64, out: &mut Outputs) -> Result<(), AllocError>
+    fn take_first(
+        &mut self,
+        alloc: Global,
+        connection: usize,
+        now: u64,
+        out: &mut Outputs,
+    ) -> Result<(), AllocError>
         requires within { connection < length self.old.connections }
         requires some { 0 < length (connection_at self.old connection).waiting }
         requires now { now < 2 ^ 62 }
@@ -287,7 +293,13 @@ impl LogonDesk {
         self.answered(connection, answer, now, out)
     }
 
-    fn answered(&mut self, connection: usize, answer: Answer, now: u64, out: &mut Outputs) -> Result<(), AllocError>
+    fn answered(
+        &mut self,
+        connection: usize,
+        answer: Answer,
+        now: u64,
+        out: &mut Outputs,
+    ) -> Result<(), AllocError>
         requires within { connection < length self.old.connections }
         requires now { now < 2 ^ 62 }
         ensures { OnOk result (Does (answered self.old connection (connection_at self.old connection) answer now) out.old self.new out.new) }
@@ -350,7 +362,9 @@ impl LogonDesk {
                     guess: asked,
                 })
             }
-            Stage::Refused if place.patience.due <= now => self.after_pause(alloc, connection, now, out),
+            Stage::Refused if place.patience.due <= now => self.after_pause(
+                alloc, connection, now, out,
+            ),
             Stage::On(user) => {
                 let user = *user;
                 self.leave_behind(alloc, connection, user, out)
@@ -462,7 +476,13 @@ impl LogonDesk {
         Ok(())
     }
 
-    fn wrong_guess(&mut self, connection: usize, user: Option<UserNo>, now: u64, out: &mut Outputs) -> Result<(), AllocError>
+    fn wrong_guess(
+        &mut self,
+        connection: usize,
+        user: Option<UserNo>,
+        now: u64,
+        out: &mut Outputs,
+    ) -> Result<(), AllocError>
         requires within { connection < length self.old.connections }
         requires now { now < 2 ^ 62 }
         ensures { OnOk result (Does (wrong_guess self.old connection user now) out.old self.new out.new) }
@@ -492,12 +512,7 @@ impl LogonDesk {
         self.end(alloc, connection, out)
     }
 
-    fn end(
-        &mut self,
-        alloc: Global,
-        connection: usize,
-        out: &mut Outputs,
-    ) -> Result<(), AllocError>
+    fn end(&mut self, alloc: Global, connection: usize, out: &mut Outputs) -> Result<(), AllocError>
         requires within { connection < length self.old.connections }
         ensures { OnOk result (Does (ended self.old connection []) out.old self.new out.new) }
     {
@@ -537,12 +552,7 @@ impl LogonDesk {
     }
 
     /// Keeps a line of a user for when he comes back.
-    pub fn keep(
-        &mut self,
-        alloc: Global,
-        user: UserNo,
-        line: &KeptLine,
-    ) -> Result<(), AllocError>
+    pub fn keep(&mut self, alloc: Global, user: UserNo, line: &KeptLine) -> Result<(), AllocError>
         requires { user < length self.old.accounts }
         ensures { OnOk result (IsStep self.old (Keeps user line.now) [] self.new []) }
     {
@@ -671,7 +681,8 @@ fn is_user(stage: &Stage, user: UserNo) -> bool
 fn is_same(one: &Guess, other: &Guess) -> bool
     ensures { result ≡ same_guess one.now other.now }
 {
-    one.name.as_slice() == other.name.as_slice() && one.password.as_slice() == other.password.as_slice()
+    one.name.as_slice() == other.name.as_slice()
+        && one.password.as_slice() == other.password.as_slice()
 }
 
 /// A line as it is shown: its first characters, without what a terminal takes for something else.

@@ -8,5 +8,4 @@ ghost use Rattle.logon_desk.specs.Laws.{IsLawful};
 /// waits for four seconds at most; and all that is kept has bounds.
 pub fn keeps_its_promises()
     ensures { IsLawful }
-{
-}
+{}

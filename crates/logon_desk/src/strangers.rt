@@ -22,13 +22,19 @@ fn comes_from(connection: &Connection, address: u64) -> bool
 pub fn strangers(connections: &[Connection]) -> usize
     ensures { result ≡ count_by is_stranger connections.now }
 {
-    connections.iter().filter(|connection| is_stranger(connection)).count()
+    connections
+        .iter()
+        .filter(|connection| is_stranger(connection))
+        .count()
 }
 
 fn strangers_from(connections: &[Connection], address: u64) -> usize
     ensures { result ≡ strangers_from connections.now address }
 {
-    connections.iter().filter(|connection| comes_from(connection, address)).count()
+    connections
+        .iter()
+        .filter(|connection| comes_from(connection, address))
+        .count()
 }
 
 /// Whether a stranger goes before the one who was found: from a busier address, or later from one

@@ -31,10 +31,14 @@ pub fn print(output: &Output, text: &mut Bytes) -> Result<(), AllocError> {
             option,
         } => give(*connection, &[255, *command, *option], b"", text),
         Output::Shows {
-            connection, line, ..
+            connection,
+            line,
+            ..
         } => give(*connection, line.as_slice(), b"\r\n", text),
         Output::ShowsAgain {
-            connection, line, ..
+            connection,
+            line,
+            ..
         } => {
             word(b"BACK", *connection, text)?;
             push_bytes(line.minute.as_slice(), b"", text)?;
@@ -75,7 +79,12 @@ fn note(entry: Entry, text: &mut Bytes) -> Result<(), AllocError> {
     }
 }
 
-fn note_of(name: &[u8], user: Option<UserNo>, connection: usize, text: &mut Bytes) -> Result<(), AllocError> {
+fn note_of(
+    name: &[u8],
+    user: Option<UserNo>,
+    connection: usize,
+    text: &mut Bytes,
+) -> Result<(), AllocError> {
     word(b"NOTE", connection, text)?;
     text.push(b' ')?;
     text.extend(name)?;
@@ -130,5 +139,9 @@ fn push_byte(byte: u8, text: &mut Bytes) -> Result<(), AllocError> {
 fn digit(value: u8) -> u8
     requires { value < 16 }
 {
-    if value < 10 { b'0' + value } else { b'A' + (value - 10) }
+    if value < 10 {
+        b'0' + value
+    } else {
+        b'A' + (value - 10)
+    }
 }

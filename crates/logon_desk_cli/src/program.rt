@@ -59,7 +59,14 @@ impl Session {
     {
         match &mut self.desk {
             Some(desk) => {
-                if !apply(alloc, desk, now, frame, &mut self.reading, &mut self.outputs)? {
+                if !apply(
+                    alloc,
+                    desk,
+                    now,
+                    frame,
+                    &mut self.reading,
+                    &mut self.outputs,
+                )? {
                     return Ok(false);
                 }
                 serve(alloc, desk, now, &mut self.outputs)?;
